@@ -1,0 +1,4 @@
+pub mod Openings
+pub mod Placed
+pub mod Orderly
+pub mod OrderlyLaws

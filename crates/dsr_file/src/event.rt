@@ -1,0 +1,76 @@
+//! The events of a file.
+ghost use Rattle.std.specs.Prelude.{◌≡◌};
+ghost use Rattle.dsr_file.specs.Orderly.{is_ended};
+
+use crate::fault::Outcome;
+use dsr_cells::Items;
+use dsr_records::{Block, Head, Summary};
+use std::marker::Model;
+
+/// The summaries of a file, which contracts see as their list.
+pub type Summaries = Items<Summary>;
+
+/// The head of a file and its summaries, no two of which have one identifier.
+#[derive(Drop)]
+pub struct Opening {
+    pub head: Head,
+    pub summaries: Summaries,
+}
+
+impl Model for Opening {
+    ghost use Rattle.dsr_file.specs.Openings.{OpeningParts, HasDistinctIds};
+
+    ghost Value = { OpeningParts };
+
+    ghost view = { λ o. record { head = o.head; summaries = o.summaries } };
+
+    ghost invariant = { λ o. HasDistinctIds o.summaries };
+}
+
+/// What an event tells.
+#[derive(Drop)]
+pub enum EventPart {
+    /// The head and the summaries are read.
+    Opened(Opening),
+    /// A block is whole and another record follows it.
+    Block(Block),
+    /// The file ends.
+    Ended(Outcome),
+}
+
+impl EventPart {
+    /// Whether the file ends here.
+    pub fn is_ended(&self) -> bool
+        ensures { result ≡ is_ended self.now }
+    {
+        matches!(self, EventPart::Ended(_))
+    }
+}
+
+/// An event and its place in the file's list of events, from 0 and below 2^37.
+#[derive(Drop)]
+pub struct Event {
+    pub place: u64,
+    pub part: EventPart,
+}
+
+impl Model for Event {
+    ghost use Rattle.std.specs.Prelude.{◌^◌, ◌<◌};
+    ghost use Rattle.dsr_file.specs.Placed.{Placed};
+
+    ghost Value = { Placed };
+
+    ghost view = { λ e. record { place = e.place; part = e.part } };
+
+    ghost invariant = { λ e. e.place < 2 ^ 37 };
+}
+
+/// An event that fills the unused places of a list of fixed size.
+impl Default for Event {
+    fn default() -> Event {
+        Event {
+            place: 0,
+            part: EventPart::Ended(Outcome::Whole),
+        }
+    }
+}

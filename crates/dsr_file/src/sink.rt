@@ -1,0 +1,24 @@
+//! Where the events of a file go.
+ghost use Rattle.std.specs.Prelude.{◌≡◌, List, [], ◌∷◌, ◌++◌, OnOk, IfErr};
+ghost use Rattle.dsr_file.specs.Placed.{Placed};
+ghost use Rattle.dsr_file.specs.Orderly.{IsOrderly};
+
+use crate::event::Event;
+
+/// Takes the events of a file, one after another.
+pub trait Sink {
+    /// What tells one sink from another.
+    type Name;
+
+    /// The events that it took.
+    ghost list: { Self → List Placed };
+
+    ghost name: { Self → Self.Name };
+
+    /// Adds the event to the list, or hands it back and changes nothing.
+    fn put(&mut self, event: Event) -> Result<(), Event>
+        requires { IsOrderly (list self.old ++ event ∷ []) }
+        ensures added { OnOk result (list self.new ≡ list self.old ++ event ∷ []) }
+        ensures refused { IfErr result (λ back. (back ≡ event) × (list self.new ≡ list self.old)) }
+        ensures name { name self.new ≡ name self.old };
+}
