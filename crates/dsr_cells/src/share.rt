@@ -31,7 +31,7 @@ impl Share {
     pub fn read(text: &str) -> Option<Share>
         ensures { result ≡ share_of text.now }
     {
-        let parts = read_decimal(text, 3, 4)?;
+        let parts = read_decimal(text.as_bytes(), 3, 4)?;
         if parts > 1_000_000 {
             return None;
         }
