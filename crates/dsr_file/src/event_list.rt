@@ -1,6 +1,6 @@
 //! A list of events.
-ghost use Rattle.std.specs.Prelude.{◌≡◌, ◌++◌, ◌∷◌, [], length, slice_get, MatchResult};
-ghost use Rattle.std.specs.Option.{option_map, option_to_list};
+ghost use Rattle.std.specs.Prelude.{◌≡◌, ◌++◌, ◌∷◌, [], length, slice_get, MatchOption, MatchResult};
+ghost use Rattle.std.specs.Option.{option_map};
 
 use crate::event::Event;
 use crate::sink::Sink;
@@ -56,9 +56,9 @@ impl EventList {
         self.events.get(i)
     }
 
-    /// Takes the front event.
+    /// Takes the front event: none where the list is empty.
     pub fn next(&mut self) -> Option<Event>
-        ensures { self.old ≡ option_to_list result ++ self.new }
+        ensures { MatchOption result ((self.old ≡ []) × (self.new ≡ [])) (λ event. self.old ≡ event ∷ self.new) }
     {
         self.events.pop_front()
     }
