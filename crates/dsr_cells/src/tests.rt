@@ -222,3 +222,39 @@ fn lists_of_texts_and_shares(rt: HostRuntime) -> Result<(), Fail> {
     assert_eq!(rt; parts, 500_000 ^ 250_000);
     Ok(())
 }
+
+#[test]
+fn nothing_changes_where_memory_is_refused(rt: HostRuntime) {
+    let mut out = Vec::new(rt.alloc());
+    match write_amount(5, &mut out) {
+        Ok(()) => assert!(rt; out.as_slice() == b"0.0000000005".as_slice()),
+        Err(_) => assert!(rt; out.is_empty()),
+    }
+    let Some(day) = Day::read("2024-02-29") else {
+        assert!(rt; false);
+        return;
+    };
+    let mut out = Vec::new(rt.alloc());
+    match write_day(day, &mut out) {
+        Ok(()) => assert!(rt; out.as_slice() == b"2024-02-29".as_slice()),
+        Err(_) => assert!(rt; out.is_empty()),
+    }
+    let mut shares: Shares = Items::new(rt.alloc());
+    let Some(share) = Share::read("12.5") else {
+        assert!(rt; false);
+        return;
+    };
+    match shares.push(share) {
+        Ok(()) => assert_eq!(rt; shares.len(), 1),
+        Err(back) => {
+            assert_eq!(rt; back.parts(), 125_000);
+            assert_eq!(rt; shares.len(), 0);
+        }
+    }
+    if let Ok(value) = unescape(rt.alloc(), "\\|") {
+        assert_eq!(rt; value.as_str(), "|");
+    }
+    if let Ok(text) = Text::copy_of(rt.alloc(), "a title of more than thirty bytes") {
+        assert_eq!(rt; text.as_str(), "a title of more than thirty bytes");
+    }
+}
