@@ -1,7 +1,11 @@
--- What contracts see of the cells of a line that are yet to be found.
-use Rattle.std.specs.Prelude.{ℕ, List, [], Option, Some, None}
+-- What contracts see of the cells of a line, and of the answer that reads one of them.
+use Rattle.std.specs.Prelude.{◌≡◌, ℕ, List, [], Option, Some, None, Result, Ok, Err}
 use Rattle.std.specs.Borrow.{Bor}
 use Rattle.dsr_cells.specs.Cells.{cells}
+use Rattle.dsr_records.specs.declared.kinds.Column.{Column}
+use Rattle.dsr_records.specs.declared.kinds.RecordFault.{RecordFault}
+use Rattle.dsr_records.specs.Records.{column_fault}
+use Rattle.dsr_records.specs.Tables.{cell_of, text_of}
 
 -- the cells of what is left of a line, where anything is
 abbrev pub cells_left : Option (Bor (List ℕ)) → List (List ℕ)
@@ -12,3 +16,17 @@ cells_left (Some rest) = cells rest.now
 abbrev pub behind : Option (Bor (List ℕ)) → Option (List ℕ)
 behind None = None
 behind (Some text) = Some text.now
+
+-- what is wrong with the column at place i
+abbrev pub fault_at : List (Option (List ℕ)) → Column → ℕ → Option RecordFault
+fault_at row column i = column_fault row column (cell_of row i)
+
+-- the answer is what the text of a column spells, or what is wrong with the column
+abbrev pub ReadsValue : {V : Type 0} → (List ℕ → Option V) → List (Option (List ℕ)) → Column → ℕ → Result V RecordFault → Type 0
+ReadsValue spelled row column i (Ok value) = (fault_at row column i ≡ None) × (spelled (text_of row i) ≡ Some value)
+ReadsValue spelled row column i (Err fault) = fault_at row column i ≡ Some fault
+
+-- the answer is the text of a column, or what is wrong with the column
+abbrev pub ReadsText : List (Option (List ℕ)) → Column → ℕ → Result (Bor (List ℕ)) RecordFault → Type 0
+ReadsText row column i (Ok text) = (fault_at row column i ≡ None) × (text.now ≡ text_of row i)
+ReadsText row column i (Err fault) = fault_at row column i ≡ Some fault

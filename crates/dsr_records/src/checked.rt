@@ -1,17 +1,20 @@
 //! A line whose cells are those of a record, before anything of it is copied.
-ghost use Rattle.std.specs.Prelude.{◌≡◌, [], IfOk, OnErr, true, length, map, nat_lt, slice_get};
+ghost use Rattle.std.specs.Prelude.{◌≡◌, [], Ok, Err, IfOk, OnErr, MatchResult, true, length, map, nat_lt, slice_get};
 ghost use Rattle.std.specs.Option.{option_map, unwrap_or};
 ghost use Rattle.dsr_cells.specs.Cells.{cells};
+ghost use Rattle.dsr_records.specs.Checked.{record_seen};
 ghost use Rattle.dsr_records.specs.Records.{cell_in};
 ghost use Rattle.dsr_records.specs.Reads.{AnswersRecord, kind_of_record, id_of_record, has_texts};
 ghost use Rattle.dsr_records.specs.Values.{id_of, kind_of, record_by_row, record_of};
 
-use crate::check::check_row;
+use crate::borrowed::BorrowedRecord;
+use crate::check::{
+    check_foot, check_head, check_resource, check_summary, check_usage, check_work,
+};
 use crate::cursor::Cursor;
 use crate::kinds::{Kind, ReadRecordError, RecordFault};
 use crate::layout::Layout;
 use crate::layout_line::RoleLine;
-use crate::read::read_kind;
 use crate::record::Record;
 use crate::row::Row;
 use dsr_cells::{NoMemory, count_cells};
@@ -21,22 +24,16 @@ use std::marker::Model;
 /// A line without a fault, which contracts see as the record that it spells.
 #[derive(Drop)]
 pub struct CheckedLine<'l> {
-    row: Row<'l>,
-    kind: Kind,
+    found: BorrowedRecord<'l>,
 }
 
 impl<'l> Model for CheckedLine<'l> {
-    ghost use Rattle.std.specs.Prelude.{◌≡◌, None, false};
     ghost use Rattle.dsr_records.specs.declared.record.Record.{Record as RecordValue};
-    ghost use Rattle.dsr_records.specs.Records.{first_fault, is_uneven, text_of};
-    ghost use Rattle.dsr_records.specs.Tables.{columns_of};
-    ghost use Rattle.dsr_records.specs.Values.{record_by_kind};
+    ghost use Rattle.dsr_records.specs.Checked.{record_seen};
 
     ghost Value = { RecordValue };
 
-    ghost view = { λ c. record_by_kind c.kind (text_of c.row) };
-
-    ghost invariant = { λ c. (first_fault c.row (columns_of c.kind) 0 ≡ None) × (is_uneven c.row c.kind ≡ false) };
+    ghost view = { λ c. record_seen c.found };
 }
 
 impl<'l> CheckedLine<'l> {
@@ -44,15 +41,26 @@ impl<'l> CheckedLine<'l> {
     pub fn kind(&self) -> Kind
         ensures { result ≡ kind_of_record self.now }
     {
-        self.kind
+        match &self.found {
+            BorrowedRecord::Head(_) => Kind::Head,
+            BorrowedRecord::Summary(_) => Kind::Summary,
+            BorrowedRecord::Resource(_) => Kind::Resource,
+            BorrowedRecord::Work(_) => Kind::Work,
+            BorrowedRecord::Usage(_) => Kind::Usage,
+            BorrowedRecord::Foot(_) => Kind::Foot,
+            BorrowedRecord::Skipped => Kind::Skipped,
+        }
     }
 
     /// The identifier of a summary, or that of the block of a resource, a work or a usage.
     pub fn id(&self) -> Option<&'l str>
         ensures { option_map (λ i. i.now) result ≡ id_of_record self.now }
     {
-        match self.kind {
-            Kind::Summary | Kind::Resource | Kind::Work | Kind::Usage => Some(self.row.text(0)),
+        match &self.found {
+            BorrowedRecord::Summary(summary) => Some(summary.id),
+            BorrowedRecord::Resource(resource) => Some(resource.block_id),
+            BorrowedRecord::Work(work) => Some(work.block_id),
+            BorrowedRecord::Usage(usage) => Some(usage.block_id),
             _ => None,
         }
     }
@@ -62,7 +70,15 @@ impl<'l> CheckedLine<'l> {
         ensures value { IfOk result (λ r. r ≡ self.now) }
         ensures memory { OnErr result (has_texts self.now ≡ true) }
     {
-        read_kind(alloc, &self.row, self.kind)
+        Ok(match &self.found {
+            BorrowedRecord::Head(head) => Record::Head(head.copy(alloc)?),
+            BorrowedRecord::Summary(summary) => Record::Summary(summary.copy(alloc)?),
+            BorrowedRecord::Resource(resource) => Record::Resource(resource.copy(alloc)?),
+            BorrowedRecord::Work(work) => Record::Work(work.copy(alloc)?),
+            BorrowedRecord::Usage(usage) => Record::Usage(usage.copy(alloc)?),
+            BorrowedRecord::Foot(foot) => Record::Foot(*foot),
+            BorrowedRecord::Skipped => Record::Skipped,
+        })
     }
 }
 
@@ -81,15 +97,29 @@ fn record_type<'l>(cursor: &mut Cursor<'l>) -> &'l str
     cursor.cell(0).unwrap_or("")
 }
 
+/// Checks the cells of a kind's columns: the record, or the first fault.
+fn check_row<'l>(row: &Row<'l>, kind: Kind) -> Result<BorrowedRecord<'l>, RecordFault>
+    ensures { MatchResult result (λ found. record_by_row row.now kind ≡ Ok (record_seen found)) (λ fault. record_by_row row.now kind ≡ Err fault) }
+{
+    Ok(match kind {
+        Kind::Head => BorrowedRecord::Head(check_head(row)?),
+        Kind::Summary => BorrowedRecord::Summary(check_summary(row)?),
+        Kind::Resource => BorrowedRecord::Resource(check_resource(row)?),
+        Kind::Work => BorrowedRecord::Work(check_work(row)?),
+        Kind::Usage => BorrowedRecord::Usage(check_usage(row)?),
+        Kind::Foot => BorrowedRecord::Foot(check_foot(row)?),
+        Kind::Skipped => BorrowedRecord::Skipped,
+    })
+}
+
 /// Checks the cells of a line by the layout line of its record type.
 fn check_role<'l>(cursor: Cursor<'l>, role: &RoleLine) -> Result<CheckedLine<'l>, RecordFault>
     ensures { result ≡ record_by_row (map (cell_in cursor.entry) role.now.positions) role.now.kind }
 {
-    let kind = role.kind;
     let row = Row::of(cursor, role.positions.as_slice());
-    match check_row(&row, kind) {
-        Some(fault) => Err(fault),
-        None => Ok(CheckedLine { row, kind }),
+    match check_row(&row, role.kind) {
+        Ok(found) => Ok(CheckedLine { found }),
+        Err(fault) => Err(fault),
     }
 }
 
@@ -105,8 +135,7 @@ pub fn check_line<'l>(layout: &Layout, line: &'l str) -> Result<CheckedLine<'l>,
     match layout.role(name) {
         Some(role) => check_role(cursor, role),
         None if layout.skips(name) => Ok(CheckedLine {
-            row: Row::of(cursor, &[]),
-            kind: Kind::Skipped,
+            found: BorrowedRecord::Skipped,
         }),
         None => Err(RecordFault::Unknown),
     }

@@ -1,0 +1,15 @@
+-- What contracts see of a line that was checked.
+use Rattle.dsr_records.specs.declared.record.Record.{Record}
+use Rattle.dsr_records.specs.declared.record.Record.TheVariants as records
+use Rattle.dsr_records.specs.declared.borrowed.BorrowedRecord.{BorrowedRecord}
+use Rattle.dsr_records.specs.declared.borrowed.BorrowedRecord.TheVariants.{Head, Summary, Resource, Work, Usage, Foot, Skipped}
+
+-- the record whose texts stand in the line
+abbrev pub record_seen : BorrowedRecord → Record
+record_seen (Head h) = records.Head h
+record_seen (Summary s) = records.Summary s
+record_seen (Resource r) = records.Resource r
+record_seen (Work w) = records.Work w
+record_seen (Usage u) = records.Usage u
+record_seen (Foot f) = records.Foot f
+record_seen Skipped = records.Skipped

@@ -1,0 +1,202 @@
+//! Reading the cells of a row: each call answers what the column's text spells, or what is wrong with it.
+ghost use Rattle.std.specs.Prelude.{◌≡◌, ◌==◌, ℕ, List, Some, None, IfOk, MatchResult, is_some, true, false, length};
+ghost use Rattle.std.specs.List.{list_all};
+ghost use Rattle.dsr_cells.specs.Days.{day_of};
+ghost use Rattle.dsr_cells.specs.Numbers.{amount_of, number_of, usages_of};
+ghost use Rattle.dsr_cells.specs.Texts.{is_identifier_text};
+ghost use Rattle.dsr_cells.specs.Values.{raw_parts};
+ghost use Rattle.dsr_records.specs.declared.kinds.Column.TheVariants as columns;
+ghost use Rattle.dsr_records.specs.declared.kinds.RecordFault.TheVariants as faults;
+ghost use Rattle.dsr_records.specs.Rows.{ReadsText, ReadsValue};
+ghost use Rattle.dsr_records.specs.Tables.{cell_of, file_number_of, is_share, is_spelled, may_be_empty, text_of};
+
+use crate::kinds::{Column, RecordFault};
+use crate::row::Row;
+use dsr_cells::{
+    Amount, Day, Share, Values, is_currency, is_identifier, is_territory, is_use_type, read_number,
+    read_usages, values,
+};
+
+/// The file number that a text spells: 1 to 9999.
+fn file_number(text: &str) -> Option<u32>
+    ensures { result ≡ file_number_of text.now }
+{
+    let number = read_number(text)?;
+    if number < 1 || number > 9999 {
+        return None;
+    }
+    Some(number as u32)
+}
+
+/// The cell of a column that may not be missing.
+fn there<'l>(row: &Row<'l>, i: usize, column: Column) -> Result<&'l str, RecordFault>
+    ensures { MatchResult result (λ text. cell_of row.now i ≡ Some text.now) (λ fault. (cell_of row.now i ≡ None) × (fault ≡ faults.Missing column)) }
+{
+    match row.cell(i) {
+        Some(text) => Ok(text),
+        None => Err(RecordFault::Missing(column)),
+    }
+}
+
+/// An identifier of at most so many bytes, by the column that asks for it.
+pub(crate) fn read_identifier<'l>(
+    row: &Row<'l>,
+    i: usize,
+    column: Column,
+    most: usize,
+) -> Result<&'l str, RecordFault>
+    requires needed { may_be_empty column ≡ false }
+    requires asked { (text : List ℕ) → is_spelled row.now column text ≡ is_identifier_text most text }
+    ensures { ReadsText row.now column i result }
+{
+    let text = there(row, i, column)?;
+    if !is_identifier(text, most) {
+        return Err(RecordFault::Bad(column));
+    }
+    Ok(text)
+}
+
+/// A number, by the column that asks for it.
+pub(crate) fn read_count(row: &Row<'_>, i: usize, column: Column) -> Result<u64, RecordFault>
+    requires needed { may_be_empty column ≡ false }
+    requires asked { (text : List ℕ) → is_spelled row.now column text ≡ is_some (number_of text) }
+    ensures { ReadsValue number_of row.now column i result }
+{
+    let text = there(row, i, column)?;
+    match read_number(text) {
+        Some(number) => Ok(number),
+        None => Err(RecordFault::Bad(column)),
+    }
+}
+
+/// A file's number.
+pub(crate) fn read_file_number(row: &Row<'_>, i: usize) -> Result<u32, RecordFault>
+    ensures { ReadsValue file_number_of row.now columns.FileNumber i result }
+{
+    let text = there(row, i, Column::FileNumber)?;
+    match file_number(text) {
+        Some(value) => Ok(value),
+        None => Err(RecordFault::Bad(Column::FileNumber)),
+    }
+}
+
+/// The number of files, not below the file's number.
+pub(crate) fn read_number_of_files(row: &Row<'_>, i: usize, least: u32) -> Result<u32, RecordFault>
+    requires { file_number_of (text_of row.now 1) ≡ Some least }
+    ensures { ReadsValue file_number_of row.now columns.NumberOfFiles i result }
+{
+    let text = there(row, i, Column::NumberOfFiles)?;
+    match file_number(text) {
+        Some(number) if least <= number => Ok(number),
+        _ => Err(RecordFault::Bad(Column::NumberOfFiles)),
+    }
+}
+
+/// The first day of the usages.
+pub(crate) fn read_first_day(row: &Row<'_>, i: usize) -> Result<Day, RecordFault>
+    ensures { ReadsValue day_of row.now columns.UsageStartDate i result }
+{
+    let text = there(row, i, Column::UsageStartDate)?;
+    match Day::read(text) {
+        Some(value) => Ok(value),
+        None => Err(RecordFault::Bad(Column::UsageStartDate)),
+    }
+}
+
+/// The last day of the usages, not before the first.
+pub(crate) fn read_last_day(row: &Row<'_>, i: usize, first: Day) -> Result<Day, RecordFault>
+    requires { day_of (text_of row.now 3) ≡ Some first }
+    ensures { ReadsValue day_of row.now columns.UsageEndDate i result }
+{
+    let text = there(row, i, Column::UsageEndDate)?;
+    match Day::read(text) {
+        Some(day) if first.number() <= day.number() => Ok(day),
+        _ => Err(RecordFault::Bad(Column::UsageEndDate)),
+    }
+}
+
+/// A territory.
+pub(crate) fn read_territory<'l>(row: &Row<'l>, i: usize) -> Result<&'l str, RecordFault>
+    ensures { ReadsText row.now columns.Territory i result }
+{
+    let text = there(row, i, Column::Territory)?;
+    if !is_territory(text) {
+        return Err(RecordFault::Bad(Column::Territory));
+    }
+    Ok(text)
+}
+
+/// A use type.
+pub(crate) fn read_use_type<'l>(row: &Row<'l>, i: usize) -> Result<&'l str, RecordFault>
+    ensures { ReadsText row.now columns.UseType i result }
+{
+    let text = there(row, i, Column::UseType)?;
+    if !is_use_type(text) {
+        return Err(RecordFault::Bad(Column::UseType));
+    }
+    Ok(text)
+}
+
+/// A currency.
+pub(crate) fn read_currency<'l>(row: &Row<'l>, i: usize) -> Result<&'l str, RecordFault>
+    ensures { ReadsText row.now columns.Currency i result }
+{
+    let text = there(row, i, Column::Currency)?;
+    if !is_currency(text) {
+        return Err(RecordFault::Bad(Column::Currency));
+    }
+    Ok(text)
+}
+
+/// Usages.
+pub(crate) fn read_usage_count(row: &Row<'_>, i: usize) -> Result<i64, RecordFault>
+    ensures { ReadsValue usages_of row.now columns.Usages i result }
+{
+    let text = there(row, i, Column::Usages)?;
+    match read_usages(text) {
+        Some(value) => Ok(value),
+        None => Err(RecordFault::Bad(Column::Usages)),
+    }
+}
+
+/// An amount.
+pub(crate) fn read_amount(row: &Row<'_>, i: usize) -> Result<Amount, RecordFault>
+    ensures { ReadsValue amount_of row.now columns.Amount i result }
+{
+    let text = there(row, i, Column::Amount)?;
+    match Amount::read(text) {
+        Some(value) => Ok(value),
+        None => Err(RecordFault::Bad(Column::Amount)),
+    }
+}
+
+/// Whether each raw part of a cell is a share.
+fn all_shares(text: &str) -> bool
+    ensures { result ≡ list_all is_share (raw_parts text.now) }
+{
+    values(text).all(|part| Share::read(part).is_some())
+}
+
+/// A list cell of shares, which may be missing.
+pub(crate) fn check_shares<'l>(row: &Row<'l>, i: usize) -> Result<&'l str, RecordFault>
+    ensures value { ReadsText row.now columns.Shares i result }
+    ensures shares { IfOk result (λ text. list_all is_share (raw_parts text.now) ≡ true) }
+{
+    let text = row.text(i);
+    if !all_shares(text) {
+        return Err(RecordFault::Bad(Column::Shares));
+    }
+    Ok(text)
+}
+
+/// Whether two cells have the same number of values.
+pub(crate) fn have_same_count(mut first: Values<'_>, mut second: Values<'_>) -> bool
+    ensures { result ≡ (length first.entry == length second.entry) }
+{
+    while first.next().is_some() {
+        if second.next().is_none() {
+            return false;
+        }
+    }
+    second.next().is_none()
+}
