@@ -1,0 +1,112 @@
+//! What the two ends know of a relay, and the rule that ties it to what the channel holds.
+ghost use Rattle.std.specs.Prelude.{ℕ};
+
+use arrayvec::ArrayVec;
+use crossbeam_channel::protocol::{Join, Lesson, Outcome, Protocol, Split};
+use dsr_file::Event;
+use std::collections::LinkedList;
+use std::marker::Brand;
+
+/// Up to 32 events that go through the channel at once.
+pub type Message = ArrayVec<Event, 32>;
+
+/// What a pass knows. No value of it is made.
+pub enum Log {
+    /// Of a relay that is not yet cut into its ends.
+    Fresh,
+    /// Of the feed: the messages that went out, and how many the channel takes.
+    Sends(LinkedList<Message>, u64),
+    /// Of the tap: the messages that came in.
+    Takes(LinkedList<Message>),
+    /// Of both ends that met: what went out, what came in, and how many the channel takes.
+    Both(LinkedList<Message>, LinkedList<Message>, u64),
+    /// Of an end that was taken in by the other.
+    Spent,
+}
+
+/// The capacity of a relay.
+pub trait Capacity {
+    ghost capacity: { ℕ };
+}
+
+impl Capacity for Brand {
+    ghost capacity = { 0 };
+}
+
+/// What came in followed by what the channel holds is what went out, and its events are an orderly list.
+pub struct InOrder;
+
+impl Protocol<Message, Log> for InOrder {
+    ghost use Rattle.dsr_relay.specs.declared.rule.Log.TheVariants.{Fresh};
+    ghost use Rattle.dsr_relay.specs.Rule.{Relayed};
+
+    ghost holds = { Relayed };
+
+    ghost first = { Fresh };
+}
+
+/// Cuts a fresh relay's pass into the feed's and the tap's.
+pub struct Cut<C> {
+    of: std::marker::PhantomData<C>,
+}
+
+impl<C: Capacity> Split<Log> for Cut<C> {
+    ghost use Rattle.std.specs.Prelude.{[]};
+    ghost use Rattle.dsr_relay.specs.declared.rule.Log.TheVariants.{Sends, Takes};
+
+    ghost left = { λ v. Sends [] C.capacity };
+
+    ghost right = { λ v. Takes [] };
+}
+
+/// Joins the tap's pass into the feed's.
+pub struct Meet;
+
+impl Join<Log> for Meet {
+    ghost use Rattle.dsr_relay.specs.declared.rule.Log.TheVariants.{Spent};
+    ghost use Rattle.dsr_relay.specs.Rule.{both_of};
+
+    ghost both = { both_of };
+
+    ghost spent = { Spent };
+}
+
+/// A message goes out: the feed's list grows by it.
+pub struct Sent;
+
+impl Outcome<Message, Log> for Sent {
+    ghost use Rattle.dsr_relay.specs.Rule.{Goes};
+
+    ghost then = { Goes };
+}
+
+/// A send learns nothing of what the channel holds.
+impl Lesson<Message, Log> for Sent {
+    ghost use Rattle.std.specs.Prelude.{⊤};
+
+    ghost fact = { λ v items. ⊤ };
+}
+
+/// A message comes in: the tap's list grows by it.
+pub struct Received;
+
+impl Outcome<Message, Log> for Received {
+    ghost use Rattle.dsr_relay.specs.Rule.{Comes};
+
+    ghost then = { Comes };
+}
+
+impl Lesson<Message, Log> for Received {
+    ghost use Rattle.std.specs.Prelude.{⊤};
+
+    ghost fact = { λ v items. ⊤ };
+}
+
+/// What is left in the channel when the ends meet.
+pub struct Total;
+
+impl Lesson<Message, Log> for Total {
+    ghost use Rattle.dsr_relay.specs.Rule.{IsLeft};
+
+    ghost fact = { IsLeft };
+}
