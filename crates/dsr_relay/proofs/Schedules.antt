@@ -7,7 +7,8 @@ use Rattle.dsr_file.specs.Placed.{Placed}
 use Rattle.dsr_file.specs.Orderly.{IsOrderly, has_ended}
 use Rattle.dsr_file.specs.OrderlyLaws.{ended_whole}
 use Rattle.dsr_relay.specs.Messages.{IsMessage}
-use Rattle.dsr_relay.specs.Core.{Lane, Step, put, get, IsPrefix, joined, Puts, Gets, Moves, file_of, Happens, Leads, IsFresh, IsInOrder, InEverySchedule, LeavesOthers, IsNeverStuck, IsBounded, IsDelivered}
+use Rattle.dsr_relay.specs.Lanes.{Lane, Step, put, get, IsPrefix, Puts, Gets, Moves, file_of, Happens, Leads, IsFresh}
+use Rattle.dsr_relay.specs.Laws.{joined, IsInOrder, InEverySchedule, LeavesOthers, IsNeverStuck, IsBounded, IsDelivered}
 use Rattle.dsr_relay.proofs.Messages.{append_nil}
 use Rattle.dsr_relay.proofs.Lanes.{all_get, all_set, all_from, all_map, set_else, map_kept, map_same, total, total_set, total_below}
 

@@ -1,10 +1,10 @@
--- the definitions to believe: the relays of all files as one machine, the rule of one relay, what contracts see of its ends
-pub mod Core
+-- To believe: the relays of all files as one machine and its laws, the messages, the rule of one relay, and what contracts see of its ends.
+pub mod Lanes
+pub mod Laws
 pub mod Messages
 pub mod Rule
 pub mod Views
-
--- words that relate the code's fields to them
+-- Words that relate the fields of the code to them.
 pub mod Feeds
 pub mod Taps
 pub mod Settles

@@ -1,4 +1,5 @@
--- The rule of a relay, and what each step tells.
+-- The rule of a relay: what holds, between any two steps, of the messages in its channel and of what its two ends know.
+-- An end's pass is the token by which the channel tells the ends apart; a pass has a number and a view, which is what its end knows.
 use Rattle.std.specs.Prelude.{◌≡◌, ℕ, ◌≤◌, List, [], ◌∷◌, ◌++◌, length}
 use mathlib.Core.Option.{some}
 use lib.ListN.{get_elem?}
@@ -7,7 +8,7 @@ use Rattle.dsr_relay.specs.Messages.{Message, events_of, AreMessages}
 use Rattle.dsr_relay.specs.declared.rule.Log.{Log}
 use Rattle.dsr_relay.specs.declared.rule.Log.TheVariants.{Fresh, Sends, Takes, Both, Spent}
 
--- what a pass knows is so: only the pass number `feed` sends and only `tap` receives
+-- a view of the pass number `pass` is so: the pass `feed` alone sends and the pass `tap` alone receives
 module _ (feed tap : ℕ) (out received : List Message) (capacity : ℕ) (pass : ℕ) where
   abbrev pub Knows : Log → Type 0
   Knows Fresh = (pass ≡ feed) × (pass ≡ tap) × (out ≡ [])
@@ -16,7 +17,7 @@ module _ (feed tap : ℕ) (out received : List Message) (capacity : ℕ) (pass :
   Knows (Both sent taken n) = (pass ≡ feed) × (pass ≡ tap) × (sent ≡ out) × (taken ≡ received) × (n ≡ capacity)
   Knows Spent = Unit {0}
 
--- what came in followed by the queue is what went out, its events are orderly, and the queue fits
+-- what came in, followed by the queue, is what went out; its events are orderly; the queue fits; and every view is so
 pub record Relayed (queue : List Message) (views : List Log) : Type 0 where
   pub feed : ℕ
   pub tap : ℕ
@@ -44,17 +45,17 @@ abbrev pub both_of : Log → Log → Log
 both_of (Sends sent n) (Takes taken) = Both sent taken n
 both_of _ _ = Spent
 
--- the message joins what went out
+-- a send: the message joins what went out
 abbrev pub Goes : Log → Message → Log → Type 0
 Goes (Sends sent n) x w = w ≡ Sends (sent ++ x ∷ []) n
 Goes _ x w = ⊥
 
--- the message joins what came in, and the events so far are orderly
+-- a receive: the message joins what came in, and the events so far are orderly
 abbrev pub Comes : Log → Message → Log → Type 0
 Comes (Takes taken) x w = (w ≡ Takes (taken ++ x ∷ [])) × IsOrderly (events_of (taken ++ x ∷ [])) × AreMessages (taken ++ x ∷ [])
 Comes _ x w = ⊥
 
--- the queue is what went out and did not come in, and fits
+-- where both ends met: the queue is what went out and did not come in, and fits
 abbrev pub IsLeft : Log → List Message → Type 0
 IsLeft (Both sent taken n) queue = (sent ≡ taken ++ queue) × (length queue ≤ n) × AreMessages sent
 IsLeft _ queue = ⊥

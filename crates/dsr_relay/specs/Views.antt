@@ -1,4 +1,4 @@
--- What contracts see of the two ends of a relay.
+-- What contracts see of the two ends of a relay, and of what they settle.
 use Rattle.std.specs.Prelude.{Bool, ◌==◌, ◌||◌, if◌then◌else◌, List, [], ◌∷◌, ◌++◌, length}
 use Rattle.dsr_file.specs.Placed.{Placed}
 use Rattle.dsr_file.specs.Orderly.{is_ended}
@@ -12,13 +12,13 @@ goes_out batch event = is_ended event.part || (length batch == 31)
 abbrev pub batch_after : List Placed → Placed → List Placed
 batch_after batch event = if goes_out batch event then [] else batch ++ event ∷ []
 
--- the events that were sent, and those of them, the last ones, that have not gone out yet
+-- the relay's name, the events that were sent, and those of them, the last ones, that have not gone out yet
 pub record FeedView : Type 0 where
   pub name : Name
   pub sent : List Placed
   pub batch : List Placed
 
--- the events that were taken, and those of the last message that were not taken yet
+-- the relay's name, the events that were taken, and those of the last message that were not taken yet
 pub record TapView : Type 0 where
   pub name : Name
   pub taken : List Placed

@@ -1,24 +1,15 @@
-//! The steps on the channel.
-ghost use Rattle.std.specs.Prelude.{◌≡◌, ◌<◌, ◌≤◌, [], ◌∷◌, ◌++◌, length, MatchResult, IfSome, IfNone, OnSome};
+//! The two kinds of step on the channel: a message goes in at its back, or comes out at its front.
+ghost use Rattle.std.specs.Prelude.{◌≡◌, [], ◌∷◌, ◌++◌, MatchResult, IfSome, IfNone, OnSome};
 ghost use Rattle.crossbeam_channel.specs.Ends.{sends_on, receives_on, ruled_capacity};
 ghost use Rattle.crossbeam_channel.specs.Claims.{view, IsSeatAt};
 ghost use Rattle.dsr_file.specs.Orderly.{IsOrderly};
 ghost use Rattle.dsr_relay.specs.Messages.{events_of, IsMessage, AreMessages};
 ghost use Rattle.dsr_relay.specs.Rule.{out_of, received_of};
-ghost use Rattle.dsr_relay.specs.Views.{goes_out};
 ghost use Rattle.dsr_relay.specs.declared.rule.Log.TheVariants.{Sends, Takes};
 
 use crate::rule::{InOrder, Log, Message, Received, Sent};
 use crossbeam_channel::{Pass, RuledReceiver, RuledSender};
-use dsr_file::Event;
 use std::sync::Wait;
-
-/// Whether the batch goes out with this event.
-pub fn goes_out(batch: &Message, event: &Event) -> bool
-    ensures { result ≡ goes_out batch.now.items event.now }
-{
-    event.part.is_ended() || batch.len() == 31
-}
 
 /// Puts a message at the back of the channel, or hands it back.
 pub fn send_out<R: Wait>(

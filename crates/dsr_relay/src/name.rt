@@ -8,7 +8,7 @@ ghost use base.Fml.{ftrue};
 
 use std::marker::{Model, PhantomData};
 
-/// The name of a relay, with its capacity. It is for contracts alone: no value of it is made.
+/// The name of a relay, with its capacity in messages. It is for contracts alone: no value of it is made.
 pub struct Name {
     of: PhantomData<()>,
     pub ghost table: { TableId } by { table_id_coded },

@@ -5,12 +5,12 @@ use arrayvec::ArrayVec;
 use crossbeam_channel::protocol::{Join, Lesson, Outcome, Protocol, Split};
 use dsr_file::Event;
 use std::collections::LinkedList;
-use std::marker::Brand;
+use std::marker::{Brand, PhantomData};
 
-/// Up to 32 events that go through the channel at once.
+/// The events that go through the channel at once, 32 at most.
 pub type Message = ArrayVec<Event, 32>;
 
-/// What a pass knows. No value of it is made.
+/// What an end knows by its pass. No value of it is made.
 pub enum Log {
     /// Of a relay that is not yet cut into its ends.
     Fresh,
@@ -18,13 +18,13 @@ pub enum Log {
     Sends(LinkedList<Message>, u64),
     /// Of the tap: the messages that came in.
     Takes(LinkedList<Message>),
-    /// Of both ends that met: what went out, what came in, and how many the channel takes.
+    /// Of both ends where they met: what went out, what came in, and how many the channel takes.
     Both(LinkedList<Message>, LinkedList<Message>, u64),
-    /// Of an end that was taken in by the other.
+    /// Of an end that the other took in.
     Spent,
 }
 
-/// The capacity of a relay.
+/// The capacity of a relay, in messages.
 pub trait Capacity {
     ghost capacity: { ℕ };
 }
@@ -33,7 +33,7 @@ impl Capacity for Brand {
     ghost capacity = { 0 };
 }
 
-/// What came in followed by what the channel holds is what went out, and its events are an orderly list.
+/// What came in, followed by what the channel holds, is what went out, and its events are an orderly list.
 pub struct InOrder;
 
 impl Protocol<Message, Log> for InOrder {
@@ -45,9 +45,9 @@ impl Protocol<Message, Log> for InOrder {
     ghost first = { Fresh };
 }
 
-/// Cuts a fresh relay's pass into the feed's and the tap's.
+/// Cuts the pass of a fresh relay into the feed's and the tap's.
 pub struct Cut<C> {
-    of: std::marker::PhantomData<C>,
+    of: PhantomData<C>,
 }
 
 impl<C: Capacity> Split<Log> for Cut<C> {
@@ -96,16 +96,17 @@ impl Outcome<Message, Log> for Received {
     ghost then = { Comes };
 }
 
+/// A receive learns nothing of what the channel still holds.
 impl Lesson<Message, Log> for Received {
     ghost use Rattle.std.specs.Prelude.{⊤};
 
     ghost fact = { λ v items. ⊤ };
 }
 
-/// What is left in the channel when the ends meet.
-pub struct Total;
+/// What the channel holds where the ends meet: what went out and did not come in.
+pub struct Rest;
 
-impl Lesson<Message, Log> for Total {
+impl Lesson<Message, Log> for Rest {
     ghost use Rattle.dsr_relay.specs.Rule.{IsLeft};
 
     ghost fact = { IsLeft };

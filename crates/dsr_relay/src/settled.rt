@@ -4,7 +4,7 @@ use crate::tap::Tap;
 use std::marker::Model;
 use std::snapshot::Snapshot;
 
-/// How many events were taken and how many are left. Contracts see the two lists.
+/// How many events were taken, and how many are left of those that were sent. Contracts see the two lists, whose lengths the numbers are.
 #[derive(Drop)]
 pub struct Settled {
     pub taken: u64,

@@ -1,7 +1,10 @@
 //! The end that takes.
+ghost use Rattle.std.specs.Prelude.{◌≡◌, ◌+◌, ◌*◌, ◌<◌, ◌≤◌, true, false, [], ◌∷◌, ◌++◌, length, IfSome, IfNone, IfOk, OnErr};
+ghost use Rattle.dsr_file.specs.Orderly.{IsOrderly, has_ended};
+
 use crate::channel::take_next;
 use crate::feed::{Closed, Feed};
-use crate::rule::{InOrder, Log, Meet, Message, Total};
+use crate::rule::{InOrder, Log, Meet, Message, Rest};
 use crate::settled::Settled;
 use arrayvec::IntoIter;
 use crossbeam_channel::{Pass, RuledReceiver};
@@ -22,10 +25,9 @@ pub struct Tap {
 
 impl Model for Tap {
     ghost use Rattle.dsr_relay.specs.Views.{TapView};
+    ghost use Rattle.dsr_relay.specs.Taps.{tap_view, IsTap};
 
     ghost Value = { TapView };
-
-    ghost use Rattle.dsr_relay.specs.Taps.{tap_view, IsTap};
 
     ghost view = { tap_view };
 
@@ -33,11 +35,8 @@ impl Model for Tap {
 }
 
 impl Tap {
-    ghost use Rattle.std.specs.Prelude.{◌≡◌, ◌+◌, ◌*◌, ◌<◌, ◌≤◌, true, false, List, [], ◌∷◌, ◌++◌, length, IfSome, IfNone, OnSome, IfOk, OnOk, OnErr, Ok};
-    ghost use Rattle.dsr_file.specs.Placed.{Placed};
-    ghost use Rattle.dsr_file.specs.Orderly.{IsOrderly, has_ended};
-
-    /// Takes the next event, and waits for it. Where the feed is gone and nothing is left it may answer `Closed`.
+    /// Takes the next event. Where there is none yet, the call waits; where the feed is gone and nothing is left it may answer `Closed`,
+    /// and then nothing has changed.
     pub fn take<R: Wait>(&mut self, rt: &R) -> Result<Event, Closed>
         requires { has_ended self.old.taken ≡ false }
         ensures taken { IfOk result (λ e. self.new ≡ record self.old { taken = self.old.taken ++ e ∷ []; held = self.new.held }) }
@@ -52,7 +51,7 @@ impl Tap {
         }
     }
 
-    // Takes an event of the last message.
+    /// Takes the next event of the last message.
     fn take_held(&mut self) -> Option<Event>
         requires { has_ended self.old.taken ≡ false }
         ensures taken { IfSome result (λ e. self.new ≡ record self.old { taken = self.old.taken ++ e ∷ []; held = self.new.held }) }
@@ -67,7 +66,7 @@ impl Tap {
         Some(event)
     }
 
-    // Receives a message and takes its first event.
+    /// Receives a message and takes its first event.
     fn take_first<R: Wait>(&mut self, rt: &R) -> Result<Event, Closed>
         requires going { has_ended self.old.taken ≡ false }
         requires none_held { self.old.held ≡ [] }
@@ -103,7 +102,7 @@ impl Tap {
         self.held.as_slice().len() as u32
     }
 
-    /// Joins the ends of one relay, and tells what was taken and what is left of what was sent.
+    /// Joins the two ends of one relay, and tells what was taken and what is left of what was sent. It waits for nobody.
     pub fn take_in(self, feed: Feed) -> Settled
         requires { self.name ≡ feed.name }
         ensures taken { result.taken ≡ self.taken }
@@ -128,7 +127,7 @@ impl Tap {
             count,
         } = feed;
         sender.absorb::<Meet>(&mut pass, theirs);
-        sender.learn_as::<Total>(&mut pass);
+        sender.learn_as::<Rest>(&mut pass);
         Settled {
             taken,
             left: count - taken,
