@@ -28,5 +28,5 @@ pub use open::{RelayError, open_relay};
 pub use settled::Settled;
 pub use tap::Tap;
 
-//TEST
-//TESTS
+#[cfg(test)]
+mod tests;
