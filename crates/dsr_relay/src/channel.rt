@@ -1,5 +1,5 @@
 //! The two kinds of step on the channel: a message goes in at its back, or comes out at its front.
-ghost use Rattle.std.specs.Prelude.{◌≡◌, [], ◌∷◌, ◌++◌, MatchResult, IfSome, IfNone, OnSome};
+ghost use Rattle.std.specs.Prelude.{◌≡◌, [], ◌∷◌, ◌++◌, OnOk, OnErr, IfSome, IfNone, OnSome};
 ghost use Rattle.crossbeam_channel.specs.Ends.{sends_on, receives_on, ruled_capacity};
 ghost use Rattle.crossbeam_channel.specs.Claims.{view, IsSeatAt};
 ghost use Rattle.dsr_file.specs.Orderly.{IsOrderly};
@@ -11,25 +11,32 @@ use crate::rule::{InOrder, Log, Message, Received, Sent};
 use crossbeam_channel::{Pass, RuledReceiver, RuledSender};
 use std::sync::Wait;
 
-/// Puts a message at the back of the channel, or hands it back.
+/// The other end of the relay is gone.
+#[derive(Clone, Copy, PartialEq, Eq)]
+pub struct Closed;
+
+/// Puts the batch as a message at the back of the channel, or leaves everything as it was.
 pub fn send_out<R: Wait>(
     rt: &R,
     sender: &RuledSender<Message, Log, InOrder>,
     pass: &mut Pass<Message, Log>,
-    message: Message,
-) -> Result<(), Message>
+    batch: &mut Message,
+) -> Result<(), Closed>
     requires seat { IsSeatAt (sends_on sender.now) pass.old }
     requires knows { view pass.old ≡ Sends (out_of (view pass.old)) (ruled_capacity (sends_on sender.now)) }
-    requires size { IsMessage message.items }
-    requires orderly { IsOrderly (events_of (out_of (view pass.old)) ++ message.items) }
+    requires size { IsMessage batch.old.items }
+    requires orderly { IsOrderly (events_of (out_of (view pass.old)) ++ batch.old.items) }
     ensures seat { IsSeatAt (sends_on sender.now) pass.new }
-    ensures sent { MatchResult result
-        (λ _. view pass.new ≡ Sends (out_of (view pass.old) ++ message ∷ []) (ruled_capacity (sends_on sender.now)))
-        (λ back. (back ≡ message) × (view pass.new ≡ view pass.old)) }
+    ensures sent { OnOk result ((view pass.new ≡ Sends (out_of (view pass.old) ++ batch.old ∷ []) (ruled_capacity (sends_on sender.now))) × (batch.new.items ≡ [])) }
+    ensures closed { OnErr result ((view pass.new ≡ view pass.old) × (batch.new ≡ batch.old)) }
 {
+    let message = batch.take();
     match sender.send_as::<Sent, R>(rt, pass, message) {
         Ok(()) => Ok(()),
-        Err(refused) => Err(refused.into_inner()),
+        Err(refused) => {
+            *batch = refused.into_inner();
+            Err(Closed)
+        }
     }
 }
 

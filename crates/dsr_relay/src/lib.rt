@@ -22,7 +22,8 @@ mod rule;
 mod settled;
 mod tap;
 
-pub use feed::{Closed, Feed};
+pub use channel::Closed;
+pub use feed::Feed;
 pub use name::Name;
 pub use open::{RelayError, open_relay};
 pub use settled::Settled;

@@ -2,8 +2,8 @@
 ghost use Rattle.std.specs.Prelude.{◌≡◌, ◌+◌, ◌*◌, ◌<◌, ◌≤◌, true, false, [], ◌∷◌, ◌++◌, length, IfSome, IfNone, IfOk, OnErr};
 ghost use Rattle.dsr_file.specs.Orderly.{IsOrderly, has_ended};
 
-use crate::channel::take_next;
-use crate::feed::{Closed, Feed};
+use crate::channel::{Closed, take_next};
+use crate::feed::Feed;
 use crate::rule::{InOrder, Log, Meet, Message, Rest};
 use crate::settled::Settled;
 use arrayvec::IntoIter;

@@ -1,4 +1,4 @@
-use Rattle.std.proofs.Common.{◌≡◌, [], ◌∷◌, ◌++◌, length, sym, ap, ◌∙◌, subst, arith, append_assoc, length-append}
+use Rattle.std.proofs.Common.{◌≡◌, ◌+◌, [], ◌∷◌, ◌++◌, length, sym, ap, ◌∙◌, subst, arith, append_assoc, length-append}
 use Rattle.crossbeam_channel.specs.Claims.{view}
 use Rattle.dsr_file.specs.Placed.{Placed}
 use Rattle.dsr_file.specs.Orderly.{IsOrderly}
@@ -25,35 +25,37 @@ invariant_of-self g c =
       count = omega (arith, ap (λ (v : Placed). v.place) c.event.view_is, orderly_next (sent_of f) e [] asked, ap length same, length-append (sent_of f) (e ∷ []));
     }
 
-pub invariant_of-self-in-Ok : goal.invariant_of-self-in-Ok
-invariant_of-self-in-Ok g c =
+pub invariant_of-self-in_default : goal.invariant_of-self-in_default
+invariant_of-self-in_default g c =
     let f = c.self.inside in
     let e = c.args.event in
     let out = events_of (out_of (view f.pass)) in
+    let went = c.in_default.ensures.sent in
     let asked : IsOrderly (sent_of f ++ e ∷ []) = subst (λ (v : FeedView). IsOrderly (v.sent ++ e ∷ [])) (sym c.self.view_is) c.requires in
     let same =
-    sent_out (view f.pass) (view c.send_out.new.pass) _ c.take-batch.result (f.batch.items ++ e ∷ []) c.take-batch.new.self.items c.in-Ok.ensures.sent (ap (λ b. b.items) c.take-batch.ensures.value ∙ c.push.ensures.items) c.take-batch.ensures.after
+    sent_out (view f.pass) (view c.send_out.new.pass) _ _ (f.batch.items ++ e ∷ []) c.send_out.new.batch.items went.0 c.push.ensures.items went.1
     ∙ sym (append_assoc out f.batch.items (e ∷ [])) in
     record {
       seat = c.send_out.ensures.seat;
-      knows = sends_again _ _ _ c.in-Ok.ensures.sent;
-      waits = omega (arith, ap length c.take-batch.ensures.after);
+      knows = sends_again _ _ _ went.0;
+      waits = omega (arith, ap length went.1);
       orderly = subst IsOrderly (sym same) asked;
       count = omega (arith, ap (λ (v : Placed). v.place) c.event.view_is, orderly_next (sent_of f) e [] asked, ap length same, length-append (sent_of f) (e ∷ []));
     }
 
-pub returns-in-Ok-clause-sent : goal.returns-in-Ok-clause-sent
-returns-in-Ok-clause-sent g c =
+pub returns-in_default-clause-sent : goal.returns-in_default-clause-sent
+returns-in_default-clause-sent g c =
     let f = c.self.inside in
     let e = c.args.event in
     let out = events_of (out_of (view f.pass)) in
+    let went = c.in_default.ensures.sent in
     let same =
-    sent_out (view f.pass) (view c.send_out.new.pass) _ c.take-batch.result (f.batch.items ++ e ∷ []) c.take-batch.new.self.items c.in-Ok.ensures.sent (ap (λ b. b.items) c.take-batch.ensures.value ∙ c.push.ensures.items) c.take-batch.ensures.after
+    sent_out (view f.pass) (view c.send_out.new.pass) _ _ (f.batch.items ++ e ∷ []) c.send_out.new.batch.items went.0 c.push.ensures.items went.1
     ∙ sym (append_assoc out f.batch.items (e ∷ [])) in
     let seat = c.send_out.ensures.seat in
     let was = c.self.invariant.seat in
-    let batch = c.take-batch.ensures.after ∙ sym (batch_goes f.batch.items e (sym c.goes_out-goes_out.ensures ∙ c.if-not-goes_out.false)) in
-    let next : feed_view (record f { pass = c.send_out.new.pass; batch = c.take-batch.new.self }) ≡ record (feed_view f) { sent = sent_of f ++ e ∷ []; batch = batch_after f.batch.items e } =
+    let batch = went.1 ∙ sym (batch_goes f.batch.items e (sym c.goes_out-goes_out.ensures ∙ c.if-not-goes_out.false)) in
+    let next : feed_view (record f { pass = c.send_out.new.pass; batch = c.send_out.new.batch; count = c.event.inside.place + 1 }) ≡ record (feed_view f) { sent = sent_of f ++ e ∷ []; batch = batch_after f.batch.items e } =
     λ i. record {
       name = record { of = record {}; table = (seat.0 ∙ sym was.0) i; key = (seat.1 ∙ sym was.1) i; capacity = (feed_view f).name.capacity };
       sent = same i;
