@@ -1,0 +1,57 @@
+//! The two kinds of step on the channel: a message goes in at its back, or comes out at its front.
+ghost use Rattle.std.specs.Prelude.{◌≡◌, [], ◌∷◌, ◌++◌, OnOk, OnErr, IfSome, IfNone, OnSome};
+ghost use Rattle.crossbeam_channel.specs.Ends.{sends_on, receives_on, ruled_capacity};
+ghost use Rattle.crossbeam_channel.specs.Claims.{view, IsSeatAt};
+ghost use Rattle.dsr_file.specs.Orderly.{IsOrderly};
+ghost use Rattle.dsr_relay.specs.Messages.{events_of, IsMessage, AreMessages};
+ghost use Rattle.dsr_relay.specs.Rule.{out_of, received_of};
+ghost use Rattle.dsr_relay.specs.declared.rule.Log.TheVariants.{Sends, Takes};
+
+use crate::rule::{InOrder, Log, Message, Received, Sent};
+use crossbeam_channel::{Pass, RuledReceiver, RuledSender};
+use std::sync::Wait;
+
+/// The other end of the relay is gone.
+#[derive(Clone, Copy, PartialEq, Eq)]
+pub struct Closed;
+
+/// Puts the batch as a message at the back of the channel, or leaves everything as it was.
+pub fn send_out<R: Wait>(
+    rt: &R,
+    sender: &RuledSender<Message, Log, InOrder>,
+    pass: &mut Pass<Message, Log>,
+    batch: &mut Message,
+) -> Result<(), Closed>
+    requires seat { IsSeatAt (sends_on sender.now) pass.old }
+    requires knows { view pass.old ≡ Sends (out_of (view pass.old)) (ruled_capacity (sends_on sender.now)) }
+    requires size { IsMessage batch.old.items }
+    requires orderly { IsOrderly (events_of (out_of (view pass.old)) ++ batch.old.items) }
+    ensures seat { IsSeatAt (sends_on sender.now) pass.new }
+    ensures sent { OnOk result ((view pass.new ≡ Sends (out_of (view pass.old) ++ batch.old ∷ []) (ruled_capacity (sends_on sender.now))) × (batch.new.items ≡ [])) }
+    ensures closed { OnErr result ((view pass.new ≡ view pass.old) × (batch.new ≡ batch.old)) }
+{
+    let message = batch.take();
+    match sender.send_as::<Sent, R>(rt, pass, message) {
+        Ok(()) => Ok(()),
+        Err(refused) => {
+            *batch = refused.into_inner();
+            Err(Closed)
+        }
+    }
+}
+
+/// Takes the message at the front of the channel, or answers that there is none and the feed is gone.
+pub fn take_next<R: Wait>(
+    rt: &R,
+    receiver: &RuledReceiver<Message, Log, InOrder>,
+    pass: &mut Pass<Message, Log>,
+) -> Option<Message>
+    requires seat { IsSeatAt (receives_on receiver.now) pass.old }
+    requires knows { view pass.old ≡ Takes (received_of (view pass.old)) }
+    ensures seat { IsSeatAt (receives_on receiver.now) pass.new }
+    ensures none { IfNone result (view pass.new ≡ view pass.old) }
+    ensures taken { IfSome result (λ m. view pass.new ≡ Takes (received_of (view pass.old) ++ m ∷ [])) }
+    ensures orderly { OnSome result (IsOrderly (events_of (received_of (view pass.new))) × AreMessages (received_of (view pass.new))) }
+{
+    receiver.recv_as::<Received, R>(rt, pass).ok()
+}

@@ -1,0 +1,379 @@
+//! Relays at work: refusals, handed back events, closed ends, full channels, and threads.
+ghost use Rattle.std.specs.Prelude.{◌≡◌, ℕ, ◌+◌, ◌<◌, true, false, [], length, IfSome, IfOk, OnOk, OnErr};
+ghost use Rattle.dsr_file.specs.Orderly.{has_ended, is_ended, MayStandAt};
+
+use crate::{Closed, Feed, RelayError, Tap, open_relay};
+use dsr_file::{Event, EventPart, Opening, Outcome, Summaries};
+use dsr_records::{Block, Layout, Record, Resource, Usage, Work, read_record};
+use std::alloc::Global;
+use std::snapshot::Snapshot;
+use std::sync::Wait;
+use std::test::Fail;
+use std::thread;
+use std::thread::Promise;
+
+/// An opening with one summary.
+fn opened(alloc: Global) -> Option<EventPart>
+    ensures { IfSome result (λ part. MayStandAt 0 part × (is_ended part ≡ false)) }
+{
+    let layout = Layout::standard();
+    let head = "HEAD\tR1\t1\t1\t2024-01-01\t2024-01-31\tS\tL";
+    let Ok(Record::Head(head)) = read_record(alloc, &layout, head) else {
+        return None;
+    };
+    let summary = "SY01\tS1\tGB\tOnDemandStream\tGBP\t100\t1";
+    let Ok(Record::Summary(summary)) = read_record(alloc, &layout, summary) else {
+        return None;
+    };
+    let mut summaries = Summaries::new(alloc);
+    let Ok(()) = summaries.push(summary) else {
+        return None;
+    };
+    Some(EventPart::Opened(Opening { head, summaries }))
+}
+
+fn resource(alloc: Global, n: u64) -> Option<Resource> {
+    let line = format!(in alloc; "AS01\t{n}\tGBABC2400001\tSong\tBand").ok()?;
+    match read_record(alloc, &Layout::standard(), line.as_str()) {
+        Ok(Record::Resource(resource)) => Some(resource),
+        _ => None,
+    }
+}
+
+fn work(alloc: Global, n: u64) -> Option<Work> {
+    let line = format!(in alloc; "MW01\t{n}\tW1\tSong\tP1|P2\t50|25").ok()?;
+    match read_record(alloc, &Layout::standard(), line.as_str()) {
+        Ok(Record::Work(work)) => Some(work),
+        _ => None,
+    }
+}
+
+fn usage(alloc: Global, n: u64) -> Option<Usage> {
+    let line = format!(in alloc; "SU01\t{n}\tS1\t1\t0.01").ok()?;
+    match read_record(alloc, &Layout::standard(), line.as_str()) {
+        Ok(Record::Usage(usage)) => Some(usage),
+        _ => None,
+    }
+}
+
+/// The block number `n`, with a title, a work of two parties and a usage.
+fn block(alloc: Global, n: u64) -> Option<EventPart>
+    ensures { IfSome result (λ part. ((place : ℕ) → 0 < place → MayStandAt place part) × (is_ended part ≡ false)) }
+{
+    let mut block = Block::open(alloc, resource(alloc, n)?).ok()?;
+    let Ok(()) = block.push_work(work(alloc, n)?) else {
+        return None;
+    };
+    let Ok(()) = block.push_usage(usage(alloc, n)?) else {
+        return None;
+    };
+    Some(EventPart::Block(block))
+}
+
+/// Whether the event is the block number `n` that `block` makes.
+fn is_block(event: &Event, n: u64) -> bool {
+    let EventPart::Block(block) = &event.part else {
+        return false;
+    };
+    let Some(title) = block.resource.titles.get(0) else {
+        return false;
+    };
+    let Some(work) = block.works.get(0) else {
+        return false;
+    };
+    event.place == n
+        && block.id.as_str().parse::<u64>() == Ok(n)
+        && title.as_str() == "Song"
+        && work.parties.len() == 2
+        && block.usages.len() == 1
+}
+
+fn is_opened(event: &Event) -> bool {
+    event.place == 0 && matches!(&event.part, EventPart::Opened(_))
+}
+
+fn is_end(event: &Event, place: u64) -> bool {
+    event.place == place && matches!(&event.part, EventPart::Ended(Outcome::Whole))
+}
+
+fn ended() -> EventPart
+    ensures { (place : ℕ) → MayStandAt place result }
+{
+    EventPart::Ended(Outcome::Whole)
+}
+
+/// Sends the part at the next place.
+fn send_part<R: Wait>(rt: &R, feed: &mut Feed, part: EventPart) -> Result<(), Event>
+    requires going { has_ended feed.old.sent ≡ false }
+    requires few { length feed.old.sent < 100000 }
+    requires part { MayStandAt (length feed.old.sent) part }
+    ensures name { feed.new.name ≡ feed.old.name }
+    ensures sent { OnOk result ((length feed.new.sent ≡ length feed.old.sent + 1) × (has_ended feed.new.sent ≡ is_ended part)) }
+    ensures refused { OnErr result (feed.new ≡ feed.old) }
+{
+    let place = feed.sent_count();
+    feed.send(rt, Event { place, part })
+}
+
+/// Sends the opening, and answers whether it was taken.
+fn send_opened<R: Wait>(rt: &R, alloc: Global, feed: &mut Feed) -> bool
+    requires { feed.old.sent ≡ [] }
+    ensures name { feed.new.name ≡ feed.old.name }
+    ensures sent { result ≡ true → (length feed.new.sent ≡ 1) × (has_ended feed.new.sent ≡ false) }
+{
+    let Some(part) = opened(alloc) else {
+        return false;
+    };
+    let Ok(()) = send_part(rt, feed, part) else {
+        return false;
+    };
+    true
+}
+
+/// Sends the block of the next place, and answers whether it was taken.
+fn send_block<R: Wait>(rt: &R, alloc: Global, feed: &mut Feed) -> bool
+    requires going { has_ended feed.old.sent ≡ false }
+    requires few { (0 < length feed.old.sent) × (length feed.old.sent < 100000) }
+    ensures name { feed.new.name ≡ feed.old.name }
+    ensures sent { result ≡ true → (length feed.new.sent ≡ length feed.old.sent + 1) × (has_ended feed.new.sent ≡ false) }
+{
+    let Some(part) = block(alloc, feed.sent_count()) else {
+        return false;
+    };
+    let Ok(()) = send_part(rt, feed, part) else {
+        return false;
+    };
+    true
+}
+
+/// Sends Ended, which may come back.
+fn send_ended<R: Wait>(rt: &R, feed: &mut Feed) -> Result<(), Event>
+    requires going { has_ended feed.old.sent ≡ false }
+    requires few { length feed.old.sent < 100000 }
+    ensures name { feed.new.name ≡ feed.old.name }
+    ensures refused { OnErr result (feed.new ≡ feed.old) }
+{
+    send_part(rt, feed, ended())
+}
+
+/// Sends Opened, then blocks, and answers whether all were taken.
+fn send_blocks<R: Wait>(rt: &R, alloc: Global, feed: &mut Feed, blocks: u64) -> bool
+    requires empty { feed.old.sent ≡ [] }
+    requires few { blocks < 50000 }
+    ensures name { feed.new.name ≡ feed.old.name }
+    ensures sent { result ≡ true → (length feed.new.sent ≡ blocks + 1) × (has_ended feed.new.sent ≡ false) }
+{
+    if !send_opened(rt, alloc, feed) {
+        return false;
+    }
+    for _n in 0..blocks {
+        if !send_block(rt, alloc, feed) {
+            return false;
+        }
+    }
+    true
+}
+
+/// A new relay.
+fn relay(alloc: Global, capacity: u32) -> Result<(Feed, Tap), Fail>
+    ensures { IfOk result (λ r. (r.1.name ≡ r.0.name) × (r.0.sent ≡ []) × (r.0.batch ≡ []) × (r.1.taken ≡ []) × (r.1.held ≡ [])) }
+{
+    match open_relay(alloc, capacity) {
+        Ok(ends) => Ok(ends),
+        Err(_) => Err(Fail::new("no relay")),
+    }
+}
+
+#[test]
+fn capacities(rt: HostRuntime) {
+    assert!(rt; matches!(open_relay(rt.alloc(), 0), Err(RelayError::Capacity)));
+    assert!(rt; matches!(open_relay(rt.alloc(), 1025), Err(RelayError::Capacity)));
+    assert!(rt; open_relay(rt.alloc(), 1).is_ok());
+    assert!(rt; open_relay(rt.alloc(), 1024).is_ok());
+}
+
+#[test]
+fn one_sent_none_taken(rt: HostRuntime) -> Result<(), Fail> {
+    let (mut feed, tap) = relay(rt.alloc(), 1)?;
+    assert!(rt; send_opened(&rt, rt.alloc(), &mut feed));
+    let settled = tap.take_in(feed);
+    assert_eq!(rt; (settled.taken, settled.left), (0, 1));
+    Ok(())
+}
+
+#[test]
+fn an_ended_comes_back_twice(rt: HostRuntime) -> Result<(), Fail> {
+    let (mut feed, tap) = relay(rt.alloc(), 1)?;
+    drop(tap);
+    let Err(first) = send_ended(&rt, &mut feed) else {
+        return Err(Fail::new("no event came back"));
+    };
+    let Err(second) = send_ended(&rt, &mut feed) else {
+        return Err(Fail::new("no event came back the second time"));
+    };
+    assert!(rt; is_end(&first, 0) && is_end(&second, 0));
+    assert_eq!(rt; feed.sent_count(), 0);
+    Ok(())
+}
+
+#[test]
+fn a_dropped_feed_closes(rt: HostRuntime) -> Result<(), Fail> {
+    let (mut feed, mut tap) = relay(rt.alloc(), 1)?;
+    assert!(rt; send_opened(&rt, rt.alloc(), &mut feed));
+    assert!(rt; feed.flush(&rt).is_ok());
+    drop(feed);
+    let Ok(first) = tap.take(&rt) else {
+        return Err(Fail::new("nothing was taken"));
+    };
+    assert!(rt; is_opened(&first));
+    assert!(rt; !tap.ended());
+    let second = tap.take(&rt);
+    assert!(rt; second.is_err());
+    Ok(())
+}
+
+#[test]
+fn forty_events_in_one_place(rt: HostRuntime) -> Result<(), Fail> {
+    let (mut feed, tap) = relay(rt.alloc(), 1)?;
+    assert!(rt; send_blocks(&rt, rt.alloc(), &mut feed, 39));
+    assert_eq!(rt; feed.sent_count(), 40);
+    let settled = tap.take_in(feed);
+    assert_eq!(rt; (settled.taken, settled.left), (0, 40));
+    Ok(())
+}
+
+#[test]
+fn one_of_forty_is_taken(rt: HostRuntime) -> Result<(), Fail> {
+    let (mut feed, mut tap) = relay(rt.alloc(), 1)?;
+    assert!(rt; send_blocks(&rt, rt.alloc(), &mut feed, 39));
+    let Ok(first) = tap.take(&rt) else {
+        return Err(Fail::new("nothing was taken"));
+    };
+    assert!(rt; is_opened(&first));
+    assert_eq!(rt; tap.held(), 31);
+    let settled = tap.take_in(feed);
+    assert_eq!(rt; (settled.taken, settled.left), (1, 39));
+    Ok(())
+}
+
+/// Takes one event of a new relay, answers whether it is an opening, and drops the tap.
+fn takes_opened<R: Wait>(rt: &R, mut tap: Tap) -> bool
+    requires { tap.taken ≡ [] }
+{
+    let Ok(event) = tap.take(rt) else {
+        return false;
+    };
+    is_opened(&event)
+}
+
+#[test]
+fn a_closed_tap_hands_back(rt: HostRuntime) -> Result<(), Fail> {
+    let (mut feed, tap) = relay(rt.alloc(), 2)?;
+    if !send_opened(&rt, rt.alloc(), &mut feed) {
+        return Err(Fail::new("Opened was refused"));
+    }
+    assert!(rt; feed.flush(&rt).is_ok());
+    assert!(rt; takes_opened(&rt, tap));
+    if !send_block(&rt, rt.alloc(), &mut feed) {
+        return Err(Fail::new("the block was refused"));
+    }
+    let Err(Closed) = feed.flush(&rt) else {
+        return Err(Fail::new("a batch went out to a tap that is gone"));
+    };
+    let Err(back) = send_ended(&rt, &mut feed) else {
+        return Err(Fail::new("no event came back"));
+    };
+    assert!(rt; is_end(&back, 2));
+    assert_eq!(rt; feed.sent_count(), 2);
+    Ok(())
+}
+
+/// The feed that a thread gives back is of the relay of the feed that it was given.
+#[derive(Drop)]
+struct SameRelay(Snapshot<Feed>);
+
+impl Promise<Feed> for SameRelay {
+    ghost kept_by = { λ p feed. feed.name ≡ p.0.value.name };
+}
+
+/// Sends a file of so many blocks whole, and gives the feed back.
+fn send_file<R: Wait>(rt: &R, alloc: Global, mut feed: Feed, blocks: u64) -> Feed
+    requires empty { feed.sent ≡ [] }
+    requires few { blocks < 50000 }
+    ensures { result.name ≡ feed.name }
+{
+    if !send_blocks(rt, alloc, &mut feed, blocks) {
+        return feed;
+    }
+    let Ok(()) = send_ended(rt, &mut feed) else {
+        return feed;
+    };
+    let _ = feed.flush(rt);
+    feed
+}
+
+/// Takes the events of a file of blocks, and answers how many were the right ones, up to the first that was not.
+fn take_file<R: Wait>(rt: &R, tap: &mut Tap) -> u64
+    ensures { tap.new.name ≡ tap.old.name }
+{
+    for place in 0..u64::MAX {
+        if tap.ended() {
+            return place;
+        }
+        let Ok(event) = tap.take(rt) else {
+            return place;
+        };
+        if !(is_opened(&event) || is_block(&event, place) || is_end(&event, place)) {
+            return place;
+        }
+    }
+    u64::MAX
+}
+
+#[test]
+fn a_feed_moves_to_a_thread(rt: HostRuntime) -> Result<(), Fail> {
+    let alloc: Global = rt.alloc();
+    let (feed, mut tap) = relay(alloc, 1)?;
+    let promise = SameRelay(Snapshot::of(&feed));
+    let sender = thread::spawn_with(&rt, promise, move || send_file(&rt, alloc, feed, 0))?;
+    let Ok(first) = tap.take(&rt) else {
+        return Err(Fail::new("nothing was taken"));
+    };
+    assert!(rt; is_opened(&first));
+    if tap.ended() {
+        return Err(Fail::new("the file ended early"));
+    }
+    let Ok(second) = tap.take(&rt) else {
+        return Err(Fail::new("no second event was taken"));
+    };
+    assert!(rt; is_end(&second, 1));
+    assert!(rt; tap.ended());
+    let settled = tap.take_in(sender.join(&rt));
+    assert_eq!(rt; (settled.taken, settled.left), (2, 0));
+    Ok(())
+}
+
+#[test]
+fn a_tap_moves_to_a_thread(rt: HostRuntime) -> Result<(), Fail> {
+    let (mut feed, tap) = relay(rt.alloc(), 1)?;
+    let taker = thread::spawn(&rt, move || takes_opened(&rt, tap))?;
+    if !send_opened(&rt, rt.alloc(), &mut feed) {
+        return Err(Fail::new("Opened was refused"));
+    }
+    assert!(rt; feed.flush(&rt).is_ok());
+    assert!(rt; taker.join(&rt));
+    Ok(())
+}
+
+#[test]
+fn many_blocks_through_one_place(rt: HostRuntime) -> Result<(), Fail> {
+    let alloc: Global = rt.alloc();
+    let (feed, mut tap) = relay(alloc, 1)?;
+    let promise = SameRelay(Snapshot::of(&feed));
+    let sender = thread::spawn_with(&rt, promise, move || send_file(&rt, alloc, feed, 20_000))?;
+    assert_eq!(rt; take_file(&rt, &mut tap), 20_002);
+    assert!(rt; tap.ended());
+    let settled = tap.take_in(sender.join(&rt));
+    assert_eq!(rt; (settled.taken, settled.left), (20_002, 0));
+    Ok(())
+}
