@@ -1,0 +1,107 @@
+//! The columns of the kinds, and their names.
+ghost use Rattle.std.specs.Prelude.{◌≡◌};
+ghost use Rattle.dsr_records.specs.Tables.{columns_of, column_name, may_be_empty};
+
+use crate::kinds::{Column, Kind};
+
+impl Column {
+    /// The name of the column, as it is spelled.
+    pub fn name(self) -> &'static str
+        ensures { result.now ≡ column_name self }
+    {
+        match self {
+            Column::MessageId => "MessageId",
+            Column::FileNumber => "FileNumber",
+            Column::NumberOfFiles => "NumberOfFiles",
+            Column::UsageStartDate => "UsageStartDate",
+            Column::UsageEndDate => "UsageEndDate",
+            Column::Sender => "Sender",
+            Column::Recipient => "Recipient",
+            Column::SummaryRecordId => "SummaryRecordId",
+            Column::Territory => "Territory",
+            Column::UseType => "UseType",
+            Column::Currency => "Currency",
+            Column::Usages => "Usages",
+            Column::Amount => "Amount",
+            Column::BlockId => "BlockId",
+            Column::Isrc => "Isrc",
+            Column::Titles => "Titles",
+            Column::Artists => "Artists",
+            Column::WorkId => "WorkId",
+            Column::Title => "Title",
+            Column::Parties => "Parties",
+            Column::Shares => "Shares",
+            Column::NumberOfLinesInFile => "NumberOfLinesInFile",
+            Column::NumberOfSummaryRecords => "NumberOfSummaryRecords",
+            Column::NumberOfBlocksInFile => "NumberOfBlocksInFile",
+        }
+    }
+}
+
+/// The columns of a kind, in order.
+pub(crate) fn columns(kind: Kind) -> &'static [Column]
+    ensures { result.now ≡ columns_of kind }
+{
+    match kind {
+        Kind::Head => &[
+            Column::MessageId,
+            Column::FileNumber,
+            Column::NumberOfFiles,
+            Column::UsageStartDate,
+            Column::UsageEndDate,
+            Column::Sender,
+            Column::Recipient,
+        ],
+        Kind::Summary => &[
+            Column::SummaryRecordId,
+            Column::Territory,
+            Column::UseType,
+            Column::Currency,
+            Column::Usages,
+            Column::Amount,
+        ],
+        Kind::Resource => &[
+            Column::BlockId,
+            Column::Isrc,
+            Column::Titles,
+            Column::Artists,
+        ],
+        Kind::Work => &[
+            Column::BlockId,
+            Column::WorkId,
+            Column::Title,
+            Column::Parties,
+            Column::Shares,
+        ],
+        Kind::Usage => &[
+            Column::BlockId,
+            Column::SummaryRecordId,
+            Column::Usages,
+            Column::Amount,
+        ],
+        Kind::Foot => &[
+            Column::NumberOfLinesInFile,
+            Column::NumberOfSummaryRecords,
+            Column::NumberOfBlocksInFile,
+        ],
+        Kind::Skipped => &[],
+    }
+}
+
+/// Whether a column may be empty, and so missing.
+pub(crate) fn column_may_be_empty(column: Column) -> bool
+    ensures { result ≡ may_be_empty column }
+{
+    match column {
+        Column::Sender
+        | Column::Recipient
+        | Column::Isrc
+        | Column::Titles
+        | Column::Artists
+        | Column::WorkId
+        | Column::Title
+        | Column::Parties
+        | Column::Shares => true,
+        _ => false,
+    }
+}
