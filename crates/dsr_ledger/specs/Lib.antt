@@ -8,3 +8,6 @@ pub mod Parts
 pub mod Ledger
 pub mod Findings
 pub mod Reports
+-- Words that relate what is kept to them.
+pub mod Numbered
+pub mod Owed

@@ -2,6 +2,7 @@
 #![tactic(auto)]
 
 mod key;
+mod parties;
 mod report;
 mod verdict;
 
