@@ -10,4 +10,6 @@ pub mod Findings
 pub mod Reports
 -- Words that relate what is kept to them.
 pub mod Numbered
+pub mod Ranges
 pub mod Owed
+pub mod Tallies

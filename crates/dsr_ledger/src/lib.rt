@@ -2,8 +2,13 @@
 #![tactic(auto)]
 
 mod key;
+mod line;
+mod lines;
+mod owed;
 mod parties;
+mod parts;
 mod report;
+mod sums;
 mod verdict;
 
 pub use report::{
