@@ -5,3 +5,5 @@ pub mod OwedLemmas
 pub mod NoteLemmas
 pub mod KeyLemmas
 pub mod TallyLemmas
+pub mod FoundLemmas
+pub mod DraftLemmas

@@ -13,3 +13,5 @@ pub mod Numbered
 pub mod Ranges
 pub mod Owed
 pub mod Tallies
+pub mod Found
+pub mod Drafts

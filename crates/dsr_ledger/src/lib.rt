@@ -1,9 +1,12 @@
 //! The books of a report: how its files stand, what is said of each block, the ledger, and the report.
 #![tactic(auto)]
 
+mod draft;
+mod found;
 mod key;
 mod line;
 mod lines;
+mod noting;
 mod owed;
 mod parties;
 mod parts;
