@@ -7,3 +7,7 @@ pub mod KeyLemmas
 pub mod TallyLemmas
 pub mod FoundLemmas
 pub mod DraftLemmas
+pub mod EachLemmas
+pub mod ShareLemmas
+pub mod TallyPlusLemmas
+pub mod ShownLemmas
