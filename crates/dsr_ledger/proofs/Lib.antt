@@ -7,6 +7,10 @@ pub mod KeyLemmas
 pub mod TallyLemmas
 pub mod FoundLemmas
 pub mod DraftLemmas
+pub mod FitLemmas
+pub mod JudgedLemmas
+pub mod StandLemmas
+pub mod ResultLemmas
 pub mod EachLemmas
 pub mod ShareLemmas
 pub mod TallyPlusLemmas

@@ -15,3 +15,5 @@ pub mod Owed
 pub mod Tallies
 pub mod Found
 pub mod Drafts
+pub mod FileSteps
+pub mod Stands

@@ -4,6 +4,7 @@
 mod adding;
 mod counting;
 mod draft;
+mod file;
 mod found;
 mod judge;
 mod key;
