@@ -10,6 +10,12 @@ pub mod DraftLemmas
 pub mod FitLemmas
 pub mod JudgedLemmas
 pub mod StandLemmas
+pub mod OpenLemmas
+pub mod PutLemmas
+pub mod FilesLemmas
+pub mod SmallLemmas
+pub mod CallerLemmas
+pub mod BooksLemmas
 pub mod ResultLemmas
 pub mod EachLemmas
 pub mod ShareLemmas

@@ -17,7 +17,7 @@ use Rattle.dsr_ledger.specs.Ledger.{is_at_key, at_key, usages_sum, amount_sum}
 use Rattle.dsr_ledger.specs.Owed.{owed_for, owed_plus}
 use Rattle.dsr_ledger.specs.Ranges.{IsInRange}
 use Rattle.dsr_ledger.specs.Tallies.{Tally, tally_of, key_tally, tally_plus, tally_with, TallyFits}
-use Rattle.dsr_ledger.proofs.SumLemmas.{int_sum_by-append, abs-int_sum_by, abs-add, add-assoc, add-zero}
+use Rattle.dsr_ledger.proofs.SumLemmas.{int_sum_by-append, abs-int_sum_by, abs-add, add-assoc, add-zero, zero-add}
 use Rattle.dsr_ledger.proofs.OwedLemmas.{or_true, or_false, or-assoc, any_of, owed_plus-assoc, owed_plus-none, owed_for-append, parts_size, size_of}
 use Rattle.dsr_ledger.proofs.EachLemmas.{each_append, each_filter, each_weaker}
 use Rattle.dsr_ledger.proofs.ShareLemmas.{parts_within}
@@ -139,3 +139,12 @@ tally_fits_after t bs q i n m few room small h =
           let o = abs-add (t.owed p).amount (owed_for p (all_parts own)).amount in
           omega arith;
     }
+
+-- nothing, with more
+pub tally_plus-none_left : (t : Tally) → tally_plus (tally_of []) t ≡ t
+tally_plus-none_left t = λ i. record {
+  is_booked = t.is_booked;
+  usages = zero-add t.usages i;
+  amount = zero-add t.amount i;
+  owed = λ q. record { has_part = (t.owed q).has_part; amount = zero-add (t.owed q).amount i };
+}

@@ -17,3 +17,6 @@ pub mod Found
 pub mod Drafts
 pub mod FileSteps
 pub mod Stands
+pub mod Openings
+pub mod Books
+pub mod BooksWords

@@ -2,15 +2,18 @@
 #![tactic(auto)]
 
 mod adding;
+mod books;
 mod counting;
 mod draft;
 mod file;
 mod found;
 mod judge;
+mod kept;
 mod key;
 mod line;
 mod lines;
 mod noting;
+mod open;
 mod owed;
 mod parties;
 mod parts;
@@ -18,6 +21,7 @@ mod report;
 mod sums;
 mod verdict;
 
+pub use books::Books;
 pub use report::{
     Difference, Differences, FileLine, FileLines, LedgerLine, LedgerLines, Numbers, Parties,
     PartyLine, Reject, Rejects, Report, ReportKey,
