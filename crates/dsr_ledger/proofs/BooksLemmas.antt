@@ -96,16 +96,16 @@ stands_ended old new files k f o is items lines h =
     let s = at.stands in
     record {
       each = subst (λ fs. FilesStand 1 [] fs (with_outcome files k o)) (sym items) (
-        at.change (λ x. x.blocks) (λ x. Some o) (ended f o) (record {
-          place = s.place;
-          opening = s.opening;
-          standing = s.standing;
-          blocks = s.blocks;
-          ids = s.ids;
-          founds = s.founds;
-          rejects = s.rejects;
-          outcome = refl;
-        }));
+          at.change (λ x. x.blocks) (λ x. Some o) (ended f o) (record {
+            place = s.place;
+            opening = s.opening;
+            standing = s.standing;
+            blocks = s.blocks;
+            ids = s.ids;
+            founds = s.founds;
+            rejects = s.rejects;
+            outcome = refl;
+          }));
       lines = λ q. ap (λ l. tally_at l q) lines ∙ h.lines q ∙ ap (λ bs. key_tally bs q) (sym (bookings-outcome 1 [] files k o));
     }
 
@@ -129,9 +129,9 @@ stands_opened old new files f o one items lines h =
     let place : length old.files.items + 1 ≡ 1 + length old.files.items = omega arith in
     record {
       each = subst (λ fs. FilesStand 1 [] fs (files ++ opened o ∷ [])) (sym items) (
-        stand_push 1 [] old.files.items files f (opened o) h.each (
+          stand_push 1 [] old.files.items files f (opened o) h.each (
           subst (λ e. FileStands f (record { place = 1 + length old.files.items; standing = standing e o; file = opened o })) same (
-            subst (λ m. FileStands f (record { place = m; standing = standing (openings_of old.files.items) o; file = opened o })) place one)));
+          subst (λ m. FileStands f (record { place = m; standing = standing (openings_of old.files.items) o; file = opened o })) place one)));
       lines = λ q. ap (λ l. tally_at l q) lines ∙ h.lines q ∙ ap (λ bs. key_tally bs q) (sym (bookings-opened 1 [] files o));
     }
 

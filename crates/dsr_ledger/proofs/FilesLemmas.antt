@@ -1,6 +1,7 @@
 -- The files that are kept, and one of them.
-use Rattle.std.proofs.Common.{◌≡◌, ℕ, zero, suc, ◌+◌, ◌<◌, List, [], ◌∷◌, ◌++◌, append_assoc, append-nil, length, get_or, set, refl, sym, ◌∙◌, ap, subst, arith}
+use Rattle.std.proofs.Common.{◌≡◌, ℕ, zero, suc, ◌+◌, ◌<◌, List, [], ◌∷◌, ◌++◌, append_assoc, append-nil, Bool, true, false, true≢false, length, get_or, set, refl, sym, ◌∙◌, ap, subst, arith}
 use Rattle.std.specs.Prelude.{Option, None, Some, map, slice_get, unwrap_or}
+use Rattle.std.specs.Option.{option_map_or}
 use Rattle.std.specs.List.{AllByRecursion}
 use Rattle.dsr_records.specs.Blocks.{BlockParts}
 use Rattle.dsr_file.specs.declared.fault.Outcome.{Outcome}
@@ -81,7 +82,15 @@ stand_push n e [] [] f file h one =
 stand_push n e [] (x ∷ files) f file h one = absurd h
 stand_push n e (g ∷ fs) [] f file h one = absurd h
 stand_push n e (g ∷ fs) (x ∷ files) f file h one =
-    let next : n + suc (length fs) ≡ suc n + length fs = omega arith in
-    (h.0, stand_push (suc n) (e ++ x.opening ∷ []) fs files f file h.1 (
-      subst (λ m. FileStands f (record { place = m; standing = standing ((e ++ x.opening ∷ []) ++ map (λ y. y.opening) files) file.opening; file = file })) next (
-        subst (λ l. FileStands f (record { place = n + suc (length fs); standing = standing l file.opening; file = file })) (sym (append_assoc e (x.opening ∷ []) (map (λ y. y.opening) files))) one)))
+    let next : n + suc (length fs) ≡ suc n + length fs = omega arith in (
+      h.0,
+      stand_push (suc n) (e ++ x.opening ∷ []) fs files f file h.1 (
+          subst (λ m. FileStands f (record { place = m; standing = standing ((e ++ x.opening ∷ []) ++ map (λ y. y.opening) files) file.opening; file = file })) next (
+          subst (λ l. FileStands f (record { place = n + suc (length fs); standing = standing l file.opening; file = file })) (sym (append_assoc e (x.opening ∷ []) (map (λ y. y.opening) files))) one)),
+    )
+
+-- the file at an index at which one has an opening
+pub open_at : (r : FileBooks → Bool) (fs : List FileBooks) (k : ℕ) (g : FileBooks) → g ≡ get_or fs k g → option_map_or r (slice_get fs k) false ≡ true → slice_get fs k ≡ Some g
+open_at r [] k g is h = absurd (true≢false (sym h))
+open_at r (x ∷ fs) zero g is h = ap Some (sym is)
+open_at r (x ∷ fs) (suc k) g is h = open_at r fs k g is h

@@ -44,13 +44,13 @@ booked_last ((false, q) ∷ xs) x r e = booked_last xs x r e
 booked_shares : (s : Standing) (seen : Bool) (known : List ℕ → Bool) (b : BlockParts) → verdict_by s seen known b ≡ Booked → share_total b.works ≤ 1000000
 unfolding verdict_by
 booked_shares s seen known b e = ltb-false 1000000 (share_total b.works) (booked_last (
-  (is_foreign s, ForeignFile)
-  ∷ (is_doubled s, DoubledFile)
-  ∷ (seen, DoubledBlock)
-  ∷ (length b.resource.isrc == 0, NoIsrc)
-  ∷ (not (is_isrc_text b.resource.isrc), BadIsrc)
-  ∷ (list_any (names_unknown known) b.usages, UnknownSummary)
-  ∷ []) (nat_lt 1000000 (share_total b.works)) ShareOver e)
+    (is_foreign s, ForeignFile)
+    ∷ (is_doubled s, DoubledFile)
+    ∷ (seen, DoubledBlock)
+    ∷ (length b.resource.isrc == 0, NoIsrc)
+    ∷ (not (is_isrc_text b.resource.isrc), BadIsrc)
+    ∷ (list_any (names_unknown known) b.usages, UnknownSummary)
+    ∷ []) (nat_lt 1000000 (share_total b.works)) ShareOver e)
 
 length-verdict_bookings : (os : List Summary) (b : BlockParts) (v : Verdict) → IsBlockInRange b → length (verdict_bookings os (b, v)) ≤ 63
 unfolding block_bookings
@@ -77,7 +77,7 @@ small_judged_bookings s os e (b ∷ bs) h =
     let v = verdict s os e b in
     let js = judged s os (e ++ b ∷ []) bs in
     subst (AllByRecursion IsSmall) (sym (flat_map-cons (verdict_bookings os) (b, v) js)) (
-      each_append IsSmall (verdict_bookings os (b, v)) (flat_map (verdict_bookings os) js) (small_verdict_bookings os b v h.0 (booked_shares s _ _ b)) (small_judged_bookings s os (e ++ b ∷ []) bs h.1))
+    each_append IsSmall (verdict_bookings os (b, v)) (flat_map (verdict_bookings os) js) (small_verdict_bookings os b v h.0 (booked_shares s _ _ b)) (small_judged_bookings s os (e ++ b ∷ []) bs h.1))
 
 length-bookings_after : (n : ℕ) (e : List (Option OpeningParts)) (files : List File) → AllByRecursion IsSmallFile files → length (bookings_after n e files) ≤ length files * (2 ^ 37 * 63)
 length-bookings_after n e [] h = omega arith
@@ -95,7 +95,7 @@ small_bookings_after n e (f ∷ files) h =
     let own : Filed = record { place = n; standing = standing e f.opening; file = f } in
     let ds = filed_after (suc n) (e ++ f.opening ∷ []) files in
     subst (AllByRecursion IsSmall) (sym (flat_map-cons filed_bookings own ds)) (
-      each_append IsSmall (filed_bookings own) (flat_map filed_bookings ds) (small_judged_bookings (standing e f.opening) (summaries_of f.opening) [] f.blocks h.0.range) (small_bookings_after (suc n) (e ++ f.opening ∷ []) files h.1))
+    each_append IsSmall (filed_bookings own) (flat_map filed_bookings ds) (small_judged_bookings (standing e f.opening) (summaries_of f.opening) [] f.blocks h.0.range) (small_bookings_after (suc n) (e ++ f.opening ∷ []) files h.1))
 
 -- so 63 more usages fit
 pub lines_fit : (files : List File) (lines : Lines) → LinesStand lines (bookings files) → AllByRecursion IsSmallFile files → length files ≤ 64 → (q : Key) → TallyFits 63 (tally_at lines q)
@@ -104,7 +104,7 @@ lines_fit files lines h small few q =
     let many = length-bookings_after 1 [] files small in
     let nothing : TallyFits (64 * (2 ^ 37 * 63) + 63) (tally_of []) = record { usages = omega arith; amount = omega arith; owed = λ p. omega arith } in
     subst (TallyFits 63) (tally_plus-none_left (key_tally bs q) ∙ sym (h q)) (
-      tally_fits_after (tally_of []) bs q (64 * (2 ^ 37 * 63)) (64 * (2 ^ 37 * 63) + 63) 63 (omega arith) (omega arith) (small_bookings_after 1 [] files small) nothing)
+    tally_fits_after (tally_of []) bs q (64 * (2 ^ 37 * 63)) (64 * (2 ^ 37 * 63) + 63) 63 (omega arith) (omega arith) (small_bookings_after 1 [] files small) nothing)
 
 length-usages_in : (bs : List BlockParts) → AllByRecursion IsBlockInRange bs → length (usages_in bs) ≤ length bs * 63
 length-usages_in [] h = omega arith
@@ -134,4 +134,4 @@ founds_fit f d h small id =
     let many = length-usages_in d.file.blocks small.range in
     let few = small.few in
     subst P (sym (h.founds id)) (
-      found_fits (find (λ s. bytes_eq id s.id) (summaries_of d.file.opening)) id (usages_in d.file.blocks) (2 ^ 37 * 63) (2 ^ 37 * 63 + 63) 63 (omega arith) (omega arith) (small_usages_in d.file.blocks small.range) (omega arith) (omega arith))
+    found_fits (find (λ s. bytes_eq id s.id) (summaries_of d.file.opening)) id (usages_in d.file.blocks) (2 ^ 37 * 63) (2 ^ 37 * 63 + 63) 63 (omega arith) (omega arith) (small_usages_in d.file.blocks small.range) (omega arith) (omega arith))

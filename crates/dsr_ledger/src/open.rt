@@ -53,11 +53,11 @@ fn has_number(head: &Head, opening: &Option<Opening>) -> bool
 }
 
 /// Whether one of the files is of the same report and has the number.
-fn is_number_taken(files: &[FileBooks], head: &Head) -> bool
-    ensures { result ≡ list_any (has_number_of head.now) (openings_of files.now) }
+fn is_number_taken(files: &[FileBooks], opening: &Opening) -> bool
+    ensures { result ≡ list_any (has_number_of opening.now.head) (openings_of files.now) }
 {
     for file in files {
-        if has_number(head, &file.opening) {
+        if has_number(&opening.head, &file.opening) {
             return true;
         }
     }
@@ -74,7 +74,7 @@ fn standing_after(files: &[FileBooks], opening: &Option<Opening>) -> Standing
         Some(opening) => {
             if !is_of_their_report(files, opening) {
                 Standing::Foreign
-            } else if is_number_taken(files, &opening.head) {
+            } else if is_number_taken(files, opening) {
                 Standing::Doubled
             } else {
                 Standing::Ours

@@ -5,4 +5,4 @@ use Rattle.dsr_ledger.specs.Openings.{openings_of}
 use Rattle.dsr_ledger.proofs.open.is_number_taken.Given as goal
 
 abbrev pub invariant-loop-file : goal.invariant-loop-file
-invariant-loop-file l = list_any (has_number_of l.head) (openings_of (take l.file-index l.files)) ≡ false
+invariant-loop-file l = list_any (has_number_of l.opening.head) (openings_of (take l.file-index l.files)) ≡ false
