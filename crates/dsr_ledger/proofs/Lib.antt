@@ -7,3 +7,8 @@ pub mod KeyLemmas
 pub mod TallyLemmas
 pub mod FoundLemmas
 pub mod DraftLemmas
+pub mod ShareLemmas
+pub mod OrderLemmas
+pub mod PartyLemmas
+pub mod PartyOrderLemmas
+pub mod LinesOrderLemmas

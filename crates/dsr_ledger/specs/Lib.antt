@@ -15,3 +15,4 @@ pub mod Owed
 pub mod Tallies
 pub mod Found
 pub mod Drafts
+pub mod Order

@@ -7,6 +7,7 @@ mod key;
 mod line;
 mod lines;
 mod noting;
+mod order;
 mod owed;
 mod parties;
 mod parts;
