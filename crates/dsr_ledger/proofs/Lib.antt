@@ -12,3 +12,5 @@ pub mod OrderLemmas
 pub mod PartyLemmas
 pub mod PartyOrderLemmas
 pub mod LinesOrderLemmas
+pub mod WholeLemmas
+pub mod LawLemmas

@@ -104,16 +104,36 @@ module _ {K : Type 0} (R : K → K → Ordering) (total : IsTotalOrder R) (exact
   pub any-in_order : {X : Type 0} (f : K → X) (ks : List K) (q : K) → list_any (eq_by_cmp R q) (keys_of (in_order R f ks)) ≡ list_any (eq_by_cmp R q) ks
   any-in_order f ks q = sym (is_some-find R q (in_order R f ks)) ∙ ap is_some (find-in_order f ks q) ∙ some_when (list_any (eq_by_cmp R q) ks) (f q)
 
+  abbrev passes : List K → K → Bool
+  passes ks q = list_any (eq_by_cmp R q) ks
+
+  all_pass : {X : Type 0} (f : K → X) (ks : List K) → kept f (passes ks) (in_order R f ks) ≡ in_order R f ks
+  all_pass f ks =
+      let es = in_order R f ks in
+      ordered_is f ks (passes ks) es (finite.entries_sorted (finite.from_entries {R = R} (map (λ k. (k, f k)) ks))) (λ q. refl) (λ q none.
+      sym (some_when (passes ks q) (f q)) ∙ ap is_some (sym (find-in_order f ks q) ∙ none))
+
+  kept_keys : {X : Type 0} (f : K → X) (ks : List K) → keys_of (in_order R f ks) ≡ map (λ e. e.0) (filter (λ e. passes ks e.0) (in_order R f ks))
+  kept_keys {X = X} f ks = sym (ap keys_of (all_pass f ks)) ∙ map-map (λ (e : K × X). e.0) (λ (e : K × X). (e.0, f e.0)) (filter (λ e. passes ks e.0) (in_order R f ks))
+
   -- each key in order has what f gives of it
   pub values_in_order : {X : Type 0} (f : K → X) (ks : List K) → in_order R f ks ≡ map (λ k. (k, f k)) (keys_of (in_order R f ks))
   values_in_order {X = X} f ks =
-      let es = in_order R f ks in
-      let p : K → Bool = λ q. list_any (eq_by_cmp R q) ks in
-      let is : kept f p es ≡ es = ordered_is f ks p es (finite.entries_sorted (finite.from_entries {R = R} (map (λ k. (k, f k)) ks))) (λ q. refl) (λ q none.
-      sym (some_when (p q) (f q)) ∙ ap is_some (sym (find-in_order f ks q) ∙ none)) in
-      sym is
-      ∙ sym (map-map (λ (k : K). (k, f k)) (λ (e : K × X). e.0) (filter (λ e. p e.0) es))
-      ∙ ap (map (λ k. (k, f k))) (sym (map-map (λ (e : K × X). e.0) (λ (e : K × X). (e.0, f e.0)) (filter (λ e. p e.0) es)) ∙ ap keys_of is)
+      sym (all_pass f ks)
+      ∙ sym (map-map (λ (k : K). (k, f k)) (λ (e : K × X). e.0) (filter (λ e. passes ks e.0) (in_order R f ks)))
+      ∙ ap (map (λ k. (k, f k))) (sym (kept_keys f ks))
+
+  each_passes : {V : Type 0} (p : K → Bool) (es : List (K × V)) → AllByRecursion (λ k. p k ≡ true) (map (λ e. e.0) (filter (λ e. p e.0) es))
+  each_passes p [] = tt
+  each_passes p (e ∷ es) =
+      elim (p e.0) as (λ b. p e.0 ≡ b → AllByRecursion (λ k. p k ≡ true) (map (λ e. e.0) (cond b (e ∷ filter (λ e. p e.0) es) (filter (λ e. p e.0) es)))) [
+        | true ↦ λ h. (h, each_passes p es)
+        | false ↦ λ _. each_passes p es
+      ] refl
+
+  -- each key in order is one of the list
+  pub keys_among : {X : Type 0} (f : K → X) (ks : List K) → AllByRecursion (λ k. list_any (eq_by_cmp R k) ks ≡ true) (keys_of (in_order R f ks))
+  keys_among f ks = subst (AllByRecursion (λ k. passes ks k ≡ true)) (sym (kept_keys f ks)) (each_passes (passes ks) (in_order R f ks))
 
   pub find-lookup : {V : Type 0} (q : K) (es : List (K × V)) → find R q es ≡ lookup (λ k. is_eq (R q k)) es
   find-lookup q [] = refl

@@ -29,7 +29,7 @@ use Rattle.dsr_ledger.proofs.SumLemmas.{int_sum_by-append, zero-add, abs-add}
 use Rattle.dsr_ledger.proofs.OwedLemmas.{parts_size}
 use Rattle.dsr_ledger.proofs.TextLemmas.{text_itself, text_ties}
 use Rattle.dsr_ledger.proofs.ShareLemmas.{parts_within}
-use Rattle.dsr_ledger.proofs.OrderLemmas.{any-in_order, values_in_order}
+use Rattle.dsr_ledger.proofs.OrderLemmas.{any-in_order, values_in_order, keys_among}
 
 -- a sum of zeros
 sum_zero : {X : Type 0} (xs : List X) → int_sum_by (λ _. pos 0) xs ≡ pos 0
@@ -211,7 +211,7 @@ names_cover bs =
     any_same q (names_of bs) ∙ any-in_order text_cmp nat_list_cmp_total exact_bytes (party_amount bs) parties q ∙ sym (any_same q parties) ∙ h)
 
 -- a line for each name
-lines_are : (bs : List Booking) → party_lines bs ≡ map (λ n. record { party = n; amount = party_amount bs n }) (names_of bs)
+pub lines_are : (bs : List Booking) → party_lines bs ≡ map (λ n. record { party = n; amount = party_amount bs n }) (names_of bs)
 unfolding party_lines
 lines_are bs =
     ap (map (λ e. record { party = e.0; amount = e.1 })) (values_in_order text_cmp nat_list_cmp_total exact_bytes (party_amount bs) (map (λ q. q.party) (all_parts bs)))

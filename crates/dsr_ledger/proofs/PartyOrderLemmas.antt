@@ -45,7 +45,7 @@ line_left parties done party seat es o is has =
     ap (λ b. done ++ map (λ e. record { party = e.0; amount = (owed_at parties e.0).amount }) (cond b ((party, seat) ∷ filter (has_part parties) es) (filter (has_part parties) es))) (sym has ∙ ap (λ x. x.has_part) is)
 
 -- a party has a part where it is among the parts' parties
-some_for : (q : List ℕ) (ps : List Part) → nat_lt 0 (length (filter (is_for q) ps)) ≡ list_any (eq_by_cmp text_cmp q) (map (λ p. p.party) ps)
+pub some_for : (q : List ℕ) (ps : List Part) → nat_lt 0 (length (filter (is_for q) ps)) ≡ list_any (eq_by_cmp text_cmp q) (map (λ p. p.party) ps)
 some_for q [] = refl
 some_for q (p ∷ ps) =
     let tie : is_for q p ≡ eq_by_cmp text_cmp q p.party = nat_list_eq_equiv.symm p.party q ∙ sym (text_ties q p.party) in

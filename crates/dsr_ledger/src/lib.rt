@@ -4,6 +4,7 @@
 mod draft;
 mod found;
 mod key;
+pub mod laws;
 mod line;
 mod lines;
 mod noting;
