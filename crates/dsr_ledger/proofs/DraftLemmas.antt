@@ -1,6 +1,7 @@
 -- Notes of usages.
-use Rattle.std.proofs.Common.{◌≡◌, ℕ, zero, suc, ◌<◌, length, get_or, drop, arith, List, [], ◌∷◌, ◌++◌, append_assoc, append-nil, refl, sym, ◌∙◌, ap, subst}
+use Rattle.std.proofs.Common.{◌≡◌, ℕ, zero, suc, ◌+◌, ◌<◌, ◌≤◌, length, get_or, take, drop, arith, length-append, length-drop, List, [], ◌∷◌, ◌++◌, append_assoc, append-nil, refl, sym, ◌∙◌, ap, subst}
 use Rattle.std.specs.Prelude.{Option, Some, map}
+use Rattle.std.proofs.Math.Seq.{drop-cons, take-append_seam, drop-append_seam}
 use Rattle.dsr_records.specs.declared.record.Usage.{Usage}
 use Rattle.dsr_records.specs.Works.{WorkParts}
 use Rattle.dsr_ledger.specs.declared.owed.PartNote.{PartNote}
@@ -52,3 +53,39 @@ found_here f [] ss i u h below is = absurd (omega arith)
 found_here f (x ∷ us) [] i u h below is = absurd (cc)
 found_here f (x ∷ us) (s ∷ ss) zero u h below is = ap f is ∙ ap (λ l. get_or l 0 (f x)) h
 found_here f (x ∷ us) (s ∷ ss) (suc i) u h below is = found_here f us ss i u (ap (drop 1) h) (omega arith) is
+
+length-drafted : (m : Numbers) (isrc : List ℕ) (works : List WorkParts) (us : List Usage) (ns : List UsageNote) (ps : List PartNote) → AreDrafted m isrc works us ns ps → length us ≡ length ns
+length-drafted m isrc works [] [] ps h = refl
+length-drafted m isrc works [] (n ∷ ns) ps h = absurd h
+length-drafted m isrc works (u ∷ us) [] ps h = absurd h
+length-drafted m isrc works (u ∷ us) (n ∷ ns) ps h = ap suc (length-drafted m isrc works us ns h.1 h.4)
+
+-- the first of the usages that are left
+pub record NextDrafted (m : Numbers) (isrc : List ℕ) (works : List WorkParts) (u : Usage) (us : List Usage) (n : UsageNote) (ns : List UsageNote) (ps : List PartNote) : Type 0 where
+  pub within : n.parts ≤ length ps
+  pub noted : IsNoted m isrc works u n (take n.parts ps)
+  pub rest : AreDrafted m isrc works us ns (drop n.parts ps)
+
+next_of : (m : Numbers) (isrc : List ℕ) (works : List WorkParts) (u : Usage) (us : List Usage) (n : UsageNote) (ns : List UsageNote) (ps : List PartNote) → AreDrafted m isrc works (u ∷ us) (n ∷ ns) ps → NextDrafted m isrc works u us n ns ps
+next_of m isrc works u us n ns ps h =
+    let own = h.0 in
+    let rest = h.1 in
+    let many = h.3.many in
+    let long = ap length h.2 ∙ length-append own rest in
+    let front : take n.parts ps ≡ own = (λ i. take (sym many i) (h.2 i)) ∙ take-append_seam own rest in
+    let back : drop n.parts ps ≡ rest = (λ i. drop (sym many i) (h.2 i)) ∙ drop-append_seam own rest in
+    record {
+      within = omega arith;
+      noted = subst (IsNoted m isrc works u n) (sym front) h.3;
+      rest = subst (AreDrafted m isrc works us ns) (sym back) h.4;
+    }
+
+pub next_drafted : (m : Numbers) (isrc : List ℕ) (works : List WorkParts) (us : List Usage) (ns : List UsageNote) (ps : List PartNote) (i : ℕ) (u : Usage) (d : UsageNote) → i < length us → u ≡ get_or us i u → AreDrafted m isrc works (drop i us) (drop i ns) ps → NextDrafted m isrc works u (drop (suc i) us) (get_or ns i d) (drop (suc i) ns) ps
+next_drafted m isrc works us ns ps i u d below is h =
+    let long = length-drafted m isrc works (drop i us) (drop i ns) ps h in
+    let lu = length-drop i us in
+    let ln = length-drop i ns in
+    let cut : drop i us ≡ u ∷ drop (suc i) us = drop-cons us i u below ∙ ap (λ x. x ∷ drop (suc i) us) (sym is) in
+    let also : drop i ns ≡ get_or ns i d ∷ drop (suc i) ns = drop-cons ns i d (omega arith) in
+    next_of m isrc works u (drop (suc i) us) (get_or ns i d) (drop (suc i) ns) ps
+    (subst (λ l. AreDrafted m isrc works (u ∷ drop (suc i) us) l ps) also (subst (λ l. AreDrafted m isrc works l (drop i ns) ps) cut h))

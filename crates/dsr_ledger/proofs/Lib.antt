@@ -14,3 +14,10 @@ pub mod PartyOrderLemmas
 pub mod LinesOrderLemmas
 pub mod WholeLemmas
 pub mod LawLemmas
+pub mod FitLemmas
+pub mod JudgedLemmas
+pub mod StandLemmas
+pub mod ResultLemmas
+pub mod EachLemmas
+pub mod TallyPlusLemmas
+pub mod ShownLemmas

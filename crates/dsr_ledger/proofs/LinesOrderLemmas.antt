@@ -21,7 +21,8 @@ use Rattle.dsr_ledger.specs.Numbered.{read_at}
 use Rattle.dsr_ledger.specs.Bookings.{Booking}
 use Rattle.dsr_ledger.specs.Ledger.{is_at_key, at_key, line_of, ledger}
 use Rattle.dsr_ledger.specs.Tallies.{no_tally, line_tally, tally_at, number_of}
-use Rattle.dsr_ledger.specs.Order.{LinesStand, IsSmall, AreSmall}
+use Rattle.dsr_ledger.specs.Stands.{LinesStand}
+use Rattle.dsr_ledger.specs.Order.{IsSmall, AreSmall}
 use Rattle.dsr_ledger.proofs.KeyLemmas.{key_total, key_exact, key_ties}
 use Rattle.dsr_ledger.proofs.OrderLemmas.{in_order_is, find-lookup}
 

@@ -14,7 +14,7 @@ use Rattle.dsr_ledger.specs.Parts.{Part, rounded, is_for}
 use Rattle.dsr_ledger.specs.Owed.{owed_of, owed_for, owed_plus, owed_with, AreNoted, notes_size}
 use Rattle.dsr_ledger.proofs.SumLemmas.{int_sum_by-append, add-assoc, add-zero, abs-add}
 
-or_true : (b : Bool) → (b || true) ≡ true
+pub or_true : (b : Bool) → (b || true) ≡ true
 or_true true = refl
 or_true false = refl
 
@@ -40,14 +40,14 @@ owed_more o n old q ps x was is =
     with_one : owed_with (rounded x) (owed_plus old (owed_for q ps)) ≡ owed_plus old (owed_with (rounded x) (owed_for q ps))
     with_one = λ i. record { has_part = sym (or_true old.has_part) i; amount = add-assoc old.amount (owed_for q ps).amount (rounded x) i }
 
-or-assoc : (a b c : Bool) → ((a || b) || c) ≡ (a || (b || c))
+pub or-assoc : (a b c : Bool) → ((a || b) || c) ≡ (a || (b || c))
 or-assoc true b c = refl
 or-assoc false b c = refl
 
 pub owed_plus-assoc : (a b c : Owed) → owed_plus (owed_plus a b) c ≡ owed_plus a (owed_plus b c)
 owed_plus-assoc a b c = λ i. record { has_part = or-assoc a.has_part b.has_part c.has_part i; amount = add-assoc a.amount b.amount c.amount i }
 
-or_false : (b : Bool) → (b || false) ≡ b
+pub or_false : (b : Bool) → (b || false) ≡ b
 or_false true = refl
 or_false false = refl
 

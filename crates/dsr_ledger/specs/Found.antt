@@ -10,6 +10,7 @@ use Rattle.dsr_ledger.specs.declared.found.Found.{Found}
 use Rattle.dsr_ledger.specs.Sums.{int_sum_by}
 use Rattle.dsr_ledger.specs.Bookings.{Place, place_of}
 use Rattle.dsr_ledger.specs.Findings.{naming}
+use Rattle.dsr_ledger.specs.Ranges.{SumsFit}
 
 -- all but the recording of the block at hand
 pub record Shown : Type 0 where
@@ -57,3 +58,7 @@ nothing_found s = record { place = place_of s; sums = record { usages = pos 0; a
 -- what is found for the summary of this name
 abbrev pub found_in : List Summary → List Usage → List ℕ → Option Shown
 found_in summaries us id = option_map (λ s. shown_with id us (nothing_found s)) (find (λ s. bytes_eq id s.id) summaries)
+
+-- n more usages can be added
+abbrev pub ShownFits : ℕ → Shown → Type 0
+ShownFits n s = SumsFit n s.sums

@@ -16,4 +16,6 @@ pub mod Owed
 pub mod Tallies
 pub mod Found
 pub mod Drafts
+pub mod FileSteps
+pub mod Stands
 pub mod Order

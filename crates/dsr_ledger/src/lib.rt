@@ -1,8 +1,12 @@
 //! The books of a report: how its files stand, what is said of each block, the ledger, and the report.
 #![tactic(auto)]
 
+mod adding;
+mod counting;
 mod draft;
+mod file;
 mod found;
+mod judge;
 mod key;
 pub mod laws;
 mod line;

@@ -6,7 +6,8 @@ ghost use Rattle.dsr_ledger.specs.Parts.{all_parts};
 ghost use Rattle.dsr_ledger.specs.Ledger.{party_lines, line_of, ledger};
 ghost use Rattle.dsr_ledger.specs.Owed.{owed_at, owed_for};
 ghost use Rattle.dsr_ledger.specs.Tallies.{line_tally, tally_of};
-ghost use Rattle.dsr_ledger.specs.Order.{LinesStand, AreSmall};
+ghost use Rattle.dsr_ledger.specs.Stands.{LinesStand};
+ghost use Rattle.dsr_ledger.specs.Order.{AreSmall};
 
 use crate::key::Key;
 use crate::line::Line;

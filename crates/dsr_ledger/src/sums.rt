@@ -23,3 +23,11 @@ impl Sums {
         self.amount += usage.amount.units();
     }
 }
+
+/// Every usage is in range: its type says so.
+pub fn check_range(usage: &Usage)
+    ensures { IsInRange usage.now }
+{
+    let _usages = usage.usages;
+    let _units = usage.amount.units();
+}

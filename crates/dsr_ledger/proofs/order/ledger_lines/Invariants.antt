@@ -1,6 +1,6 @@
 use Rattle.std.proofs.Common.{◌≡◌, ◌++◌, List}
 use Rattle.dsr_ledger.specs.Bookings.{Booking}
-use Rattle.dsr_ledger.specs.Order.{LinesStand}
+use Rattle.dsr_ledger.specs.Stands.{LinesStand}
 use Rattle.dsr_ledger.proofs.LinesOrderLemmas.{AreLeft, booked_lines}
 use Rattle.dsr_ledger.proofs.order.ledger_lines.Given as goal
 
