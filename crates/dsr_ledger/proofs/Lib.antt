@@ -14,6 +14,7 @@ pub mod PartyOrderLemmas
 pub mod LinesOrderLemmas
 pub mod WholeLemmas
 pub mod LawLemmas
+pub mod SmallLemmas
 pub mod FitLemmas
 pub mod JudgedLemmas
 pub mod StandLemmas
