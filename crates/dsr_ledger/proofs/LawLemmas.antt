@@ -1,7 +1,7 @@
 -- The laws of shares, for each line.
-use Rattle.std.proofs.Common.{◌≡◌, ℕ, ◌+◌, ◌*◌, ◌<◌, ◌≤◌, List, [], ◌∷◌, length, Bool, true, false, cond, refl, sym, ◌∙◌, ap, subst, arith, rules}
-use Rattle.std.specs.Prelude.{ℤ, pos, negsuc, ◌+ℤ◌, ◌-ℤ◌, ◌*ℤ◌, ◌≤ℤ◌, ◌<ℤ◌, map, filter, nat_lt, All, unsigned_abs}
-use Rattle.std.specs.List.{flat_map, zip, list_any, AllByRecursion}
+use Rattle.std.proofs.Common.{◌≡◌, ℕ, ◌*◌, ◌<◌, ◌≤◌, List, [], ◌∷◌, length, true, sym, ◌∙◌, ap, subst, arith, rules}
+use Rattle.std.specs.Prelude.{ℤ, pos, negsuc, ◌+ℤ◌, ◌-ℤ◌, ◌*ℤ◌, ◌≤ℤ◌, ◌<ℤ◌, map, filter, All, unsigned_abs}
+use Rattle.std.specs.List.{zip, list_any, AllByRecursion}
 use Rattle.std.specs.Int.RustNames.{int_div}
 use Rattle.std.specs.Ordering.{eq_by_cmp}
 use Rattle.std.specs.Map.{keys_of}
@@ -11,7 +11,6 @@ use Rattle.std.proofs.lemmas.Int.{ints, quot-rem, rem_below}
 use Rattle.std.proofs.lemmas.Simd.{map-map}
 use Rattle.std.proofs.lemmas.List.Elements.{All-from_recursion, recursion_from_All}
 use Rattle.std.proofs.lemmas.Map.Lookups.{exact_bytes}
-use Rattle.dsr_records.specs.Works.{WorkParts}
 use Rattle.dsr_ledger.specs.declared.key.Key.{Key}
 use Rattle.dsr_ledger.specs.declared.report.PartyLine.{PartyLine}
 use Rattle.dsr_ledger.specs.declared.report.LedgerLine.{LedgerLine}
@@ -21,7 +20,7 @@ use Rattle.dsr_ledger.specs.Keys.{text_cmp, key_cmp, in_order}
 use Rattle.dsr_ledger.specs.Files.{File}
 use Rattle.dsr_ledger.specs.Bookings.{Booking, bookings}
 use Rattle.dsr_ledger.specs.Parts.{Part, rounded, part_of, work_parts, parts_of, all_parts, is_for, party_amount, unclaimed}
-use Rattle.dsr_ledger.specs.Ledger.{at_key, is_at_key, amount_sum, party_lines, line_of, ledger}
+use Rattle.dsr_ledger.specs.Ledger.{at_key, is_at_key, party_lines, line_of, ledger}
 use Rattle.dsr_ledger.specs.Reports.{report_of}
 use Rattle.dsr_ledger.specs.Laws.{line_bookings, line_parts, exact_sum, AddsUp, IsNear, IsRoundedDown, NoneIsNegative, IsWithin, SharesAddUp, SharesAreNear, SharesAreWithin}
 use Rattle.dsr_ledger.proofs.KeyLemmas.{key_total, key_exact}
@@ -30,7 +29,7 @@ use Rattle.dsr_ledger.proofs.PartyOrderLemmas.{some_for}
 use Rattle.dsr_ledger.proofs.PartyLemmas.{names_of, lines_are, shares_conserved}
 use Rattle.dsr_ledger.proofs.LinesOrderLemmas.{each_of}
 use Rattle.dsr_ledger.proofs.ShareLemmas.{unclaimed_not_negative}
-use Rattle.dsr_ledger.proofs.WholeLemmas.{IsWhole, bookings_whole, all_append, all_flat, all_of}
+use Rattle.dsr_ledger.proofs.WholeLemmas.{IsWhole, bookings_whole, all_flat, all_of}
 
 -- rounding moves a part by less than one unit
 rounded_near : (q : Part) → unsigned_abs ((pos 1000000 *ℤ rounded q) -ℤ q.exact) < 1000000

@@ -29,7 +29,7 @@ use Rattle.dsr_ledger.proofs.SumLemmas.{int_sum_by-append, zero-add, abs-add}
 use Rattle.dsr_ledger.proofs.OwedLemmas.{parts_size}
 use Rattle.dsr_ledger.proofs.TextLemmas.{text_itself, text_ties}
 use Rattle.dsr_ledger.proofs.ShareLemmas.{parts_within}
-use Rattle.dsr_ledger.proofs.OrderLemmas.{any-in_order, values_in_order, keys_among}
+use Rattle.dsr_ledger.proofs.OrderLemmas.{any-in_order, values_in_order}
 
 -- a sum of zeros
 sum_zero : {X : Type 0} (xs : List X) → int_sum_by (λ _. pos 0) xs ≡ pos 0

@@ -1,5 +1,5 @@
 -- The shares of a booked block are together no more than a whole.
-use Rattle.std.proofs.Common.{◌≡◌, ℕ, ◌≤◌, length, List, [], ◌∷◌, ◌++◌, Bool, true, false, refl, sym, ◌∙◌, ap, subst}
+use Rattle.std.proofs.Common.{◌≡◌, ℕ, ◌≤◌, length, List, [], ◌∷◌, ◌++◌, Bool, true, false, refl, sym, subst}
 use Rattle.std.specs.Prelude.{Option, None, Some, nat_lt, not, ◌==◌}
 use Rattle.std.specs.List.{flat_map, list_any, AllByRecursion}
 use Rattle.dsr_cells.specs.Texts.{is_isrc_text}
@@ -15,8 +15,8 @@ use Rattle.dsr_ledger.specs.declared.verdict.Reason.TheVariants.{ForeignFile, Do
 use Rattle.dsr_ledger.specs.declared.verdict.Verdict.{Verdict}
 use Rattle.dsr_ledger.specs.declared.verdict.Verdict.TheVariants.{Booked, Rejected}
 use Rattle.dsr_ledger.specs.Files.{File, Filed, filed, summaries_of}
-use Rattle.dsr_ledger.specs.Verdicts.{is_foreign, is_doubled, names_unknown, first_reason, verdict_by, verdict, judged, judged_in, share_total}
-use Rattle.dsr_ledger.specs.Bookings.{Booking, Place, booked_under, usage_bookings, block_bookings, place_named, verdict_bookings, filed_bookings, bookings}
+use Rattle.dsr_ledger.specs.Verdicts.{is_foreign, is_doubled, names_unknown, first_reason, verdict_by, judged, judged_in, share_total}
+use Rattle.dsr_ledger.specs.Bookings.{Booking, Place, booked_under, block_bookings, place_named, verdict_bookings, filed_bookings, bookings}
 
 abbrev pub IsWhole : Booking → Type 0
 IsWhole b = share_total b.works ≤ 1000000
