@@ -7,7 +7,7 @@ ghost use Rattle.dsr_ledger.specs.Ledger.{party_lines, line_of, ledger};
 ghost use Rattle.dsr_ledger.specs.Owed.{owed_at, owed_for};
 ghost use Rattle.dsr_ledger.specs.Tallies.{line_tally, tally_of};
 ghost use Rattle.dsr_ledger.specs.Stands.{LinesStand};
-ghost use Rattle.dsr_ledger.specs.Order.{AreSmall};
+ghost use Rattle.dsr_ledger.specs.Order.{IsOfSmall, AreOfSmall};
 
 use crate::key::Key;
 use crate::line::Line;
@@ -50,7 +50,7 @@ fn unclaimed(amount: i128, parties: &[PartyLine]) -> i128
 
 /// The line of a key.
 fn ledger_line(alloc: Global, key: Key, line: Line) -> Result<LedgerLine, NoMemory>
-    requires { (bs : List Booking) × (line_tally line ≡ tally_of bs) × AreSmall bs }
+    requires { ∥ IsOfSmall line ∥₁ }
     ensures { (bs : List Booking) → line_tally line ≡ tally_of bs → IfOk result (λ l. l ≡ line_of key bs) }
 {
     let parties = party_lines(alloc, line.parties)?;
@@ -69,7 +69,7 @@ fn ledger_line(alloc: Global, key: Key, line: Line) -> Result<LedgerLine, NoMemo
 
 /// The lines of all keys that have a booking, in the order of the keys.
 pub fn ledger_lines(alloc: Global, lines: Lines) -> Result<LedgerLines, NoMemory>
-    requires { (bs : List Booking) × LinesStand lines bs × AreSmall bs }
+    requires { ∥ AreOfSmall lines ∥₁ }
     ensures { (bs : List Booking) → LinesStand lines bs → IfOk result (λ l. l ≡ ledger bs) }
 {
     let Lines { numbers, mut lines } = lines;

@@ -1,7 +1,8 @@
-use Rattle.std.proofs.Common.{◌≡◌, rules, sym, ◌∙◌, ap, subst, ◌+◌, ◌<◌, ◌^◌}
+use Rattle.std.proofs.Math.Logic.{∥∥₁_elim}
+use Rattle.std.proofs.Props.{props}
+use Rattle.std.proofs.Common.{◌≡◌, List, ℕ, to_z, of_z, rules, sym, ◌∙◌, ap, subst, ◌+◌, ◌<◌, ◌^◌}
 use Rattle.std.specs.Prelude.{sum_by, unsigned_abs, ◌-ℤ◌}
 use Rattle.std.specs.Int.{w128}
-use Rattle.std.proofs.Common.{to_z, of_z}
 use Rattle.dsr_ledger.specs.Ledger.{line_of, party_lines, amount_sum}
 use Rattle.dsr_ledger.specs.Sums.{int_sum_by}
 use Rattle.dsr_ledger.specs.declared.report.PartyLine.{PartyLine}
@@ -10,13 +11,12 @@ use Rattle.dsr_ledger.proofs.order.ledger_line.Goals as goal
 
 pub unclaimed-requires : goal.unclaimed-requires
 unclaimed-requires c =
-    let bs = c.requires.0 in
-    let is = c.requires.1 in
     let same : to_z w128 (of_z w128 c.args.line.sums.amount) ≡ c.args.line.sums.amount = search rules in
-    let amount : to_z w128 (of_z w128 c.args.line.sums.amount) ≡ amount_sum bs = same ∙ ap (λ t. t.amount) is in
-    let lines : c.as_slice.result.now ≡ party_lines bs = c.as_slice.ensures ∙ c.in_ok-parties.ensures bs (λ q. ap (λ t. t.owed q) is) in
-    let size = λ (ps : _). sum_by (λ (p : PartyLine). unsigned_abs p.amount) ps in
-    subst (λ n. n < 2 ^ 127) (λ i. unsigned_abs (sym amount i) + size (sym lines i)) (line_fits bs c.requires.2)
+    let size : List PartyLine → ℕ = λ ps. sum_by (λ p. unsigned_abs p.amount) ps in
+    ∥∥₁_elim c.requires (hlevel props) (λ o.
+    let amount : to_z w128 (of_z w128 c.args.line.sums.amount) ≡ amount_sum o.bookings = same ∙ ap (λ t. t.amount) o.tally in
+    let lines : c.as_slice.result.now ≡ party_lines o.bookings = c.as_slice.ensures ∙ c.in_ok-parties.ensures o.bookings (λ q. ap (λ t. t.owed q) o.tally) in
+    subst (λ n. n < 2 ^ 127) (λ i. unsigned_abs (sym amount i) + size (sym lines i)) (line_fits o.bookings o.small))
 
 pub returns : goal.returns
 unfolding line_of

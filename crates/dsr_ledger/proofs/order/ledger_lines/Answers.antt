@@ -1,3 +1,4 @@
+use Rattle.std.proofs.Math.Logic.{∥∥₁_map}
 use Rattle.std.proofs.Common.{rules, ◌≡◌, ◌<◌, ℕ, [], ◌∷◌, ◌++◌, length, append-nil, sym, ap, ◌∙◌, subst}
 use Rattle.std.specs.Vec.{vec_len}
 use Rattle.std.proofs.lemmas.Map.Views.{All-found}
@@ -26,12 +27,11 @@ index_mut-requires c =
 
 pub ledger_line-requires : goal.ledger_line-requires
 ledger_line-requires c =
-    let bs = c.requires.0 in
-    let e : Key × ℕ = (c.in-Some.key, c.in-Some.number) in
+    let key = c.in-Some.key in
+    let e : Key × ℕ = (key, c.in-Some.number) in
     let left = subst (AreLeft c.args.lines c.loop-key.lines.items) c.in-Some.ensures.steps c.loop-key.invariant.left in
-    let is = c.replace-line.ensures.value in
-    let tally = left_tally c.args.lines c.loop-key.lines.items e c.next.new.self c.index_mut.result.now left c.index_mut.ensures.value in
-    (at_key c.in-Some.key bs, subst (λ l. line_tally l ≡ tally_of (at_key c.in-Some.key bs)) (sym is) (tally ∙ c.requires.1 c.in-Some.key), small_at c.in-Some.key bs c.requires.2)
+    let tally = ap line_tally c.replace-line.ensures.value ∙ left_tally c.args.lines c.loop-key.lines.items e c.next.new.self c.index_mut.result.now left c.index_mut.ensures.value in
+    ∥∥₁_map c.requires (λ o. record { bookings = at_key key o.bookings; tally = tally ∙ o.stand key; small = small_at key o.bookings o.small })
 
 pub loop-key-preserved-in_ok-map_err : goal.loop-key-preserved-in_ok-map_err
 loop-key-preserved-in_ok-map_err c =
