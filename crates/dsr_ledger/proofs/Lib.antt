@@ -7,6 +7,14 @@ pub mod KeyLemmas
 pub mod TallyLemmas
 pub mod FoundLemmas
 pub mod DraftLemmas
+pub mod ShareLemmas
+pub mod OrderLemmas
+pub mod PartyLemmas
+pub mod PartyOrderLemmas
+pub mod LinesOrderLemmas
+pub mod WholeLemmas
+pub mod LawLemmas
+pub mod SmallBookings
 pub mod FitLemmas
 pub mod JudgedLemmas
 pub mod StandLemmas
@@ -18,6 +26,5 @@ pub mod CallerLemmas
 pub mod BooksLemmas
 pub mod ResultLemmas
 pub mod EachLemmas
-pub mod ShareLemmas
 pub mod TallyPlusLemmas
 pub mod ShownLemmas

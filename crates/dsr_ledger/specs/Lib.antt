@@ -8,6 +8,7 @@ pub mod Parts
 pub mod Ledger
 pub mod Findings
 pub mod Reports
+pub mod Laws
 -- Words that relate what is kept to them.
 pub mod Numbered
 pub mod Ranges
@@ -20,3 +21,4 @@ pub mod Stands
 pub mod Openings
 pub mod Books
 pub mod BooksWords
+pub mod Order
