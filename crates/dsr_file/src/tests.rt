@@ -1,5 +1,6 @@
 //! Worked texts and their events.
-ghost use Rattle.std.specs.Prelude.{◌≡◌, ◌<◌, ◌≤◌, ◌^◌, false};
+ghost use Rattle.std.specs.Prelude.{◌≡◌, ◌+◌, ◌<◌, ◌≤◌, ◌^◌, None, false, length};
+ghost use Rattle.dsr_file.specs.Standing.{bytes_used, ending_told};
 
 use crate::{
     Ending, Event, EventList, EventPart, Failed, FileFault, FileReader, FromRead, Outcome,
@@ -960,53 +961,56 @@ fn refusing_sinks(rt: HostRuntime) -> Result<(), AllocError> {
 }
 
 /// What an event is: 1 an opening, 2 a block, 3 the end; and its place.
-fn kind(event: &Option<Event>) -> Option<(u8, u64)> {
-    match event {
-        None => None,
-        Some(event) => match event.part {
-            EventPart::Opened(_) => Some((1, event.place)),
-            EventPart::Block(_) => Some((2, event.place)),
-            EventPart::Ended(_) => Some((3, event.place)),
-        },
-    }
+fn kind(event: Option<Event>) -> Option<(u8, u64)> {
+    let event = event?;
+    let kind = match event.part {
+        EventPart::Opened(_) => 1,
+        EventPart::Block(_) => 2,
+        EventPart::Ended(_) => 3,
+    };
+    Some((kind, event.place))
+}
+
+/// Takes from a piece: how many bytes, and what the event is.
+fn take(file: &mut FileReader, piece: &[u8]) -> (usize, Option<(u8, u64)>)
+    requires open { ending_told file.old ≡ None }
+    requires room { bytes_used file.old + length piece.now ≤ 2 ^ 36 }
+    ensures open { ending_told file.new ≡ None }
+    ensures used { bytes_used file.new ≡ bytes_used file.old + result.0 }
+    ensures bound { result.0 ≤ length piece.now }
+{
+    let (used, event) = file.take(piece);
+    (used, kind(event))
+}
+
+/// Takes from a text four times, from where the last call stopped: the events, and the bytes used in all.
+fn four_events(alloc: Global, bytes: &[u8]) -> Option<([Option<(u8, u64)>; 4], usize, bool)>
+    requires { length bytes.now ≤ 1000 }
+{
+    let mut file = FileReader::new(alloc, &Layout::standard()).ok()?;
+    let (first, one) = take(&mut file, bytes);
+    let (second, two) = take(&mut file, &bytes[first..]);
+    let used = first + second;
+    let (third, three) = take(&mut file, &bytes[used..]);
+    let used = used + third;
+    let four = kind(file.finish(Ending::Whole));
+    let told = file.given() == used as u64;
+    Some(([one, two, three, four], used, told && file.done()))
 }
 
 #[test]
-fn one_event_a_call(rt: HostRuntime) -> Result<(), AllocError> {
-    let bytes = text(rt.alloc(), &[HEAD, SONG, USE, "FOOT\t4\t0\t1"], b"\n")?;
-    let Ok(mut file) = FileReader::new(rt.alloc(), &Layout::standard()) else {
-        return Err(AllocError);
-    };
-    if bytes.len() == 96 {
-        let rest = bytes.as_slice();
-        let (first, event) = file.take(rest);
-        assert!(rt; kind(&event) == Some((1, 0)));
-        let (second, event) = file.take(&rest[first..]);
-        assert!(rt; kind(&event) == Some((2, 1)));
-        let (third, event) = file.take(&rest[first + second..]);
-        assert!(rt; kind(&event).is_none() && first + second + third == 96);
-    }
-    assert!(rt; file.given() == 96 && !file.done());
-    assert!(rt; kind(&file.finish(Ending::Whole)) == Some((3, 2)));
-    assert!(rt; kind(&file.finish(Ending::Read)).is_none() && file.done());
-    Ok(())
+fn one_event_a_call(rt: HostRuntime) {
+    let text = b"HEAD\tR1\t1\t1\t2024-01-01\t2024-01-31\tS\tL\nAS01\t1\tGBABC2400001\tSong\tBand\nSU01\t1\tS1\t10\t0.5\nFOOT\t4\t0\t1\n";
+    let found = four_events(rt.alloc(), text);
+    assert!(rt; found == Some(([Some((1, 0)), Some((2, 1)), None, Some((3, 2))], 96, true)));
 }
 
+/// A fault of FOOT's counts comes after the event that FOOT closes; then nothing is used or given.
 #[test]
-fn outcome_after_an_event(rt: HostRuntime) -> Result<(), AllocError> {
-    let bytes = text(rt.alloc(), &[HEAD, "FOOT\t3\t0\t0", HEAD], b"\n")?;
-    let Ok(mut file) = FileReader::new(rt.alloc(), &Layout::standard()) else {
-        return Err(AllocError);
-    };
-    if bytes.len() < 1000 {
-        let (used, event) = file.take(bytes.as_slice());
-        assert!(rt; kind(&event) == Some((1, 0)));
-        let (none, event) = file.take(&bytes.as_slice()[used..]);
-        assert!(rt; none == 0 && kind(&event) == Some((3, 1)));
-        let (none, event) = file.take(&bytes.as_slice()[used..]);
-        assert!(rt; none == 0 && kind(&event).is_none() && file.done());
-    }
-    Ok(())
+fn outcome_after_an_event(rt: HostRuntime) {
+    let text = b"HEAD\tR1\t1\t1\t2024-01-01\t2024-01-31\tS\tL\nFOOT\t3\t0\t0\nHEAD\n";
+    let found = four_events(rt.alloc(), text);
+    assert!(rt; found == Some(([Some((1, 0)), Some((3, 1)), None, None], 49, true)));
 }
 
 #[test]
@@ -1041,7 +1045,7 @@ fn names_and_lists(rt: HostRuntime) -> Result<(), AllocError> {
     assert!(rt; named.name() == "BadCell" && named.column() == Some(Column::Amount));
     let mut events = EventList::new(rt.alloc());
     assert!(rt; events.push(Event::default()).is_ok() && events.len() == 1);
-    assert!(rt; kind(&events.next()) == Some((3, 0)) && events.len() == 0);
+    assert!(rt; kind(events.next()) == Some((3, 0)) && events.len() == 0);
     let nothing: &[u8] = b"";
     let mut source = FromRead::new(nothing);
     let want = fault(false, 0, 1, FileFault::NoHead);
