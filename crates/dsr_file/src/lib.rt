@@ -25,4 +25,8 @@ pub use source::{Failed, FromRead, Source};
 pub use whole::whole_events;
 
 #[cfg(test)]
-mod tests;
+mod reading_tests;
+#[cfg(test)]
+mod text_tests;
+#[cfg(test)]
+mod worked;
