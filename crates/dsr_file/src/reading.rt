@@ -48,7 +48,9 @@ pub fn read_file<R: Source, S: Sink>(
     let Ok(mut file) = FileReader::new(alloc, layout) else {
         return Err(ReadFileError::Memory);
     };
-    match read_all(&mut file, reader, sink, max_reads) {
+    let answer = read_all(&mut file, reader, sink, max_reads);
+    drop(file);
+    match answer {
         Ok(outcome) => Ok(outcome),
         Err(event) => Err(ReadFileError::Refused(event)),
     }

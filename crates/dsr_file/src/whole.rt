@@ -28,7 +28,9 @@ pub fn whole_events(
 {
     let mut file = FileReader::new(alloc, layout)?;
     let mut events = EventList::new(alloc);
-    match give_all(&mut file, bytes, ending, &mut events) {
+    let answer = give_all(&mut file, bytes, ending, &mut events);
+    drop(file);
+    match answer {
         Ok(outcome) => if ends_for_memory(outcome) {
             Err(NoMemory)
         } else {
