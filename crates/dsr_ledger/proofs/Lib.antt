@@ -14,6 +14,9 @@ pub mod OpenLemmas
 pub mod PutLemmas
 pub mod FilesLemmas
 pub mod SmallLemmas
+pub mod InOrderLemmas
+pub mod PartyLemmas
+pub mod ShareRowLemmas
 pub mod CallerLemmas
 pub mod BooksLemmas
 pub mod ResultLemmas

@@ -25,14 +25,14 @@ use Rattle.dsr_ledger.specs.Bookings.{Booking, verdict_bookings, block_bookings,
 use Rattle.dsr_ledger.specs.Findings.{usages_in}
 use Rattle.dsr_ledger.specs.Found.{Shown, shown_at, shown_with, found_in, nothing_found, ShownFits}
 use Rattle.dsr_ledger.specs.Ranges.{IsInRange, SumsFit}
-use Rattle.dsr_ledger.specs.Tallies.{tally_at, tally_of, tally_plus, key_tally, TallyFits}
+use Rattle.dsr_ledger.specs.Tallies.{tally_at, tally_of, tally_plus, key_tally, TallyFits, IsSmall}
 use Rattle.dsr_ledger.specs.FileSteps.{IsBlockInRange}
 use Rattle.dsr_ledger.specs.Stands.{FileStands, LinesStand}
 use Rattle.dsr_ledger.specs.Books.{IsSmallFile}
 use Rattle.dsr_ledger.proofs.EachLemmas.{each_append}
 use Rattle.dsr_ledger.proofs.PutLemmas.{bookings_after}
 use Rattle.dsr_ledger.proofs.ShownLemmas.{shown_fits_after}
-use Rattle.dsr_ledger.proofs.TallyPlusLemmas.{IsSmall, length-usage_bookings, small_usage_bookings, tally_fits_after, tally_plus-none_left}
+use Rattle.dsr_ledger.proofs.TallyPlusLemmas.{length-usage_bookings, small_usage_bookings, tally_fits_after, tally_plus-none_left}
 
 booked_last : (xs : List (Bool × Reason)) (x : Bool) (r : Reason) → first_reason (xs ++ (x, r) ∷ []) ≡ Booked → x ≡ false
 booked_last [] true r e = absurd (cc)

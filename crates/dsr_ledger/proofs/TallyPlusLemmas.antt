@@ -16,7 +16,7 @@ use Rattle.dsr_ledger.specs.Parts.{Part, rounded, parts_of, all_parts, work_part
 use Rattle.dsr_ledger.specs.Ledger.{is_at_key, at_key, usages_sum, amount_sum}
 use Rattle.dsr_ledger.specs.Owed.{owed_for, owed_plus}
 use Rattle.dsr_ledger.specs.Ranges.{IsInRange}
-use Rattle.dsr_ledger.specs.Tallies.{Tally, tally_of, key_tally, tally_plus, tally_with, TallyFits}
+use Rattle.dsr_ledger.specs.Tallies.{Tally, tally_of, key_tally, tally_plus, tally_with, TallyFits, IsSmall}
 use Rattle.dsr_ledger.proofs.SumLemmas.{int_sum_by-append, abs-int_sum_by, abs-add, add-assoc, add-zero, zero-add}
 use Rattle.dsr_ledger.proofs.OwedLemmas.{or_true, or_false, or-assoc, any_of, owed_plus-assoc, owed_plus-none, owed_for-append, parts_size, size_of}
 use Rattle.dsr_ledger.proofs.EachLemmas.{each_append, each_filter, each_weaker}
@@ -76,11 +76,6 @@ tally_with-key t isrc works u p q =
       }
       | false ↦ tally_plus-none t
     ]
-
--- a booking whose numbers are small
-pub record IsSmall (b : Booking) : Type 0 where
-  pub range : IsInRange b.usage
-  pub shares : share_total b.works ≤ 1000000
 
 length-booked : (isrc : List ℕ) (works : List WorkParts) (u : Usage) (o : Option Place) → length (booked_under isrc works u o) ≤ 1
 length-booked isrc works u None = omega arith

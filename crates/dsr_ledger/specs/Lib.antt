@@ -18,5 +18,6 @@ pub mod Drafts
 pub mod FileSteps
 pub mod Stands
 pub mod Openings
+pub mod Rows
 pub mod Books
 pub mod BooksWords

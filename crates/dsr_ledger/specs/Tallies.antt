@@ -1,12 +1,15 @@
 -- What is kept of a ledger line, and what bookings make of it.
-use Rattle.std.specs.Prelude.{◌≡◌, ℕ, ◌+◌, ◌*◌, ◌^◌, ◌<◌, ℤ, pos, ◌+ℤ◌, Bool, true, ◌||◌, nat_lt, List, [], length, Option, None, Some, slice_get, unsigned_abs}
+use Rattle.std.specs.Prelude.{◌≡◌, ℕ, ◌+◌, ◌*◌, ◌^◌, ◌<◌, ◌≤◌, ℤ, pos, ◌+ℤ◌, Bool, true, ◌||◌, nat_lt, List, [], length, Option, None, Some, slice_get, unsigned_abs}
 use Rattle.std.specs.Option.{option_and_then}
+use Rattle.std.specs.List.{AllByRecursion}
 use Rattle.std.specs.BTreeMap.{get}
 use Rattle.dsr_records.specs.declared.record.Usage.{Usage}
 use Rattle.dsr_ledger.specs.declared.key.Key.{Key}
 use Rattle.dsr_ledger.specs.declared.owed.Owed.{Owed}
 use Rattle.dsr_ledger.specs.declared.line.Line.{Line}
 use Rattle.dsr_ledger.specs.declared.lines.Lines.{Lines}
+use Rattle.dsr_ledger.specs.Verdicts.{share_total}
+use Rattle.dsr_ledger.specs.Ranges.{IsInRange}
 use Rattle.dsr_ledger.specs.Keys.{key_cmp}
 use Rattle.dsr_ledger.specs.Bookings.{Booking}
 use Rattle.dsr_ledger.specs.Parts.{Part, all_parts}
@@ -78,3 +81,15 @@ pub record TallyFits (n : ℕ) (t : Tally) : Type 0 where
   pub usages : unsigned_abs t.usages + n * 2 ^ 63 < 2 ^ 127
   pub amount : unsigned_abs t.amount + n * 10 ^ 22 < 2 ^ 127
   pub owed : (q : List ℕ) → unsigned_abs (t.owed q).amount + n * 10 ^ 22 < 2 ^ 127
+
+-- a booking whose numbers are small
+pub record IsSmall (b : Booking) : Type 0 where
+  pub range : IsInRange b.usage
+  pub shares : share_total b.works ≤ 1000000
+
+-- a line that stands for some bookings, which are not too many, and small
+pub record IsBounded (l : Line) : Type 0 where
+  pub bookings : List Booking
+  pub tally : line_tally l ≡ tally_of bookings
+  pub small : AllByRecursion IsSmall bookings
+  pub few : length bookings ≤ 2 ^ 50

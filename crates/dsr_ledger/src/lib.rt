@@ -17,7 +17,9 @@ mod open;
 mod owed;
 mod parties;
 mod parts;
+mod push;
 mod report;
+mod shares;
 mod sums;
 mod verdict;
 
