@@ -174,6 +174,50 @@ fn send_blocks<R: Wait>(rt: &R, alloc: Global, feed: &mut Feed, blocks: u64) -> 
     true
 }
 
+/// Sends Ended where the tap is gone, and answers whether it came back.
+fn ended_comes_back<R: Wait>(rt: &R, feed: &mut Feed, place: u64) -> bool
+    requires going { has_ended feed.old.sent ≡ false }
+    requires few { length feed.old.sent < 100000 }
+    ensures { result ≡ true → feed.new ≡ feed.old }
+{
+    let Err(event) = send_ended(rt, feed) else {
+        return false;
+    };
+    is_end(&event, place)
+}
+
+/// Takes one event, and answers whether it is the opening.
+fn takes_opened<R: Wait>(rt: &R, tap: &mut Tap) -> bool
+    requires { has_ended tap.old.taken ≡ false }
+    ensures { tap.new.name ≡ tap.old.name }
+{
+    let Ok(event) = tap.take(rt) else {
+        return false;
+    };
+    is_opened(&event)
+}
+
+/// Takes one event, and answers whether it is the end, at this place.
+fn takes_end<R: Wait>(rt: &R, tap: &mut Tap, place: u64) -> bool
+    requires { has_ended tap.old.taken ≡ false }
+    ensures { tap.new.name ≡ tap.old.name }
+{
+    let Ok(event) = tap.take(rt) else {
+        return false;
+    };
+    is_end(&event, place)
+}
+
+/// Whether there is nothing to take and the feed is gone.
+fn is_closed<R: Wait>(rt: &R, tap: &mut Tap) -> bool
+    requires { has_ended tap.old.taken ≡ false }
+{
+    let Err(Closed) = tap.take(rt) else {
+        return false;
+    };
+    true
+}
+
 /// A new relay.
 fn relay(alloc: Global, capacity: u32) -> Result<(Feed, Tap), Fail>
     ensures { IfOk result (λ r. (r.1.name ≡ r.0.name) × (r.0.sent ≡ []) × (r.0.batch ≡ []) × (r.1.taken ≡ []) × (r.1.held ≡ [])) }
@@ -205,13 +249,8 @@ fn one_sent_none_taken(rt: HostRuntime) -> Result<(), Fail> {
 fn an_ended_comes_back_twice(rt: HostRuntime) -> Result<(), Fail> {
     let (mut feed, tap) = relay(rt.alloc(), 1)?;
     drop(tap);
-    let Err(first) = send_ended(&rt, &mut feed) else {
-        return Err(Fail::new("no event came back"));
-    };
-    let Err(second) = send_ended(&rt, &mut feed) else {
-        return Err(Fail::new("no event came back the second time"));
-    };
-    assert!(rt; is_end(&first, 0) && is_end(&second, 0));
+    assert!(rt; ended_comes_back(&rt, &mut feed, 0));
+    assert!(rt; ended_comes_back(&rt, &mut feed, 0));
     assert_eq!(rt; feed.sent_count(), 0);
     Ok(())
 }
@@ -222,13 +261,9 @@ fn a_dropped_feed_closes(rt: HostRuntime) -> Result<(), Fail> {
     assert!(rt; send_opened(&rt, rt.alloc(), &mut feed));
     assert!(rt; feed.flush(&rt).is_ok());
     drop(feed);
-    let Ok(first) = tap.take(&rt) else {
-        return Err(Fail::new("nothing was taken"));
-    };
-    assert!(rt; is_opened(&first));
+    assert!(rt; takes_opened(&rt, &mut tap));
     assert!(rt; !tap.ended());
-    let second = tap.take(&rt);
-    assert!(rt; second.is_err());
+    assert!(rt; is_closed(&rt, &mut tap));
     Ok(())
 }
 
@@ -246,44 +281,25 @@ fn forty_events_in_one_place(rt: HostRuntime) -> Result<(), Fail> {
 fn one_of_forty_is_taken(rt: HostRuntime) -> Result<(), Fail> {
     let (mut feed, mut tap) = relay(rt.alloc(), 1)?;
     assert!(rt; send_blocks(&rt, rt.alloc(), &mut feed, 39));
-    let Ok(first) = tap.take(&rt) else {
-        return Err(Fail::new("nothing was taken"));
-    };
-    assert!(rt; is_opened(&first));
+    assert!(rt; takes_opened(&rt, &mut tap));
     assert_eq!(rt; tap.held(), 31);
     let settled = tap.take_in(feed);
     assert_eq!(rt; (settled.taken, settled.left), (1, 39));
     Ok(())
 }
 
-/// Takes one event of a new relay, answers whether it is an opening, and drops the tap.
-fn takes_opened<R: Wait>(rt: &R, mut tap: Tap) -> bool
-    requires { tap.taken ≡ [] }
-{
-    let Ok(event) = tap.take(rt) else {
-        return false;
-    };
-    is_opened(&event)
-}
-
 #[test]
 fn a_closed_tap_hands_back(rt: HostRuntime) -> Result<(), Fail> {
-    let (mut feed, tap) = relay(rt.alloc(), 2)?;
-    if !send_opened(&rt, rt.alloc(), &mut feed) {
-        return Err(Fail::new("Opened was refused"));
-    }
-    assert!(rt; feed.flush(&rt).is_ok());
-    assert!(rt; takes_opened(&rt, tap));
-    if !send_block(&rt, rt.alloc(), &mut feed) {
-        return Err(Fail::new("the block was refused"));
-    }
-    let Err(Closed) = feed.flush(&rt) else {
-        return Err(Fail::new("a batch went out to a tap that is gone"));
-    };
-    let Err(back) = send_ended(&rt, &mut feed) else {
-        return Err(Fail::new("no event came back"));
-    };
-    assert!(rt; is_end(&back, 2));
+    let (mut feed, mut tap) = relay(rt.alloc(), 2)?;
+    assert!(rt; send_opened(&rt, rt.alloc(), &mut feed));
+    let flushed = feed.flush(&rt).is_ok();
+    assert!(rt; flushed);
+    assert!(rt; takes_opened(&rt, &mut tap));
+    drop(tap);
+    assert!(rt; send_block(&rt, rt.alloc(), &mut feed));
+    let refused = feed.flush(&rt).is_err();
+    assert!(rt; refused);
+    assert!(rt; ended_comes_back(&rt, &mut feed, 2));
     assert_eq!(rt; feed.sent_count(), 2);
     Ok(())
 }
@@ -336,30 +352,27 @@ fn a_feed_moves_to_a_thread(rt: HostRuntime) -> Result<(), Fail> {
     let (feed, mut tap) = relay(alloc, 1)?;
     let promise = SameRelay(Snapshot::of(&feed));
     let sender = thread::spawn_with(&rt, promise, move || send_file(&rt, alloc, feed, 0))?;
-    let Ok(first) = tap.take(&rt) else {
-        return Err(Fail::new("nothing was taken"));
-    };
-    assert!(rt; is_opened(&first));
-    if tap.ended() {
-        return Err(Fail::new("the file ended early"));
-    }
-    let Ok(second) = tap.take(&rt) else {
-        return Err(Fail::new("no second event was taken"));
-    };
-    assert!(rt; is_end(&second, 1));
+    assert!(rt; takes_opened(&rt, &mut tap));
+    assert!(rt; !tap.ended());
+    assert!(rt; takes_end(&rt, &mut tap, 1));
     assert!(rt; tap.ended());
     let settled = tap.take_in(sender.join(&rt));
     assert_eq!(rt; (settled.taken, settled.left), (2, 0));
     Ok(())
 }
 
+/// Takes one event of a new relay, and answers whether it is the opening.
+fn take_first<R: Wait>(rt: &R, mut tap: Tap) -> bool
+    requires { tap.taken ≡ [] }
+{
+    takes_opened(rt, &mut tap)
+}
+
 #[test]
 fn a_tap_moves_to_a_thread(rt: HostRuntime) -> Result<(), Fail> {
     let (mut feed, tap) = relay(rt.alloc(), 1)?;
-    let taker = thread::spawn(&rt, move || takes_opened(&rt, tap))?;
-    if !send_opened(&rt, rt.alloc(), &mut feed) {
-        return Err(Fail::new("Opened was refused"));
-    }
+    let taker = thread::spawn(&rt, move || take_first(&rt, tap))?;
+    assert!(rt; send_opened(&rt, rt.alloc(), &mut feed));
     assert!(rt; feed.flush(&rt).is_ok());
     assert!(rt; taker.join(&rt));
     Ok(())
