@@ -4,7 +4,9 @@
 mod event;
 mod fault;
 mod sink;
+mod source;
 
 pub use event::{Event, EventPart, Opening, Summaries};
 pub use fault::{Ending, FileFault, Outcome};
 pub use sink::Sink;
+pub use source::Failed;
