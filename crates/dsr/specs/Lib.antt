@@ -1,0 +1,3 @@
+-- definitions to believe
+pub mod Faults
+pub mod LayoutFile

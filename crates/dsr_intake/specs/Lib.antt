@@ -1,0 +1,3 @@
+-- definitions to believe
+pub mod Options
+pub mod Written
