@@ -1,3 +1,6 @@
 -- definitions to believe
 pub mod Options
+pub mod Names
+pub mod Statement
+pub mod Status
 pub mod Written
