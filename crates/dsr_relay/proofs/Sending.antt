@@ -1,0 +1,27 @@
+-- What a feed has after its batch went out.
+use Rattle.std.proofs.Common.{◌≡◌, ℕ, ◌≤◌, true, false, List, [], ◌∷◌, ◌++◌, length, refl, sym, ap, ◌∙◌, arith}
+use Rattle.dsr_file.specs.Placed.{Placed}
+use Rattle.dsr_relay.specs.declared.rule.Log.{Log}
+use Rattle.dsr_relay.specs.declared.rule.Log.TheVariants.{Sends}
+use Rattle.dsr_relay.specs.Messages.{Message, events_of}
+use Rattle.dsr_relay.specs.Rule.{out_of}
+use Rattle.dsr_relay.specs.Views.{goes_out, batch_after}
+use Rattle.dsr_relay.proofs.Messages.{append_nil, events_of-push}
+
+pub sends_again : (v : Log) (ms : List Message) (n : ℕ) → v ≡ Sends ms n → v ≡ Sends (out_of v) n
+sends_again v ms n e = e ∙ ap (λ u. Sends (out_of u) n) (sym e)
+
+-- the list sent is the same once the batch is a message
+pub sent_out : (v w : Log) (n : ℕ) (m : Message) (batch rest : List Placed) → w ≡ Sends (out_of v ++ m ∷ []) n → m.items ≡ batch → rest ≡ [] → events_of (out_of w) ++ rest ≡ events_of (out_of v) ++ batch
+sent_out v w n m batch rest e same none =
+    ap (λ l. events_of (out_of w) ++ l) none ∙ append_nil (events_of (out_of w)) ∙ ap (λ u. events_of (out_of u)) e ∙ events_of-push (out_of v) m ∙ ap (λ l. events_of (out_of v) ++ l) same
+
+-- a batch with which nothing goes out has room for another event
+pub has_room : (batch : List Placed) (e : Placed) → goes_out batch e ≡ false → length batch ≤ 31 → length batch ≤ 30
+has_room batch e h most = grind arith
+
+pub batch_stays : (batch : List Placed) (e : Placed) → goes_out batch e ≡ false → batch_after batch e ≡ batch ++ e ∷ []
+batch_stays batch e h = rw h refl
+
+pub batch_goes : (batch : List Placed) (e : Placed) → goes_out batch e ≡ true → batch_after batch e ≡ []
+batch_goes batch e h = rw h refl

@@ -1,0 +1,62 @@
+use Rattle.std.proofs.Common.{◌≡◌, [], ◌∷◌, ◌++◌, length, sym, ap, ◌∙◌, subst, arith, append_assoc, length-append}
+use Rattle.crossbeam_channel.specs.Claims.{view}
+use Rattle.dsr_file.specs.Placed.{Placed}
+use Rattle.dsr_file.specs.Orderly.{IsOrderly}
+use Rattle.dsr_file.specs.OrderlyLaws.{orderly_next}
+use Rattle.dsr_relay.specs.Messages.{events_of}
+use Rattle.dsr_relay.specs.Rule.{out_of}
+use Rattle.dsr_relay.specs.Views.{FeedView, batch_after}
+use Rattle.dsr_relay.specs.Feeds.{feed_view, sent_of}
+use Rattle.dsr_relay.proofs.Sending.{sends_again, sent_out, has_room, batch_goes}
+use Rattle.dsr_relay.proofs.feed.Feed.send.Goals as goal
+
+pub invariant_of-self : goal.invariant_of-self
+invariant_of-self g c =
+    let f = c.self.inside in
+    let e = c.args.event in
+    let out = events_of (out_of (view f.pass)) in
+    let asked : IsOrderly (sent_of f ++ e ∷ []) = subst (λ (v : FeedView). IsOrderly (v.sent ++ e ∷ [])) (sym c.self.view_is) c.requires in
+    let same : out ++ c.push.new.self.items ≡ sent_of f ++ e ∷ [] = ap (λ l. out ++ l) c.push.ensures.items ∙ sym (append_assoc out f.batch.items (e ∷ [])) in
+    record {
+      seat = c.self.invariant.seat;
+      knows = c.self.invariant.knows;
+      waits = omega (arith, c.push.ensures.len, has_room f.batch.items e (sym c.goes_out-goes_out.ensures ∙ c.if-not-goes_out.true) c.self.invariant.waits);
+      orderly = subst IsOrderly (sym same) asked;
+      count = omega (arith, ap (λ (v : Placed). v.place) c.event.view_is, orderly_next (sent_of f) e [] asked, ap length same, length-append (sent_of f) (e ∷ []));
+    }
+
+pub invariant_of-self-in-Ok : goal.invariant_of-self-in-Ok
+invariant_of-self-in-Ok g c =
+    let f = c.self.inside in
+    let e = c.args.event in
+    let out = events_of (out_of (view f.pass)) in
+    let asked : IsOrderly (sent_of f ++ e ∷ []) = subst (λ (v : FeedView). IsOrderly (v.sent ++ e ∷ [])) (sym c.self.view_is) c.requires in
+    let same =
+    sent_out (view f.pass) (view c.send_out.new.pass) _ c.take-batch.result (f.batch.items ++ e ∷ []) c.take-batch.new.self.items c.in-Ok.ensures.sent (ap (λ b. b.items) c.take-batch.ensures.value ∙ c.push.ensures.items) c.take-batch.ensures.after
+    ∙ sym (append_assoc out f.batch.items (e ∷ [])) in
+    record {
+      seat = c.send_out.ensures.seat;
+      knows = sends_again _ _ _ c.in-Ok.ensures.sent;
+      waits = omega (arith, ap length c.take-batch.ensures.after);
+      orderly = subst IsOrderly (sym same) asked;
+      count = omega (arith, ap (λ (v : Placed). v.place) c.event.view_is, orderly_next (sent_of f) e [] asked, ap length same, length-append (sent_of f) (e ∷ []));
+    }
+
+pub returns-in-Ok-clause-sent : goal.returns-in-Ok-clause-sent
+returns-in-Ok-clause-sent g c =
+    let f = c.self.inside in
+    let e = c.args.event in
+    let out = events_of (out_of (view f.pass)) in
+    let same =
+    sent_out (view f.pass) (view c.send_out.new.pass) _ c.take-batch.result (f.batch.items ++ e ∷ []) c.take-batch.new.self.items c.in-Ok.ensures.sent (ap (λ b. b.items) c.take-batch.ensures.value ∙ c.push.ensures.items) c.take-batch.ensures.after
+    ∙ sym (append_assoc out f.batch.items (e ∷ [])) in
+    let seat = c.send_out.ensures.seat in
+    let was = c.self.invariant.seat in
+    let batch = c.take-batch.ensures.after ∙ sym (batch_goes f.batch.items e (sym c.goes_out-goes_out.ensures ∙ c.if-not-goes_out.false)) in
+    let next : feed_view (record f { pass = c.send_out.new.pass; batch = c.take-batch.new.self }) ≡ record (feed_view f) { sent = sent_of f ++ e ∷ []; batch = batch_after f.batch.items e } =
+    λ i. record {
+      name = record { of = record {}; table = (seat.0 ∙ sym was.0) i; key = (seat.1 ∙ sym was.1) i; capacity = (feed_view f).name.capacity };
+      sent = same i;
+      batch = batch i;
+    } in
+    next ∙ ap (λ (v : FeedView). record v { sent = v.sent ++ e ∷ []; batch = batch_after v.batch e }) c.self.view_is

@@ -1,0 +1,40 @@
+-- The laws of the relays of all files. They hold in every schedule, for any number of files.
+use Rattle.std.specs.Prelude.{◌≡◌, ℕ, ◌*◌, ◌≤◌, false, List, [], ◌∷◌, ◌++◌, length, map, sum, Some, slice_get}
+use Rattle.std.specs.List.{AllByRecursion}
+use Rattle.dsr_file.specs.Placed.{Placed}
+use Rattle.dsr_file.specs.Orderly.{has_ended}
+use Rattle.dsr_relay.specs.Lanes.{Lane, Step, file_of, IsPrefix, Happens, Leads, IsFresh}
+
+-- the events of the messages, one message after another
+abbrev pub joined : List (List Placed) → List Placed
+joined [] = []
+joined (message ∷ messages) = message ++ joined messages
+
+-- what was taken, and then the queue, is what was sent, a prefix of the source; and the queue fits
+pub record IsInOrder (lane : Lane) : Type 0 where
+  pub in_order : lane.taken ++ joined lane.queue ≡ lane.sent
+  pub of_source : IsPrefix lane.sent lane.source
+  pub fits : length lane.queue ≤ lane.capacity
+
+-- after every schedule each lane, still with its source and its capacity, is in order
+abbrev pub InEverySchedule : Type 0
+InEverySchedule = (first lanes : List Lane) (steps : List Step) → AllByRecursion IsFresh first → Leads first steps lanes
+    → AllByRecursion IsInOrder lanes × (map (λ l. l.source) lanes ≡ map (λ l. l.source) first) × (map (λ l. l.capacity) lanes ≡ map (λ l. l.capacity) first)
+
+-- a step on one file leaves the others
+abbrev pub LeavesOthers : Type 0
+LeavesOthers = (step : Step) (before after : List Lane) (k : ℕ) → Happens step before after → ¬ (k ≡ file_of step) → slice_get after k ≡ slice_get before k
+
+-- while the Ended of a file was not taken, a step of that file can happen
+abbrev pub IsNeverStuck : Type 0
+IsNeverStuck = (first lanes : List Lane) (steps : List Step) (k : ℕ) (l : Lane) → AllByRecursion IsFresh first → Leads first steps lanes → slice_get lanes k ≡ Some l → has_ended l.taken ≡ false
+    → (step : Step) × (next : List Lane) × (file_of step ≡ k) × Happens step lanes next
+
+-- a schedule has at most twice as many steps as the sources have events
+abbrev pub IsBounded : Type 0
+IsBounded = (first lanes : List Lane) (steps : List Step) → AllByRecursion IsFresh first → Leads first steps lanes → length steps ≤ 2 * sum (map (λ l. length l.source) first)
+
+-- a schedule that no step extends has taken every source whole
+abbrev pub IsDelivered : Type 0
+IsDelivered = (first lanes : List Lane) (steps : List Step) → AllByRecursion IsFresh first → Leads first steps lanes → ((step : Step) (next : List Lane) → ¬ Happens step lanes next)
+    → map (λ l. l.taken) lanes ≡ map (λ l. l.source) first

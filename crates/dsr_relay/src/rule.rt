@@ -1,0 +1,113 @@
+//! What the two ends know of a relay, and the rule that ties it to what the channel holds.
+ghost use Rattle.std.specs.Prelude.{ℕ};
+
+use arrayvec::ArrayVec;
+use crossbeam_channel::protocol::{Join, Lesson, Outcome, Protocol, Split};
+use dsr_file::Event;
+use std::collections::LinkedList;
+use std::marker::{Brand, PhantomData};
+
+/// The events that go through the channel at once, 32 at most.
+pub type Message = ArrayVec<Event, 32>;
+
+/// What an end knows by its pass. No value of it is made.
+pub enum Log {
+    /// Of a relay that is not yet cut into its ends.
+    Fresh,
+    /// Of the feed: the messages that went out, and how many the channel takes.
+    Sends(LinkedList<Message>, u64),
+    /// Of the tap: the messages that came in.
+    Takes(LinkedList<Message>),
+    /// Of both ends where they met: what went out, what came in, and how many the channel takes.
+    Both(LinkedList<Message>, LinkedList<Message>, u64),
+    /// Of an end that the other took in.
+    Spent,
+}
+
+/// The capacity of a relay, in messages.
+pub trait Capacity {
+    ghost capacity: { ℕ };
+}
+
+impl Capacity for Brand {
+    ghost capacity = { 0 };
+}
+
+/// What came in, followed by what the channel holds, is what went out, and its events are an orderly list.
+pub struct InOrder;
+
+impl Protocol<Message, Log> for InOrder {
+    ghost use Rattle.dsr_relay.specs.declared.rule.Log.TheVariants.{Fresh};
+    ghost use Rattle.dsr_relay.specs.Rule.{Relayed};
+
+    ghost holds = { Relayed };
+
+    ghost first = { Fresh };
+}
+
+/// Cuts the pass of a fresh relay into the feed's and the tap's.
+pub struct Cut<C> {
+    of: PhantomData<C>,
+}
+
+impl<C: Capacity> Split<Log> for Cut<C> {
+    ghost use Rattle.std.specs.Prelude.{[]};
+    ghost use Rattle.dsr_relay.specs.declared.rule.Log.TheVariants.{Sends, Takes};
+
+    ghost left = { λ v. Sends [] C.capacity };
+
+    ghost right = { λ v. Takes [] };
+}
+
+/// Joins the tap's pass into the feed's.
+pub struct Meet;
+
+impl Join<Log> for Meet {
+    ghost use Rattle.dsr_relay.specs.declared.rule.Log.TheVariants.{Spent};
+    ghost use Rattle.dsr_relay.specs.Rule.{both_of};
+
+    ghost both = { both_of };
+
+    ghost spent = { Spent };
+}
+
+/// A message goes out: the feed's list grows by it.
+pub struct Sent;
+
+impl Outcome<Message, Log> for Sent {
+    ghost use Rattle.dsr_relay.specs.Rule.{Goes};
+
+    ghost then = { Goes };
+}
+
+/// A send learns nothing of what the channel holds.
+impl Lesson<Message, Log> for Sent {
+    ghost use Rattle.std.specs.Prelude.{⊤};
+
+    ghost fact = { λ v items. ⊤ };
+}
+
+/// A message comes in: the tap's list grows by it.
+pub struct Received;
+
+impl Outcome<Message, Log> for Received {
+    ghost use Rattle.dsr_relay.specs.Rule.{Comes};
+
+    ghost then = { Comes };
+}
+
+/// A receive learns nothing of what the channel still holds.
+impl Lesson<Message, Log> for Received {
+    ghost use Rattle.std.specs.Prelude.{⊤};
+
+    ghost fact = { λ v items. ⊤ };
+}
+
+/// What the channel holds where the ends meet: what went out and did not come in.
+pub struct Rest;
+
+impl Lesson<Message, Log> for Rest {
+    ghost use Rattle.dsr_relay.specs.Rule.{IsLeft};
+
+    ghost fact = { IsLeft };
+}

@@ -1,0 +1,138 @@
+//! The end that takes.
+ghost use Rattle.std.specs.Prelude.{◌≡◌, ◌+◌, ◌*◌, ◌<◌, ◌≤◌, true, false, [], ◌∷◌, ◌++◌, length, IfSome, IfNone, IfOk, OnErr};
+ghost use Rattle.dsr_file.specs.Orderly.{IsOrderly, has_ended};
+
+use crate::channel::take_next;
+use crate::feed::{Closed, Feed};
+use crate::rule::{InOrder, Log, Meet, Message, Rest};
+use crate::settled::Settled;
+use arrayvec::IntoIter;
+use crossbeam_channel::{Pass, RuledReceiver};
+use dsr_file::Event;
+use std::marker::Model;
+use std::snapshot::Snapshot;
+use std::sync::Wait;
+
+/// The taking end of a relay. Contracts see the relay's name, the events taken, and those of the last message that are still held.
+#[derive(Drop)]
+pub struct Tap {
+    pub(crate) receiver: RuledReceiver<Message, Log, InOrder>,
+    pub(crate) pass: Pass<Message, Log>,
+    pub(crate) held: IntoIter<Event, 32>,
+    pub(crate) count: u64,
+    pub(crate) ended: bool,
+}
+
+impl Model for Tap {
+    ghost use Rattle.dsr_relay.specs.Views.{TapView};
+    ghost use Rattle.dsr_relay.specs.Taps.{tap_view, IsTap};
+
+    ghost Value = { TapView };
+
+    ghost view = { tap_view };
+
+    ghost invariant = { IsTap };
+}
+
+impl Tap {
+    /// Takes the next event. Where there is none yet, the call waits; where the feed is gone and nothing is left it may answer `Closed`,
+    /// and then nothing has changed.
+    pub fn take<R: Wait>(&mut self, rt: &R) -> Result<Event, Closed>
+        requires { has_ended self.old.taken ≡ false }
+        ensures taken { IfOk result (λ e. self.new ≡ record self.old { taken = self.old.taken ++ e ∷ []; held = self.new.held }) }
+        ensures place { IfOk result (λ e. e.place ≡ length self.old.taken) }
+        ensures held { IfOk result (λ e. 0 < length self.old.held → self.old.held ≡ e ∷ self.new.held) }
+        ensures closed { OnErr result ((self.new ≡ self.old) × (self.old.held ≡ [])) }
+        ensures orderly { IsOrderly self.new.taken }
+    {
+        match self.take_held() {
+            Some(event) => Ok(event),
+            None => self.take_first(rt),
+        }
+    }
+
+    /// Takes the next event of the last message.
+    fn take_held(&mut self) -> Option<Event>
+        requires { has_ended self.old.taken ≡ false }
+        ensures taken { IfSome result (λ e. self.new ≡ record self.old { taken = self.old.taken ++ e ∷ []; held = self.new.held }) }
+        ensures place { IfSome result (λ e. e.place ≡ length self.old.taken) }
+        ensures held { IfSome result (λ e. self.old.held ≡ e ∷ self.new.held) }
+        ensures none { IfNone result ((self.new ≡ self.old) × (self.old.held ≡ [])) }
+        ensures orderly { IsOrderly self.new.taken }
+    {
+        let event = self.held.next()?;
+        self.count = event.place + 1;
+        self.ended = event.part.is_ended();
+        Some(event)
+    }
+
+    /// Receives a message and takes its first event.
+    fn take_first<R: Wait>(&mut self, rt: &R) -> Result<Event, Closed>
+        requires going { has_ended self.old.taken ≡ false }
+        requires none_held { self.old.held ≡ [] }
+        ensures taken { IfOk result (λ e. self.new ≡ record self.old { taken = self.old.taken ++ e ∷ []; held = self.new.held }) }
+        ensures place { IfOk result (λ e. e.place ≡ length self.old.taken) }
+        ensures closed { OnErr result (self.new ≡ self.old) }
+        ensures orderly { IsOrderly self.new.taken }
+    {
+        let Some(message) = take_next(rt, &self.receiver, &mut self.pass) else {
+            return Err(Closed);
+        };
+        self.held = message.into_iter();
+        let Some(event) = self.held.next() else {
+            unreachable!()
+        };
+        self.count = event.place + 1;
+        self.ended = event.part.is_ended();
+        Ok(event)
+    }
+
+    /// Whether Ended was taken.
+    pub fn ended(&self) -> bool
+        ensures { result ≡ has_ended self.now.taken }
+    {
+        self.ended
+    }
+
+    /// How many events of the last message were not taken yet.
+    pub fn held(&self) -> u32
+        ensures held { result ≡ length self.now.held }
+        ensures few { result ≤ 31 }
+    {
+        self.held.as_slice().len() as u32
+    }
+
+    /// Joins the two ends of one relay, and tells what was taken and what is left of what was sent. It waits for nobody.
+    pub fn take_in(self, feed: Feed) -> Settled
+        requires { self.name ≡ feed.name }
+        ensures taken { result.taken ≡ self.taken }
+        ensures sent { result.taken ++ result.left ≡ feed.sent }
+        ensures orderly { IsOrderly feed.sent }
+        ensures ended { has_ended self.taken ≡ true → result.left ≡ [] }
+        ensures few { length result.left ≤ 32 * feed.name.capacity + 62 }
+    {
+        let of_tap = Snapshot::of(&self);
+        let of_feed = Snapshot::of(&feed);
+        let Tap {
+            receiver: _,
+            pass: theirs,
+            held: _,
+            count: taken,
+            ended: _,
+        } = self;
+        let Feed {
+            sender,
+            mut pass,
+            batch: _,
+            count,
+        } = feed;
+        sender.absorb::<Meet>(&mut pass, theirs);
+        sender.learn_as::<Rest>(&mut pass);
+        Settled {
+            taken,
+            left: count - taken,
+            tap: of_tap,
+            feed: of_feed,
+        }
+    }
+}
