@@ -27,6 +27,17 @@ impl Options {
             layout: Layout::standard(),
         }
     }
+
+    /// Equal options.
+    pub(crate) fn copy(&self) -> Options
+        ensures { result ≡ self.now }
+    {
+        Options {
+            capacity: self.capacity,
+            max_reads: self.max_reads,
+            layout: self.layout.copy(),
+        }
+    }
 }
 
 /// Why there is no report. The first four are found before anything is read.

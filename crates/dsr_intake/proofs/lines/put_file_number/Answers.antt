@@ -1,5 +1,3 @@
-use Rattle.std.proofs.Common.{◌≡◌, ◌++◌, ◌∷◌, subst}
-use Rattle.std.specs.Prelude.{OnOk, decimal}
 use Rattle.dsr_intake.specs.Statement.{number_cell}
 use Rattle.dsr_intake.proofs.lines.put_file_number.Goals as goal
 
