@@ -1,4 +1,20 @@
+-- The definitions to believe.
+pub mod Lines
+pub mod Readings
 pub mod Openings
+pub mod Parts
+pub mod Faults
+pub mod Names
+pub mod Texts
 pub mod Placed
 pub mod Orderly
+pub mod Runs
+pub mod Sources
+-- Laws of them, and words that only relate the fields of the code to them.
 pub mod OrderlyLaws
+pub mod Stages
+pub mod Counting
+pub mod Grammars
+pub mod Cutting
+pub mod Allowance
+pub mod Standing

@@ -1,0 +1,149 @@
+-- A record that is added to a grammar.
+use Rattle.std.proofs.Common.{◌≡◌, ℕ, suc, ◌+◌, ◌∙◌, sym, ap, refl, subst, Bool, true, false, not, ◌||◌, eqb, List, [], ◌∷◌, ◌++◌, length, count_by, Option, None, Some, append_assoc, add-zero, length-append, arith}
+use Rattle.std.proofs.lemmas.List.Sums.{sum_by-append}
+use Rattle.std.proofs.Common.{cond}
+use Rattle.std.specs.Prelude.{option_and_then, if◌then◌else◌}
+use Rattle.std.specs.Option.{option_to_list}
+use Rattle.dsr_records.specs.declared.record.Foot as foot
+use Rattle.dsr_records.specs.declared.record.Record.{Record}
+use Rattle.dsr_records.specs.declared.record.Record.TheVariants.{Head, Summary, Resource, Work, Usage, Foot, Skipped}
+use Rattle.dsr_file.specs.declared.fault.FileFault.{FileFault}
+use Rattle.dsr_file.specs.declared.fault.FileFault.TheVariants as faults
+use Rattle.dsr_file.specs.declared.event.EventPart.{EventPart}
+use Rattle.dsr_file.specs.declared.grammar.Grammar.{Grammar}
+use Rattle.dsr_file.specs.Readings.{Reading, Holds, kept, records, is_skipped_line, is_skipped_record}
+use Rattle.dsr_file.specs.Parts.{closed, summaries, events_of}
+use Rattle.dsr_file.specs.Faults.{fault_if, fault_of, early_fault, count_fault}
+use Rattle.dsr_records.specs.Records.{or_else}
+use Rattle.dsr_file.specs.Texts.{AllGood, first_from, counts_fault}
+use Rattle.dsr_file.specs.Stages.{KeepsStage, stage_after, given_by}
+use Rattle.dsr_file.specs.Counting.{foot_in, summary_count, block_count}
+use Rattle.dsr_file.specs.Grammars.{Keeps, kept_count_fault, IsRecord}
+use Rattle.dsr_file.proofs.StepLemmas.{Steps, step_record, summaries-append}
+use Rattle.dsr_file.proofs.LineLemmas.{records-push, first_good}
+
+-- what the code does to the numbers
+pub record Adds (old new : Grammar) (item : Record) (part : Option EventPart) : Type 0 where
+  pub stage : new.stage ≡ stage_after old.stage item
+  pub given : part ≡ given_by old.stage item
+  pub lines : new.lines ≡ old.lines + 1
+  pub records : new.records ≡ old.records + 1
+  pub skipped_lines : new.skipped_lines ≡ old.skipped_lines
+  pub skipped_records : new.skipped_records ≡ old.skipped_records
+  pub summaries : new.summaries ≡ old.summaries + summary_count item
+  pub blocks : new.blocks ≡ old.blocks + block_count part
+
+summary_added : (item : Record) → length (summaries (item ∷ [])) ≡ summary_count item
+summary_added (Summary s) = refl
+summary_added (Head h) = refl
+summary_added (Resource r) = refl
+summary_added (Work w) = refl
+summary_added (Usage u) = refl
+summary_added (Foot f) = refl
+summary_added Skipped = refl
+
+-- what a record is that is not of a skipped type
+kept_record : (item : Record) → IsRecord item → kept (Holds item) ≡ item ∷ []
+kept_record (Summary s) i = refl
+kept_record (Head h) i = refl
+kept_record (Resource r) i = refl
+kept_record (Work w) i = refl
+kept_record (Usage u) i = refl
+kept_record (Foot f) i = refl
+kept_record Skipped i = absurd i
+
+unskipped : (item : Record) → IsRecord item → is_skipped_record (Holds item) ≡ false
+unskipped (Summary s) i = refl
+unskipped (Head h) i = refl
+unskipped (Resource r) i = refl
+unskipped (Work w) i = refl
+unskipped (Usage u) i = refl
+unskipped (Foot f) i = refl
+unskipped Skipped i = absurd i
+
+-- the records with the item
+pub with_item : (ls : List Reading) (item : Record) → IsRecord item → records (ls ++ Holds item ∷ []) ≡ records ls ++ item ∷ []
+with_item ls item i = records-push ls (Holds item) ∙ ap (λ rs. records ls ++ rs) (kept_record item i)
+
+pub count_by_push_no : {X : Type 0} (p : X → Bool) (xs : List X) (x : X) → p x ≡ false → count_by p (xs ++ x ∷ []) ≡ count_by p xs
+count_by_push_no p xs x e = sum_by-append (λ y. cond (p y) 1 0) xs (x ∷ []) ∙ rw e (add-zero _)
+
+pub count_by_push_yes : {X : Type 0} (p : X → Bool) (xs : List X) (x : X) → p x ≡ true → count_by p (xs ++ x ∷ []) ≡ count_by p xs + 1
+count_by_push_yes p xs x e = sum_by-append (λ y. cond (p y) 1 0) xs (x ∷ []) ∙ rw e refl
+
+some_same : (f g : FileFault) → Some f ≡ Some g → f ≡ g
+some_same f g e = cc
+
+one_of_three : (a b c : Bool) (f : FileFault) → or_else (fault_if a faults.FootLines) (or_else (fault_if b faults.FootSummaries) (fault_if c faults.FootBlocks)) ≡ Some f → counts_fault f ≡ true
+one_of_three true b c f e = ap counts_fault (some_same _ _ (sym e))
+one_of_three false true c f e = ap counts_fault (some_same _ _ (sym e))
+one_of_three false false true f e = ap counts_fault (some_same _ _ (sym e))
+one_of_three false false false f e = cc
+
+-- a fault of the counts is one of the three
+count_faults : (g : Grammar) (item : Record) (f : FileFault) → option_and_then (kept_count_fault g) (foot_in item) ≡ Some f → counts_fault f ≡ true
+count_faults g (Foot t) f e = one_of_three _ _ _ f e
+count_faults g (Head h) f e = cc
+count_faults g (Summary s) f e = cc
+count_faults g (Resource r) f e = cc
+count_faults g (Work w) f e = cc
+count_faults g (Usage u) f e = cc
+count_faults g Skipped f e = cc
+
+module _ (old new : Grammar) (ls : List Reading) (item : Record) (part : Option EventPart) (k : Keeps old ls) (e : early_fault (records ls) item ≡ None) (i : IsRecord item) (a : Adds old new item part) where
+  step : Steps old.stage (records ls) item
+  step = step_record old.stage (records ls) item i k.stage_is e
+
+  blocks_after : new.blocks ≡ length (closed (records ls ++ item ∷ []))
+  blocks_after = a.blocks ∙ ap (λ p. old.blocks + block_count p) a.given ∙ ap (λ n. n + block_count (given_by old.stage item)) k.blocks_are ∙ sym (step.blocks)
+
+  summaries_after : new.summaries ≡ length (summaries (records ls ++ item ∷ []))
+  summaries_after = a.summaries ∙ ap (λ n. n + summary_count item) k.summaries_are ∙ ap (λ n. length (summaries (records ls)) + n) (sym (summary_added item)) ∙ sym (ap length (summaries-append (records ls) (item ∷ [])) ∙ length-append (summaries (records ls)) (summaries (item ∷ [])))
+
+  records_after : new.records ≡ length (records ls) + 1
+  records_after = a.records ∙ ap (λ n. n + 1) k.records_are
+
+  -- the counts that the code compares are those of the records
+  foot_agrees : (f : foot.Foot) → item ≡ Foot f → count_fault (records ls) (count_by is_skipped_record ls) (count_by is_skipped_line ls) (Foot f) ≡ kept_count_fault new f
+  foot_agrees f is =
+      let s0 : new.summaries ≡ length (summaries (records ls)) = a.summaries ∙ ap (λ r. old.summaries + summary_count r) is ∙ add-zero old.summaries ∙ k.summaries_are in
+      let b0 : new.blocks ≡ length (closed (records ls ++ Foot f ∷ [])) = blocks_after ∙ ap (λ r. length (closed (records ls ++ r ∷ []))) is in
+      rw (records_after, a.skipped_records, a.skipped_lines, k.types_are, k.skipped_are, s0, b0) refl
+
+  counts_agree : count_fault (records ls) (count_by is_skipped_record ls) (count_by is_skipped_line ls) item ≡ option_and_then (kept_count_fault new) (foot_in item)
+  counts_agree = by_kind item refl
+    where
+      by_kind : (r : Record) → item ≡ r → count_fault (records ls) (count_by is_skipped_record ls) (count_by is_skipped_line ls) r ≡ option_and_then (kept_count_fault new) (foot_in r)
+      by_kind (Foot f) is = foot_agrees f is
+      by_kind (Head h) is = refl
+      by_kind (Summary s) is = refl
+      by_kind (Resource r) is = refl
+      by_kind (Work w) is = refl
+      by_kind (Usage u) is = refl
+      by_kind Skipped is = refl
+
+  fault_is : fault_of ls (Holds item) ≡ option_and_then (kept_count_fault new) (foot_in item)
+  unfolding fault_of
+  fault_is = ap (λ o. or_else o (count_fault (records ls) (count_by is_skipped_record ls) (count_by is_skipped_line ls) item)) e ∙ counts_agree
+
+  events_with : events_of (records (ls ++ Holds item ∷ [])) ≡ events_of (records ls) ++ option_to_list part
+  events_with = ap events_of (with_item ls item i) ∙ step.events ∙ ap (λ p. events_of (records ls) ++ option_to_list p) (sym a.given)
+
+  pub added_good : option_and_then (kept_count_fault new) (foot_in item) ≡ None → Keeps new (ls ++ Holds item ∷ []) × (fault_of ls (Holds item) ≡ None) × (events_of (records (ls ++ Holds item ∷ [])) ≡ events_of (records ls) ++ option_to_list part)
+  added_good n = (
+    record {
+      good = first_good ls (Holds item) k.good (fault_is ∙ n);
+      stage_is = subst (λ rs. KeepsStage new.stage rs) (sym (with_item ls item i)) (subst (λ st. KeepsStage st (records ls ++ item ∷ [])) (sym a.stage) step.keeps);
+      lines_are = a.lines ∙ ap (λ n. n + 1) k.lines_are ∙ sym (length-append ls (Holds item ∷ []));
+      skipped_are = a.skipped_lines ∙ k.skipped_are ∙ sym (count_by_push_no is_skipped_line ls (Holds item) refl);
+      types_are = a.skipped_records ∙ k.types_are ∙ sym (count_by_push_no is_skipped_record ls (Holds item) (unskipped item i));
+      records_are = records_after ∙ sym (ap length (with_item ls item i) ∙ length-append (records ls) (item ∷ []));
+      summaries_are = summaries_after ∙ ap (λ rs. length (summaries rs)) (sym (with_item ls item i));
+      blocks_are = blocks_after ∙ ap (λ rs. length (closed rs)) (sym (with_item ls item i));
+    },
+    fault_is ∙ n,
+    events_with,
+  )
+
+  pub added_faulty : (f : FileFault) → option_and_then (kept_count_fault new) (foot_in item) ≡ Some f → (fault_of ls (Holds item) ≡ Some f) × (events_of (records (if counts_fault f then ls ++ Holds item ∷ [] else ls)) ≡ events_of (records ls) ++ option_to_list part)
+  added_faulty f n = (fault_is ∙ n, rw (count_faults new item f n) events_with)

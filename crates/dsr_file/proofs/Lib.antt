@@ -1,0 +1,13 @@
+pub mod PartLemmas
+pub mod StageLemmas
+pub mod StepLemmas
+pub mod LineLemmas
+pub mod AddLemmas
+pub mod TestLemmas
+pub mod OpeningLemmas
+pub mod CutLemmas
+pub mod ReaderLemmas
+pub mod LawLemmas
+pub mod RunLemmas
+pub mod StandLemmas
+pub mod EndLemmas

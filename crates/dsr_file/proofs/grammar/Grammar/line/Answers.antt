@@ -1,0 +1,17 @@
+use Rattle.std.proofs.Common.{◌≡◌, ◌∙◌, ap, sym, refl, subst, Some}
+use Rattle.std.specs.Str.{is_utf8, IsUtf8}
+use Rattle.dsr_cells.specs.Lines.{without_return}
+use Rattle.dsr_file.specs.Grammars.{LineSteps}
+use Rattle.dsr_file.specs.declared.fault.FileFault.TheVariants.{NotUtf8}
+use Rattle.dsr_file.proofs.TestLemmas.{reading_text, reading_garbled, faulty_steps, utf8_false}
+use Rattle.std.proofs.lemmas.Str.{is_utf8-from_IsUtf8}
+use Rattle.dsr_file.proofs.grammar.Grammar.line.Goals as goal
+
+pub returns-in-Ok-clause-steps : goal.returns-in-Ok-clause-steps
+returns-in-Ok-clause-steps c = λ ls k.
+    let utf8 : IsUtf8 (without_return c.args.line.now) = subst IsUtf8 c.strip_return.ensures c.in-Ok.ensures.cases.1 in
+    rw (reading_text c.args.layout.now c.args.line.now c.requires.short (is_utf8-from_IsUtf8 _ utf8), ← c.strip_return.ensures, ← c.in-Ok.ensures.cases.0) (c.text.ensures.steps ls k)
+
+pub returns-in-Err-clause-steps : goal.returns-in-Err-clause-steps
+returns-in-Err-clause-steps c = λ ls k.
+    rw (reading_garbled c.args.layout.now c.args.line.now c.requires.short (utf8_false _ (λ u. c.in-Err.ensures.cases.0 (subst IsUtf8 (sym c.strip_return.ensures) u)))) (faulty_steps c.args.self.now ls NotUtf8 refl)

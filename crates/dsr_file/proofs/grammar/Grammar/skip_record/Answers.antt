@@ -1,0 +1,6 @@
+use Rattle.std.proofs.Common.{refl}
+use Rattle.dsr_file.proofs.TestLemmas.{skip_record_steps}
+use Rattle.dsr_file.proofs.grammar.Grammar.skip_record.Goals as goal
+
+pub returns-clause-steps : goal.returns-clause-steps
+returns-clause-steps c = λ ls k. skip_record_steps c.args.self.now _ ls k refl refl refl refl refl refl refl

@@ -1,0 +1,16 @@
+use Rattle.std.proofs.Common.{◌≡◌, ◌∙◌, ap, sym, refl}
+use Rattle.dsr_file.specs.Readings.{file_fault}
+use Rattle.dsr_file.proofs.TestLemmas.{of_utf8_skipped, of_utf8_record, faulty_steps, own_not_count}
+use Rattle.dsr_file.proofs.grammar.Grammar.text.Goals as goal
+
+pub returns-then-is_skipped-clause-steps : goal.returns-then-is_skipped-clause-steps
+returns-then-is_skipped-clause-steps c = λ ls k. rw (of_utf8_skipped c.args.layout.now c.args.text.now (sym c.is_skipped.ensures ∙ c.if-is_skipped.true)) (c.skip_line.ensures.steps ls k)
+
+pub returns-in-Err-clause-steps : goal.returns-in-Err-clause-steps
+returns-in-Err-clause-steps c = λ ls k.
+    rw (of_utf8_record c.args.layout.now c.args.text.now _ (sym c.is_skipped.ensures ∙ c.if-is_skipped.false) (sym c.in-Err.is ∙ c.check_line.ensures), c.file_fault.ensures)
+    (faulty_steps c.args.self.now ls (file_fault c.in-Err.fault) (own_not_count c.in-Err.fault))
+
+pub returns-in-Ok-clause-steps : goal.returns-in-Ok-clause-steps
+returns-in-Ok-clause-steps c = λ ls k.
+    rw (of_utf8_record c.args.layout.now c.args.text.now _ (sym c.is_skipped.ensures ∙ c.if-is_skipped.false) (sym c.in-Ok.is ∙ c.check_line.ensures)) (c.checked.ensures.steps ls k)

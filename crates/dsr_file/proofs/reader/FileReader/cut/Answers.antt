@@ -1,0 +1,12 @@
+use Rattle.dsr_file.proofs.StandLemmas.{more_stands, at_kept, at_here, long_stands}
+use Rattle.dsr_file.proofs.reader.FileReader.cut.Goals as goal
+
+pub returns-in-Kept-clause-stands : goal.returns-in-Kept-clause-stands
+returns-in-Kept-clause-stands c = λ layout b es a. c.kept_line.ensures.stands layout _ es (at_kept layout c.args.self.now b c.args.used.now es c.args.cut a c.in-Kept.is)
+
+pub returns-in-Here-clause-stands : goal.returns-in-Here-clause-stands
+returns-in-Here-clause-stands c = λ layout b es a. c.line.ensures.stands layout _ es (at_here layout c.args.self.now b c.args.used.now es c.args.cut a c.in-Here.is)
+
+pub returns-in-Long-clause-stands : goal.returns-in-Long-clause-stands
+returns-in-Long-clause-stands c = λ layout b es a.
+    long_stands layout c.args.self.now c.long_line.new.self c.args.cut b c.args.used.now es c.long_line.result a c.in-Long.is c.long_line.ensures.event c.long_line.ensures.same c.long_line.ensures.place c.long_line.ensures.done

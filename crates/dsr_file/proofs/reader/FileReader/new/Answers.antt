@@ -1,0 +1,12 @@
+use Rattle.std.proofs.Common.{refl, []}
+use Rattle.dsr_file.specs.Parts.{events_of}
+use Rattle.dsr_file.proofs.reader.FileReader.new.Goals as goal
+
+pub returns-clause-stands : goal.returns-clause-stands
+unfolding events_of
+returns-clause-stands c = record {
+  layout_is = c.copy.ensures;
+  given_is = refl;
+  place_is = refl;
+  phase_is = ([], c.in_ok-new.ensures, c.new-2.ensures, refl, refl);
+}

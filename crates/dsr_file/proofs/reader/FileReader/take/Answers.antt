@@ -1,0 +1,9 @@
+use Rattle.std.proofs.Common.{◌∙◌, inl}
+use Rattle.dsr_file.proofs.StandLemmas.{first_given, all_read, if_none}
+use Rattle.dsr_file.proofs.reader.FileReader.take.Goals as goal
+
+pub returns-in-Reading-clause-begins : goal.returns-in-Reading-clause-begins
+returns-in-Reading-clause-begins c = λ layout b es s. first_given layout c.read.new.self b es _ s (c.read.ensures.ending ∙ c.requires.open)
+
+pub returns-in-Reading-clause-all : goal.returns-in-Reading-clause-all
+returns-in-Reading-clause-all c = if_none c.read.result.1 (λ e layout b es s. inl (all_read layout c.read.new.self b es s e)) c.read.ensures.reading

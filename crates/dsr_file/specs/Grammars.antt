@@ -1,0 +1,61 @@
+-- What a grammar stands for, and what a line does to it.
+use Rattle.std.specs.Prelude.{◌≡◌, ℕ, ◌+◌, ◌==◌, not, ◌||◌, true, List, [], ◌∷◌, ◌++◌, length, count_by, Option, None, Some, if◌then◌else◌}
+use Rattle.std.specs.Option.{option_to_list}
+use Rattle.dsr_records.specs.declared.record.Foot as foot
+use Rattle.dsr_records.specs.declared.record.Record.{Record}
+use Rattle.dsr_records.specs.declared.record.Record.TheVariants.{Skipped}
+use Rattle.dsr_records.specs.Reads.{has_texts}
+use Rattle.dsr_records.specs.Records.{or_else}
+use Rattle.dsr_file.specs.declared.fault.FileFault.{FileFault}
+use Rattle.dsr_file.specs.declared.fault.FileFault.TheVariants as faults
+use Rattle.dsr_file.specs.declared.grammar.Grammar.{Grammar}
+use Rattle.dsr_file.specs.declared.grammar.Step.{Step}
+use Rattle.dsr_file.specs.declared.grammar.Step.TheVariants.{Good, Faulty, NoMemory}
+use Rattle.dsr_file.specs.Readings.{Reading, Holds, records, is_skipped_line, is_skipped_record}
+use Rattle.dsr_file.specs.Parts.{closed, summaries, events_of}
+use Rattle.dsr_file.specs.Faults.{fault_if, fault_of, early_fault}
+use Rattle.dsr_file.specs.Texts.{AllGood, first_from, counts_fault}
+use Rattle.dsr_file.specs.Stages.{KeepsStage}
+
+-- the fault of FOOT's counts, by the numbers kept
+abbrev pub kept_count_fault : Grammar → foot.Foot → Option FileFault
+kept_count_fault g f =
+    let all = g.records + g.skipped_records in
+    or_else (fault_if (not ((f.lines == all) || (f.lines == (all + g.skipped_lines)))) faults.FootLines)
+    (or_else (fault_if (not (f.summaries == g.summaries)) faults.FootSummaries)
+    (fault_if (not (f.blocks == g.blocks)) faults.FootBlocks))
+
+-- the grammar stands for these lines, all of which are good
+pub record Keeps (g : Grammar) (ls : List Reading) : Type 0 where
+  pub good : first_from [] ls ≡ AllGood
+  pub stage_is : KeepsStage g.stage (records ls)
+  pub lines_are : g.lines ≡ length ls
+  pub skipped_are : g.skipped_lines ≡ count_by is_skipped_line ls
+  pub types_are : g.skipped_records ≡ count_by is_skipped_record ls
+  pub records_are : g.records ≡ length (records ls)
+  pub summaries_are : g.summaries ≡ length (summaries (records ls))
+  pub blocks_are : g.blocks ≡ length (closed (records ls))
+
+-- the line holds a record that takes memory and has no fault that is tested before
+pub record TakesMemory (ls : List Reading) (l : Reading) : Type 0 where
+  pub item : Record
+  pub held : l ≡ Holds item
+  pub fits : early_fault (records ls) item ≡ None
+  pub takes : has_texts item ≡ true
+
+-- what a line does behind these lines
+abbrev pub LineSteps : List Reading → Reading → Step → Grammar → Type 0
+LineSteps ls l (Good part) g =
+    Keeps g (ls ++ l ∷ []) × (fault_of ls l ≡ None) × (events_of (records (ls ++ l ∷ [])) ≡ events_of (records ls) ++ option_to_list part)
+LineSteps ls l (Faulty part f) g =
+    (fault_of ls l ≡ Some f) × (events_of (records (if counts_fault f then ls ++ l ∷ [] else ls)) ≡ events_of (records ls) ++ option_to_list part)
+LineSteps ls l NoMemory g = TakesMemory ls l
+
+-- not one of a skipped type
+abbrev pub IsRecord : Record → Type 0
+IsRecord Skipped = ⊥
+IsRecord _ = Unit {0}
+
+-- the same for a record that has no early fault
+abbrev pub RecordSteps : List Reading → Record → Step → Grammar → Type 0
+RecordSteps ls r step g = early_fault (records ls) r ≡ None → IsRecord r → LineSteps ls (Holds r) step g

@@ -1,0 +1,74 @@
+-- The beginnings of a text's events that a reader may give, and those that want of memory ends.
+use Rattle.std.specs.Prelude.{◌≡◌, ℕ, ◌+◌, ◌⊎◌, Bool, true, false, List, [], ◌∷◌, ◌++◌, length, Option, None, Some}
+use mathlib.Core.List.{IsPrefix}
+use Rattle.dsr_records.specs.declared.record.Record.{Record}
+use Rattle.dsr_records.specs.Reads.{has_texts}
+use Rattle.dsr_records.specs.Records.{LayoutTable}
+use Rattle.dsr_file.specs.declared.fault.FileFault.TheVariants.{Memory}
+use Rattle.dsr_file.specs.declared.fault.Ending.{Ending}
+use Rattle.dsr_file.specs.declared.fault.Ending.TheVariants.{Read}
+use Rattle.dsr_file.specs.declared.fault.Outcome.{Outcome}
+use Rattle.dsr_file.specs.declared.fault.Outcome.TheVariants.{Fault}
+use Rattle.dsr_file.specs.declared.event.EventPart.TheVariants.{Ended}
+use Rattle.dsr_file.specs.Placed.{Placed}
+use Rattle.dsr_file.specs.Orderly.{has_ended}
+use Rattle.dsr_file.specs.Readings.{Reading, Holds, records}
+use Rattle.dsr_file.specs.Faults.{early_fault}
+use Rattle.dsr_file.specs.Parts.{events_of}
+use Rattle.dsr_file.specs.Texts.{AllGood, first_from, placed, readings, text_events, so_far}
+
+-- the bytes of a file, and how they end
+pub record FileText : Type 0 where
+  pub bytes : List ℕ
+  pub ending : Ending
+
+abbrev pub events_of_text : LayoutTable → FileText → List Placed
+events_of_text layout text = text_events layout text.bytes text.ending
+
+abbrev pub ended : ℕ → Outcome → Placed
+ended place outcome = record { place = place; part = Ended outcome }
+
+-- a beginning of the events that has no Ended, and then Ended with Memory in the next place
+abbrev pub EndsByMemory : List Placed → List Placed → Type 0
+EndsByMemory all es =
+    (front : List Placed) × (line : ℕ) × IsPrefix front all × (has_ended front ≡ false) × (es ≡ front ++ ended (length front) (Fault line Memory) ∷ [])
+
+-- a run of a text: a beginning of its events, or one that Memory ends
+abbrev pub IsRun : LayoutTable → FileText → List Placed → Type 0
+IsRun layout text es = IsPrefix es (events_of_text layout text) ⊎ EndsByMemory (events_of_text layout text) es
+
+-- a run of some text
+abbrev pub IsSomeRun : List Placed → Type 0
+IsSomeRun es = (layout : LayoutTable) × (text : FileText) × IsRun layout text es
+
+-- memory was refused: the events of the good lines before a record that takes memory and has no fault that is tested before, and then Memory at its line
+pub record IsCutOff (ls : List Reading) (es : List Placed) : Type 0 where
+  pub before : List Reading
+  pub item : Record
+  pub after : List Reading
+  pub lines_are : ls ≡ before ++ Holds item ∷ after
+  pub good : first_from [] before ≡ AllGood
+  pub fits : early_fault (records before) item ≡ None
+  pub takes : has_texts item ≡ true
+  pub events_are : es ≡ placed 0 (events_of (records before) ++ Ended (Fault (length before + 1) Memory) ∷ [])
+
+-- the lines that are known of bytes, and their events: while more may come, or once the ending is told
+abbrev pub known_lines : LayoutTable → List ℕ → Option Ending → List Reading
+known_lines layout bytes None = readings layout bytes Read
+known_lines layout bytes (Some ending) = readings layout bytes ending
+
+abbrev pub known_events : LayoutTable → List ℕ → Option Ending → List Placed
+known_events layout bytes None = so_far layout bytes
+known_events layout bytes (Some ending) = text_events layout bytes ending
+
+-- the first of the known events, or such that want of memory ends
+abbrev pub BeginsEvents : LayoutTable → List ℕ → Option Ending → List Placed → Type 0
+BeginsEvents layout bytes told es = IsPrefix es (known_events layout bytes told) ⊎ IsCutOff (known_lines layout bytes told) es
+
+-- all of the known events, or the first of them that want of memory ends
+abbrev pub HasEvents : LayoutTable → List ℕ → Option Ending → List Placed → Type 0
+HasEvents layout bytes told es = (es ≡ known_events layout bytes told) ⊎ IsCutOff (known_lines layout bytes told) es
+
+-- the outcome is that of the last event
+abbrev pub EndsWith : List Placed → Outcome → Type 0
+EndsWith es outcome = (before : List Placed) × (es ≡ before ++ ended (length before) outcome ∷ [])

@@ -1,0 +1,153 @@
+//! The bytes of a text, cut into lines.
+ghost use Rattle.std.specs.Prelude.{◌≡◌, ◌++◌, ◌∷◌, [], ◌+◌, ◌<◌, ◌≤◌, length, List, ℕ, false, take, slice_index, IfOk, IsTrue, vec_capacity};
+ghost use Rattle.std.specs.List.{list_any};
+ghost use Rattle.dsr_cells.specs.Lines.{is_line_feed, without_mark};
+
+use dsr_cells::NoMemory;
+use memchr::memchr;
+use std::alloc::Global;
+
+const LINE_LIMIT: usize = 8192;
+
+/// What the bytes of a piece do.
+#[derive(Clone, Copy)]
+pub(crate) enum Cut {
+    /// The line goes on.
+    More,
+    /// The line that is kept is whole.
+    Kept,
+    /// The bytes used are a whole line and its line feed.
+    Here,
+    /// The line is too long.
+    Long,
+}
+
+/// The bytes of the line that is not whole yet.
+#[derive(Drop)]
+pub(crate) struct Cutter {
+    pub(crate) bytes: Vec<u8>,
+    /// The mark may still come: these are all the bytes there were.
+    pub(crate) fresh: bool,
+    ghost room: { 8192 ≤ vec_capacity bytes },
+    ghost short: { length bytes.items ≤ 8192 },
+    ghost few: { IsTrue fresh → length bytes.items < 3 },
+}
+
+/// How many bytes stand before the first line feed.
+fn line_end(piece: &[u8]) -> usize
+    ensures bound { result ≤ length piece.now }
+    ensures before { list_any is_line_feed (take result piece.now) ≡ false }
+    ensures found { result < length piece.now → slice_index piece.now result ≡ 10 }
+{
+    match memchr(b'\n', piece) {
+        Some(end) => end,
+        None => piece.len(),
+    }
+}
+
+impl Cutter {
+    ghost use Rattle.dsr_file.specs.Cutting.{CutsTo, CutSteps, FitsCut};
+
+    /// Room for a line, and no byte yet.
+    pub(crate) fn new(alloc: Global) -> Result<Cutter, NoMemory>
+        ensures { IfOk result (λ c. CutsTo c.bytes.items c.fresh [] []) }
+    {
+        let bytes = Vec::with_capacity(alloc, LINE_LIMIT)?;
+        Ok(Cutter { bytes, fresh: true })
+    }
+
+    /// Uses bytes of a piece, up to the end of a line.
+    pub(crate) fn take(&mut self, piece: &[u8]) -> (usize, Cut)
+        requires { 0 < length piece.now }
+        ensures some { 0 < result.0 }
+        ensures bound { result.0 ≤ length piece.now }
+        ensures cut { (b : List ℕ) (ps : List (List ℕ)) → CutsTo self.old.bytes.items self.old.fresh b ps → CutSteps b (take result.0 piece.now) ps result.1 self.new }
+        ensures fits { FitsCut result.1 (take result.0 piece.now) self.new }
+    {
+        if self.fresh {
+            (1, self.first(piece[0]))
+        } else {
+            self.rest(piece)
+        }
+    }
+
+    /// Uses a byte at the start of a text, where the mark may stand.
+    fn first(&mut self, byte: u8) -> Cut
+        requires { IsTrue self.old.fresh }
+        ensures cut { (b : List ℕ) (ps : List (List ℕ)) → CutsTo self.old.bytes.items self.old.fresh b ps → CutSteps b (byte ∷ []) ps result self.new }
+        ensures fits { FitsCut result (byte ∷ []) self.new }
+    {
+        if byte == b'\n' {
+            self.fresh = false;
+            return Cut::Kept;
+        }
+        self.bytes.push_reserved(byte);
+        if self.bytes.len() == 3 {
+            self.fresh = false;
+            self.drop_mark();
+        }
+        Cut::More
+    }
+
+    /// Drops the mark, where the bytes are that.
+    fn drop_mark(&mut self)
+        requires few { length self.old.bytes.items ≡ 3 }
+        requires fresh { self.old.fresh ≡ false }
+        ensures bytes { self.new.bytes.items ≡ without_mark self.old.bytes.items }
+        ensures fresh { self.new.fresh ≡ false }
+    {
+        if self.bytes.as_slice() == [0xEF, 0xBB, 0xBF].as_slice() {
+            self.bytes.clear();
+        }
+    }
+
+    /// Uses bytes behind the place of the mark.
+    fn rest(&mut self, piece: &[u8]) -> (usize, Cut)
+        requires some { 0 < length piece.now }
+        requires fresh { self.old.fresh ≡ false }
+        ensures some { 0 < result.0 }
+        ensures bound { result.0 ≤ length piece.now }
+        ensures cut { (b : List ℕ) (ps : List (List ℕ)) → CutsTo self.old.bytes.items false b ps → CutSteps b (take result.0 piece.now) ps result.1 self.new }
+        ensures fits { FitsCut result.1 (take result.0 piece.now) self.new }
+    {
+        let end = line_end(piece);
+        if end > LINE_LIMIT - self.bytes.len() {
+            return (end, Cut::Long);
+        }
+        if end == piece.len() {
+            self.append(piece);
+            return (end, Cut::More);
+        }
+        if self.line().is_empty() {
+            return (end + 1, Cut::Here);
+        }
+        self.append(&piece[..end]);
+        (end + 1, Cut::Kept)
+    }
+
+    fn append(&mut self, front: &[u8])
+        requires short { length self.old.bytes.items + length front.now ≤ 8192 }
+        requires fresh { self.old.fresh ≡ false }
+        ensures bytes { self.new.bytes.items ≡ self.old.bytes.items ++ front.now }
+        ensures fresh { self.new.fresh ≡ false }
+    {
+        let _ = self.bytes.extend_from_slice(front);
+    }
+
+    /// The bytes so far.
+    pub(crate) fn line(&self) -> &[u8]
+        ensures value { result.now ≡ self.now.bytes.items }
+        ensures short { length result.now ≤ 8192 }
+    {
+        self.bytes.as_slice()
+    }
+
+    /// Begins the next line.
+    pub(crate) fn clear(&mut self)
+        ensures bytes { self.new.bytes.items ≡ [] }
+        ensures fresh { self.new.fresh ≡ false }
+    {
+        self.bytes.clear();
+        self.fresh = false;
+    }
+}

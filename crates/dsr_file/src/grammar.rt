@@ -1,0 +1,297 @@
+//! The lines of a file, one after another: the event that each closes, or the fault that ends the file.
+ghost use Rattle.std.specs.Prelude.{◌≡◌, ◌+◌, ◌-◌, ◌<◌, ◌≤◌, ◌^◌, [], length, List, None, option_and_then};
+ghost use Rattle.dsr_cells.specs.Lines.{without_return};
+ghost use Rattle.dsr_file.specs.Readings.{is_skipped_text, file_fault};
+ghost use Rattle.dsr_file.specs.Counting.{foot_in, summary_count, block_count};
+
+use crate::event::EventPart;
+use crate::fault::{Ending, FileFault, Outcome};
+use crate::stage::Stage;
+use dsr_records::{CheckedLine, Foot, Kind, Layout, Record, RecordFault, check_line};
+use std::alloc::Global;
+use std::str;
+
+/// What a line does.
+#[derive(Drop)]
+pub(crate) enum Step {
+    /// It is good, and closes this event.
+    Good(Option<EventPart>),
+    /// It closes this event, and then ends the file by this fault.
+    Faulty(Option<EventPart>, FileFault),
+    /// Memory ran out.
+    NoMemory,
+}
+
+/// The lines so far, all of which were good.
+#[derive(Drop)]
+pub(crate) struct Grammar {
+    pub(crate) stage: Stage,
+    pub(crate) lines: u64,
+    pub(crate) skipped_lines: u64,
+    pub(crate) skipped_records: u64,
+    pub(crate) records: u64,
+    pub(crate) summaries: u64,
+    pub(crate) blocks: u64,
+    ghost all: { records + skipped_records + skipped_lines ≤ lines },
+    ghost few_summaries: { summaries ≤ records },
+    ghost few_blocks: { blocks ≤ records },
+}
+
+impl Grammar {
+    ghost use Rattle.dsr_file.specs.declared.grammar.Step.{Step};
+    ghost use Rattle.dsr_file.specs.Readings.{Reading, SkippedLine, Holds, reading, of_utf8};
+    ghost use Rattle.dsr_records.specs.declared.record.Record.TheVariants as the;
+    ghost use Rattle.dsr_file.specs.Grammars.{Keeps, LineSteps, RecordSteps, IsRecord, kept_count_fault};
+    ghost use Rattle.dsr_file.specs.Stages.{IsFree, column_at};
+    ghost use Rattle.dsr_file.specs.Texts.{outcome_at};
+
+    /// No line yet.
+    pub(crate) fn new() -> Grammar
+        ensures { Keeps result [] }
+    {
+        Grammar {
+            stage: Stage::Start,
+            lines: 0,
+            skipped_lines: 0,
+            skipped_records: 0,
+            records: 0,
+            summaries: 0,
+            blocks: 0,
+        }
+    }
+
+    /// The fault of FOOT's counts, where FOOT is counted already.
+    fn count_fault(&self, foot: Foot) -> Option<FileFault>
+        requires { self.now.lines < 2 ^ 40 }
+        ensures { result ≡ kept_count_fault self.now foot }
+    {
+        let all = self.records + self.skipped_records;
+        if foot.lines != all && foot.lines != all + self.skipped_lines {
+            return Some(FileFault::FootLines);
+        }
+        if foot.summaries != self.summaries {
+            return Some(FileFault::FootSummaries);
+        }
+        if foot.blocks != self.blocks {
+            return Some(FileFault::FootBlocks);
+        }
+        None
+    }
+
+    /// Counts a record that is a summary or not, and closes a block or not.
+    fn count(&mut self, summaries: u64, blocks: u64)
+        requires lines { self.old.lines < 2 ^ 40 }
+        requires summaries { summaries ≤ 1 }
+        requires blocks { blocks ≤ 1 }
+        ensures lines { self.new.lines ≡ self.old.lines + 1 }
+        ensures records { self.new.records ≡ self.old.records + 1 }
+        ensures summaries { self.new.summaries ≡ self.old.summaries + summaries }
+        ensures blocks { self.new.blocks ≡ self.old.blocks + blocks }
+        ensures skipped_lines { self.new.skipped_lines ≡ self.old.skipped_lines }
+        ensures skipped_records { self.new.skipped_records ≡ self.old.skipped_records }
+        ensures stage { self.new.stage ≡ self.old.stage }
+    {
+        self.lines += 1;
+        self.records += 1;
+        self.summaries += summaries;
+        self.blocks += blocks;
+    }
+
+    /// Takes a record that has no early fault.
+    fn add(&mut self, alloc: Global, item: Record) -> Step
+        requires lines { self.old.lines < 2 ^ 40 - 1 }
+        requires free { IsFree self.old.stage item }
+        ensures steps { (ls : List Reading) → Keeps self.old ls → RecordSteps ls item result self.new }
+        ensures counts { self.new.lines ≤ self.old.lines + 1 }
+    {
+        let foot = foot_in(&item);
+        let summaries = summary_count(&item);
+        let Ok(part) = self.stage.add(alloc, item) else {
+            return Step::NoMemory;
+        };
+        let blocks = block_count(&part);
+        self.count(summaries, blocks);
+        match self.fault_at_foot(foot) {
+            Some(fault) => Step::Faulty(part, fault),
+            None => Step::Good(part),
+        }
+    }
+
+    /// Tests a record, and takes it where it has no early fault.
+    fn record(&mut self, alloc: Global, line: &CheckedLine<'_, '_>) -> Step
+        requires lines { self.old.lines < 2 ^ 40 - 1 }
+        ensures steps { (ls : List Reading) → Keeps self.old ls → IsRecord line.now → LineSteps ls (Holds line.now) result self.new }
+        ensures counts { self.new.lines ≤ self.old.lines + 1 }
+    {
+        if let Some(fault) = self.stage.fault(line.kind(), line.id()) {
+            return Step::Faulty(None, fault);
+        }
+        match line.read(alloc) {
+            Ok(item) => self.add(alloc, item),
+            Err(_) => Step::NoMemory,
+        }
+    }
+
+    fn skip_line(&mut self)
+        requires { self.old.lines < 2 ^ 40 - 1 }
+        ensures steps { (ls : List Reading) → Keeps self.old ls → LineSteps ls SkippedLine (Step.Good None) self.new }
+        ensures lines { self.new.lines ≡ self.old.lines + 1 }
+    {
+        self.lines += 1;
+        self.skipped_lines += 1;
+    }
+
+    fn skip_record(&mut self)
+        requires { self.old.lines < 2 ^ 40 - 1 }
+        ensures steps { (ls : List Reading) → Keeps self.old ls → LineSteps ls (Holds the.Skipped) (Step.Good None) self.new }
+        ensures lines { self.new.lines ≡ self.old.lines + 1 }
+    {
+        self.lines += 1;
+        self.skipped_records += 1;
+    }
+
+    /// Takes the text of the next line.
+    fn text(&mut self, alloc: Global, layout: &Layout, text: &str) -> Step
+        requires { self.old.lines < 2 ^ 40 - 1 }
+        ensures steps { (ls : List Reading) → Keeps self.old ls → LineSteps ls (of_utf8 layout.now text.now) result self.new }
+        ensures counts { self.new.lines ≤ self.old.lines + 1 }
+    {
+        if is_skipped(text) {
+            self.skip_line();
+            return Step::Good(None);
+        }
+        match check_line(layout, text) {
+            Err(fault) => Step::Faulty(None, file_fault(fault)),
+            Ok(line) => self.checked(alloc, &line),
+        }
+    }
+
+    /// Takes a line without a fault of its own.
+    fn checked(&mut self, alloc: Global, line: &CheckedLine<'_, '_>) -> Step
+        requires { self.old.lines < 2 ^ 40 - 1 }
+        ensures steps { (ls : List Reading) → Keeps self.old ls → LineSteps ls (Holds line.now) result self.new }
+        ensures counts { self.new.lines ≤ self.old.lines + 1 }
+    {
+        match line.kind() {
+            Kind::Skipped => {
+                self.skip_record();
+                Step::Good(None)
+            }
+            _ => self.record(alloc, line),
+        }
+    }
+
+    /// Takes the next line, which is not too long.
+    pub(crate) fn line(&mut self, alloc: Global, layout: &Layout, line: &[u8]) -> Step
+        requires lines { self.old.lines < 2 ^ 40 - 1 }
+        requires short { length line.now ≤ 8192 }
+        ensures steps { (ls : List Reading) → Keeps self.old ls → LineSteps ls (reading layout.now line.now) result self.new }
+        ensures counts { self.new.lines ≤ self.old.lines + 1 }
+    {
+        match str::from_utf8(strip_return(line)) {
+            Ok(text) => self.text(alloc, layout, text),
+            Err(_) => Step::Faulty(None, FileFault::NotUtf8),
+        }
+    }
+
+    /// How a text ends behind these lines.
+    pub(crate) fn outcome(&self, ending: Ending) -> Outcome
+        requires { self.now.lines < 2 ^ 40 }
+        ensures { result ≡ outcome_at (column_at self.now.stage) ending (self.now.lines + 1) }
+    {
+        let line = self.lines + 1;
+        match ending {
+            Ending::Read => Outcome::Fault {
+                line,
+                fault: FileFault::Read,
+            },
+            Ending::Reads => Outcome::Fault {
+                line,
+                fault: FileFault::Reads,
+            },
+            Ending::Whole => match &self.stage {
+                Stage::Start => Outcome::Fault {
+                    line,
+                    fault: FileFault::NoHead,
+                },
+                Stage::Front(_) | Stage::Open(_) => Outcome::Fault {
+                    line,
+                    fault: FileFault::NoFoot,
+                },
+                Stage::Closed => Outcome::Whole,
+            },
+        }
+    }
+
+    fn fault_at_foot(&self, foot: Option<Foot>) -> Option<FileFault>
+        requires { self.now.lines < 2 ^ 40 }
+        ensures { result ≡ option_and_then (kept_count_fault self.now) foot }
+    {
+        match foot {
+            Some(foot) => self.count_fault(foot),
+            None => None,
+        }
+    }
+}
+
+/// A line without the carriage return that may end it.
+fn strip_return(line: &[u8]) -> &[u8]
+    ensures { result.now ≡ without_return line.now }
+{
+    if !line.is_empty() && line[line.len() - 1] == b'\r' {
+        &line[..line.len() - 1]
+    } else {
+        line
+    }
+}
+
+/// Whether a line is empty or begins with #.
+fn is_skipped(text: &str) -> bool
+    ensures { result ≡ is_skipped_text text.now }
+{
+    let bytes = text.as_bytes();
+    bytes.is_empty() || bytes[0] == b'#'
+}
+
+fn file_fault(fault: RecordFault) -> FileFault
+    ensures { result ≡ file_fault fault }
+{
+    match fault {
+        RecordFault::Many => FileFault::ManyCells,
+        RecordFault::Unknown => FileFault::UnknownRecord,
+        RecordFault::Missing(column) => FileFault::MissingCell(column),
+        RecordFault::Bad(column) => FileFault::BadCell(column),
+        RecordFault::Uneven => FileFault::Uneven,
+    }
+}
+
+fn foot_in(item: &Record) -> Option<Foot>
+    ensures { result ≡ foot_in item.now }
+{
+    match item {
+        Record::Foot(foot) => Some(Foot {
+            lines: foot.lines,
+            summaries: foot.summaries,
+            blocks: foot.blocks,
+        }),
+        _ => None,
+    }
+}
+
+fn summary_count(item: &Record) -> u64
+    ensures { result ≡ summary_count item.now }
+{
+    match item {
+        Record::Summary(_) => 1,
+        _ => 0,
+    }
+}
+
+fn block_count(part: &Option<EventPart>) -> u64
+    ensures { result ≡ block_count part.now }
+{
+    match part {
+        Some(EventPart::Block(_)) => 1,
+        _ => 0,
+    }
+}

@@ -1,0 +1,24 @@
+//! Laws of the events of texts: functions that do nothing, whose contracts are the laws.
+ghost use Rattle.std.specs.Prelude.{◌≡◌, ◌++◌, List, ℕ, true};
+ghost use mathlib.Core.List.{IsPrefix};
+ghost use Rattle.dsr_records.specs.Records.{LayoutTable};
+ghost use Rattle.dsr_file.specs.Orderly.{has_ended, IsOrderly};
+ghost use Rattle.dsr_file.specs.Placed.{Placed};
+ghost use Rattle.dsr_file.specs.Runs.{FileText, IsRun};
+ghost use Rattle.dsr_file.specs.Texts.{so_far, text_events};
+ghost use Rattle.dsr_file.specs.declared.fault.Ending.{Ending};
+
+/// The events that bytes have are the first of every text that begins with them.
+pub fn so_far_begins()
+    ensures { (layout : LayoutTable) (bytes more : List ℕ) (ending : Ending) → IsPrefix (so_far layout bytes) (text_events layout (bytes ++ more) ending) }
+{}
+
+/// A fault is final: where the events that bytes have end, they are those of every text that begins with the bytes.
+pub fn fault_is_final()
+    ensures { (layout : LayoutTable) (bytes more : List ℕ) (ending : Ending) → has_ended (so_far layout bytes) ≡ true → so_far layout bytes ≡ text_events layout (bytes ++ more) ending }
+{}
+
+/// Every run of a text is an orderly list.
+pub fn run_is_orderly()
+    ensures { (layout : LayoutTable) (text : FileText) (events : List Placed) → IsRun layout text events → IsOrderly events }
+{}

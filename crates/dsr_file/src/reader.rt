@@ -1,0 +1,420 @@
+//! The reader of a file, which is handed the bytes in pieces.
+ghost use Rattle.std.specs.Prelude.{◌≡◌, ◌≢◌, ◌++◌, ◌∷◌, [], ◌+◌, ◌-◌, ◌<◌, ◌≤◌, ◌^◌, ◌⊎◌, ◌↔◌, length, List, ℕ, true, false, take, Some, None, IfOk, IfNone, OnSome, IsTrue};
+ghost use Rattle.std.specs.Option.{option_to_list};
+ghost use Rattle.dsr_records.specs.Records.{LayoutTable};
+ghost use Rattle.dsr_file.specs.Placed.{Placed};
+ghost use Rattle.dsr_file.specs.Orderly.{has_ended};
+ghost use Rattle.dsr_file.specs.Allowance.{allowance, left, has_given_all};
+
+use crate::cutter::{Cut, Cutter};
+use crate::event::{Event, EventPart};
+use crate::fault::{Ending, FileFault, Outcome};
+use crate::grammar::{Grammar, Step};
+use dsr_cells::NoMemory;
+use dsr_records::Layout;
+use std::alloc::Global;
+
+/// How far a reader has come.
+#[derive(Clone, Copy)]
+pub(crate) enum Phase {
+    /// Lines are read, all of them good so far.
+    Reading,
+    /// The outcome is known and not given yet.
+    Waiting(Outcome),
+    /// The outcome was given.
+    Done(Outcome),
+}
+
+impl Phase {
+    /// Whether the outcome was given.
+    fn is_done(self) -> bool
+        ensures { result ≡ has_given_all self }
+    {
+        match self {
+            Phase::Reading | Phase::Waiting(_) => false,
+            Phase::Done(_) => true,
+        }
+    }
+}
+
+/// Reads a file by a layout: takes its bytes in pieces, and gives its events one by one.
+#[derive(Drop)]
+pub struct FileReader {
+    alloc: Global,
+    layout: Layout,
+    cutter: Cutter,
+    grammar: Grammar,
+    given: u64,
+    place: u64,
+    phase: Phase,
+    ending: Option<Ending>,
+    ghost lines_given: { grammar.lines ≤ given + allowance phase },
+    ghost given_small: { given ≤ 2 ^ 36 },
+    ghost place_small: { place ≤ given + allowance phase },
+}
+
+impl FileReader {
+    ghost use Rattle.dsr_file.specs.Standing.{Stands, IsDone, SameBut, SameText, AtLine, AtAnswer, FaultyGives, AtCut, AtEnd, bytes_used, events_left, ending_told, first_ending};
+    ghost use Rattle.dsr_file.specs.Cutting.{FitsCut};
+    ghost use Rattle.dsr_file.specs.Texts.{placed};
+    ghost use Rattle.dsr_file.specs.Runs.{ended, BeginsEvents, HasEvents};
+    ghost use Rattle.dsr_file.specs.declared.reader.Phase.TheVariants as phases;
+
+    /// A reader that was given nothing. It keeps the allocator and a copy of the layout.
+    pub fn new(alloc: Global, layout: &Layout) -> Result<FileReader, NoMemory>
+        ensures stands { IfOk result (λ r. Stands layout.now r [] []) }
+        ensures open { IfOk result (λ r. ending_told r ≡ None) }
+        ensures used { IfOk result (λ r. bytes_used r ≡ 0) }
+    {
+        Ok(FileReader {
+            alloc,
+            layout: layout.copy(),
+            cutter: Cutter::new(alloc)?,
+            grammar: Grammar::new(),
+            given: 0,
+            place: 0,
+            phase: Phase::Reading,
+            ending: None,
+        })
+    }
+
+    /// How many bytes were used.
+    pub fn given(&self) -> u64
+        ensures used { result ≡ bytes_used self.now }
+        ensures bytes { (layout : LayoutTable) (b : List ℕ) (es : List Placed) → Stands layout self.now b es → result ≡ length b }
+    {
+        self.given
+    }
+
+    /// Whether Ended was given.
+    pub fn done(&self) -> bool
+        ensures phase { IsTrue result ↔ IsDone self.now }
+        ensures ended { (layout : LayoutTable) (b : List ℕ) (es : List Placed) → Stands layout self.now b es → (IsTrue result ↔ (has_ended es ≡ true)) }
+    {
+        self.phase.is_done()
+    }
+
+    /// The outcome that was given.
+    pub(crate) fn outcome(&self) -> Outcome
+        requires { IsDone self.now }
+        ensures { self.now.phase ≡ phases.Done result }
+    {
+        match self.phase {
+            Phase::Done(outcome) => outcome,
+            Phase::Reading | Phase::Waiting(_) => unreachable!(),
+        }
+    }
+
+    /// The next event.
+    fn event(&mut self, part: EventPart) -> Event
+        requires { self.old.place + 1 ≤ self.old.given + allowance self.old.phase }
+        ensures event { result ≡ record { place = self.old.place; part = part } }
+        ensures place { self.new.place ≡ self.old.place + 1 }
+        ensures rest { SameBut self.old self.new }
+    {
+        let place = self.place;
+        self.place += 1;
+        Event { place, part }
+    }
+
+    /// Gives the outcome.
+    fn end(&mut self, outcome: Outcome) -> Event
+        requires { self.old.place + 1 ≤ self.old.given + 3 }
+        ensures event { result ≡ ended self.old.place outcome }
+        ensures place { self.new.place ≡ self.old.place + 1 }
+        ensures same { SameText self.old self.new }
+        ensures done { self.new.phase ≡ phases.Done outcome }
+    {
+        self.phase = Phase::Done(outcome);
+        self.event(EventPart::Ended(outcome))
+    }
+
+    /// Gives an event, and keeps the outcome that follows it.
+    fn last(&mut self, part: EventPart, outcome: Outcome) -> Event
+        requires lines { self.old.grammar.lines ≤ self.old.given + 2 }
+        requires room { self.old.place + 1 ≤ self.old.given + 2 }
+        ensures event { result ≡ record { place = self.old.place; part = part } }
+        ensures place { self.new.place ≡ self.old.place + 1 }
+        ensures same { SameText self.old self.new }
+        ensures waiting { self.new.phase ≡ phases.Waiting outcome }
+    {
+        self.phase = Phase::Waiting(outcome);
+        self.event(part)
+    }
+
+    /// What a line has done.
+    fn answer(&mut self, line: u64, step: Step) -> Option<Event>
+        requires reading { self.old.phase ≡ phases.Reading }
+        requires room { self.old.place + 1 ≤ self.old.given }
+        ensures stands { (layout : LayoutTable) (b : List ℕ) (es : List Placed) → AtAnswer layout self.old line step b es → Stands layout self.new b (es ++ option_to_list result) }
+        ensures same { SameText self.old self.new }
+        ensures reading { IfNone result (self.new.phase ≡ phases.Reading) }
+    {
+        match step {
+            Step::Good(part) => self.good(part),
+            Step::Faulty(part, fault) => Some(self.faulty(part, Outcome::Fault { line, fault })),
+            Step::NoMemory => Some(self.end(Outcome::Fault {
+                line,
+                fault: FileFault::Memory,
+            })),
+        }
+    }
+
+    /// Gives the event of a good line, if there is one.
+    fn good(&mut self, part: Option<EventPart>) -> Option<Event>
+        requires reading { self.old.phase ≡ phases.Reading }
+        requires room { self.old.place + 1 ≤ self.old.given }
+        ensures event { option_to_list result ≡ placed self.old.place (option_to_list part) }
+        ensures place { self.new.place ≡ self.old.place + length (option_to_list part) }
+        ensures rest { SameBut self.old self.new }
+    {
+        match part {
+            Some(part) => Some(self.event(part)),
+            None => None,
+        }
+    }
+
+    /// Gives the event of the last line, if there is one, and then the outcome.
+    fn faulty(&mut self, part: Option<EventPart>, outcome: Outcome) -> Event
+        requires lines { self.old.grammar.lines ≤ self.old.given + 2 }
+        requires room { self.old.place + 1 ≤ self.old.given + 2 }
+        ensures gives { FaultyGives self.old.place part outcome result self.new }
+        ensures place { self.new.place ≡ self.old.place + 1 }
+        ensures same { SameText self.old self.new }
+    {
+        match part {
+            Some(part) => self.last(part, outcome),
+            None => self.end(outcome),
+        }
+    }
+
+    /// Takes the line that is kept.
+    fn kept_line(&mut self) -> Option<Event>
+        requires reading { self.old.phase ≡ phases.Reading }
+        requires room { self.old.place + 1 ≤ self.old.given }
+        requires lines { self.old.grammar.lines + 1 ≤ self.old.given }
+        ensures stands { (layout : LayoutTable) (b : List ℕ) (es : List Placed) → AtLine layout self.old self.old.cutter.bytes.items b es → Stands layout self.new b (es ++ option_to_list result) }
+        ensures same { SameText self.old self.new }
+        ensures reading { IfNone result (self.new.phase ≡ phases.Reading) }
+    {
+        let number = self.grammar.lines + 1;
+        let step = self
+            .grammar
+            .line(self.alloc, &self.layout, self.cutter.line());
+        self.cutter.clear();
+        self.answer(number, step)
+    }
+
+    /// Takes a line that lies in the piece.
+    fn line(&mut self, line: &[u8]) -> Option<Event>
+        requires reading { self.old.phase ≡ phases.Reading }
+        requires room { self.old.place + 1 ≤ self.old.given }
+        requires lines { self.old.grammar.lines + 1 ≤ self.old.given }
+        requires short { length line.now ≤ 8192 }
+        requires cleared { self.old.cutter.bytes.items ≡ [] }
+        requires settled { self.old.cutter.fresh ≡ false }
+        ensures stands { (layout : LayoutTable) (b : List ℕ) (es : List Placed) → AtLine layout self.old line.now b es → Stands layout self.new b (es ++ option_to_list result) }
+        ensures same { SameText self.old self.new }
+        ensures reading { IfNone result (self.new.phase ≡ phases.Reading) }
+    {
+        let number = self.grammar.lines + 1;
+        let step = self.grammar.line(self.alloc, &self.layout, line);
+        self.answer(number, step)
+    }
+
+    /// Ends by a line that is too long.
+    fn long_line(&mut self) -> Event
+        requires reading { self.old.phase ≡ phases.Reading }
+        requires room { self.old.place + 1 ≤ self.old.given }
+        ensures event { result ≡ ended self.old.place (Outcome.Fault (self.old.grammar.lines + 1) FileFault.LongLine) }
+        ensures place { self.new.place ≡ self.old.place + 1 }
+        ensures same { SameText self.old self.new }
+        ensures done { self.new.phase ≡ phases.Done (Outcome.Fault (self.old.grammar.lines + 1) FileFault.LongLine) }
+    {
+        let line = self.grammar.lines + 1;
+        self.end(Outcome::Fault {
+            line,
+            fault: FileFault::LongLine,
+        })
+    }
+
+    /// Takes what the cutter has found in the bytes used.
+    fn cut(&mut self, cut: Cut, used: &[u8]) -> Option<Event>
+        requires reading { self.old.phase ≡ phases.Reading }
+        requires some { 0 < length used.now }
+        requires room { self.old.place + 1 ≤ self.old.given }
+        requires lines { self.old.grammar.lines + 1 ≤ self.old.given }
+        requires here { FitsCut cut used.now self.old.cutter }
+        ensures stands { (layout : LayoutTable) (b : List ℕ) (es : List Placed) → AtCut layout self.old cut b used.now es → Stands layout self.new (b ++ used.now) (es ++ option_to_list result) }
+        ensures same { SameText self.old self.new }
+        ensures reading { IfNone result (self.new.phase ≡ phases.Reading) }
+    {
+        match cut {
+            Cut::More => None,
+            Cut::Kept => self.kept_line(),
+            Cut::Here => self.line(&used[..used.len() - 1]),
+            Cut::Long => Some(self.long_line()),
+        }
+    }
+
+    /// Uses bytes of a piece, up to the end of a line.
+    fn step(&mut self, piece: &[u8]) -> (usize, Option<Event>)
+        requires reading { self.old.phase ≡ phases.Reading }
+        requires some { 0 < length piece.now }
+        requires room { self.old.given + length piece.now ≤ 2 ^ 36 }
+        ensures some { 0 < result.0 }
+        ensures bound { result.0 ≤ length piece.now }
+        ensures stands { (layout : LayoutTable) (b : List ℕ) (es : List Placed) → Stands layout self.old b es → Stands layout self.new (b ++ take result.0 piece.now) (es ++ option_to_list result.1) }
+        ensures given { self.new.given ≡ self.old.given + result.0 }
+        ensures ending { self.new.ending ≡ self.old.ending }
+        ensures reading { IfNone result.1 (self.new.phase ≡ phases.Reading) }
+    {
+        let (used, cut) = self.cutter.take(piece);
+        self.given += used as u64;
+        (used, self.cut(cut, &piece[..used]))
+    }
+
+    /// Uses a piece, up to the next event.
+    fn read(&mut self, piece: &[u8]) -> (usize, Option<Event>)
+        requires reading { self.old.phase ≡ phases.Reading }
+        requires room { self.old.given + length piece.now ≤ 2 ^ 36 }
+        ensures bound { result.0 ≤ length piece.now }
+        ensures stands { (layout : LayoutTable) (b : List ℕ) (es : List Placed) → Stands layout self.old b es → Stands layout self.new (b ++ take result.0 piece.now) (es ++ option_to_list result.1) }
+        ensures ending { self.new.ending ≡ self.old.ending }
+        ensures reading { IfNone result.1 (self.new.phase ≡ phases.Reading) }
+        ensures whole { IfNone result.1 (result.0 ≡ length piece.now) }
+        ensures some { OnSome result.1 (0 < result.0) }
+        ensures given { self.new.given ≡ self.old.given + result.0 }
+    {
+        let mut used = 0;
+        while used < piece.len() {
+            let (more, event) = self.step(&piece[used..]);
+            used += more;
+            if let Some(event) = event {
+                return (used, Some(event));
+            }
+        }
+        (used, None)
+    }
+
+    /// Uses bytes of a piece, up to the next event: how many, and the event. An event that waits is given first.
+    pub fn take(&mut self, piece: &[u8]) -> (usize, Option<Event>)
+        requires open { ending_told self.old ≡ None }
+        requires room { bytes_used self.old + length piece.now ≤ 2 ^ 36 }
+
+        // The reader stands for the bytes used and the events given.
+        ensures stands { (layout : LayoutTable) (b : List ℕ) (es : List Placed) → Stands layout self.old b es → Stands layout self.new (b ++ take result.0 piece.now) (es ++ option_to_list result.1) }
+        // These events are the first that the bytes have; without an event, all.
+        ensures begins { (layout : LayoutTable) (b : List ℕ) (es : List Placed) → Stands layout self.new b es → BeginsEvents layout b None es }
+        ensures all { IfNone result.1 ((layout : LayoutTable) (b : List ℕ) (es : List Placed) → Stands layout self.new b es → HasEvents layout b None es) }
+        // Without an event the whole piece was used, unless Ended was given.
+        ensures bound { result.0 ≤ length piece.now }
+        ensures whole { IfNone result.1 ((result.0 ≡ length piece.now) ⊎ IsDone self.new) }
+        ensures done { IsDone self.old → (result.0 ≡ 0) × (result.1 ≡ None) × (self.new ≡ self.old) }
+        ensures used { bytes_used self.new ≡ bytes_used self.old + result.0 }
+        ensures open { ending_told self.new ≡ None }
+        ensures progress { OnSome result.1 (events_left self.new < result.0 + events_left self.old) }
+    {
+        match self.phase {
+            Phase::Reading => self.read(piece),
+            Phase::Waiting(outcome) => (0, Some(self.end(outcome))),
+            Phase::Done(_) => (0, None),
+        }
+    }
+
+    /// The next event of a text that ends so, until there is none. The ending of the first call stands.
+    pub fn finish(&mut self, ending: Ending) -> Option<Event>
+        ensures ending { ending_told self.new ≡ Some (first_ending self.old ending) }
+        ensures used { bytes_used self.new ≡ bytes_used self.old }
+        ensures stands { (layout : LayoutTable) (b : List ℕ) (es : List Placed) → Stands layout self.old b es → Stands layout self.new b (es ++ option_to_list result) }
+        // The events given are the first of the text's; without an event, all.
+        ensures begins { (layout : LayoutTable) (b : List ℕ) (es : List Placed) → Stands layout self.new b es → BeginsEvents layout b (Some (first_ending self.old ending)) es }
+        ensures all { IfNone result ((layout : LayoutTable) (b : List ℕ) (es : List Placed) → Stands layout self.new b es → HasEvents layout b (Some (first_ending self.old ending)) es) }
+        ensures done { IfNone result (IsDone self.new) }
+        ensures progress { OnSome result (events_left self.new < events_left self.old) }
+    {
+        self.set_ending(ending);
+        match self.phase {
+            Phase::Reading => Some(self.finish_lines(ending)),
+            Phase::Waiting(outcome) => Some(self.end(outcome)),
+            Phase::Done(_) => None,
+        }
+    }
+
+    /// Keeps the ending of the first call.
+    fn set_ending(&mut self, ending: Ending)
+        ensures ending { self.new.ending ≡ Some (first_ending self.old ending) }
+        ensures phase { self.new.phase ≡ self.old.phase }
+        ensures used { self.new.given ≡ self.old.given }
+        ensures ended { self.old.phase ≢ phases.Reading → (layout : LayoutTable) (b : List ℕ) (es : List Placed) → Stands layout self.old b es → Stands layout self.new b es }
+        ensures reading { self.old.phase ≡ phases.Reading → (layout : LayoutTable) (b : List ℕ) (es : List Placed) → Stands layout self.old b es → AtEnd layout self.new ending b es }
+    {
+        if self.ending.is_none() {
+            self.ending = Some(ending);
+        }
+    }
+
+    /// Ends behind the last piece.
+    fn finish_lines(&mut self, ending: Ending) -> Event
+        requires reading { self.old.phase ≡ phases.Reading }
+        ensures stands { (layout : LayoutTable) (b : List ℕ) (es : List Placed) → AtEnd layout self.old ending b es → Stands layout self.new b (es ++ result ∷ []) }
+        ensures left { left self.new.phase < 2 }
+        ensures same { SameText self.old self.new }
+    {
+        match ending {
+            Ending::Whole => self.finish_whole(),
+            _ => self.no_line(ending),
+        }
+    }
+
+    fn finish_whole(&mut self) -> Event
+        requires reading { self.old.phase ≡ phases.Reading }
+        ensures stands { (layout : LayoutTable) (b : List ℕ) (es : List Placed) → AtEnd layout self.old Ending.Whole b es → Stands layout self.new b (es ++ result ∷ []) }
+        ensures left { left self.new.phase < 2 }
+        ensures same { SameText self.old self.new }
+    {
+        if self.cutter.line().is_empty() {
+            self.no_line(Ending::Whole)
+        } else {
+            self.last_line()
+        }
+    }
+
+    /// Ends where the last piece is no line.
+    fn no_line(&mut self, ending: Ending) -> Event
+        requires reading { self.old.phase ≡ phases.Reading }
+        requires none { ending ≡ Ending.Whole → length self.old.cutter.bytes.items ≡ 0 }
+        ensures stands { (layout : LayoutTable) (b : List ℕ) (es : List Placed) → AtEnd layout self.old ending b es → Stands layout self.new b (es ++ result ∷ []) }
+        ensures left { left self.new.phase < 2 }
+        ensures same { SameText self.old self.new }
+    {
+        let outcome = self.grammar.outcome(ending);
+        self.end(outcome)
+    }
+
+    /// Takes the last piece as a line.
+    fn last_line(&mut self) -> Event
+        requires reading { self.old.phase ≡ phases.Reading }
+        requires some { 0 < length self.old.cutter.bytes.items }
+        ensures stands { (layout : LayoutTable) (b : List ℕ) (es : List Placed) → AtEnd layout self.old Ending.Whole b es → Stands layout self.new b (es ++ result ∷ []) }
+        ensures left { left self.new.phase < 2 }
+        ensures same { SameText self.old self.new }
+    {
+        let line = self.grammar.lines + 1;
+        self.phase = Phase::Done(Outcome::Whole);
+        let step = self
+            .grammar
+            .line(self.alloc, &self.layout, self.cutter.line());
+        match step {
+            Step::Good(part) => {
+                let outcome = self.grammar.outcome(Ending::Whole);
+                self.faulty(part, outcome)
+            }
+            Step::Faulty(part, fault) => self.faulty(part, Outcome::Fault { line, fault }),
+            Step::NoMemory => self.end(Outcome::Fault {
+                line,
+                fault: FileFault::Memory,
+            }),
+        }
+    }
+}

@@ -1,0 +1,217 @@
+//! Where a file stands: what its records so far leave to be known.
+ghost use Rattle.std.specs.Prelude.{◌≡◌, ◌++◌, ◌∷◌, [], ◌+◌, ◌<◌, ◌≤◌, true, length, None, OnOk, OnErr, IfOk};
+ghost use Rattle.std.specs.List.{list_any};
+ghost use Rattle.std.specs.Str.{bytes_eq};
+ghost use Rattle.std.specs.Option.{option_map};
+ghost use Rattle.dsr_records.specs.Reads.{has_texts};
+ghost use Rattle.dsr_file.specs.Faults.{place, member_fault, summary_fault};
+ghost use Rattle.dsr_file.specs.Stages.{column_at, stage_fault, stage_after, given_by, part_given, kept_fault, block_length, IsFree, HasRoom, IsNew};
+
+use crate::event::{EventPart, Opening, Summaries};
+use crate::fault::FileFault;
+use dsr_cells::NoMemory;
+use dsr_records::{Block, Kind, Record, Summary, Usage, Work};
+use std::alloc::Global;
+use std::mem;
+
+/// What the last record before is.
+#[derive(Clone, Copy)]
+pub(crate) enum Before {
+    /// There is none.
+    Nothing,
+    /// HEAD or a summary.
+    Front,
+    /// A resource or a work.
+    Open,
+    /// A usage.
+    Used,
+    /// FOOT.
+    Closed,
+}
+
+/// Where a file stands.
+#[derive(Drop)]
+pub(crate) enum Stage {
+    /// There is no record yet.
+    Start,
+    /// HEAD and summaries have come.
+    Front(Opening),
+    /// A block is open.
+    Open(Block),
+    /// FOOT has come.
+    Closed,
+}
+
+/// The fault of a record of this kind that stands there, if any.
+fn place_fault(before: Before, kind: Kind) -> Option<FileFault>
+    ensures { result ≡ place before kind }
+{
+    match (before, kind) {
+        (_, Kind::Skipped) => None,
+        (Before::Closed, _) => Some(FileFault::AfterFoot),
+        (Before::Nothing, Kind::Head) => None,
+        (Before::Nothing, _) => Some(FileFault::NoHead),
+        (_, Kind::Head) => Some(FileFault::SecondHead),
+        (Before::Front, Kind::Work | Kind::Usage) => Some(FileFault::NoResource),
+        (Before::Front, _) => None,
+        (_, Kind::Summary) => Some(FileFault::LateSummary),
+        (Before::Open, Kind::Resource | Kind::Foot) => Some(FileFault::NoUsage),
+        (Before::Used, Kind::Work) => Some(FileFault::LateWork),
+        _ => None,
+    }
+}
+
+/// Whether one of these summaries has the identifier.
+fn has_summary(summaries: &Summaries, id: &str) -> bool
+    ensures { result ≡ list_any (λ s. bytes_eq s.id id.now) summaries.now }
+{
+    summaries.as_slice().iter().any(|s| s.id.as_str() == id)
+}
+
+/// The fault of a summary with this identifier behind these.
+fn twice_or_many(summaries: &Summaries, id: &str) -> Option<FileFault>
+    ensures { result ≡ summary_fault summaries.now id.now }
+{
+    if has_summary(summaries, id) {
+        return Some(FileFault::SummaryTwice);
+    }
+    if summaries.len() >= 1000 {
+        Some(FileFault::ManySummaries)
+    } else {
+        None
+    }
+}
+
+/// The fault of a work or a usage with this identifier behind the records of a block.
+fn number_or_long(block: &Block, id: &str) -> Option<FileFault>
+    ensures { result ≡ member_fault block.now.id (block_length block.now) id.now }
+{
+    if id != block.id.as_str() {
+        return Some(FileFault::BlockNumber);
+    }
+    if block.len() >= 64 {
+        Some(FileFault::LongBlock)
+    } else {
+        None
+    }
+}
+
+impl Stage {
+    /// The column of the place table.
+    fn before(&self) -> Before
+        ensures { result ≡ column_at self.now }
+    {
+        match self {
+            Stage::Start => Before::Nothing,
+            Stage::Front(_) => Before::Front,
+            Stage::Open(block) => if block.usages.len() == 0 {
+                Before::Open
+            } else {
+                Before::Used
+            },
+            Stage::Closed => Before::Closed,
+        }
+    }
+
+    /// The fault of a record of this kind and with this identifier, where it stands in its place.
+    fn kept_fault(&self, kind: Kind, id: Option<&str>) -> Option<FileFault>
+        ensures { result ≡ kept_fault self.now kind (option_map (λ i. i.now) id.entry) }
+    {
+        match (self, kind, id) {
+            (Stage::Front(opening), Kind::Summary, Some(id)) => twice_or_many(
+                &opening.summaries,
+                id,
+            ),
+            (Stage::Open(block), Kind::Work | Kind::Usage, Some(id)) => number_or_long(block, id),
+            _ => None,
+        }
+    }
+
+    /// The first fault of a record of this kind and with this identifier.
+    pub(crate) fn fault(&self, kind: Kind, id: Option<&str>) -> Option<FileFault>
+        ensures { result ≡ stage_fault self.now kind (option_map (λ i. i.now) id.entry) }
+    {
+        match place_fault(self.before(), kind) {
+            Some(fault) => Some(fault),
+            None => self.kept_fault(kind, id),
+        }
+    }
+
+    /// Goes on to the next stage, and gives what was open.
+    fn close(&mut self, next: Stage) -> Option<EventPart>
+        ensures next { self.new ≡ next }
+        ensures given { result ≡ part_given self.old }
+    {
+        match mem::replace(self, next) {
+            Stage::Start | Stage::Closed => None,
+            Stage::Front(opening) => Some(EventPart::Opened(opening)),
+            Stage::Open(block) => Some(EventPart::Block(block)),
+        }
+    }
+
+    /// Takes a record that has no fault, and gives the event that it closes. Want of memory changes nothing.
+    pub(crate) fn add(&mut self, alloc: Global, item: Record) -> Result<Option<EventPart>, NoMemory>
+        requires { IsFree self.old item }
+        ensures next { OnOk result (self.new ≡ stage_after self.old item) }
+        ensures given { IfOk result (λ part. part ≡ given_by self.old item) }
+        ensures memory { OnErr result (has_texts item ≡ true) }
+    {
+        match item {
+            Record::Head(head) => {
+                *self = Stage::Front(Opening {
+                    head,
+                    summaries: Summaries::new(alloc),
+                });
+                Ok(None)
+            }
+            Record::Summary(summary) => self.add_summary(summary),
+            Record::Resource(resource) => {
+                let block = Block::open(alloc, resource)?;
+                Ok(self.close(Stage::Open(block)))
+            }
+            Record::Work(work) => self.add_work(work),
+            Record::Usage(usage) => self.add_usage(usage),
+            Record::Foot(_) => Ok(self.close(Stage::Closed)),
+            Record::Skipped => Ok(None),
+        }
+    }
+
+    fn add_summary(&mut self, summary: Summary) -> Result<Option<EventPart>, NoMemory>
+        requires { IsNew self.old summary.id }
+        ensures next { OnOk result (self.new ≡ stage_after self.old (Record.Summary summary)) }
+        ensures given { IfOk result (λ part. part ≡ None) }
+    {
+        if let Stage::Front(opening) = self {
+            if opening.summaries.push(summary).is_err() {
+                return Err(NoMemory);
+            }
+        }
+        Ok(None)
+    }
+
+    fn add_work(&mut self, work: Work) -> Result<Option<EventPart>, NoMemory>
+        requires { HasRoom self.old }
+        ensures next { OnOk result (self.new ≡ stage_after self.old (Record.Work work)) }
+        ensures given { IfOk result (λ part. part ≡ None) }
+    {
+        if let Stage::Open(block) = self {
+            if block.push_work(work).is_err() {
+                return Err(NoMemory);
+            }
+        }
+        Ok(None)
+    }
+
+    fn add_usage(&mut self, usage: Usage) -> Result<Option<EventPart>, NoMemory>
+        requires { HasRoom self.old }
+        ensures next { OnOk result (self.new ≡ stage_after self.old (Record.Usage usage)) }
+        ensures given { IfOk result (λ part. part ≡ None) }
+    {
+        if let Stage::Open(block) = self {
+            if block.push_usage(usage).is_err() {
+                return Err(NoMemory);
+            }
+        }
+        Ok(None)
+    }
+}
