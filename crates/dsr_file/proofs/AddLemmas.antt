@@ -1,5 +1,5 @@
 -- A record that is added to a grammar.
-use Rattle.std.proofs.Common.{◌≡◌, ℕ, suc, ◌+◌, ◌∙◌, sym, ap, refl, subst, Bool, true, false, not, ◌||◌, eqb, List, [], ◌∷◌, ◌++◌, length, count_by, Option, None, Some, append_assoc, add-zero, length-append, arith}
+use Rattle.std.proofs.Common.{◌≡◌, ◌+◌, ◌∙◌, sym, ap, refl, subst, Bool, true, false, List, [], ◌∷◌, ◌++◌, length, count_by, Option, None, Some, add-zero, length-append}
 use Rattle.std.proofs.lemmas.List.Sums.{sum_by-append}
 use Rattle.std.proofs.Common.{cond}
 use Rattle.std.specs.Prelude.{option_and_then, if◌then◌else◌}
@@ -15,7 +15,7 @@ use Rattle.dsr_file.specs.Readings.{Reading, Holds, kept, records, is_skipped_li
 use Rattle.dsr_file.specs.Parts.{closed, summaries, events_of}
 use Rattle.dsr_file.specs.Faults.{fault_if, fault_of, early_fault, count_fault}
 use Rattle.dsr_records.specs.Records.{or_else}
-use Rattle.dsr_file.specs.Texts.{AllGood, first_from, counts_fault}
+use Rattle.dsr_file.specs.Texts.{counts_fault}
 use Rattle.dsr_file.specs.Stages.{KeepsStage, stage_after, given_by}
 use Rattle.dsr_file.specs.Counting.{foot_in, summary_count, block_count}
 use Rattle.dsr_file.specs.Grammars.{Keeps, kept_count_fault, IsRecord}

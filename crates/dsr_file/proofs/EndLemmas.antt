@@ -1,10 +1,9 @@
 -- The end of a text.
-use Rattle.std.proofs.Common.{◌≡◌, ◌≢◌, ℕ, suc, ◌+◌, ◌<◌, ◌≤◌, ◌⊎◌, inl, inr, ◌∙◌, sym, ap, refl, subst, Bool, true, false, not, ◌&&◌, ◌||◌, ltb, List, [], ◌∷◌, ◌++◌, length, map, Option, None, Some, append_assoc, arith}
+use Rattle.std.proofs.Common.{◌≡◌, ◌≢◌, ℕ, ◌+◌, ◌<◌, ◌≤◌, inl, inr, ◌∙◌, sym, ap, refl, subst, Bool, true, false, not, ltb, List, [], ◌∷◌, ◌++◌, length, map, Option, None, Some, arith}
 use Rattle.std.specs.Prelude.{if◌then◌else◌}
 use Rattle.std.specs.Option.{option_to_list, is_some}
 use Rattle.std.proofs.lemmas.List.{append-nil, map-append}
 use Rattle.std.proofs.lemmas.Bool.Decides.{nat_tests}
-use mathlib.Core.List.{IsPrefix}
 use Rattle.dsr_cells.specs.Lines.{pieces, line_limit}
 use Rattle.dsr_records.specs.Records.{LayoutTable}
 use Rattle.dsr_file.specs.declared.fault.FileFault.{FileFault}
@@ -27,14 +26,14 @@ use Rattle.dsr_file.specs.Lines.{lines_among}
 use Rattle.dsr_file.specs.Readings.{Reading, reading, records}
 use Rattle.dsr_file.specs.Parts.{events_of}
 use Rattle.dsr_file.specs.Faults.{fault_of}
-use Rattle.dsr_file.specs.Texts.{AllGood, At, First, first_from, counts_fault, taken, outcome, outcome_at, end_of, events, placed, readings, so_far, text_events}
-use Rattle.dsr_file.specs.Runs.{ended, known_events, known_lines, HasEvents, IsCutOff, EndsWith}
+use Rattle.dsr_file.specs.Texts.{AllGood, first_from, counts_fault, taken, outcome, outcome_at, end_of, events, placed, readings, so_far, text_events}
+use Rattle.dsr_file.specs.Runs.{ended, known_events, HasEvents}
 use Rattle.dsr_file.specs.Grammars.{Keeps, LineSteps}
 use Rattle.dsr_file.specs.Stages.{column_at}
 use Rattle.dsr_file.specs.Standing.{Stands, StandsAt, SameText, AtEnd, FaultyGives}
 use Rattle.dsr_file.proofs.StageLemmas.{column_kept}
 use Rattle.dsr_file.proofs.LineLemmas.{first_at}
-use Rattle.dsr_file.proofs.LawLemmas.{so_far_begins_lem, fault_is_final_lem}
+use Rattle.dsr_file.proofs.LawLemmas.{fault_is_final_lem}
 use Rattle.dsr_file.proofs.RunLemmas.{cut_off_later}
 use Rattle.dsr_file.proofs.ReaderLemmas.{lines_last, no_last}
 use Rattle.dsr_file.proofs.StandLemmas.{placed_more, gives_stands, memory_stands_at, ended_last, ends_has_ended, going_is}

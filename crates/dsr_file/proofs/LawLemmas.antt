@@ -1,5 +1,5 @@
 -- The events of bytes, and of texts that begin with them.
-use Rattle.std.proofs.Common.{◌≡◌, ℕ, suc, ◌+◌, ◌<◌, ◌≤◌, ◌⊎◌, inl, inr, ◌∙◌, sym, ap, refl, subst, Bool, true, false, cond, ◌||◌, eqb, List, [], ◌∷◌, ◌++◌, length, map, Option, None, Some, append_assoc, length-append, arith}
+use Rattle.std.proofs.Common.{◌≡◌, ℕ, ◌+◌, ◌<◌, ◌≤◌, ◌⊎◌, inl, inr, ◌∙◌, sym, ap, refl, subst, Bool, true, false, cond, ◌||◌, eqb, List, [], ◌∷◌, ◌++◌, length, map, Option, None, Some, append_assoc, length-append, arith}
 use Rattle.std.specs.Prelude.{if◌then◌else◌}
 use Rattle.std.specs.Option.{option_to_list, option_map}
 use Rattle.std.specs.List.{slice_split, onto_first, list_any, filter_map}
@@ -17,27 +17,25 @@ use Rattle.dsr_file.specs.declared.fault.FileFault.{FileFault}
 use Rattle.dsr_file.specs.declared.fault.FileFault.TheVariants as faults
 use Rattle.dsr_file.specs.declared.fault.Ending.{Ending}
 use Rattle.dsr_file.specs.declared.fault.Ending.TheVariants as endings
-use Rattle.dsr_file.specs.declared.fault.Outcome.TheVariants as outcomes
 use Rattle.dsr_file.specs.declared.event.EventPart.{EventPart}
 use Rattle.dsr_file.specs.declared.event.EventPart.TheVariants as tell
 use Rattle.dsr_file.specs.declared.stage.Stage.{Stage}
 use Rattle.dsr_file.specs.declared.stage.Stage.TheVariants.{Start}
 use Rattle.dsr_file.specs.Openings.{OpeningParts}
-use Rattle.dsr_file.specs.Placed.{Placed}
 use Rattle.dsr_file.specs.Orderly.{is_ended, has_ended}
 use Rattle.dsr_file.specs.Lines.{lines_among}
 use Rattle.dsr_file.specs.Readings.{Reading, Holds, Faulty, SkippedLine, reading, kept, records}
 use Rattle.dsr_file.specs.Parts.{events_of, opened, opening_of, opens, closed, block_of}
-use Rattle.dsr_file.specs.Faults.{fault_of, early_fault, count_fault}
+use Rattle.dsr_file.specs.Faults.{fault_of, early_fault}
 use Rattle.dsr_file.specs.Texts.{First, AllGood, At, first_if, first_from, counts_fault, taken, outcome, ended_so_far, events, events_so_far, placed, readings, so_far, text_events}
 use Rattle.dsr_file.specs.Stages.{KeepsStage, stage_after}
 use Rattle.dsr_file.specs.Grammars.{IsRecord}
 use Rattle.dsr_file.specs.Cutting.{IsSettled}
 use Rattle.dsr_file.proofs.LineLemmas.{records-same, first_good, first_at}
 use Rattle.dsr_file.proofs.AddLemmas.{with_item}
-use Rattle.dsr_file.proofs.StepLemmas.{Steps, step_record}
+use Rattle.dsr_file.proofs.StepLemmas.{step_record}
 use Rattle.dsr_file.proofs.TestLemmas.{early_not_count}
-use Rattle.dsr_file.proofs.ReaderLemmas.{placed-append, lines_last, no_last, long_last, readings_short, readings_long}
+use Rattle.dsr_file.proofs.ReaderLemmas.{placed-append, long_last, readings_short, readings_long}
 use Rattle.dsr_file.proofs.CutLemmas.{split_some, split_front, unmarked_short, settled_three, settled_lf}
 
 -- none, or a fault of the counts

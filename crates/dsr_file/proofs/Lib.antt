@@ -11,3 +11,5 @@ pub mod LawLemmas
 pub mod RunLemmas
 pub mod StandLemmas
 pub mod EndLemmas
+pub mod FeedLemmas
+pub mod ReadLemmas

@@ -1,6 +1,6 @@
 -- The parts of records, one more record at the end.
-use Rattle.std.proofs.Common.{◌≡◌, ℕ, ◌+◌, ◌∙◌, sym, ap, refl, subst, Bool, true, false, cond, List, [], ◌∷◌, ◌++◌, length, drop, Option, None, Some, arith, append_assoc}
-use Rattle.std.specs.List.{onto_first, filter_map, list_any}
+use Rattle.std.proofs.Common.{◌≡◌, ◌∙◌, sym, ap, refl, true, false, cond, List, [], ◌∷◌, ◌++◌, drop, Some}
+use Rattle.std.specs.List.{onto_first}
 use Rattle.dsr_records.specs.declared.record.Record.{Record}
 use Rattle.dsr_file.specs.Parts.{parts, opens, but_last, last_of, closed}
 

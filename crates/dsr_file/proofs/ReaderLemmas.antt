@@ -1,5 +1,5 @@
 -- The lines and events of bytes, one line more.
-use Rattle.std.proofs.Common.{◌≡◌, ℕ, suc, ◌+◌, ◌<◌, ◌≤◌, ◌∙◌, sym, ap, refl, Bool, true, false, ◌&&◌, ◌||◌, ltb, List, [], ◌∷◌, ◌++◌, length, map, Option, None, Some, append_assoc, add-zero, arith}
+use Rattle.std.proofs.Common.{◌≡◌, ℕ, suc, ◌+◌, ◌<◌, ◌≤◌, ◌∙◌, sym, ap, refl, Bool, true, false, ◌&&◌, ◌||◌, ltb, List, [], ◌∷◌, ◌++◌, length, map, Some, add-zero, arith}
 use Rattle.std.specs.Prelude.{if◌then◌else◌}
 use Rattle.std.proofs.lemmas.List.{append-nil, map-append}
 use Rattle.std.proofs.lemmas.Bool.Decides.{nat_tests}
@@ -11,12 +11,11 @@ use Rattle.dsr_file.specs.declared.fault.Ending.TheVariants as endings
 use Rattle.dsr_file.specs.declared.fault.Outcome.TheVariants as outcomes
 use Rattle.dsr_file.specs.declared.event.EventPart.{EventPart}
 use Rattle.dsr_file.specs.declared.event.EventPart.TheVariants.{Ended}
-use Rattle.dsr_file.specs.Placed.{Placed}
-use Rattle.dsr_file.specs.Lines.{lines_among, last_is_line}
+use Rattle.dsr_file.specs.Lines.{lines_among}
 use Rattle.dsr_file.specs.Readings.{Reading, reading, records}
 use Rattle.dsr_file.specs.Parts.{events_of}
 use Rattle.dsr_file.specs.Faults.{fault_of}
-use Rattle.dsr_file.specs.Texts.{First, AllGood, At, first_from, counts_fault, taken, ended_so_far, events_so_far, placed, readings}
+use Rattle.dsr_file.specs.Texts.{AllGood, first_from, counts_fault, events_so_far, placed, readings}
 use Rattle.dsr_file.proofs.LineLemmas.{first_at}
 
 pub placed-append : (n : ℕ) (xs ys : List EventPart) → placed n (xs ++ ys) ≡ placed n xs ++ placed (n + length xs) ys

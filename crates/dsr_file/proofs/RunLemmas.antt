@@ -1,20 +1,17 @@
 -- Runs of a text are orderly, and want of memory makes a run.
-use Rattle.std.proofs.Common.{◌≡◌, ℕ, zero, suc, ◌+◌, ◌<◌, ◌≤◌, ◌⊎◌, inl, inr, ◌∙◌, sym, ap, refl, subst, Bool, true, false, ◌||◌, List, [], ◌∷◌, ◌++◌, length, map, Option, None, Some, append_assoc, zero-add, length-append, arith}
+use Rattle.std.proofs.Common.{◌≡◌, ℕ, ◌+◌, ◌<◌, ◌⊎◌, inl, inr, ◌∙◌, sym, ap, refl, subst, Bool, true, false, List, [], ◌∷◌, ◌++◌, length, map, None, Some, append_assoc, zero-add, length-append, arith}
 use Rattle.std.specs.Prelude.{if◌then◌else◌}
 use Rattle.std.specs.Option.{option_to_list}
-use Rattle.std.specs.List.{list_any, filter_map}
+use Rattle.std.specs.List.{filter_map}
 use Rattle.std.proofs.lemmas.List.{append-nil, map-append}
 use Rattle.std.proofs.lemmas.List.Folds.{list_any-append}
-use mathlib.Core.List.{IsPrefix}
 use Rattle.dsr_records.specs.declared.record.Record.{Record}
-use Rattle.dsr_records.specs.declared.record.Record.TheVariants.{Head, Summary, Resource, Work, Usage, Foot, Skipped}
 use Rattle.dsr_records.specs.Blocks.{BlockParts}
-use Rattle.dsr_records.specs.Records.{LayoutTable, or_else}
+use Rattle.dsr_records.specs.Records.{LayoutTable}
 use Rattle.dsr_file.specs.declared.fault.FileFault.{FileFault}
 use Rattle.dsr_file.specs.declared.fault.FileFault.TheVariants as faults
 use Rattle.dsr_file.specs.declared.fault.Ending.{Ending}
 use Rattle.dsr_file.specs.declared.fault.Ending.TheVariants as endings
-use Rattle.dsr_file.specs.declared.fault.Outcome.{Outcome}
 use Rattle.dsr_file.specs.declared.fault.Outcome.TheVariants as outcomes
 use Rattle.dsr_file.specs.declared.event.EventPart.{EventPart}
 use Rattle.dsr_file.specs.declared.event.EventPart.TheVariants as tell
@@ -25,15 +22,15 @@ use Rattle.dsr_file.specs.Placed.{Placed}
 use Rattle.dsr_file.specs.Orderly.{is_ended, has_ended, IsOrderly}
 use Rattle.dsr_file.specs.OrderlyLaws.{orderly_nil, orderly_front, orderly_push}
 use Rattle.dsr_file.specs.Readings.{Reading, Holds, Faulty, SkippedLine, reading, kept, records}
-use Rattle.dsr_file.specs.Parts.{events_of, opened, opens, closed, block_of, summaries}
-use Rattle.dsr_file.specs.Faults.{fault_of, early_fault, count_fault}
-use Rattle.dsr_file.specs.Texts.{First, AllGood, At, first_if, first_from, counts_fault, taken, outcome, events, events_so_far, placed, readings, so_far, text_events}
-use Rattle.dsr_file.specs.Stages.{KeepsStage, stage_after, given_by, part_given}
+use Rattle.dsr_file.specs.Parts.{events_of, opens, closed, block_of, summaries}
+use Rattle.dsr_file.specs.Faults.{fault_of}
+use Rattle.dsr_file.specs.Texts.{AllGood, first_from, counts_fault, taken, outcome, events, placed, readings, text_events}
+use Rattle.dsr_file.specs.Stages.{KeepsStage, stage_after, part_given}
 use Rattle.dsr_file.specs.Grammars.{IsRecord}
 use Rattle.dsr_file.specs.Runs.{FileText, ended, EndsByMemory, IsRun, IsCutOff}
 use Rattle.dsr_file.proofs.LineLemmas.{records-same, first_good, first_at}
 use Rattle.dsr_file.proofs.AddLemmas.{with_item}
-use Rattle.dsr_file.proofs.StepLemmas.{Steps, step_record, front_events, opened_known}
+use Rattle.dsr_file.proofs.StepLemmas.{step_record, front_events, opened_known}
 use Rattle.dsr_file.proofs.ReaderLemmas.{placed-append, length-placed, good_events}
 use Rattle.dsr_file.proofs.LawLemmas.{counted, none_early, left_or_real, lines_begin, no_ended, ended_placed, readings_begin}
 

@@ -1,31 +1,23 @@
 -- A stage goes on as the records do.
-use Rattle.std.proofs.Common.{◌≡◌, ◌≢◌, ℕ, ◌+◌, ◌<◌, ◌≤◌, ◌⊎◌, inl, inr, ◌∙◌, sym, ap, refl, subst, Bool, true, false, cond, not, ◌||◌, ◌&&◌, eqb, leb, List, [], ◌∷◌, ◌++◌, length, map, drop, Option, None, Some, unwrap_or, arith, append_assoc, add-one, length-append}
-use Rattle.std.specs.Option.{option_to_list}
+use Rattle.std.proofs.Common.{◌≡◌, ℕ, ◌∙◌, sym, ap, refl, true, false, eqb, List, [], ◌∷◌, length, map, Option, None, Some, unwrap_or, arith, length-append}
 use Rattle.std.proofs.lemmas.List.{length-map}
 use Rattle.dsr_records.specs.declared.kinds.Kind.TheVariants as kinds
 use Rattle.std.specs.Prelude.{if◌then◌else◌}
-use Rattle.std.specs.List.{onto_first, filter_map, list_any, list_all}
-use Rattle.std.specs.Str.{bytes_eq}
 use Rattle.dsr_records.specs.Reads.{id_of_record, kind_of_record}
 use Rattle.dsr_records.specs.Records.{or_else}
 use Rattle.dsr_records.specs.declared.record.Record.{Record}
 use Rattle.dsr_records.specs.declared.record.Record.TheVariants as the
 use Rattle.dsr_records.specs.declared.record.Summary as summary
-use Rattle.dsr_records.specs.Works.{WorkParts}
-use Rattle.dsr_records.specs.declared.record.Usage as usage
 use Rattle.dsr_records.specs.declared.record.Head as head
 use Rattle.dsr_records.specs.Blocks.{BlockParts}
 use Rattle.dsr_file.specs.declared.fault.FileFault.{FileFault}
-use Rattle.dsr_file.specs.declared.event.EventPart.{EventPart}
-use Rattle.dsr_file.specs.declared.event.EventPart.TheVariants as tell
-use Rattle.dsr_file.specs.declared.stage.Before.{Before}
 use Rattle.dsr_file.specs.declared.stage.Before.TheVariants as columns
 use Rattle.dsr_file.specs.declared.stage.Stage.{Stage}
 use Rattle.dsr_file.specs.declared.stage.Stage.TheVariants.{Start, Front, Open, Closed}
-use Rattle.dsr_file.specs.Parts.{parts, opens, last_of, but_last, closed, block_limit, has_id, summaries, works, usages, works_then_usages, is_usage, block_of, opening_of, opened, events_of}
-use Rattle.dsr_file.specs.Faults.{column, place, fault_if, summary_fault, member_fault, early_fault, last_part, first_id, in_part}
-use Rattle.dsr_file.specs.Stages.{column_at, block_length, kept_fault, stage_fault, part_given, given_by, stage_after, records_of, IsOpen, KeepsStage, HasRoom, IsFree}
-use Rattle.dsr_file.proofs.PartLemmas.{onto_last, parts_some, parts_open, parts_stay, but_last_push, last_of_push, onto_last_push}
+use Rattle.dsr_file.specs.Parts.{last_of, summaries}
+use Rattle.dsr_file.specs.Faults.{column, place, summary_fault, member_fault, early_fault, last_part, in_part}
+use Rattle.dsr_file.specs.Stages.{column_at, block_length, stage_fault, records_of, IsOpen, KeepsStage}
+use Rattle.dsr_file.proofs.PartLemmas.{last_of_push}
 
 -- the last record of HEAD and summaries
 last_front : (h : head.Head) (ss : List summary.Summary) → column (last_of (the.Head h ∷ map the.Summary ss)) ≡ columns.Front

@@ -1,5 +1,5 @@
 -- What a reader stands for, one line more.
-use Rattle.std.proofs.Common.{◌≡◌, ℕ, suc, ◌+◌, ◌<◌, ◌≤◌, ◌⊎◌, inl, inr, ◌∙◌, sym, ap, refl, subst, Bool, true, false, ◌||◌, List, [], ◌∷◌, ◌++◌, length, map, Option, None, Some, append_assoc, zero-add, length-append, length-take, length-drop, take, drop, take-add, ◌-◌, arith}
+use Rattle.std.proofs.Common.{◌≡◌, ℕ, ◌+◌, ◌≤◌, inl, inr, ◌∙◌, sym, ap, refl, subst, Bool, true, false, ◌||◌, List, [], ◌∷◌, ◌++◌, length, map, Option, None, Some, append_assoc, zero-add, length-append, length-take, take, drop, take-add, ◌-◌, arith}
 use Rattle.std.specs.Prelude.{IsTrue}
 use Rattle.std.specs.Option.{option_to_list, IfNone}
 use Rattle.std.proofs.lemmas.Bool.Decides.{nat_tests}
@@ -18,7 +18,6 @@ use Rattle.dsr_file.specs.declared.fault.Outcome.{Outcome}
 use Rattle.dsr_file.specs.declared.fault.Outcome.TheVariants as outcomes
 use Rattle.dsr_file.specs.declared.event.EventPart.{EventPart}
 use Rattle.dsr_file.specs.declared.event.EventPart.TheVariants.{Ended}
-use Rattle.dsr_file.specs.declared.grammar.Grammar.{Grammar}
 use Rattle.dsr_file.specs.declared.grammar.Step.{Step}
 use Rattle.dsr_file.specs.declared.grammar.Step.TheVariants.{Good, Faulty, NoMemory}
 use Rattle.dsr_file.specs.declared.cutter.Cut.{Cut}
@@ -32,13 +31,12 @@ use Rattle.dsr_file.specs.Readings.{Reading, reading, records}
 use Rattle.dsr_file.specs.Readings as of
 use Rattle.dsr_file.specs.Parts.{events_of}
 use Rattle.dsr_file.specs.Faults.{fault_of}
-use Rattle.dsr_file.specs.Texts.{AllGood, first_from, counts_fault, events_so_far, placed, readings, so_far}
+use Rattle.dsr_file.specs.Texts.{AllGood, first_from, events_so_far, placed, readings, so_far}
 use Rattle.dsr_file.specs.Runs.{ended, known_events, known_lines, BeginsEvents, HasEvents, IsCutOff, EndsWith}
 use Rattle.dsr_file.specs.Grammars.{Keeps, LineSteps, TakesMemory}
 use Rattle.dsr_file.specs.Cutting.{CutsTo, CutSteps}
 use Rattle.dsr_file.specs.Standing.{Stands, StandsAt, SameText, AtLine, AtAnswer, AtCut, FaultyGives, IsDone}
 use Rattle.dsr_file.proofs.LawLemmas.{no_ended, ended_placed}
-use Rattle.dsr_file.proofs.RunLemmas.{cut_off_is}
 use Rattle.dsr_file.proofs.ReaderLemmas.{placed-append, length-placed, readings_short, readings_long, fault_events, good_events}
 
 not_both : false ≡ true → ⊥

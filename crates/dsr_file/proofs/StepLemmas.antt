@@ -1,5 +1,5 @@
 -- One record more: the stage goes on as the records do, and gives their next event.
-use Rattle.std.proofs.Common.{◌≡◌, ◌≢◌, ℕ, suc, ◌+◌, ◌<◌, ◌≤◌, ◌⊎◌, inl, inr, ◌∙◌, sym, ap, refl, subst, Bool, true, false, cond, not, ◌||◌, ◌&&◌, eqb, leb, List, [], ◌∷◌, ◌++◌, length, map, drop, Option, None, Some, unwrap_or, arith, append_assoc, add-one, add-zero, length-append}
+use Rattle.std.proofs.Common.{◌≡◌, ◌≢◌, ℕ, suc, ◌+◌, ◌<◌, ◌≤◌, ◌∙◌, sym, ap, refl, Bool, true, false, not, ◌||◌, eqb, leb, List, [], ◌∷◌, ◌++◌, length, map, drop, Option, None, Some, arith, append_assoc, add-zero, length-append}
 use Rattle.std.specs.Prelude.{if◌then◌else◌}
 use Rattle.std.specs.Option.{option_to_list, option_map}
 use Rattle.std.proofs.lemmas.Bool.Decides.{nat_tests}
@@ -23,19 +23,17 @@ use Rattle.dsr_records.specs.declared.record.Resource as resource
 use Rattle.dsr_records.specs.Blocks.{BlockParts}
 use Rattle.dsr_file.specs.declared.fault.FileFault.{FileFault}
 use Rattle.dsr_file.specs.Openings.{OpeningParts}
-use Rattle.dsr_file.specs.declared.event.EventPart.{EventPart}
 use Rattle.dsr_file.specs.declared.event.EventPart.TheVariants as tell
-use Rattle.dsr_file.specs.declared.stage.Before.{Before}
 use Rattle.dsr_file.specs.declared.stage.Before.TheVariants as columns
 use Rattle.dsr_file.specs.declared.stage.Stage.{Stage}
 use Rattle.dsr_file.specs.declared.stage.Stage.TheVariants.{Start, Front, Open, Closed}
-use Rattle.dsr_file.specs.Parts.{parts, opens, last_of, but_last, closed, block_limit, has_id, summaries, works, usages, works_then_usages, is_usage, block_of, opening_of, opened, events_of}
-use Rattle.dsr_file.specs.Faults.{column, place, fault_if, summary_fault, member_fault, early_fault, last_part, first_id, in_part}
-use Rattle.dsr_file.specs.Stages.{column_at, block_length, kept_fault, stage_fault, part_given, given_by, stage_after, records_of, IsOpen, KeepsStage, HasRoom, IsFree}
+use Rattle.dsr_file.specs.Parts.{parts, opens, but_last, closed, block_limit, has_id, summaries, works, usages, works_then_usages, is_usage, block_of, opening_of, opened, events_of}
+use Rattle.dsr_file.specs.Faults.{column, place, fault_if, summary_fault, member_fault, early_fault}
+use Rattle.dsr_file.specs.Stages.{column_at, block_length, stage_fault, given_by, stage_after, records_of, IsOpen, KeepsStage, IsFree}
 use Rattle.dsr_file.specs.Grammars.{IsRecord}
 use Rattle.dsr_file.specs.Counting.{block_count}
 use Rattle.dsr_file.proofs.StageLemmas.{column_kept, fault_agrees}
-use Rattle.dsr_file.proofs.PartLemmas.{onto_last, parts_some, parts_open, parts_stay, but_last_push, last_of_push, onto_last_push, closed_stay, closed_open}
+use Rattle.dsr_file.proofs.PartLemmas.{onto_last, parts_open, parts_stay, but_last_push, last_of_push, onto_last_push, closed_stay, closed_open}
 
 -- what a record does to what a stage stands for
 pub record Steps (stage : Stage) (rs : List Record) (r : Record) : Type 0 where

@@ -1,8 +1,7 @@
 -- What a line that is tested does.
-use Rattle.std.proofs.Common.{◌≡◌, ℕ, ◌+◌, ◌≤◌, ◌∙◌, sym, ap, refl, subst, Bool, true, false, not, List, [], ◌∷◌, ◌++◌, length, count_by, Option, None, Some, append_assoc, add-zero, length-append, arith}
-use Rattle.std.specs.Prelude.{Result, Ok, Err, nat_le, if◌then◌else◌}
+use Rattle.std.proofs.Common.{◌≡◌, ℕ, ◌+◌, ◌≤◌, ◌∙◌, sym, ap, refl, Bool, true, false, not, List, [], ◌∷◌, length, Option, None, Some, length-append, arith}
+use Rattle.std.specs.Prelude.{Result, nat_le}
 use Rattle.std.specs.List.{list_any}
-use Rattle.std.specs.Option.{option_to_list}
 use Rattle.std.specs.Str.{is_utf8, IsUtf8, bytes_eq}
 use Rattle.std.proofs.lemmas.List.{append-nil}
 use Rattle.std.proofs.lemmas.Str.{IsUtf8-from_is_utf8}
@@ -29,9 +28,9 @@ use Rattle.dsr_file.specs.Readings.{Reading, Holds, SkippedLine, reading, of_tex
 use Rattle.dsr_file.specs.Readings as line
 use Rattle.dsr_file.specs.Parts.{closed, summaries, events_of, last_of}
 use Rattle.dsr_file.specs.Faults.{fault_if, fault_of, early_fault, place, column, member_fault, in_part, summary_fault, summary_limit, last_part, first_id}
-use Rattle.dsr_file.specs.Texts.{AllGood, first_from, counts_fault}
-use Rattle.dsr_file.specs.Stages.{KeepsStage, stage_fault}
-use Rattle.dsr_file.specs.Grammars.{Keeps, LineSteps, IsRecord, TakesMemory}
+use Rattle.dsr_file.specs.Texts.{counts_fault}
+use Rattle.dsr_file.specs.Stages.{stage_fault}
+use Rattle.dsr_file.specs.Grammars.{Keeps, LineSteps, IsRecord}
 use Rattle.dsr_file.proofs.StageLemmas.{fault_agrees}
 use Rattle.dsr_file.proofs.LineLemmas.{records-same, first_good}
 use Rattle.dsr_file.proofs.AddLemmas.{count_by_push_no, count_by_push_yes}

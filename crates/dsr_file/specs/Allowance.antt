@@ -1,5 +1,5 @@
 -- How many events may come without a byte more.
-use Rattle.std.specs.Prelude.{◌≡◌, ℕ, Bool, true, false}
+use Rattle.std.specs.Prelude.{ℕ, Bool, true, false}
 use Rattle.dsr_file.specs.declared.reader.Phase.{Phase}
 use Rattle.dsr_file.specs.declared.reader.Phase.TheVariants.{Reading, Waiting, Done}
 

@@ -10,6 +10,7 @@ pub mod Placed
 pub mod Orderly
 pub mod Runs
 pub mod Sources
+pub mod Refusals
 -- Laws of them, and words that only relate the fields of the code to them.
 pub mod OrderlyLaws
 pub mod Stages
@@ -18,3 +19,4 @@ pub mod Grammars
 pub mod Cutting
 pub mod Allowance
 pub mod Standing
+pub mod Feeding

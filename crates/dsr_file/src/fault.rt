@@ -1,4 +1,7 @@
 //! How a text ends, and what is wrong with it.
+ghost use Rattle.std.specs.Prelude.{◌≡◌};
+ghost use Rattle.dsr_file.specs.Names.{name_of, column_named};
+
 use dsr_records::Column;
 
 /// The first fault of a file.
@@ -29,6 +32,51 @@ pub enum FileFault {
     Read,
     Reads,
     Memory,
+}
+
+impl FileFault {
+    /// The name of the fault, as it is printed.
+    pub fn name(self) -> &'static str
+        ensures { result.now ≡ name_of self }
+    {
+        match self {
+            FileFault::LongLine => "LongLine",
+            FileFault::NotUtf8 => "NotUtf8",
+            FileFault::ManyCells => "ManyCells",
+            FileFault::UnknownRecord => "UnknownRecord",
+            FileFault::MissingCell(_) => "MissingCell",
+            FileFault::BadCell(_) => "BadCell",
+            FileFault::Uneven => "Uneven",
+            FileFault::NoHead => "NoHead",
+            FileFault::SecondHead => "SecondHead",
+            FileFault::LateSummary => "LateSummary",
+            FileFault::NoResource => "NoResource",
+            FileFault::LateWork => "LateWork",
+            FileFault::BlockNumber => "BlockNumber",
+            FileFault::NoUsage => "NoUsage",
+            FileFault::AfterFoot => "AfterFoot",
+            FileFault::NoFoot => "NoFoot",
+            FileFault::SummaryTwice => "SummaryTwice",
+            FileFault::ManySummaries => "ManySummaries",
+            FileFault::LongBlock => "LongBlock",
+            FileFault::FootLines => "FootLines",
+            FileFault::FootSummaries => "FootSummaries",
+            FileFault::FootBlocks => "FootBlocks",
+            FileFault::Read => "Read",
+            FileFault::Reads => "Reads",
+            FileFault::Memory => "Memory",
+        }
+    }
+
+    /// The column of a fault of a cell.
+    pub fn column(self) -> Option<Column>
+        ensures { result ≡ column_named self }
+    {
+        match self {
+            FileFault::MissingCell(column) | FileFault::BadCell(column) => Some(column),
+            _ => None,
+        }
+    }
 }
 
 /// How the bytes of a text end.

@@ -1,7 +1,7 @@
 //! Where the events of a file go.
 ghost use Rattle.std.specs.Prelude.{◌≡◌, List, [], ◌∷◌, ◌++◌, OnOk, IfErr};
 ghost use Rattle.dsr_file.specs.Placed.{Placed};
-ghost use Rattle.dsr_file.specs.Orderly.{IsOrderly};
+ghost use Rattle.dsr_file.specs.Runs.{IsSomeRun};
 
 use crate::event::Event;
 
@@ -15,9 +15,9 @@ pub trait Sink {
 
     ghost name: { Self → Self.Name };
 
-    /// Adds the event to the list, or hands it back and changes nothing.
+    /// Adds the event to the list, or hands it back and changes nothing. The list with the event is a run of some text.
     fn put(&mut self, event: Event) -> Result<(), Event>
-        requires { IsOrderly (list self.old ++ event ∷ []) }
+        requires { IsSomeRun (list self.old ++ event ∷ []) }
         ensures added { OnOk result (list self.new ≡ list self.old ++ event ∷ []) }
         ensures refused { IfErr result (λ back. (back ≡ event) × (list self.new ≡ list self.old)) }
         ensures name { name self.new ≡ name self.old };

@@ -1,5 +1,65 @@
 //! Where the bytes of a file come from.
+ghost use Rattle.std.specs.Prelude.{◌≡◌, ◌<◌, true, false, length, MatchResult};
+ghost use Rattle.std.specs.Io.{ReadsAtMost};
+ghost use Rattle.std.specs.Io.KnownBytes.{ReadConsumes};
+ghost use Rattle.dsr_file.specs.Sources.{Told};
+
+use std::io::Read;
 
 /// A read or a write failed.
 #[derive(Clone, Copy, PartialEq, Eq)]
 pub struct Failed;
+
+/// A source of bytes, which tells whether a read has failed.
+pub trait Source {
+    /// The bytes that it has left, where they are known, and whether a read has failed.
+    ghost told: { Self → Told };
+
+    /// Reads bytes into the front of the piece: how many. 0 is the end.
+    fn read(&mut self, piece: &mut [u8]) -> Result<usize, Failed>
+        requires { 0 < length piece.old }
+        ensures bound { ReadsAtMost result piece.new }
+        ensures bytes { ReadConsumes (told self.old).remaining (told self.new).remaining result piece.new }
+        ensures failed { MatchResult result (λ _. (told self.new).failed ≡ (told self.old).failed) (λ _. (told self.new).failed ≡ true) };
+
+    /// Whether a read has failed.
+    fn failed(&self) -> bool
+        ensures { result ≡ (told self.now).failed };
+}
+
+/// The source of a reader's bytes.
+#[derive(Drop)]
+pub struct FromRead<R> {
+    reader: R,
+    failed: bool,
+}
+
+impl<R: Read> FromRead<R> {
+    /// A source that has not failed.
+    pub fn new(reader: R) -> FromRead<R>
+        ensures { ⟦<FromRead<R> as Source>⟧.told result ≡ record { remaining = R.remaining reader; failed = false } }
+    {
+        FromRead {
+            reader,
+            failed: false,
+        }
+    }
+}
+
+impl<R: Read> Source for FromRead<R> {
+    ghost told = { λ s. record { remaining = R.remaining s.reader; failed = s.failed } };
+
+    fn read(&mut self, piece: &mut [u8]) -> Result<usize, Failed> {
+        match self.reader.read(piece) {
+            Ok(n) => Ok(n),
+            Err(_) => {
+                self.failed = true;
+                Err(Failed)
+            }
+        }
+    }
+
+    fn failed(&self) -> bool {
+        self.failed
+    }
+}

@@ -1,7 +1,4 @@
-use Rattle.std.proofs.Common.{◌≡◌, ◌+◌, ◌∙◌, ap, sym, Option, None, Some}
-use Rattle.std.specs.Prelude.{option_and_then}
-use Rattle.dsr_file.specs.Counting.{foot_in, block_count}
-use Rattle.dsr_file.specs.Grammars.{kept_count_fault}
+use Rattle.std.proofs.Common.{◌+◌, ◌∙◌, ap}
 use Rattle.dsr_file.proofs.AddLemmas.{Adds, added_good, added_faulty}
 use Rattle.dsr_file.proofs.grammar.Grammar.add.Goals as goal
 

@@ -1,4 +1,4 @@
-use Rattle.dsr_file.proofs.StandLemmas.{more_stands, at_kept, at_here, long_stands}
+use Rattle.dsr_file.proofs.StandLemmas.{at_kept, at_here, long_stands}
 use Rattle.dsr_file.proofs.reader.FileReader.cut.Goals as goal
 
 pub returns-in-Kept-clause-stands : goal.returns-in-Kept-clause-stands

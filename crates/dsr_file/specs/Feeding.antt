@@ -1,0 +1,39 @@
+-- What a reader and a sink hold while a source is read.
+use Rattle.std.specs.Prelude.{◌≡◌, ℕ, ◌*◌, ◌≤◌, ◌⊎◌, false, List, ◌++◌, length, take, None}
+use Rattle.std.specs.Io.KnownBytes.{Consumes}
+use Rattle.dsr_records.specs.Records.{LayoutTable}
+use Rattle.dsr_file.specs.declared.reader.FileReader.{FileReader}
+use Rattle.dsr_file.specs.Placed.{Placed}
+use Rattle.dsr_file.specs.Orderly.{has_ended}
+use Rattle.dsr_file.specs.Texts.{so_far}
+use Rattle.dsr_file.specs.Runs.{BeginsEvents, HasEvents}
+use Rattle.dsr_file.specs.Sources.{Told}
+use Rattle.dsr_file.specs.Standing.{Stands, IsDone}
+
+-- the reader stands for some bytes and these events
+abbrev pub IsKnown : FileReader → List Placed → Type 0
+IsKnown r es = (layout : LayoutTable) × (bytes : List ℕ) × Stands layout r bytes es
+
+-- a piece was used, up to Ended
+pub record Fed (layout : LayoutTable) (r : FileReader) (bytes piece : List ℕ) (es : List Placed) : Type 0 where
+  pub used : ℕ
+  pub bound : used ≤ length piece
+  pub whole : (used ≡ length piece) ⊎ IsDone r
+  pub stands : Stands layout r (bytes ++ take used piece) es
+  pub all : HasEvents layout (bytes ++ take used piece) None es
+
+-- the events are the first of those of the bytes and some of the piece
+pub record FedSome (layout : LayoutTable) (bytes piece : List ℕ) (es : List Placed) : Type 0 where
+  pub used : ℕ
+  pub bound : used ≤ length piece
+  pub begins : BeginsEvents layout (bytes ++ take used piece) None es
+
+-- after so many reads, each of which gave 1 to 4,096 bytes, no fault stands in what was given
+pub record Reads (layout : LayoutTable) (before after : Told) (reads : ℕ) (r : FileReader) (es : List Placed) : Type 0 where
+  pub given : List ℕ
+  pub consumed : Consumes before.remaining after.remaining given
+  pub few : reads ≤ length given
+  pub most : length given ≤ 4096 * reads
+  pub stands : Stands layout r given es
+  pub going : has_ended (so_far layout given) ≡ false
+  pub kept : after.failed ≡ before.failed

@@ -1,0 +1,77 @@
+//! A list of events.
+ghost use Rattle.std.specs.Prelude.{◌≡◌, ◌++◌, ◌∷◌, [], length, slice_get, MatchResult};
+ghost use Rattle.std.specs.Option.{option_map, option_to_list};
+
+use crate::event::Event;
+use crate::sink::Sink;
+use std::alloc::Global;
+use std::collections::VecDeque;
+use std::marker::Model;
+
+/// Events, which contracts see as their list.
+#[derive(Drop)]
+pub struct EventList {
+    events: VecDeque<Event>,
+}
+
+impl Model for EventList {
+    ghost use Rattle.std.specs.Prelude.{List};
+    ghost use Rattle.dsr_file.specs.Placed.{Placed};
+
+    ghost Value = { List Placed };
+
+    ghost view = { λ l. l.events.items };
+}
+
+impl EventList {
+    /// The empty list.
+    pub fn new(alloc: Global) -> EventList
+        ensures { result ≡ [] }
+    {
+        EventList {
+            events: VecDeque::new(alloc),
+        }
+    }
+
+    /// Appends an event, or hands it back where memory is refused.
+    pub fn push(&mut self, event: Event) -> Result<(), Event>
+        ensures { MatchResult result (λ _. self.new ≡ self.old ++ event ∷ []) (λ back. (back ≡ event) × (self.new ≡ self.old)) }
+    {
+        self.events
+            .push_back(event)
+            .map_err(|refused| refused.value)
+    }
+
+    /// How many events there are.
+    pub fn len(&self) -> usize
+        ensures { result ≡ length self.now }
+    {
+        self.events.len()
+    }
+
+    /// The event at place `i`, from 0.
+    pub fn get(&self, i: usize) -> Option<&Event>
+        ensures { option_map (λ e. e.now) result ≡ slice_get self.now i }
+    {
+        self.events.get(i)
+    }
+
+    /// Takes the front event.
+    pub fn next(&mut self) -> Option<Event>
+        ensures { self.old ≡ option_to_list result ++ self.new }
+    {
+        self.events.pop_front()
+    }
+}
+
+impl Sink for EventList {
+    type Name = ();
+
+    ghost list = { λ l. l };
+
+    ghost name = { λ _. tt };
+
+    fn put(&mut self, event: Event) -> Result<(), Event> {
+        self.push(event)
+    }
+}

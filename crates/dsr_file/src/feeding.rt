@@ -1,0 +1,53 @@
+//! Bytes into a reader, and its events into a sink.
+ghost use Rattle.std.specs.Prelude.{◌≡◌, ◌++◌, ◌∷◌, [], ◌+◌, ◌≤◌, ◌^◌, length, List, ℕ, Some, None, OnOk, IfOk, IfErr};
+ghost use Rattle.dsr_records.specs.Records.{LayoutTable};
+ghost use Rattle.dsr_file.specs.Runs.{BeginsEvents, HasEvents, EndsWith};
+ghost use Rattle.dsr_file.specs.Standing.{Stands, bytes_used, ending_told};
+ghost use Rattle.dsr_file.specs.Feeding.{IsKnown, Fed, FedSome};
+
+use crate::event::Event;
+use crate::fault::{Ending, Outcome};
+use crate::reader::FileReader;
+use crate::sink::Sink;
+
+/// Gives a piece to a reader, and its events to a sink.
+pub(crate) fn feed<S: Sink>(file: &mut FileReader, piece: &[u8], sink: &mut S) -> Result<(), Event>
+    requires open { ending_told file.old ≡ None }
+    requires room { bytes_used file.old + length piece.now ≤ 2 ^ 36 }
+    requires known { IsKnown file.old (S.list sink.old) }
+    ensures open { ending_told file.new ≡ None }
+    ensures used { OnOk result (bytes_used file.new ≤ bytes_used file.old + length piece.now) }
+    ensures name { S.name sink.new ≡ S.name sink.old }
+    ensures fed { OnOk result ((layout : LayoutTable) (b : List ℕ) → Stands layout file.old b (S.list sink.old) → Fed layout file.new b piece.now (S.list sink.new)) }
+    ensures refused { IfErr result (λ e. (layout : LayoutTable) (b : List ℕ) → Stands layout file.old b (S.list sink.old) → FedSome layout b piece.now (S.list sink.new ++ e ∷ [])) }
+{
+    let mut used = 0;
+    loop {
+        let (more, event) = file.take(&piece[used..]);
+        used += more;
+        match event {
+            Some(event) => sink.put(event)?,
+            None => return Ok(()),
+        }
+    }
+}
+
+/// Ends a reader's text, and gives the rest of its events to a sink.
+pub(crate) fn finish_all<S: Sink>(
+    file: &mut FileReader,
+    ending: Ending,
+    sink: &mut S,
+) -> Result<Outcome, Event>
+    requires open { ending_told file.old ≡ None }
+    requires known { IsKnown file.old (S.list sink.old) }
+    ensures name { S.name sink.new ≡ S.name sink.old }
+    ensures all { IfOk result (λ o. (layout : LayoutTable) (b : List ℕ) → Stands layout file.old b (S.list sink.old) → HasEvents layout b (Some ending) (S.list sink.new) × EndsWith (S.list sink.new) o) }
+    ensures refused { IfErr result (λ e. (layout : LayoutTable) (b : List ℕ) → Stands layout file.old b (S.list sink.old) → BeginsEvents layout b (Some ending) (S.list sink.new ++ e ∷ [])) }
+{
+    loop {
+        match file.finish(ending) {
+            Some(event) => sink.put(event)?,
+            None => return Ok(file.outcome()),
+        }
+    }
+}

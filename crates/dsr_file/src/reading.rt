@@ -1,0 +1,86 @@
+//! The reading of a file from a source to its end.
+ghost use Rattle.std.specs.Prelude.{◌≡◌, ◌++◌, ◌∷◌, [], ◌<◌, ◌≤◌, ◌^◌, false, length, IfOk, OnOk, IfErr};
+ghost use Rattle.dsr_records.specs.Records.{LayoutTable};
+ghost use Rattle.dsr_file.specs.Runs.{EndsWith};
+ghost use Rattle.dsr_file.specs.Sources.{IsRead, IsRefused};
+ghost use Rattle.dsr_file.specs.Refusals.{IsRefusal};
+ghost use Rattle.dsr_file.specs.Standing.{Stands, bytes_used, ending_told};
+
+use crate::event::Event;
+use crate::fault::{Ending, Outcome};
+use crate::feeding::{feed, finish_all};
+use crate::reader::FileReader;
+use crate::sink::Sink;
+use crate::source::Source;
+use dsr_records::Layout;
+use std::alloc::Global;
+
+/// The bytes that are asked for at once.
+const PIECE: usize = 4096;
+
+/// Why a file was not read to its end.
+#[derive(Drop)]
+pub enum ReadFileError {
+    /// There is no memory for a reader. Nothing was read or put.
+    Memory,
+    /// The sink refused this event. It holds those before it.
+    Refused(Event),
+}
+
+/// Reads a file by a layout and puts its events into an empty sink. The answer is the outcome that was put last.
+/// It makes `max_reads` reads at most, each of 4,096 bytes at most, and none after the file has ended.
+pub fn read_file<R: Source, S: Sink>(
+    alloc: Global,
+    layout: &Layout,
+    reader: &mut R,
+    sink: &mut S,
+    max_reads: u32,
+) -> Result<Outcome, ReadFileError>
+    requires some_reads { 0 < max_reads }
+    requires few_reads { max_reads ≤ 2 ^ 24 }
+    requires unfailed { (R.told reader.old).failed ≡ false }
+    requires empty { S.list sink.old ≡ [] }
+    ensures name { S.name sink.new ≡ S.name sink.old }
+    ensures outcome { IfOk result (λ outcome. EndsWith (S.list sink.new) outcome) }
+    ensures read { OnOk result (IsRead layout.now max_reads (R.told reader.old) (R.told reader.new) (S.list sink.new)) }
+    ensures refused { IfErr result (IsRefusal layout.now (R.told reader.old) (R.told reader.new) (S.list sink.new)) }
+{
+    let Ok(mut file) = FileReader::new(alloc, layout) else {
+        return Err(ReadFileError::Memory);
+    };
+    match read_all(&mut file, reader, sink, max_reads) {
+        Ok(outcome) => Ok(outcome),
+        Err(event) => Err(ReadFileError::Refused(event)),
+    }
+}
+
+/// Reads up to the end, a failure, the first fault or the limit of reads.
+fn read_all<R: Source, S: Sink>(
+    file: &mut FileReader,
+    reader: &mut R,
+    sink: &mut S,
+    max_reads: u32,
+) -> Result<Outcome, Event>
+    requires reads { max_reads ≤ 2 ^ 24 }
+    requires unfailed { (R.told reader.old).failed ≡ false }
+    requires open { ending_told file.old ≡ None }
+    requires new { bytes_used file.old ≡ 0 }
+    requires empty { S.list sink.old ≡ [] }
+    requires known { (layout : LayoutTable) × Stands layout file.old [] (S.list sink.old) }
+    ensures name { S.name sink.new ≡ S.name sink.old }
+    ensures read { IfOk result (λ outcome. (layout : LayoutTable) → Stands layout file.old [] (S.list sink.old) → EndsWith (S.list sink.new) outcome × IsRead layout max_reads (R.told reader.old) (R.told reader.new) (S.list sink.new)) }
+    ensures refused { IfErr result (λ e. (layout : LayoutTable) → Stands layout file.old [] (S.list sink.old) → IsRefused layout (R.told reader.old) (R.told reader.new) (S.list sink.new ++ e ∷ [])) }
+{
+    let mut piece = [0u8; PIECE];
+    for _ in 0..max_reads {
+        match reader.read(&mut piece) {
+            Err(_) => return finish_all(file, Ending::Read, sink),
+            Ok(0) => return finish_all(file, Ending::Whole, sink),
+            Ok(n) => feed(file, &piece[..n], sink)?,
+        }
+        if file.done() {
+            return Ok(file.outcome());
+        }
+    }
+    finish_all(file, Ending::Reads, sink)
+}

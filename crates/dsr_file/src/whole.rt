@@ -1,0 +1,77 @@
+//! All events of a text.
+ghost use Rattle.std.specs.Prelude.{◌≡◌, ◌++◌, ◌+◌, ◌≤◌, ◌^◌, length, List, ℕ, Some, None, IfOk};
+ghost use Rattle.dsr_records.specs.Records.{LayoutTable};
+ghost use Rattle.dsr_file.specs.Texts.{text_events};
+ghost use Rattle.dsr_file.specs.Runs.{HasEvents, EndsWith, is_memory, by_memory};
+ghost use Rattle.dsr_file.specs.Standing.{Stands, bytes_used, ending_told};
+ghost use Rattle.dsr_file.specs.Feeding.{IsKnown};
+
+use crate::event::Event;
+use crate::event_list::EventList;
+use crate::fault::{Ending, FileFault, Outcome};
+use crate::feeding::{feed, finish_all};
+use crate::reader::FileReader;
+use crate::sink::Sink;
+use dsr_cells::NoMemory;
+use dsr_records::Layout;
+use std::alloc::Global;
+
+/// All events of the text with these bytes and this ending.
+pub fn whole_events(
+    alloc: Global,
+    layout: &Layout,
+    bytes: &[u8],
+    ending: Ending,
+) -> Result<EventList, NoMemory>
+    requires { length bytes.now ≤ 2 ^ 36 }
+    ensures { IfOk result (λ events. events ≡ text_events layout.now bytes.now ending) }
+{
+    let mut file = FileReader::new(alloc, layout)?;
+    let mut events = EventList::new(alloc);
+    match give_all(&mut file, bytes, ending, &mut events) {
+        Ok(outcome) => if ends_for_memory(outcome) {
+            Err(NoMemory)
+        } else {
+            Ok(events)
+        },
+        Err(_) => Err(NoMemory),
+    }
+}
+
+/// Gives a reader the rest of a text, and a sink the events.
+fn give_all<S: Sink>(
+    file: &mut FileReader,
+    bytes: &[u8],
+    ending: Ending,
+    sink: &mut S,
+) -> Result<Outcome, Event>
+    requires open { ending_told file.old ≡ None }
+    requires room { bytes_used file.old + length bytes.now ≤ 2 ^ 36 }
+    requires known { IsKnown file.old (S.list sink.old) }
+    ensures { IfOk result (λ o. (layout : LayoutTable) (b : List ℕ) → Stands layout file.old b (S.list sink.old) → HasEvents layout (b ++ bytes.now) (Some ending) (S.list sink.new) × EndsWith (S.list sink.new) o) }
+{
+    feed(file, bytes, sink)?;
+    if file.done() {
+        return Ok(file.outcome());
+    }
+    finish_all(file, ending, sink)
+}
+
+/// Whether a file ends for want of memory.
+fn ends_for_memory(outcome: Outcome) -> bool
+    ensures { result ≡ by_memory outcome }
+{
+    match outcome {
+        Outcome::Whole => false,
+        Outcome::Fault { line: _, fault } => is_memory(fault),
+    }
+}
+
+fn is_memory(fault: FileFault) -> bool
+    ensures { result ≡ is_memory fault }
+{
+    match fault {
+        FileFault::Memory => true,
+        _ => false,
+    }
+}
