@@ -4,6 +4,7 @@ ghost use Rattle.std.specs.Io.KnownBytes.{Appends};
 ghost use Rattle.dsr.specs.Faults.{status_number, fault_line, line_of, closed_line, failed_line};
 
 use dsr_intake::{IntakeError, RunError, Status};
+use dsr_records::LayoutFault;
 use std::io::Write;
 
 /// The exit status of a run.
@@ -62,4 +63,20 @@ fn write_failed<W: Write>(written: u64, out: &mut W) -> bool
     ensures { result ≡ true → Appends (W.contents out.old) (W.contents out.new) (failed_line written) }
 {
     writeln!(out, "dsr: write failed after {written} bytes").is_ok()
+}
+
+/// The name of a layout's fault.
+pub fn layout_fault_name(fault: LayoutFault) -> &'static str {
+    match fault {
+        LayoutFault::Large => "Large",
+        LayoutFault::LongLine => "LongLine",
+        LayoutFault::NotUtf8 => "NotUtf8",
+        LayoutFault::UnknownRole => "UnknownRole",
+        LayoutFault::BadType => "BadType",
+        LayoutFault::RoleTwice => "RoleTwice",
+        LayoutFault::TypeTwice => "TypeTwice",
+        LayoutFault::BadPosition => "BadPosition",
+        LayoutFault::ManySkips => "ManySkips",
+        LayoutFault::MissingRole => "MissingRole",
+    }
 }

@@ -4,8 +4,16 @@
 mod arguments;
 mod command;
 mod faults;
+mod inputs;
 mod layout_file;
+mod program;
 
-fn main(rt: HostRuntime) {
-    let _ = rt;
+use std::process::ExitCode;
+
+fn main(rt: HostRuntime) -> ExitCode {
+    let mut fault = rt.stderr();
+    ExitCode::from(program::serve(&rt, rt.stdout(), &mut fault))
 }
+
+#[cfg(test)]
+mod tests;

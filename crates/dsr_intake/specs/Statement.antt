@@ -5,8 +5,8 @@ use Rattle.std.specs.List.{flat_map}
 use Rattle.dsr_cells.specs.Days.{day_number}
 use Rattle.dsr_cells.specs.Written.{written, written_day}
 use Rattle.dsr_records.specs.Tables.{column_name}
-use Rattle.dsr_file.specs.declared.fault.FileFault.{FileFault}
-use Rattle.dsr_file.specs.declared.fault.FileFault.TheVariants.{MissingCell, BadCell}
+use Rattle.dsr_records.specs.declared.kinds.Column.{Column}
+use Rattle.dsr_file.specs.Names.{name_of, column_named}
 use Rattle.dsr_file.specs.declared.fault.Outcome.{Outcome}
 use Rattle.dsr_file.specs.declared.fault.Outcome.TheVariants.{Whole, Fault}
 use Rattle.dsr_ledger.specs.declared.report.ReportKey.{ReportKey}
@@ -16,7 +16,7 @@ use Rattle.dsr_ledger.specs.declared.report.PartyLine.{PartyLine}
 use Rattle.dsr_ledger.specs.declared.report.LedgerLine.{LedgerLine}
 use Rattle.dsr_ledger.specs.declared.report.Reject.{Reject}
 use Rattle.dsr_ledger.specs.declared.report.Report.{Report}
-use Rattle.dsr_intake.specs.Names.{standing_name, reason_name, fault_name}
+use Rattle.dsr_intake.specs.Names.{standing_name, reason_name}
 
 -- each cell after a tab
 abbrev pub tabbed : List (List ℕ) → List ℕ
@@ -47,14 +47,14 @@ unfoldable pub number_cell : Option ℕ → List ℕ
 number_cell None = codes "-"
 number_cell (Some number) = decimal number
 
-abbrev pub column_cells : FileFault → List (List ℕ)
-column_cells (MissingCell column) = column_name column ∷ []
-column_cells (BadCell column) = column_name column ∷ []
-column_cells _ = []
+-- the column, where a fault names one
+abbrev pub column_cells : Option Column → List (List ℕ)
+column_cells None = []
+column_cells (Some column) = column_name column ∷ []
 
 unfoldable pub outcome_cells : Outcome → List (List ℕ)
 outcome_cells Whole = codes "Whole" ∷ []
-outcome_cells (Fault line fault) = codes "Fault" ∷ decimal line ∷ fault_name fault ∷ column_cells fault
+outcome_cells (Fault line fault) = codes "Fault" ∷ decimal line ∷ name_of fault ∷ column_cells (column_named fault)
 
 unfoldable pub file_line : ℕ → FileLine → List ℕ
 file_line place f = line (codes "FILE")

@@ -4,11 +4,12 @@ ghost use Rattle.std.specs.Fmt.{signed_decimal};
 ghost use Rattle.std.specs.List.{flat_map};
 ghost use Rattle.dsr_intake.specs.Statement.{tabbed, head_line, report_line, number_cell, outcome_cells, column_cells, key_cells, file_line, missing_line, difference_line, ledger_lines, sums_line, party_line, unclaimed_line, reject_line};
 
-use crate::names::{fault_name, reason_name, standing_name};
+use crate::names::{reason_name, standing_name};
 use crate::put::{put_amount, put_day, put_end, put_number, put_signed, put_text};
 use dsr_cells::NoMemory;
-use dsr_file::{FileFault, Outcome};
+use dsr_file::Outcome;
 use dsr_ledger::{Difference, FileLine, LedgerLine, PartyLine, Reject, ReportKey};
+use dsr_records::Column;
 
 /// Puts the first line.
 pub(crate) fn put_head(out: &mut Vec<u8>, key: &Option<ReportKey>) -> Result<(), NoMemory>
@@ -70,20 +71,19 @@ fn put_outcome(out: &mut Vec<u8>, outcome: Outcome) -> Result<(), NoMemory>
         Outcome::Fault { line, fault } => {
             put_text(out, b"Fault")?;
             put_number(out, line)?;
-            put_text(out, fault_name(fault).as_bytes())?;
-            put_column(out, fault)
+            put_text(out, fault.name().as_bytes())?;
+            put_column(out, fault.column())
         }
     }
 }
 
-/// Puts the column that a fault names, if it does.
-fn put_column(out: &mut Vec<u8>, fault: FileFault) -> Result<(), NoMemory>
-    ensures { OnOk result (out.new.items ≡ out.old.items ++ tabbed (column_cells fault)) }
+/// Puts the column, where a fault names one.
+fn put_column(out: &mut Vec<u8>, column: Option<Column>) -> Result<(), NoMemory>
+    ensures { OnOk result (out.new.items ≡ out.old.items ++ tabbed (column_cells column)) }
 {
-    match fault {
-        FileFault::MissingCell(column) => put_text(out, column.name().as_bytes()),
-        FileFault::BadCell(column) => put_text(out, column.name().as_bytes()),
-        _ => Ok(()),
+    match column {
+        Some(column) => put_text(out, column.name().as_bytes()),
+        None => Ok(()),
     }
 }
 

@@ -1,8 +1,7 @@
-//! The names that a statement prints.
+//! The names of standings and reasons, as a statement prints them.
 ghost use Rattle.std.specs.Prelude.{◌≡◌};
-ghost use Rattle.dsr_intake.specs.Names.{standing_name, reason_name, fault_name};
+ghost use Rattle.dsr_intake.specs.Names.{standing_name, reason_name};
 
-use dsr_file::FileFault;
 use dsr_ledger::{Reason, Standing};
 
 /// The name of a standing.
@@ -31,39 +30,5 @@ pub(crate) fn reason_name(reason: Reason) -> &'static str
         Reason::BadIsrc => "BadIsrc",
         Reason::UnknownSummary => "UnknownSummary",
         Reason::ShareOver => "ShareOver",
-    }
-}
-
-/// The name of a fault.
-#[tactic(auto, unfolding(crate::specs::Names::fault_name))]
-pub(crate) fn fault_name(fault: FileFault) -> &'static str
-    ensures { result.now ≡ fault_name fault }
-{
-    match fault {
-        FileFault::LongLine => "LongLine",
-        FileFault::NotUtf8 => "NotUtf8",
-        FileFault::ManyCells => "ManyCells",
-        FileFault::UnknownRecord => "UnknownRecord",
-        FileFault::MissingCell(_) => "MissingCell",
-        FileFault::BadCell(_) => "BadCell",
-        FileFault::Uneven => "Uneven",
-        FileFault::NoHead => "NoHead",
-        FileFault::SecondHead => "SecondHead",
-        FileFault::LateSummary => "LateSummary",
-        FileFault::NoResource => "NoResource",
-        FileFault::LateWork => "LateWork",
-        FileFault::BlockNumber => "BlockNumber",
-        FileFault::NoUsage => "NoUsage",
-        FileFault::AfterFoot => "AfterFoot",
-        FileFault::NoFoot => "NoFoot",
-        FileFault::SummaryTwice => "SummaryTwice",
-        FileFault::ManySummaries => "ManySummaries",
-        FileFault::LongBlock => "LongBlock",
-        FileFault::FootLines => "FootLines",
-        FileFault::FootSummaries => "FootSummaries",
-        FileFault::FootBlocks => "FootBlocks",
-        FileFault::Read => "Read",
-        FileFault::Reads => "Reads",
-        FileFault::Memory => "Memory",
     }
 }
