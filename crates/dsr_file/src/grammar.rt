@@ -118,7 +118,7 @@ impl Grammar {
     }
 
     /// Tests a record, and takes it where it has no early fault.
-    fn record(&mut self, alloc: Global, line: &CheckedLine<'_, '_>) -> Step
+    fn record(&mut self, alloc: Global, line: &CheckedLine<'_>) -> Step
         requires lines { self.old.lines < 2 ^ 40 - 1 }
         ensures steps { (ls : List Reading) → Keeps self.old ls → IsRecord line.now → LineSteps ls (Holds line.now) result self.new }
         ensures counts { self.new.lines ≤ self.old.lines + 1 }
@@ -167,7 +167,7 @@ impl Grammar {
     }
 
     /// Takes a line without a fault of its own.
-    fn checked(&mut self, alloc: Global, line: &CheckedLine<'_, '_>) -> Step
+    fn checked(&mut self, alloc: Global, line: &CheckedLine<'_>) -> Step
         requires { self.old.lines < 2 ^ 40 - 1 }
         ensures steps { (ls : List Reading) → Keeps self.old ls → LineSteps ls (Holds line.now) result self.new }
         ensures counts { self.new.lines ≤ self.old.lines + 1 }

@@ -1,0 +1,59 @@
+//! Measures the reader alone: it reads a report file on standard input, drops its events and prints how many there were.
+#![tactic(auto)]
+
+ghost use Rattle.std.specs.Prelude.{◌≡◌, ◌+◌, ◌≤◌, ◌^◌, None, length};
+ghost use Rattle.dsr_file.specs.Standing.{bytes_used, ending_told};
+
+use dsr_file::{Ending, FileReader};
+use dsr_records::Layout;
+use std::io::{self, Read};
+
+/// The most bytes that one reader takes.
+const MOST: u64 = 1 << 36;
+
+/// Gives a piece to the reader and drops what comes of it: how many events there were.
+fn feed(file: &mut FileReader, piece: &[u8]) -> u64
+    requires open { ending_told file.old ≡ None }
+    requires room { bytes_used file.old + length piece.now ≤ 2 ^ 36 }
+    ensures open { ending_told file.new ≡ None }
+{
+    let mut used = 0;
+    let mut events = 0u64;
+    for _ in 0..u64::MAX {
+        let (more, event) = file.take(&piece[used..]);
+        used += more;
+        if event.is_none() {
+            break;
+        }
+        events = events.wrapping_add(1);
+    }
+    events
+}
+
+/// Reads to the end, a failure or the first fault: how many events there were.
+fn drain<R: Read>(file: &mut FileReader, reader: &mut R) -> u64
+    requires open { ending_told file.old ≡ None }
+    ensures open { ending_told file.new ≡ None }
+{
+    let mut piece = [0u8; 4096];
+    let mut events = 0u64;
+    for _ in 0..u64::MAX {
+        let n = reader.read(&mut piece).unwrap_or(0);
+        if n == 0 || file.done() || file.given() + 4096 > MOST {
+            break;
+        }
+        events = events.wrapping_add(feed(file, &piece[..n]));
+    }
+    events
+}
+
+fn main(rt: HostRuntime) -> io::Result<()> {
+    let Ok(mut file) = FileReader::new(rt.alloc(), &Layout::standard()) else {
+        return println!(rt; "out of memory");
+    };
+    let mut events = drain(&mut file, &mut rt.stdin());
+    while file.finish(Ending::Whole).is_some() {
+        events = events.wrapping_add(1);
+    }
+    println!(rt; "{events} events of {} bytes", file.given())
+}

@@ -1,0 +1,20 @@
+use Rattle.std.proofs.Common.{None, Some, lit<, ap, ◌∙◌, rules, ◌++◌}
+use Rattle.std.specs.String.{string_bytes}
+use Rattle.std.proofs.lemmas.Str.Pattern.{split_parts}
+use Rattle.dsr_cells.proofs.Escapes.{unescape_step, unescape_end}
+use Rattle.dsr_cells.proofs.escape.without_escapes.Goals as goal
+
+pub loop-front-preserved : goal.loop-front-preserved
+loop-front-preserved c =
+    let cut = split_parts 92 c.loop-front.rest.now (Some (c.in-Some.front, c.in-Some.after)) c.in-Some.ensures.cases (lit< tt) in
+    record {
+      text = search rules;
+      value = unescape_step (string_bytes c.loop-front.value) c.in-Some.front.now c.in-Some.after.now c.after_backslash-character.result.1.now c.loop-front.rest.now _
+          (string_bytes c.push_str.new.self) _ _ cut.0 cut.1 c.after_backslash-character.ensures.value c.in_ok-push_str.ensures.bytes
+          (c.in_ok-push.ensures.bytes ∙ ap (λ t. string_bytes c.push_str.new.self ++ t) (c.in_ok-push.ensures.ascii c.after_backslash-character.ensures.ascii)) c.loop-front.invariant.value;
+    }
+
+pub returns : goal.returns
+returns c =
+    let none = split_parts 92 c.loop-front.rest.now None c.in_default.ensures.cases (lit< tt) in
+    c.of_string.ensures ∙ unescape_end (string_bytes c.loop-front.value) c.loop-front.rest.now _ _ none c.in_ok-push_str-2.ensures.bytes c.loop-front.invariant.value

@@ -1,0 +1,224 @@
+//! Worked examples of each call: the values are those of the format's description.
+
+use crate::{
+    Amount, Day, Isrc, Items, Share, Shares, Text, Texts, cell, count_cells, is_currency,
+    is_identifier, is_territory, is_use_type, read_number, read_usages, unescape, values,
+    write_amount, write_day,
+};
+use std::cmp::Ordering;
+use std::test::Fail;
+
+#[test]
+fn cells_of_a_line(rt: HostRuntime) {
+    let line = "SU01\t1\t\t10\t";
+    assert_eq!(rt; count_cells(line), 5);
+    assert_eq!(rt; count_cells(""), 1);
+    assert_eq!(rt; cell(line, 0), Some("SU01"));
+    assert_eq!(rt; cell(line, 2), Some(""));
+    assert_eq!(rt; cell(line, 3), Some("10"));
+    assert_eq!(rt; cell(line, 4), Some(""));
+    assert_eq!(rt; cell(line, 5), None);
+}
+
+#[test]
+fn values_of_a_cell(rt: HostRuntime) -> Result<(), Fail> {
+    for (text, want) in [
+        ("", ""),
+        ("A\\|B|C\\\\", "<A|B><C\\>"),
+        ("\\\\|x", "<\\><x>"),
+        ("\\\\\\|", "<\\|>"),
+        ("\\\\\\", "<\\\\>"),
+        ("\\a", "<\\a>"),
+        ("|", "<><>"),
+        ("Song", "<Song>"),
+        ("\u{e9}|\\\u{e9}", "<\u{e9}><\\\u{e9}>"),
+    ] {
+        let mut shown = String::new(rt.alloc());
+        for part in values(text) {
+            let value = unescape(rt.alloc(), part)?;
+            shown.push('<')?;
+            shown.push_str(value.as_str())?;
+            shown.push('>')?;
+        }
+        assert_eq!(rt; shown.as_str(), want, "at {text}");
+    }
+    Ok(())
+}
+
+#[test]
+fn amounts_read_and_written(rt: HostRuntime) -> Result<(), Fail> {
+    for (text, units, written) in [
+        (
+            "999999999999.9999999999",
+            9_999_999_999_999_999_999_999,
+            "999999999999.9999999999",
+        ),
+        (
+            "-999999999999.9999999999",
+            -9_999_999_999_999_999_999_999,
+            "-999999999999.9999999999",
+        ),
+        ("-0", 0, "0.0000000000"),
+        ("0.0000000001", 1, "0.0000000001"),
+        ("-0.5", -5_000_000_000, "-0.5000000000"),
+        ("007", 70_000_000_000, "7.0000000000"),
+    ] {
+        let read = Amount::read(text).map(|amount| amount.units());
+        assert_eq!(rt; read, Some(units), "at {text}");
+        let mut out = Vec::new(rt.alloc());
+        write_amount(units, &mut out)?;
+        assert_eq!(rt; out.as_slice(), written.as_bytes(), "at {text}");
+    }
+    Ok(())
+}
+
+#[test]
+fn no_amounts(rt: HostRuntime) {
+    for text in [
+        "",
+        "-",
+        ".5",
+        "5.",
+        "+1",
+        "1,5",
+        "1e3",
+        " 1",
+        "1000000000000",
+        "1.00000000001",
+        "1999999999999.9999999998",
+        "--1",
+        "1.2.3",
+    ] {
+        assert!(rt; Amount::read(text).is_none(), "at {text}");
+    }
+}
+
+#[test]
+fn a_sum_beyond_the_amounts(rt: HostRuntime) -> Result<(), Fail> {
+    let mut out = Vec::from_slice(rt.alloc(), b"x")?;
+    write_amount(2 * 9_999_999_999_999_999_999_999, &mut out)?;
+    assert!(rt; out.as_slice() == b"x1999999999999.9999999998".as_slice());
+    Ok(())
+}
+
+#[test]
+fn shares_and_counts(rt: HostRuntime) {
+    for (text, parts) in [
+        ("100.0000", Some(1_000_000)),
+        ("0.5", Some(5_000)),
+        ("007", Some(70_000)),
+        ("100.0001", None),
+        ("101", None),
+        ("1000", None),
+        (".5", None),
+        ("5.", None),
+        ("", None),
+        ("0.12345", None),
+    ] {
+        let read = Share::read(text).map(|share| share.parts());
+        assert_eq!(rt; read, parts, "at {text}");
+    }
+    for (text, usages) in [
+        ("-0", Some(0)),
+        ("-999999999999", Some(-999_999_999_999)),
+        ("10", Some(10)),
+        ("1000000000000", None),
+        ("-", None),
+        ("+1", None),
+    ] {
+        assert_eq!(rt; read_usages(text), usages, "at {text}");
+    }
+    assert_eq!(rt; read_number("0042"), Some(42));
+    assert_eq!(rt; read_number("-1"), None);
+}
+
+#[test]
+fn days_read_and_written(rt: HostRuntime) -> Result<(), Fail> {
+    for (text, number) in [
+        ("1970-01-01", Some(0)),
+        ("2024-01-01", Some(19_723)),
+        ("9999-12-31", Some(2_932_896)),
+        ("2023-02-29", None),
+        ("2024-1-01", None),
+        ("2024-01-01 ", None),
+    ] {
+        let read = Day::read(text).map(|day| day.number());
+        assert_eq!(rt; read, number, "at {text}");
+        if let Some(day) = Day::read(text) {
+            let mut out = Vec::new(rt.alloc());
+            write_day(day, &mut out)?;
+            assert_eq!(rt; out.as_slice(), text.as_bytes(), "at {text}");
+        }
+    }
+    Ok(())
+}
+
+#[test]
+fn isrcs(rt: HostRuntime) {
+    for text in [
+        "G1ABC2400001",
+        "GBABC240000",
+        "gbabc2400001",
+        "GB-ABC-24-00001",
+    ] {
+        assert!(rt; Isrc::read(text).is_none(), "at {text}");
+    }
+    let Some(isrc) = Isrc::read("GB1BC2400001") else {
+        assert!(rt; false);
+        return;
+    };
+    assert!(rt; isrc.as_bytes() == b"GB1BC2400001".as_slice());
+}
+
+#[test]
+fn texts_of_cells(rt: HostRuntime) {
+    assert!(rt; is_identifier("a b", 32));
+    assert!(rt; !is_identifier("abcdefghijklmnopqrstuvwxyzabcdefg", 32));
+    assert!(rt; !is_identifier("", 32));
+    assert!(rt; !is_identifier("\u{e9}", 32));
+    assert!(rt; is_territory("ES-CT"));
+    assert!(rt; !is_territory("E S"));
+    assert!(rt; is_use_type("OnDemandStream"));
+    assert!(rt; !is_use_type("On-Demand"));
+    assert!(rt; is_currency("GBP"));
+    assert!(rt; !is_currency("GBPX"));
+}
+
+#[test]
+fn texts_are_kept_and_ordered(rt: HostRuntime) -> Result<(), Fail> {
+    let long = "a title of more than thirty bytes";
+    let kept = Text::copy_of(rt.alloc(), long)?;
+    assert_eq!(rt; kept.as_str(), long);
+    let copy = kept.copy(rt.alloc())?;
+    assert!(rt; copy == kept);
+    let short = Text::copy_of(rt.alloc(), "a title")?;
+    assert_eq!(rt; short.as_str(), "a title");
+    assert!(rt; short.cmp(&kept) == Ordering::Less);
+    assert!(rt; short != kept);
+    Ok(())
+}
+
+#[test]
+fn lists_of_texts_and_shares(rt: HostRuntime) -> Result<(), Fail> {
+    let mut texts: Texts = Items::new(rt.alloc());
+    for part in values("P1|P2|P3") {
+        let text = unescape(rt.alloc(), part)?;
+        assert!(rt; texts.push(text).is_ok());
+    }
+    assert_eq!(rt; texts.len(), 3);
+    assert!(rt; texts.get(1).is_some_and(|text| text.as_str() == "P2"));
+    assert!(rt; texts.get(3).is_none());
+    let mut shares: Shares = Items::new(rt.alloc());
+    for part in values("50|25") {
+        if let Some(share) = Share::read(part) {
+            assert!(rt; shares.push(share).is_ok());
+        }
+    }
+    assert_eq!(rt; shares.len(), 2);
+    let mut parts = 0;
+    for share in shares.as_slice() {
+        parts ^= share.parts();
+    }
+    assert_eq!(rt; parts, 500_000 ^ 250_000);
+    Ok(())
+}
