@@ -5,10 +5,9 @@ use crate::command::Names;
 use dsr_cells::{NoMemory, Text};
 use dsr_file::FromRead;
 use std::alloc::Global;
-use std::fs;
 use std::fs::{File, Files};
-use std::io;
 use std::io::{Read, StdinLock};
+use std::{fs, io};
 
 /// A file, or standard input.
 #[derive(Drop)]

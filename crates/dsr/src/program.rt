@@ -7,14 +7,12 @@ use crate::layout_file::{LayoutReadError, read_layout};
 use dsr_cells::Text;
 use dsr_intake::{Options, ToWrite, run};
 use std::alloc::Global;
-use std::env;
 use std::env::Env;
-use std::fs;
 use std::fs::{File, Files};
-use std::io;
 use std::io::{ErrorKind, StdinLock, Write};
 use std::sync::Wait;
 use std::thread::Threads;
+use std::{env, fs, io};
 
 /// The status where the command line, a file or the layout is at fault.
 const REFUSED: u8 = 2;
@@ -24,14 +22,18 @@ const UNFINISHED: u8 = 3;
 
 /// Does what the program's arguments ask for, and answers the exit status. What goes wrong is told to `fault`.
 pub fn serve<
-    H: Env + AllocGlobal + Files<File = File> + io::Input<Reader = StdinLock<'static>> + Threads + Wait + Copy + Send + 'static,
+    H: Env
+        + AllocGlobal
+        + Files<File = File>
+        + io::Input<Reader = StdinLock<'static>>
+        + Threads
+        + Wait
+        + Copy
+        + Send
+        + 'static,
     W: Write + Drop,
     F: Write,
->(
-    rt: &H,
-    out: W,
-    fault: &mut F,
-) -> u8 {
+>(rt: &H, out: W, fault: &mut F) -> u8 {
     let alloc = rt.alloc();
     let words = match words(rt, alloc, fault) {
         Ok(words) => words,
@@ -78,16 +80,16 @@ fn print_help<W: Write + Drop>(text: &Text, out: W) -> u8 {
 
 /// Reads the files of the report and prints its statement.
 fn read_and_print<
-    H: Files<File = File> + io::Input<Reader = StdinLock<'static>> + Threads + Wait + Copy + Send + 'static,
+    H: Files<File = File>
+        + io::Input<Reader = StdinLock<'static>>
+        + Threads
+        + Wait
+        + Copy
+        + Send
+        + 'static,
     W: Write + Drop,
     F: Write,
->(
-    rt: &H,
-    alloc: Global,
-    asked: Asked,
-    out: W,
-    fault: &mut F,
-) -> u8 {
+>(rt: &H, alloc: Global, asked: Asked, out: W, fault: &mut F) -> u8 {
     let Asked {
         options,
         files,

@@ -4,8 +4,7 @@ use crate::faults::{exit_status, write_fault};
 use crate::inputs::{OpenError, open_inputs};
 use crate::layout_file::{LayoutReadError, read_layout};
 use dsr_cells::Text;
-use dsr_intake::{IntakeError, Options, RunError, Status, run};
-use dsr_intake::ToWrite;
+use dsr_intake::{IntakeError, Options, RunError, Status, ToWrite, run};
 use dsr_records::{LayoutError, LayoutFault};
 use std::alloc::{AllocError, Global};
 use std::fs;
@@ -38,7 +37,16 @@ fn no_words(rt: HostRuntime) -> Result<(), AllocError> {
 
 #[test]
 fn the_greatest_numbers_and_names(rt: HostRuntime) -> Result<(), AllocError> {
-    let words = ["--capacity", "1024", "--max-reads", "16777216", "--layout", "L", "A", "B"];
+    let words = [
+        "--capacity",
+        "1024",
+        "--max-reads",
+        "16777216",
+        "--layout",
+        "L",
+        "A",
+        "B",
+    ];
     let Ok(asked) = asked_by(rt.alloc(), &words)? else {
         assert!(rt; false);
         return Ok(());
@@ -67,7 +75,9 @@ fn refused_words(rt: HostRuntime) -> Result<(), AllocError> {
 #[test]
 fn help(rt: HostRuntime) -> Result<(), AllocError> {
     let answer = asked_by(rt.alloc(), &["--help"])?;
-    assert!(rt; matches!(answer, Err(CommandFault::Help(text)) if text.as_str().contains("--layout")));
+    assert!(rt;
+        matches!(answer, Err(CommandFault::Help(text)) if text.as_str().contains("--layout"))
+    );
     Ok(())
 }
 
@@ -80,15 +90,65 @@ fn tells(alloc: Global, error: RunError, line: &[u8]) -> bool {
 #[test]
 fn a_line_for_each_fault(rt: HostRuntime) {
     let alloc = rt.alloc();
-    assert!(rt; tells(alloc, RunError::Intake(IntakeError::NoFiles), b"dsr: no files\n"));
-    assert!(rt; tells(alloc, RunError::Intake(IntakeError::TooManyFiles), b"dsr: too many files\n"));
-    assert!(rt; tells(alloc, RunError::Intake(IntakeError::Capacity), b"dsr: capacity out of range\n"));
-    assert!(rt; tells(alloc, RunError::Intake(IntakeError::Reads), b"dsr: reads out of range\n"));
-    assert!(rt; tells(alloc, RunError::Intake(IntakeError::Memory), b"dsr: out of memory\n"));
-    assert!(rt; tells(alloc, RunError::Intake(IntakeError::Thread), b"dsr: cannot start a thread\n"));
-    assert!(rt; tells(alloc, RunError::Intake(IntakeError::Broken(64)), b"dsr: relay of file 64 closed early\n"));
+    assert!(rt;
+        tells(
+            alloc,
+            RunError::Intake(IntakeError::NoFiles),
+            b"dsr: no files\n"
+        )
+    );
+    assert!(rt;
+        tells(
+            alloc,
+            RunError::Intake(IntakeError::TooManyFiles),
+            b"dsr: too many files\n"
+        )
+    );
+    assert!(rt;
+        tells(
+            alloc,
+            RunError::Intake(IntakeError::Capacity),
+            b"dsr: capacity out of range\n"
+        )
+    );
+    assert!(rt;
+        tells(
+            alloc,
+            RunError::Intake(IntakeError::Reads),
+            b"dsr: reads out of range\n"
+        )
+    );
+    assert!(rt;
+        tells(
+            alloc,
+            RunError::Intake(IntakeError::Memory),
+            b"dsr: out of memory\n"
+        )
+    );
+    assert!(rt;
+        tells(
+            alloc,
+            RunError::Intake(IntakeError::Thread),
+            b"dsr: cannot start a thread\n"
+        )
+    );
+    assert!(rt;
+        tells(
+            alloc,
+            RunError::Intake(IntakeError::Broken(64)),
+            b"dsr: relay of file 64 closed early\n"
+        )
+    );
     assert!(rt; tells(alloc, RunError::Memory, b"dsr: out of memory\n"));
-    assert!(rt; tells(alloc, RunError::Write { written: 4_294_967_296 }, b"dsr: write failed after 4294967296 bytes\n"));
+    assert!(rt;
+        tells(
+            alloc,
+            RunError::Write {
+                written: 4_294_967_296
+            },
+            b"dsr: write failed after 4294967296 bytes\n"
+        )
+    );
 }
 
 #[test]
@@ -96,7 +156,10 @@ fn a_status_for_each_end(rt: HostRuntime) {
     assert_eq!(rt; exit_status(&Ok(Status::Clean)), 0);
     assert_eq!(rt; exit_status(&Ok(Status::Remarks)), 1);
     assert_eq!(rt; exit_status(&Err(RunError::Memory)), 3);
-    assert_eq!(rt; exit_status(&Err(RunError::Intake(IntakeError::NoFiles))), 3);
+    assert_eq!(rt;
+        exit_status(&Err(RunError::Intake(IntakeError::NoFiles))),
+        3
+    );
     assert_eq!(rt; exit_status(&Err(RunError::Write { written: 0 })), 3);
 }
 
@@ -113,7 +176,9 @@ fn a_file_that_is_not_there(rt: HostRuntime) -> Result<(), AllocError> {
     let alloc = rt.alloc();
     let names = name_list(alloc, "not_there.tsv")?;
     let answer = open_inputs(&rt, alloc, &names);
-    assert!(rt; matches!(answer, Err(OpenError::CannotOpen(name)) if name.as_str() == "not_there.tsv"));
+    assert!(rt;
+        matches!(answer, Err(OpenError::CannotOpen(name)) if name.as_str() == "not_there.tsv")
+    );
     Ok(())
 }
 

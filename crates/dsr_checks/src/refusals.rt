@@ -24,7 +24,13 @@ fn refuses<H: Threads + Wait + Copy + Send + 'static>(
         readers.push(Script::alone(alloc, CLEAN, Step::Full, After::End)?)?;
     }
     let mut page = Page::new(alloc);
-    let answer = run(rt, alloc, &mut readers, options(capacity, max_reads), &mut page);
+    let answer = run(
+        rt,
+        alloc,
+        &mut readers,
+        options(capacity, max_reads),
+        &mut page,
+    );
     Ok(answer == Err(RunError::Intake(error)) && page.bytes().is_empty() && readers.len() == count)
 }
 
@@ -58,7 +64,7 @@ fn a_writer_that_fails_after_five_bytes(rt: HostRuntime) -> Result<(), AllocErro
     let alloc = rt.alloc();
     let mut page = Page::narrow(alloc, 100, 5, true);
     assert!(rt; writes(&rt, alloc, &mut page)? == Err(RunError::Write { written: 5 }));
-    assert!(rt; page.bytes() == b"REPOR");
+    assert!(rt; page.bytes() == b"REPOR".as_slice());
     Ok(())
 }
 
@@ -120,13 +126,19 @@ UNCLAIMED\tGBABC2400001\tGB\tOnDemandStream\tGBP\t0.1250000000\n";
     let second = "LEDGER\tGBABC2400002\tGB\tOnDemandStream\tGBP\t20\t1.0000000000\n\
 UNCLAIMED\tGBABC2400002\tGB\tOnDemandStream\tGBP\t1.0000000000\n";
     if lines <= 2 {
-        return format!(in alloc; "NOREPORT\nFILE\t1\t-\tHeadless\t0\tFault\t{}\tRead\n", lines + 1);
+        return format!(in alloc;
+            "NOREPORT\nFILE\t1\t-\tHeadless\t0\tFault\t{}\tRead\n",
+            lines + 1
+        );
     }
     if lines <= 5 {
         return format!(in alloc; "{report}FILE\t1\t1\tOurs\t0\tFault\t{}\tRead\n", lines + 1);
     }
     if lines <= 7 {
-        return format!(in alloc; "{report}FILE\t1\t1\tOurs\t1\tFault\t{}\tRead\n{first}", lines + 1);
+        return format!(in alloc;
+            "{report}FILE\t1\t1\tOurs\t1\tFault\t{}\tRead\n{first}",
+            lines + 1
+        );
     }
     format!(in alloc; "{report}FILE\t1\t1\tOurs\t2\tFault\t9\tRead\n{first}{second}")
 }
@@ -139,7 +151,16 @@ fn a_read_that_fails_after_every_byte(rt: HostRuntime) -> Result<(), AllocError>
         let text = &CLEAN[..given];
         let expected = failed_statement(alloc, text)?;
         let readers = vec![in alloc; Script::alone(alloc, text, Step::Full, After::Failure)?]?;
-        assert!(rt; gives(&rt, alloc, readers, options(16, 100), Status::Remarks, expected.as_bytes()));
+        assert!(rt;
+            gives(
+                &rt,
+                alloc,
+                readers,
+                options(16, 100),
+                Status::Remarks,
+                expected.as_bytes()
+            )
+        );
     }
     Ok(())
 }
@@ -153,7 +174,16 @@ fn each_read_fails_in_turn(rt: HostRuntime) -> Result<(), AllocError> {
         let text = &CLEAN[..given];
         let expected = failed_statement(alloc, text)?;
         let readers = vec![in alloc; Script::alone(alloc, text, Step::Line, After::Failure)?]?;
-        assert!(rt; gives(&rt, alloc, readers, options(16, 100), Status::Remarks, expected.as_bytes()));
+        assert!(rt;
+            gives(
+                &rt,
+                alloc,
+                readers,
+                options(16, 100),
+                Status::Remarks,
+                expected.as_bytes()
+            )
+        );
         given += line.len() + 1;
     }
     Ok(())

@@ -13,7 +13,16 @@ fn a_clean_report_at_every_capacity(rt: HostRuntime) -> Result<(), AllocError> {
     let alloc = rt.alloc();
     for capacity in [1, 16, 1024] {
         let readers = vec![in alloc; Script::alone(alloc, CLEAN, Step::Full, After::End)?]?;
-        assert!(rt; gives(&rt, alloc, readers, options(capacity, 100), Status::Clean, CLEAN_STATEMENT));
+        assert!(rt;
+            gives(
+                &rt,
+                alloc,
+                readers,
+                options(capacity, 100),
+                Status::Clean,
+                CLEAN_STATEMENT
+            )
+        );
     }
     Ok(())
 }
@@ -23,7 +32,16 @@ fn a_clean_report_by_bytes_and_by_lines(rt: HostRuntime) -> Result<(), AllocErro
     let alloc = rt.alloc();
     for step in [Step::Byte, Step::Line] {
         let readers = vec![in alloc; Script::alone(alloc, CLEAN, step, After::End)?]?;
-        assert!(rt; gives(&rt, alloc, readers, options(1, 1000), Status::Clean, CLEAN_STATEMENT));
+        assert!(rt;
+            gives(
+                &rt,
+                alloc,
+                readers,
+                options(1, 1000),
+                Status::Clean,
+                CLEAN_STATEMENT
+            )
+        );
     }
     Ok(())
 }
@@ -32,7 +50,16 @@ fn a_clean_report_by_bytes_and_by_lines(rt: HostRuntime) -> Result<(), AllocErro
 fn every_block_for_another_reason(rt: HostRuntime) -> Result<(), AllocError> {
     let alloc = rt.alloc();
     let readers = vec![in alloc; Script::alone(alloc, EVERY_REJECT, Step::Line, After::End)?]?;
-    assert!(rt; gives(&rt, alloc, readers, options(1, 1000), Status::Remarks, EVERY_REJECT_STATEMENT));
+    assert!(rt;
+        gives(
+            &rt,
+            alloc,
+            readers,
+            options(1, 1000),
+            Status::Remarks,
+            EVERY_REJECT_STATEMENT
+        )
+    );
     Ok(())
 }
 
@@ -45,7 +72,16 @@ fn a_failed_read_in_the_second_of_three(rt: HostRuntime) -> Result<(), AllocErro
         let second = Script::alone(alloc, SECOND_CUT, Step::Line, After::Failure)?;
         let third = Script::alone(alloc, THIRD_OF_THREE, Step::Byte, After::End)?;
         let readers = vec![in alloc; first, second, third]?;
-        assert!(rt; gives(&rt, alloc, readers, options(capacity, 1000), Status::Remarks, THREE_STATEMENT));
+        assert!(rt;
+            gives(
+                &rt,
+                alloc,
+                readers,
+                options(capacity, 1000),
+                Status::Remarks,
+                THREE_STATEMENT
+            )
+        );
     }
     Ok(())
 }
@@ -54,7 +90,16 @@ fn a_failed_read_in_the_second_of_three(rt: HostRuntime) -> Result<(), AllocErro
 fn comments_for_ever(rt: HostRuntime) -> Result<(), AllocError> {
     let alloc = rt.alloc();
     let readers = vec![in alloc; Script::alone(alloc, b"#\n", Step::Full, After::Again)?]?;
-    assert!(rt; gives(&rt, alloc, readers, options(1, 5), Status::Remarks, NO_REPORT_READS));
+    assert!(rt;
+        gives(
+            &rt,
+            alloc,
+            readers,
+            options(1, 5),
+            Status::Remarks,
+            NO_REPORT_READS
+        )
+    );
     Ok(())
 }
 
@@ -63,8 +108,26 @@ fn comments_for_ever(rt: HostRuntime) -> Result<(), AllocError> {
 fn a_limit_at_the_last_byte(rt: HostRuntime) -> Result<(), AllocError> {
     let alloc = rt.alloc();
     let readers = vec![in alloc; Script::alone(alloc, CLEAN, Step::Byte, After::End)?]?;
-    assert!(rt; gives(&rt, alloc, readers, options(16, 206), Status::Remarks, ALL_READS));
+    assert!(rt;
+        gives(
+            &rt,
+            alloc,
+            readers,
+            options(16, 206),
+            Status::Remarks,
+            ALL_READS
+        )
+    );
     let readers = vec![in alloc; Script::alone(alloc, CLEAN, Step::Byte, After::End)?]?;
-    assert!(rt; gives(&rt, alloc, readers, options(16, 207), Status::Clean, CLEAN_STATEMENT));
+    assert!(rt;
+        gives(
+            &rt,
+            alloc,
+            readers,
+            options(16, 207),
+            Status::Clean,
+            CLEAN_STATEMENT
+        )
+    );
     Ok(())
 }

@@ -76,8 +76,12 @@ impl Script {
     }
 
     /// The reader of a text, which waits for nobody.
-    pub fn alone(alloc: Global, text: &[u8], step: Step, after: After) -> Result<Script, AllocError>
-    {
+    pub fn alone(
+        alloc: Global,
+        text: &[u8],
+        step: Step,
+        after: After,
+    ) -> Result<Script, AllocError> {
         let text = Vec::from_slice(alloc, text)?;
         let own = Arc::new(alloc, AtomicU64::new(0))?;
         let other = Arc::try_clone(&own)?;
@@ -89,7 +93,8 @@ impl Script {
         match self.wait {
             Wait::Never => true,
             Wait::First => own > 1 || reaches(&self.other, 1, 10_000_000),
-            Wait::Unless(reads) => self.at < self.text.len() || !reaches(&self.other, reads, 1_000_000),
+            Wait::Unless(reads) => self.at < self.text.len()
+                || !reaches(&self.other, reads, 1_000_000),
         }
     }
 }

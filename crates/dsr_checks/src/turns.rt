@@ -30,7 +30,16 @@ fn the_files_are_read_at_once(rt: HostRuntime) -> Result<(), AllocError> {
         a,
     );
     let readers = vec![in alloc; first, second]?;
-    assert!(rt; gives(&rt, alloc, readers, options(16, 100), Status::Clean, TWO_STATEMENT));
+    assert!(rt;
+        gives(
+            &rt,
+            alloc,
+            readers,
+            options(16, 100),
+            Status::Clean,
+            TWO_STATEMENT
+        )
+    );
     Ok(())
 }
 
@@ -41,7 +50,9 @@ fn hundred_blocks(alloc: Global) -> Result<Vec<u8>, AllocError> {
         b"HEAD\tR1\t2\t2\t2024-01-01\t2024-01-31\tS\tL\nSY01\tS1\tGB\tOnDemandStream\tGBP\t100\t1\n",
     )?;
     for i in 1..101u32 {
-        let lines = format!(in alloc; "AS01\t{i}\tGBABC2400001\tSong\tBand\nSU01\t{i}\tS1\t1\t0.01\n")?;
+        let lines = format!(in alloc;
+            "AS01\t{i}\tGBABC2400001\tSong\tBand\nSU01\t{i}\tS1\t1\t0.01\n"
+        )?;
         text.extend_from_slice(lines.as_bytes())?;
     }
     text.extend_from_slice(b"FOOT\t203\t1\t100\n")?;
@@ -64,8 +75,24 @@ fn a_full_relay_holds_its_reader_back(rt: HostRuntime) -> Result<(), AllocError>
         Arc::try_clone(&a)?,
         Arc::try_clone(&b)?,
     );
-    let second = Script::new(hundred_blocks(alloc)?, Step::Line, After::End, Wait::Never, b, a);
+    let second = Script::new(
+        hundred_blocks(alloc)?,
+        Step::Line,
+        After::End,
+        Wait::Never,
+        b,
+        a,
+    );
     let readers = vec![in alloc; first, second]?;
-    assert!(rt; gives(&rt, alloc, readers, options(1, 1000), Status::Clean, HUNDRED_AND_ONE_STATEMENT));
+    assert!(rt;
+        gives(
+            &rt,
+            alloc,
+            readers,
+            options(1, 1000),
+            Status::Clean,
+            HUNDRED_AND_ONE_STATEMENT
+        )
+    );
     Ok(())
 }
