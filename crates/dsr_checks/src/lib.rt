@@ -7,6 +7,8 @@
 #[cfg(test)]
 mod collecting;
 #[cfg(test)]
+mod memory;
+#[cfg(test)]
 mod page;
 #[cfg(test)]
 mod refusals;

@@ -44,7 +44,7 @@ fn the_files_are_read_at_once(rt: HostRuntime) -> Result<(), AllocError> {
 }
 
 /// A file of a hundred blocks, the second of two.
-fn hundred_blocks(alloc: Global) -> Result<Vec<u8>, AllocError> {
+pub fn hundred_blocks(alloc: Global) -> Result<Vec<u8>, AllocError> {
     let mut text = Vec::from_slice(
         alloc,
         b"HEAD\tR1\t2\t2\t2024-01-01\t2024-01-31\tS\tL\nSY01\tS1\tGB\tOnDemandStream\tGBP\t100\t1\n",

@@ -28,6 +28,14 @@ pub enum CollectError {
     Closed(u32),
 }
 
+/// The relay of file k, counted from 0, closed early.
+fn closed(k: u32) -> CollectError
+    requires { k < 64 }
+    ensures { result ≡ CollectError.Closed (k + 1) }
+{
+    CollectError::Closed(k + 1)
+}
+
 /// Whether want of memory ended the file.
 fn is_memory(outcome: &Outcome) -> bool
     ensures { result ≡ is_memory outcome.now }
@@ -75,7 +83,7 @@ fn take_one<H: Wait>(rt: &H, books: &mut Books, k: u32, tap: &mut Tap) -> Result
     ensures stopped { IfErr result (IsStoppedAt k tap.new) }
 {
     let Ok(event) = tap.take(rt) else {
-        return Err(CollectError::Closed(k + 1));
+        return Err(closed(k));
     };
     match book_part(books, k, event.part) {
         Ok(()) => Ok(()),
@@ -161,7 +169,7 @@ fn open_one<H: Wait>(rt: &H, books: &mut Books, k: u32, tap: &mut Tap) -> Result
     ensures stopped { IfErr result (IsStoppedAt k tap.new) }
 {
     let Ok(event) = tap.take(rt) else {
-        return Err(CollectError::Closed(k + 1));
+        return Err(closed(k));
     };
     match open_part(books, k, event.part) {
         Ok(()) => Ok(()),

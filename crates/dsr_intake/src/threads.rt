@@ -90,8 +90,10 @@ fn read_and_send<R: Source, H: Wait>(
     );
     let mut feed = sink.into_feed();
     let memory = wants_memory(&answer);
-    if let Err(ReadFileError::Memory) = answer {
-        send_memory(rt, &mut feed);
+    match answer {
+        Ok(_) => {}
+        Err(ReadFileError::Memory) => send_memory(rt, &mut feed),
+        Err(ReadFileError::Refused(_)) => {}
     }
     Finished {
         reader,
