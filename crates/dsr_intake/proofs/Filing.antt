@@ -11,7 +11,7 @@ use Rattle.dsr_file.specs.Orderly.{is_ended, has_ended, MayStandAt, IsOrderly}
 use Rattle.dsr_relay.specs.Views.{TapView}
 use Rattle.dsr_ledger.specs.declared.books.Books.{Books}
 use Rattle.dsr_ledger.specs.Files.{File}
-use Rattle.dsr_ledger.specs.Stub.{Stands}
+use Rattle.dsr_ledger.specs.BooksWords.{Stands}
 use Rattle.dsr_intake.specs.Ends.{ends_clean, is_clean_end}
 use Rattle.dsr_intake.specs.Texts.{opening_in, block_in, outcome_in, first, file_of}
 use Rattle.dsr_intake.specs.Collecting.{with_part, is_opening, IsGoing, Knows, Changes, IsTapped}

@@ -1,5 +1,5 @@
 -- What holds while the files are opened, and in a round.
-use Rattle.std.proofs.Common.{◌≡◌, ℕ, zero, suc, ◌+◌, ◌<◌, ◌≤◌, true, List, [], ◌∷◌, ◌++◌, map, take, set, length, get_or, All, Some, None, Result, Ok, Err, refl, sym, ap, subst, ◌∙◌, arith, length-take, add-one, ◌⊎◌, inl, inr, IsSome, slice_get}
+use Rattle.std.proofs.Common.{◌≡◌, ℕ, zero, suc, ◌+◌, ◌<◌, ◌≤◌, true, List, [], ◌∷◌, ◌++◌, map, take, set, length, get_or, All, Some, None, Result, Ok, Err, refl, sym, ap, subst, ◌∙◌, arith, length-take, add-one, ◌⊎◌, inl, inr, IsSome, is_some, slice_get}
 use Rattle.std.specs.List.{filter_map}
 use Rattle.std.specs.Prelude.{MatchResult, OnOk}
 use Rattle.dsr_cells.specs.declared.text.NoMemory.{NoMemory}
@@ -16,33 +16,35 @@ use Rattle.dsr_file.specs.Placed.{Placed}
 use Rattle.dsr_file.specs.Orderly.{MayStandAt, has_ended}
 use Rattle.dsr_relay.specs.Views.{TapView}
 use Rattle.dsr_ledger.specs.declared.books.Books.{Books}
-use Rattle.dsr_ledger.specs.Files.{File}
-use Rattle.dsr_ledger.specs.Stub.{Stands, AllEnded, with_block, with_outcome}
+use Rattle.dsr_ledger.specs.Files.{File, opened, add_block, end_with, with_block, with_outcome}
+use Rattle.dsr_ledger.specs.Books.{has_opening_in, ended_in, blocks_in}
+use Rattle.dsr_ledger.specs.BooksWords.{Stands, files_count, opened_count, CanBook, CanEnd, AllEnded}
+use Rattle.dsr_ledger.proofs.CallerLemmas.{opened_is, can_book, can_end, all_ended}
 use Rattle.dsr_intake.specs.Texts.{file_of, first, outcome_in}
 use Rattle.dsr_intake.specs.Stops.{IsStopped}
 use Rattle.dsr_intake.specs.declared.collector.CollectError.{CollectError}
 use Rattle.dsr_intake.specs.declared.collector.CollectError.TheVariants.{Memory, Closed}
-use Rattle.dsr_intake.specs.Collecting.{IsTapped, IsStoppedAt, IsFileAt, Changes, Opens, first_file, fresh_file, more_block, ended_file}
+use Rattle.dsr_intake.specs.Collecting.{IsTapped, IsStoppedAt, IsFileAt, Changes, Opens, first_file, IsGoing, Knows, IsNext}
 use Rattle.dsr_intake.proofs.Filing.{get_end, get_set_same}
 
 abbrev event : ℕ → EventPart → Placed
 event n p = record { place = n; part = p }
 
 -- the list with a file changed is the same by either word
-pub block_is_set : (files : List File) (k : ℕ) (f : File) (b : BlockParts) → IsFileAt files k f → with_block files k b ≡ set files k (more_block f b)
+pub block_is_set : (files : List File) (k : ℕ) (f : File) (b : BlockParts) → IsFileAt files k f → with_block files k b ≡ set files k (add_block b f)
 block_is_set [] k f b at = absurd (cc)
-block_is_set (g ∷ files) zero f b at = let e : g ≡ f = cc in ap (λ h. more_block h b ∷ files) e
+block_is_set (g ∷ files) zero f b at = let e : g ≡ f = cc in ap (λ h. add_block b h ∷ files) e
 block_is_set (g ∷ files) (suc k) f b at = ap (λ l. g ∷ l) (block_is_set files k f b at)
 
-pub outcome_is_set : (files : List File) (k : ℕ) (f : File) (o : Outcome) → IsFileAt files k f → with_outcome files k o ≡ set files k (ended_file f o)
+pub outcome_is_set : (files : List File) (k : ℕ) (f : File) (o : Outcome) → IsFileAt files k f → with_outcome files k o ≡ set files k (end_with o f)
 outcome_is_set [] k f o at = absurd (cc)
-outcome_is_set (g ∷ files) zero f o at = let e : g ≡ f = cc in ap (λ h. ended_file h o ∷ files) e
+outcome_is_set (g ∷ files) zero f o at = let e : g ≡ f = cc in ap (λ h. end_with o h ∷ files) e
 outcome_is_set (g ∷ files) (suc k) f o at = ap (λ l. g ∷ l) (outcome_is_set files k f o at)
 
 -- ending a file changes it
 pub outcome_changes : (a c : Books) (k : ℕ) (o : Outcome) (answer : Result Unit NoMemory)
     → ((files : List File) → Stands a files → MatchResult answer (λ _. Stands c (with_outcome files k o)) (λ _. Stands c files))
-    → OnOk answer ((f : File) → Changes a c k f (ended_file f o))
+    → OnOk answer ((f : File) → Changes a c k f (end_with o f))
 outcome_changes a c k o (Ok v) h = λ f files stands at. subst (Stands c) (outcome_is_set files k f o at) (h files stands)
 outcome_changes a c k o (Err e) h = tt
 
@@ -57,12 +59,12 @@ pub file_first : (e : Placed) → MayStandAt 0 e.part → file_of (e ∷ []) ≡
 file_first e h = first_at e.place e.part h
 
 -- a file that is opened and ended at once
-pub opens_ended : (a b c : Books) (k : ℕ) (o : Outcome) → Opens a b k (fresh_file None)
-    → ((files : List File) → Stands b files → Stands c (with_outcome files k o)) → Opens a c k (ended_file (fresh_file None) o)
+pub opens_ended : (a b c : Books) (k : ℕ) (o : Outcome) → Opens a b k (opened None)
+    → ((files : List File) → Stands b files → Stands c (with_outcome files k o)) → Opens a c k (end_with o (opened None))
 opens_ended a b c k o p q files stands len =
-    let f = fresh_file None in
+    let f = opened None in
     let at : slice_get (files ++ f ∷ []) k ≡ Some f = subst (λ i. slice_get (files ++ f ∷ []) i ≡ Some f) len (get_end files f) in
-    let same : set (files ++ f ∷ []) k (ended_file f o) ≡ files ++ ended_file f o ∷ [] = subst (λ i. set (files ++ f ∷ []) i (ended_file f o) ≡ files ++ ended_file f o ∷ []) len (set-append_seam files f [] (ended_file f o)) in
+    let same : set (files ++ f ∷ []) k (end_with o f) ≡ files ++ end_with o f ∷ [] = subst (λ i. set (files ++ f ∷ []) i (end_with o f) ≡ files ++ end_with o f ∷ []) len (set-append_seam files f [] (end_with o f)) in
     subst (Stands c) (outcome_is_set (files ++ f ∷ []) k f o at ∙ same) (q (files ++ f ∷ []) (p files stands len))
 
 pub get_set_other : {A : Type 0} (xs : List A) (k j : ℕ) (y : A) → (j ≡ k → ⊥) → slice_get (set xs k y) j ≡ slice_get xs j
@@ -149,10 +151,36 @@ ended_outcome : (es : List Placed) → has_ended es ≡ true → IsSome (first (
 ended_outcome [] h = cc
 ended_outcome (e ∷ es) h = outcome_at e.place e.part es h (ended_outcome es)
 
-pub all_ended : (ts : List TapView) → All (λ t. has_ended t.taken ≡ true) ts → AllEnded (map (λ t. file_of t.taken) ts)
-all_ended [] h k f at = cc
-all_ended (t ∷ ts) h zero f at = let e : file_of t.taken ≡ f = cc in subst (λ x. IsSome x.outcome) e (ended_outcome t.taken (h 0 t (omega arith)))
-all_ended (t ∷ ts) h (suc k) f at = all_ended ts (All-tail (λ x. has_ended x.taken ≡ true) t ts h) k f at
+ended_at : (ts : List TapView) (k : ℕ) → All (λ t. has_ended t.taken ≡ true) ts → k < length ts → ended_in (map (λ t. file_of t.taken) ts) k ≡ true
+ended_at [] k h below = absurd (omega arith)
+ended_at (t ∷ ts) zero h below = ended_outcome t.taken (h 0 t (omega arith))
+ended_at (t ∷ ts) (suc k) h below = ended_at ts k (All-tail (λ x. has_ended x.taken ≡ true) t ts h) (omega arith)
+
+-- all files have ended
+pub files_ended : (books : Books) (ts : List TapView) → Stands books (map (λ t. file_of t.taken) ts) → length ts ≡ files_count books → All (λ t. has_ended t.taken ≡ true) ts → AllEnded books
+files_ended books ts stands count h =
+    let len = length-map ts (λ t. file_of t.taken) in
+    all_ended books (map (λ t. file_of t.taken) ts) stands (len ∙ count) (λ k below. ended_at ts k h (omega (arith, len, below)))
+
+-- a file that goes on takes a block, and may end
+pub going_books : (books : Books) (k : ℕ) (f : File) → Knows books k f → IsGoing f → CanBook books k
+going_books books k f known going =
+    can_book books known.0 k known.1 (rw known.2 going.opened) (rw known.2 (ap is_some going.running)) (rw known.2 going.short)
+
+pub going_ends : (books : Books) (k : ℕ) (f : File) → Knows books k f → IsGoing f → CanEnd books k
+going_ends books k f known going =
+    can_end books known.0 k known.1 (slice_get_within known.0 k f known.2) (rw known.2 (ap is_some going.running))
+
+-- the next file can be opened
+pub next_opens : (books : Books) (k : ℕ) → IsNext books k → opened_count books < files_count books
+next_opens books k next = omega (arith, opened_is books next.0 next.1, next.2, next.3)
+
+-- a file that was opened without an opening may end at once
+pub opened_ends : (a b : Books) (k : ℕ) → IsNext a k → ((files : List File) → Stands a files → Stands b (files ++ opened None ∷ [])) → CanEnd b k
+opened_ends a b k next opens =
+    let f = opened None in
+    let at : slice_get (next.0 ++ f ∷ []) k ≡ Some f = subst (λ i. slice_get (next.0 ++ f ∷ []) i ≡ Some f) next.2 (get_end next.0 f) in
+    can_end b (next.0 ++ f ∷ []) k (opens next.0 next.1) (slice_get_within (next.0 ++ f ∷ []) k f at) (rw at refl)
 
 -- the tap that was lent stands at its place
 pub lent : (now : List TapView) (k : ℕ) (t : TapView) → k < length now → t ≡ get_or now k t → slice_get now k ≡ Some t

@@ -1,33 +1,21 @@
 -- What the collector keeps true of a tap and of the books.
 use Rattle.std.specs.Prelude.{◌≡◌, ℕ, ◌+◌, ◌<◌, ◌^◌, Bool, true, false, List, [], ◌∷◌, ◌++◌, length, Option, Some, None, IsSome, slice_get, slice_set}
-use Rattle.dsr_records.specs.Blocks.{BlockParts}
 use Rattle.dsr_file.specs.declared.event.EventPart.{EventPart}
 use Rattle.dsr_file.specs.declared.event.EventPart.TheVariants as part
-use Rattle.dsr_file.specs.declared.fault.Outcome.{Outcome}
-use Rattle.dsr_file.specs.Openings.{OpeningParts}
 use Rattle.dsr_file.specs.Orderly.{IsOrderly, has_ended}
 use Rattle.dsr_relay.specs.Views.{TapView}
 use Rattle.dsr_ledger.specs.declared.books.Books.{Books}
-use Rattle.dsr_ledger.specs.Files.{File}
-use Rattle.dsr_ledger.specs.Stub.{Stands}
+use Rattle.dsr_ledger.specs.Files.{File, opened, add_block, end_with}
+use Rattle.dsr_ledger.specs.BooksWords.{Stands, files_count}
 use Rattle.dsr_intake.specs.declared.collector.CollectError.{CollectError}
 use Rattle.dsr_intake.specs.declared.collector.CollectError.TheVariants.{Memory, Closed}
 use Rattle.dsr_intake.specs.Ends.{ends_clean}
 
-abbrev pub fresh_file : Option OpeningParts → File
-fresh_file o = record { opening = o; blocks = []; outcome = None }
-
-abbrev pub more_block : File → BlockParts → File
-more_block f b = record f { blocks = f.blocks ++ b ∷ [] }
-
-abbrev pub ended_file : File → Outcome → File
-ended_file f o = record f { outcome = Some o }
-
 -- a later part told of the file
 abbrev pub with_part : File → EventPart → File
 with_part f (part.Opened o) = f
-with_part f (part.Block b) = more_block f b
-with_part f (part.Ended o) = ended_file f o
+with_part f (part.Block b) = add_block b f
+with_part f (part.Ended o) = end_with o f
 
 abbrev pub is_opening : EventPart → Bool
 is_opening (part.Opened o) = true
@@ -36,9 +24,9 @@ is_opening (part.Ended o) = false
 
 -- the file that a first part tells of
 abbrev pub first_file : EventPart → File
-first_file (part.Opened o) = fresh_file (Some o)
-first_file (part.Block b) = fresh_file None
-first_file (part.Ended o) = ended_file (fresh_file None) o
+first_file (part.Opened o) = opened (Some o)
+first_file (part.Block b) = opened None
+first_file (part.Ended o) = end_with o (opened None)
 
 -- file k of the list is this file
 abbrev pub IsFileAt : List File → ℕ → File → Type 0
@@ -60,7 +48,7 @@ Changes old new k f g = (files : List File) → Stands old files → IsFileAt fi
 
 -- file k is the next to be opened
 abbrev pub IsNext : Books → ℕ → Type 0
-IsNext books k = (files : List File) × Stands books files × (length files ≡ k) × (k < books.files)
+IsNext books k = (files : List File) × Stands books files × (length files ≡ k) × (k < files_count books)
 
 -- the new books stand for the list followed by f, where the old ones stand for it and file k is next
 abbrev pub Opens : Books → Books → ℕ → File → Type 0

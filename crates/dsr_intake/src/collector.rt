@@ -1,7 +1,7 @@
 //! The collector: it takes the events of all files, books them, and reports.
 ghost use Rattle.std.specs.Prelude.{◌≡◌, ℕ, ◌+◌, ◌<◌, ◌≤◌, suc, true, false, [], map, All, OnOk, IfOk, IfErr, length, ◌⊎◌, vec_len};
 ghost use Rattle.dsr_file.specs.Orderly.{IsOrderly, is_ended, has_ended, MayStandAt};
-ghost use Rattle.dsr_ledger.specs.Stub.{Stands};
+ghost use Rattle.dsr_ledger.specs.BooksWords.{Stands, files_count};
 ghost use Rattle.dsr_ledger.specs.Reports.{report_of};
 ghost use Rattle.dsr_ledger.specs.Files.{File};
 ghost use Rattle.dsr_intake.specs.Ends.{ends_clean, is_clean_end, is_memory};
@@ -52,7 +52,7 @@ fn book_part(books: &mut Books, k: u32, part: EventPart) -> Result<(), NoMemory>
     requires file { (f : File) × Knows books.old k f × IsGoing f }
     ensures booked { OnOk result ((f : File) → Changes books.old books.new k f (with_part f part)) }
     ensures clean { OnOk result (is_ended part ≡ true → is_clean_end part ≡ true) }
-    ensures files { books.new.files ≡ books.old.files }
+    ensures files { files_count books.new ≡ files_count books.old }
 {
     match part {
         EventPart::Opened(_) => unreachable!(),
@@ -76,7 +76,7 @@ fn take_one<H: Wait>(rt: &H, books: &mut Books, k: u32, tap: &mut Tap) -> Result
     requires number { k < 64 }
     requires file { Knows books.old k (file_of tap.old.taken) }
     ensures name { tap.new.name ≡ tap.old.name }
-    ensures files { books.new.files ≡ books.old.files }
+    ensures files { files_count books.new ≡ files_count books.old }
     ensures tapped { OnOk result (IsTapped tap.new) }
     ensures booked { OnOk result (Changes books.old books.new k (file_of tap.old.taken) (file_of tap.new.taken)) }
     ensures held { OnOk result (0 < length tap.old.held → length tap.old.held ≡ suc (length tap.new.held)) }
@@ -103,7 +103,7 @@ fn take_message<H: Wait>(
     requires number { k < 64 }
     requires file { Knows books.old k (file_of tap.old.taken) }
     ensures name { tap.new.name ≡ tap.old.name }
-    ensures files { books.new.files ≡ books.old.files }
+    ensures files { files_count books.new ≡ files_count books.old }
     ensures tapped { OnOk result (IsTapped tap.new) }
     ensures booked { OnOk result (Changes books.old books.new k (file_of tap.old.taken) (file_of tap.new.taken)) }
     ensures stopped { IfErr result (IsStoppedAt k tap.new) }
@@ -121,7 +121,7 @@ fn go_on<H: Wait>(rt: &H, books: &mut Books, k: u32, tap: &mut Tap) -> Result<()
     requires number { k < 64 }
     requires file { Knows books.old k (file_of tap.old.taken) }
     ensures name { tap.new.name ≡ tap.old.name }
-    ensures files { books.new.files ≡ books.old.files }
+    ensures files { files_count books.new ≡ files_count books.old }
     ensures tapped { OnOk result (IsTapped tap.new) }
     ensures booked { OnOk result (Changes books.old books.new k (file_of tap.old.taken) (file_of tap.new.taken)) }
     ensures stopped { IfErr result (IsStoppedAt k tap.new) }
@@ -138,7 +138,7 @@ fn open_part(books: &mut Books, k: u32, part: EventPart) -> Result<(), NoMemory>
     requires next { IsNext books.old k }
     ensures opened { OnOk result (Opens books.old books.new k (first_file part)) }
     ensures clean { OnOk result (is_ended part ≡ true → is_clean_end part ≡ true) }
-    ensures files { books.new.files ≡ books.old.files }
+    ensures files { files_count books.new ≡ files_count books.old }
 {
     match part {
         EventPart::Opened(opening) => {
@@ -163,7 +163,7 @@ fn open_one<H: Wait>(rt: &H, books: &mut Books, k: u32, tap: &mut Tap) -> Result
     requires number { k < 64 }
     requires next { IsNext books.old k }
     ensures name { tap.new.name ≡ tap.old.name }
-    ensures files { books.new.files ≡ books.old.files }
+    ensures files { files_count books.new ≡ files_count books.old }
     ensures tapped { OnOk result (IsTapped tap.new) }
     ensures opened { OnOk result (Opens books.old books.new k (file_of tap.new.taken)) }
     ensures stopped { IfErr result (IsStoppedAt k tap.new) }
@@ -182,9 +182,9 @@ fn open_all<H: Wait>(rt: &H, books: &mut Books, taps: &mut Vec<Tap>) -> Result<(
     requires most { vec_len taps.old ≤ 64 }
     requires fresh { All (λ t. t.taken ≡ []) taps.old.items }
     requires empty { Stands books.old [] }
-    requires files { books.old.files ≡ vec_len taps.old }
+    requires files { files_count books.old ≡ vec_len taps.old }
     ensures names { map (λ t. t.name) taps.new.items ≡ map (λ t. t.name) taps.old.items }
-    ensures files { books.new.files ≡ books.old.files }
+    ensures files { files_count books.new ≡ files_count books.old }
     ensures tapped { OnOk result (All IsTapped taps.new.items) }
     ensures stands { OnOk result (Stands books.new (map (λ t. file_of t.taken) taps.new.items)) }
     ensures stopped { IfErr result (IsStopped taps.new.items) }
@@ -202,7 +202,7 @@ fn go_round<H: Wait>(rt: &H, books: &mut Books, taps: &mut Vec<Tap>) -> Result<(
     requires tapped { All IsTapped taps.old.items }
     requires stands { Stands books.old (map (λ t. file_of t.taken) taps.old.items) }
     ensures names { map (λ t. t.name) taps.new.items ≡ map (λ t. t.name) taps.old.items }
-    ensures files { books.new.files ≡ books.old.files }
+    ensures files { files_count books.new ≡ files_count books.old }
     ensures tapped { OnOk result (All IsTapped taps.new.items) }
     ensures stands { OnOk result (Stands books.new (map (λ t. file_of t.taken) taps.new.items)) }
     ensures stopped { IfErr result (IsStopped taps.new.items) }
@@ -232,7 +232,7 @@ fn take_all<H: Wait>(rt: &H, books: &mut Books, taps: &mut Vec<Tap>) -> Result<(
     requires tapped { All IsTapped taps.old.items }
     requires stands { Stands books.old (map (λ t. file_of t.taken) taps.old.items) }
     ensures names { map (λ t. t.name) taps.new.items ≡ map (λ t. t.name) taps.old.items }
-    ensures files { books.new.files ≡ books.old.files }
+    ensures files { files_count books.new ≡ files_count books.old }
     ensures tapped { OnOk result (All IsTapped taps.new.items) }
     ensures ended { OnOk result (All (λ t. has_ended t.taken ≡ true) taps.new.items) }
     ensures stands { OnOk result (Stands books.new (map (λ t. file_of t.taken) taps.new.items)) }

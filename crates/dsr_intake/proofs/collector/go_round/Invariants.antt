@@ -1,5 +1,5 @@
 use Rattle.std.proofs.Common.{◌≡◌, length, map, All}
-use Rattle.dsr_ledger.specs.Stub.{Stands}
+use Rattle.dsr_ledger.specs.BooksWords.{Stands, files_count}
 use Rattle.dsr_intake.specs.Texts.{file_of}
 use Rattle.dsr_intake.specs.Collecting.{IsTapped}
 use Rattle.dsr_intake.proofs.collector.go_round.Given as goal
@@ -7,7 +7,7 @@ use Rattle.dsr_intake.proofs.collector.go_round.Given as goal
 abbrev pub invariant-loop-k : goal.invariant-loop-k
 invariant-loop-k g l =
     record {
-      files : l.books.files ≡ l.fn.books.files;
+      files : files_count l.books ≡ files_count l.fn.books;
       len : length l.taps.items ≡ length l.fn.taps.items;
       names : map (λ t. t.name) l.taps.items ≡ map (λ t. t.name) l.fn.taps.items;
       tapped : All IsTapped l.taps.items;

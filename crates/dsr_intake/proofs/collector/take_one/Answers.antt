@@ -1,6 +1,6 @@
 use Rattle.std.proofs.Common.{◌≡◌, ◌<◌, ◌^◌, length, true, ap, sym, subst, ◌∙◌, arith, set}
 use Rattle.dsr_file.specs.Orderly.{is_ended, IsOrderly}
-use Rattle.dsr_ledger.specs.Stub.{Stands}
+use Rattle.dsr_ledger.specs.BooksWords.{Stands}
 use Rattle.dsr_intake.specs.Ends.{is_clean_end}
 use Rattle.dsr_intake.specs.Texts.{file_of}
 use Rattle.dsr_intake.specs.Collecting.{is_opening, with_part}
