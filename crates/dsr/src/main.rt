@@ -1,36 +1,19 @@
-//! The program: it reads a sales report on standard input and prints the first two lines of its statement.
+//! The program: it reads the files of a sales report and prints their statement.
 #![tactic(auto)]
 
-mod first_lines;
-mod outline;
-mod print;
-mod put;
+mod arguments;
+mod command;
+mod faults;
+mod inputs;
+mod layout_file;
+mod program;
 
-use dsr_file::FromRead;
-use print::{PrintError, print_first_lines};
-use std::io::Write;
 use std::process::ExitCode;
 
-/// The exit status where the lines were not printed.
-const FAILED: u8 = 3;
-
 fn main(rt: HostRuntime) -> ExitCode {
-    let mut reader = FromRead::new(rt.stdin());
-    let mut out = rt.stdout();
-    match print_first_lines(rt.alloc(), &mut reader, &mut out) {
-        Ok(true) => ExitCode::SUCCESS,
-        Ok(false) => ExitCode::FAILURE,
-        Err(error) => {
-            write_fault(&error, &mut rt.stderr());
-            ExitCode::from(FAILED)
-        }
-    }
+    let mut fault = rt.stderr();
+    ExitCode::from(program::serve(&rt, rt.stdout(), &mut fault))
 }
 
-/// Writes the line that tells why the lines were not printed. The exit status tells it too, so a failure is let go.
-fn write_fault<W: Write>(error: &PrintError, out: &mut W) {
-    let _ = match error {
-        PrintError::Memory => writeln!(out, "dsr: out of memory"),
-        PrintError::Write { written } => writeln!(out, "dsr: write failed after {written} bytes"),
-    };
-}
+#[cfg(test)]
+mod tests;

@@ -1,0 +1,4 @@
+use Rattle.dsr.proofs.faults.write_fault.Goals as goal
+
+pub returns-in-Write : goal.returns-in-Write
+returns-in-Write g c = rw c.in-Write.is c.write_failed.ensures

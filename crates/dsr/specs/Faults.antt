@@ -1,0 +1,38 @@
+-- The exit status of a run, and the line that tells its fault.
+use Rattle.std.specs.Prelude.{ℕ, List, [], ◌∷◌, ◌++◌, codes, decimal, Result, Ok, Err}
+use Rattle.dsr_intake.specs.declared.options.IntakeError.{IntakeError}
+use Rattle.dsr_intake.specs.declared.options.IntakeError.TheVariants as intake
+use Rattle.dsr_intake.specs.declared.run_error.RunError.{RunError}
+use Rattle.dsr_intake.specs.declared.run_error.RunError.TheVariants as run
+use Rattle.dsr_intake.specs.declared.status.Status.{Status}
+use Rattle.dsr_intake.specs.declared.status.Status.TheVariants.{Clean, Remarks}
+
+abbrev pub status_number : Result Status RunError → ℕ
+status_number (Ok Clean) = 0
+status_number (Ok Remarks) = 1
+status_number (Err error) = 3
+
+-- a line of the program's
+abbrev pub line_of : List ℕ → List ℕ
+line_of text = codes "dsr: " ++ text ++ 10 ∷ []
+
+abbrev pub closed_line : ℕ → List ℕ
+closed_line file = codes "dsr: relay of file " ++ (decimal file ++ (codes " closed early" ++ 10 ∷ []))
+
+abbrev pub failed_line : ℕ → List ℕ
+failed_line written = codes "dsr: write failed after " ++ (decimal written ++ (codes " bytes" ++ 10 ∷ []))
+
+abbrev pub intake_line : IntakeError → List ℕ
+intake_line intake.NoFiles = line_of (codes "no files")
+intake_line intake.TooManyFiles = line_of (codes "too many files")
+intake_line intake.Capacity = line_of (codes "capacity out of range")
+intake_line intake.Reads = line_of (codes "reads out of range")
+intake_line intake.Memory = line_of (codes "out of memory")
+intake_line intake.Thread = line_of (codes "cannot start a thread")
+intake_line (intake.Broken file) = closed_line file
+
+-- the line that tells the fault
+abbrev pub fault_line : RunError → List ℕ
+fault_line (run.Intake error) = intake_line error
+fault_line run.Memory = line_of (codes "out of memory")
+fault_line (run.Write written) = failed_line written

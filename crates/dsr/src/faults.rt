@@ -1,0 +1,82 @@
+//! What the program says of a run that failed, and its exit status.
+ghost use Rattle.std.specs.Prelude.{◌≡◌, true};
+ghost use Rattle.std.specs.Io.KnownBytes.{Appends};
+ghost use Rattle.dsr.specs.Faults.{status_number, fault_line, line_of, closed_line, failed_line};
+
+use dsr_intake::{IntakeError, RunError, Status};
+use dsr_records::LayoutFault;
+use std::io::Write;
+
+/// The exit status of a run.
+pub fn exit_status(outcome: &Result<Status, RunError>) -> u8
+    ensures { result ≡ status_number outcome.now }
+{
+    match outcome {
+        Ok(Status::Clean) => 0,
+        Ok(Status::Remarks) => 1,
+        Err(_) => 3,
+    }
+}
+
+/// Writes the line that tells the fault, and answers whether the writer took it.
+pub fn write_fault<W: Write>(error: &RunError, out: &mut W) -> bool
+    ensures { result ≡ true → Appends (W.contents out.old) (W.contents out.new) (fault_line error.now) }
+{
+    match error {
+        RunError::Intake(error) => write_intake_fault(error, out),
+        RunError::Memory => write_line("out of memory", out),
+        RunError::Write { written } => write_failed(*written, out),
+    }
+}
+
+/// Writes the line that tells why there is no report.
+fn write_intake_fault<W: Write>(error: &IntakeError, out: &mut W) -> bool
+    ensures { result ≡ true → Appends (W.contents out.old) (W.contents out.new) (fault_line (RunError.Intake error.now)) }
+{
+    match error {
+        IntakeError::NoFiles => write_line("no files", out),
+        IntakeError::TooManyFiles => write_line("too many files", out),
+        IntakeError::Capacity => write_line("capacity out of range", out),
+        IntakeError::Reads => write_line("reads out of range", out),
+        IntakeError::Memory => write_line("out of memory", out),
+        IntakeError::Thread => write_line("cannot start a thread", out),
+        IntakeError::Broken(file) => write_closed(*file, out),
+    }
+}
+
+/// Writes a line of the program's.
+pub fn write_line<W: Write>(text: &str, out: &mut W) -> bool
+    ensures { result ≡ true → Appends (W.contents out.old) (W.contents out.new) (line_of text.now) }
+{
+    writeln!(out, "dsr: {text}").is_ok()
+}
+
+/// Writes the line for a relay that closed early.
+fn write_closed<W: Write>(file: u32, out: &mut W) -> bool
+    ensures { result ≡ true → Appends (W.contents out.old) (W.contents out.new) (closed_line file) }
+{
+    writeln!(out, "dsr: relay of file {file} closed early").is_ok()
+}
+
+/// Writes the line for a write that failed.
+fn write_failed<W: Write>(written: u64, out: &mut W) -> bool
+    ensures { result ≡ true → Appends (W.contents out.old) (W.contents out.new) (failed_line written) }
+{
+    writeln!(out, "dsr: write failed after {written} bytes").is_ok()
+}
+
+/// The name of a layout's fault.
+pub fn layout_fault_name(fault: LayoutFault) -> &'static str {
+    match fault {
+        LayoutFault::Large => "Large",
+        LayoutFault::LongLine => "LongLine",
+        LayoutFault::NotUtf8 => "NotUtf8",
+        LayoutFault::UnknownRole => "UnknownRole",
+        LayoutFault::BadType => "BadType",
+        LayoutFault::RoleTwice => "RoleTwice",
+        LayoutFault::TypeTwice => "TypeTwice",
+        LayoutFault::BadPosition => "BadPosition",
+        LayoutFault::ManySkips => "ManySkips",
+        LayoutFault::MissingRole => "MissingRole",
+    }
+}

@@ -1,0 +1,173 @@
+//! The program's way from its arguments to its exit status.
+use crate::arguments::asked;
+use crate::command::{Asked, CommandFault};
+use crate::faults::{exit_status, layout_fault_name, write_fault, write_line};
+use crate::inputs::{OpenError, open_inputs};
+use crate::layout_file::{LayoutReadError, read_layout};
+use dsr_cells::Text;
+use dsr_intake::{Options, ToWrite, run};
+use std::alloc::Global;
+use std::env::Env;
+use std::fs::{File, Files};
+use std::io::{ErrorKind, StdinLock, Write};
+use std::sync::Wait;
+use std::thread::Threads;
+use std::{env, fs, io};
+
+/// The status where the command line, a file or the layout is at fault.
+const REFUSED: u8 = 2;
+
+/// The status where the work could not be done to its end.
+const UNFINISHED: u8 = 3;
+
+/// Does what the program's arguments ask for, and answers the exit status. What goes wrong is told to `fault`.
+pub fn serve<
+    H: Env
+        + AllocGlobal
+        + Files<File = File>
+        + io::Input<Reader = StdinLock<'static>>
+        + Threads
+        + Wait
+        + Copy
+        + Send
+        + 'static,
+    W: Write + Drop,
+    F: Write,
+>(rt: &H, out: W, fault: &mut F) -> u8 {
+    let alloc = rt.alloc();
+    let words = match words(rt, alloc, fault) {
+        Ok(words) => words,
+        Err(status) => return status,
+    };
+    match asked(alloc, &words) {
+        Ok(asked) => read_and_print(rt, alloc, asked, out, fault),
+        Err(CommandFault::Help(text)) => print_help(&text, out),
+        Err(CommandFault::Refused(text)) => {
+            let _ = fault.write_all(text.as_str().as_bytes());
+            REFUSED
+        }
+        Err(CommandFault::Memory) => no_memory(fault),
+    }
+}
+
+/// The words after the program's name.
+fn words<H: Env + AllocGlobal, F: Write>(
+    rt: &H,
+    alloc: Global,
+    fault: &mut F,
+) -> Result<Vec<String>, u8> {
+    match env::args(rt) {
+        Ok(mut words) => {
+            let _name = words.next();
+            match words.collect(alloc) {
+                Ok(words) => Ok(words),
+                Err(_) => Err(no_memory(fault)),
+            }
+        }
+        Err(error) => Err(match error.kind() {
+            ErrorKind::OutOfMemory => no_memory(fault),
+            _ => refuse("an argument is not UTF-8", fault),
+        }),
+    }
+}
+
+/// Prints the help. The status stands also where it could not be printed.
+fn print_help<W: Write + Drop>(text: &Text, out: W) -> u8 {
+    let mut out = out;
+    let _ = out.write_all(text.as_str().as_bytes());
+    0
+}
+
+/// Reads the files of the report and prints its statement.
+fn read_and_print<
+    H: Files<File = File>
+        + io::Input<Reader = StdinLock<'static>>
+        + Threads
+        + Wait
+        + Copy
+        + Send
+        + 'static,
+    W: Write + Drop,
+    F: Write,
+>(rt: &H, alloc: Global, asked: Asked, out: W, fault: &mut F) -> u8 {
+    let Asked {
+        options,
+        files,
+        layout,
+    } = asked;
+    let options = match with_layout(rt, alloc, options, layout, fault) {
+        Ok(options) => options,
+        Err(status) => return status,
+    };
+    let mut inputs = match open_inputs(rt, alloc, &files) {
+        Ok(inputs) => inputs,
+        Err(OpenError::CannotOpen(name)) => return cannot_open(&name, fault),
+        Err(OpenError::Memory) => return no_memory(fault),
+    };
+    let mut outlet = ToWrite::new(out);
+    let answer = run(rt, alloc, &mut inputs, options, &mut outlet);
+    if let Err(error) = &answer {
+        write_fault(error, fault);
+    }
+    exit_status(&answer)
+}
+
+/// The options, with the layout of the file that is named.
+fn with_layout<H: Files<File = File>, F: Write>(
+    rt: &H,
+    alloc: Global,
+    options: Options,
+    name: Option<Text>,
+    fault: &mut F,
+) -> Result<Options, u8> {
+    let Some(name) = name else {
+        return Ok(options);
+    };
+    let Ok(mut file) = fs::open(rt, name.as_str()) else {
+        return Err(cannot_open(&name, fault));
+    };
+    match read_layout(alloc, &mut file) {
+        Ok(layout) => Ok(Options {
+            capacity: options.capacity,
+            max_reads: options.max_reads,
+            layout,
+        }),
+        Err(error) => Err(layout_refused(&name, error, fault)),
+    }
+}
+
+/// Tells why there is no layout.
+fn layout_refused<F: Write>(name: &Text, error: LayoutReadError, fault: &mut F) -> u8 {
+    let name = name.as_str();
+    match error {
+        LayoutReadError::Read => {
+            let _ = writeln!(fault, "dsr: cannot read {name}");
+            REFUSED
+        }
+        LayoutReadError::Bad(error) => {
+            let (line, text) = (error.line, layout_fault_name(error.fault));
+            let _ = writeln!(fault, "dsr: bad layout at line {line}: {text}");
+            REFUSED
+        }
+        LayoutReadError::Memory => no_memory(fault),
+    }
+}
+
+/// Tells that a file cannot be opened.
+fn cannot_open<F: Write>(name: &Text, fault: &mut F) -> u8 {
+    let name = name.as_str();
+    let _ = writeln!(fault, "dsr: cannot open {name}");
+    REFUSED
+}
+
+/// Tells that the arguments are refused.
+fn refuse<F: Write>(text: &str, fault: &mut F) -> u8 {
+    write_line(text, fault);
+    REFUSED
+}
+
+/// Tells that memory was refused before the work began.
+fn no_memory<F: Write>(fault: &mut F) -> u8 {
+    write_line("out of memory", fault);
+    UNFINISHED
+}

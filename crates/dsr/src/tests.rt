@@ -1,0 +1,240 @@
+use crate::arguments::asked;
+use crate::command::{Asked, CommandFault, Names};
+use crate::faults::{exit_status, write_fault};
+use crate::inputs::{OpenError, open_inputs};
+use crate::layout_file::{LayoutReadError, read_layout};
+use dsr_cells::Text;
+use dsr_intake::{IntakeError, Options, RunError, Status, ToWrite, run};
+use dsr_records::{LayoutError, LayoutFault};
+use std::alloc::{AllocError, Global};
+use std::fs;
+
+/// What a command line of these words asks for.
+fn asked_by(alloc: Global, words: &[&str]) -> Result<Result<Asked, CommandFault>, AllocError> {
+    let mut strings = Vec::new(alloc);
+    for word in words {
+        strings.push(String::from_str(alloc, word)?)?;
+    }
+    Ok(asked(alloc, &strings))
+}
+
+fn is_refused(answer: &Result<Asked, CommandFault>) -> bool {
+    matches!(answer, Err(CommandFault::Refused(text)) if !text.as_str().is_empty())
+}
+
+#[test]
+fn no_words(rt: HostRuntime) -> Result<(), AllocError> {
+    let Ok(asked) = asked_by(rt.alloc(), &[])? else {
+        assert!(rt; false);
+        return Ok(());
+    };
+    assert_eq!(rt; asked.options.capacity, 16);
+    assert_eq!(rt; asked.options.max_reads, 4_194_304);
+    assert_eq!(rt; asked.files.len(), 0);
+    assert!(rt; asked.layout.is_none());
+    Ok(())
+}
+
+#[test]
+fn the_greatest_numbers_and_names(rt: HostRuntime) -> Result<(), AllocError> {
+    let words = [
+        "--capacity",
+        "1024",
+        "--max-reads",
+        "16777216",
+        "--layout",
+        "L",
+        "A",
+        "B",
+    ];
+    let Ok(asked) = asked_by(rt.alloc(), &words)? else {
+        assert!(rt; false);
+        return Ok(());
+    };
+    assert_eq!(rt; asked.options.capacity, 1024);
+    assert_eq!(rt; asked.options.max_reads, 16_777_216);
+    assert!(rt; matches!(&asked.layout, Some(name) if name.as_str() == "L"));
+    assert_eq!(rt; asked.files.len(), 2);
+    assert!(rt; matches!(asked.files.get(0), Some(name) if name.as_str() == "A"));
+    assert!(rt; matches!(asked.files.get(1), Some(name) if name.as_str() == "B"));
+    Ok(())
+}
+
+#[test]
+fn refused_words(rt: HostRuntime) -> Result<(), AllocError> {
+    let alloc = rt.alloc();
+    assert!(rt; is_refused(&asked_by(alloc, &["--capacity", "0"])?));
+    assert!(rt; is_refused(&asked_by(alloc, &["--capacity", "1025"])?));
+    assert!(rt; is_refused(&asked_by(alloc, &["--capacity", "x"])?));
+    assert!(rt; is_refused(&asked_by(alloc, &["--max-reads", "0"])?));
+    assert!(rt; is_refused(&asked_by(alloc, &["--max-reads", "16777217"])?));
+    assert!(rt; is_refused(&asked_by(alloc, &["--colour"])?));
+    Ok(())
+}
+
+#[test]
+fn help(rt: HostRuntime) -> Result<(), AllocError> {
+    let answer = asked_by(rt.alloc(), &["--help"])?;
+    assert!(rt;
+        matches!(answer, Err(CommandFault::Help(text)) if text.as_str().contains("--layout"))
+    );
+    Ok(())
+}
+
+/// Whether the line that tells a fault is this one.
+fn tells(alloc: Global, error: RunError, line: &[u8]) -> bool {
+    let mut out = Vec::new(alloc);
+    write_fault(&error, &mut out) && out.as_slice() == line
+}
+
+#[test]
+fn a_line_for_each_fault(rt: HostRuntime) {
+    let alloc = rt.alloc();
+    assert!(rt;
+        tells(
+            alloc,
+            RunError::Intake(IntakeError::NoFiles),
+            b"dsr: no files\n"
+        )
+    );
+    assert!(rt;
+        tells(
+            alloc,
+            RunError::Intake(IntakeError::TooManyFiles),
+            b"dsr: too many files\n"
+        )
+    );
+    assert!(rt;
+        tells(
+            alloc,
+            RunError::Intake(IntakeError::Capacity),
+            b"dsr: capacity out of range\n"
+        )
+    );
+    assert!(rt;
+        tells(
+            alloc,
+            RunError::Intake(IntakeError::Reads),
+            b"dsr: reads out of range\n"
+        )
+    );
+    assert!(rt;
+        tells(
+            alloc,
+            RunError::Intake(IntakeError::Memory),
+            b"dsr: out of memory\n"
+        )
+    );
+    assert!(rt;
+        tells(
+            alloc,
+            RunError::Intake(IntakeError::Thread),
+            b"dsr: cannot start a thread\n"
+        )
+    );
+    assert!(rt;
+        tells(
+            alloc,
+            RunError::Intake(IntakeError::Broken(64)),
+            b"dsr: relay of file 64 closed early\n"
+        )
+    );
+    assert!(rt; tells(alloc, RunError::Memory, b"dsr: out of memory\n"));
+    assert!(rt;
+        tells(
+            alloc,
+            RunError::Write {
+                written: 4_294_967_296
+            },
+            b"dsr: write failed after 4294967296 bytes\n"
+        )
+    );
+}
+
+#[test]
+fn a_status_for_each_end(rt: HostRuntime) {
+    assert_eq!(rt; exit_status(&Ok(Status::Clean)), 0);
+    assert_eq!(rt; exit_status(&Ok(Status::Remarks)), 1);
+    assert_eq!(rt; exit_status(&Err(RunError::Memory)), 3);
+    assert_eq!(rt;
+        exit_status(&Err(RunError::Intake(IntakeError::NoFiles))),
+        3
+    );
+    assert_eq!(rt; exit_status(&Err(RunError::Write { written: 0 })), 3);
+}
+
+/// The list of one name.
+fn name_list(alloc: Global, name: &str) -> Result<Names, AllocError> {
+    let mut names = Names::new(alloc);
+    let name = Text::copy_of(alloc, name).map_err(|_| AllocError)?;
+    names.push(name).map_err(|_| AllocError)?;
+    Ok(names)
+}
+
+#[test]
+fn a_file_that_is_not_there(rt: HostRuntime) -> Result<(), AllocError> {
+    let alloc = rt.alloc();
+    let names = name_list(alloc, "not_there.tsv")?;
+    let answer = open_inputs(&rt, alloc, &names);
+    assert!(rt;
+        matches!(answer, Err(OpenError::CannotOpen(name)) if name.as_str() == "not_there.tsv")
+    );
+    Ok(())
+}
+
+/// A report in one file, with two blocks.
+const CLEAN: &str = "\
+HEAD\tR1\t1\t1\t2024-01-01\t2024-01-31\tS\tL\n\
+SY01\tS1\tGB\tOnDemandStream\tGBP\t30\t1.5\n\
+AS01\t1\tGBABC2400001\tSong\tBand\n\
+MW01\t1\tW1\tSong\tP1|P2\t50|25\n\
+SU01\t1\tS1\t10\t0.5\n\
+AS01\t2\tGBABC2400002\tOther\tBand\n\
+SU01\t2\tS1\t20\t1\n\
+FOOT\t8\t1\t2\n";
+
+#[test]
+fn a_file_that_the_test_wrote(rt: HostRuntime) -> Result<(), AllocError> {
+    let alloc = rt.alloc();
+    assert!(rt; fs::write(&rt, "clean.tsv", CLEAN).is_ok());
+    let names = name_list(alloc, "clean.tsv")?;
+    let Ok(mut inputs) = open_inputs(&rt, alloc, &names) else {
+        assert!(rt; false);
+        return Ok(());
+    };
+    let mut out = ToWrite::new(Vec::new(alloc));
+    let answer = run(&rt, alloc, &mut inputs, Options::standard(), &mut out);
+    assert!(rt; answer == Ok(Status::Clean));
+    Ok(())
+}
+
+/// The fault of a layout's bytes.
+fn layout_fault(alloc: Global, bytes: &[u8]) -> Option<LayoutReadError> {
+    let mut reader = bytes;
+    read_layout(alloc, &mut reader).err()
+}
+
+#[test]
+fn layouts(rt: HostRuntime) -> Result<(), AllocError> {
+    let alloc = rt.alloc();
+    let standard = b"\
+HEAD\tHEAD\t1\t2\t3\t4\t5\t6\t7\n\
+SY\tSY01\t1\t2\t3\t4\t5\t6\n\
+AS\tAS01\t1\t2\t3\t4\n\
+MW\tMW01\t1\t2\t3\t4\t5\n\
+SU\tSU01\t1\t2\t3\t4\n\
+FOOT\tFOOT\t1\t2\t3\n";
+    assert!(rt; layout_fault(alloc, standard).is_none());
+    let missing = LayoutError {
+        line: 1,
+        fault: LayoutFault::MissingRole,
+    };
+    assert!(rt; layout_fault(alloc, b"") == Some(LayoutReadError::Bad(missing)));
+    let large = LayoutError {
+        line: 1,
+        fault: LayoutFault::Large,
+    };
+    let bytes = vec![in alloc; b'#'; 65_537]?;
+    assert!(rt; layout_fault(alloc, &bytes) == Some(LayoutReadError::Bad(large)));
+    Ok(())
+}

@@ -1,0 +1,102 @@
+//! Runs that also have to end well where a growth is refused: they pass with ample memory, and with each growth refused in turn.
+ghost use Rattle.std.specs.Prelude.{◌≡◌, None, false, All, IfOk};
+
+use crate::runs::options;
+use crate::script::{After, Script, Step};
+use crate::texts::{CLEAN, CLEAN_STATEMENT, HUNDRED_STATEMENT};
+use crate::turns::hundred_blocks;
+use dsr_file::Failed;
+use dsr_intake::{IntakeError, Outlet, RunError, Status, run};
+use std::alloc::{AllocError, Global};
+use std::sync::Wait;
+use std::thread::Threads;
+
+/// An outlet that takes no memory: it compares what is written with what is expected.
+#[derive(Drop)]
+struct Mirror {
+    expected: &'static [u8],
+    written: usize,
+    agrees: bool,
+    failed: bool,
+}
+
+impl Outlet for Mirror {
+    ghost told = { λ s. record { contents = None; failed = s.failed } };
+
+    fn write(&mut self, piece: &[u8]) -> Result<usize, Failed> {
+        for byte in piece {
+            if self.expected.get(self.written) != Some(byte) {
+                self.agrees = false;
+            }
+            self.written = self.written.wrapping_add(1);
+        }
+        Ok(piece.len())
+    }
+
+    fn flush(&mut self) -> Result<(), Failed> {
+        Ok(())
+    }
+
+    fn failed(&self) -> bool {
+        self.failed
+    }
+}
+
+/// Whether a run on these readers writes this statement, or wants memory or a thread and writes nothing.
+fn ends_well<H: Threads + Wait + Copy + Send + 'static>(
+    rt: &H,
+    alloc: Global,
+    readers: Vec<Script>,
+    status: Status,
+    expected: &'static [u8],
+) -> bool
+    requires { All (λ r. r.failed ≡ false) readers.items }
+{
+    let mut readers = readers;
+    let mut mirror = Mirror {
+        expected,
+        written: 0,
+        agrees: true,
+        failed: false,
+    };
+    let answer = run(rt, alloc, &mut readers, options(1, 1000), &mut mirror);
+    match answer {
+        Ok(told) => told == status && mirror.agrees && mirror.written == expected.len(),
+        Err(RunError::Intake(IntakeError::Memory)) => mirror.written == 0,
+        Err(RunError::Intake(IntakeError::Thread)) => mirror.written == 0,
+        Err(RunError::Memory) => mirror.written == 0,
+        Err(_) => false,
+    }
+}
+
+/// The reader of the clean report.
+fn clean_reader(alloc: Global) -> Result<Vec<Script>, AllocError>
+    ensures { IfOk result (λ v. All (λ r. r.failed ≡ false) v.items) }
+{
+    vec![in alloc; Script::alone(alloc, CLEAN, Step::Full, After::End)?]
+}
+
+/// The reader of a hundred blocks.
+fn hundred_reader(alloc: Global) -> Result<Vec<Script>, AllocError>
+    ensures { IfOk result (λ v. All (λ r. r.failed ≡ false) v.items) }
+{
+    let text = hundred_blocks(alloc)?;
+    vec![in alloc; Script::alone(alloc, &text, Step::Line, After::End)?]
+}
+
+#[test]
+fn a_clean_report_or_no_memory(rt: HostRuntime) {
+    let alloc = rt.alloc();
+    if let Ok(readers) = clean_reader(alloc) {
+        assert!(rt; ends_well(&rt, alloc, readers, Status::Clean, CLEAN_STATEMENT));
+    }
+}
+
+/// Here the collector can stop while the reader waits to send.
+#[test]
+fn a_hundred_blocks_or_no_memory(rt: HostRuntime) {
+    let alloc = rt.alloc();
+    if let Ok(readers) = hundred_reader(alloc) {
+        assert!(rt; ends_well(&rt, alloc, readers, Status::Remarks, HUNDRED_STATEMENT));
+    }
+}

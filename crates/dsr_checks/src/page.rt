@@ -1,0 +1,69 @@
+//! An outlet that fails where it is told to.
+ghost use Rattle.std.specs.Prelude.{◌≡◌, None, false};
+
+use dsr_file::Failed;
+use dsr_intake::Outlet;
+use std::alloc::Global;
+
+/// An outlet that keeps what it takes: so many bytes a write, and so many in all. Then its writes fail.
+#[derive(Drop)]
+pub struct Page {
+    bytes: Vec<u8>,
+    at_once: usize,
+    room: usize,
+    flushes: bool,
+    failed: bool,
+}
+
+impl Page {
+    /// A page with room for all.
+    pub fn new(alloc: Global) -> Page
+        ensures { result.failed ≡ false }
+    {
+        Page::narrow(alloc, 65_536, 1_000_000, true)
+    }
+
+    /// A page that takes so many bytes a write, and so many in all; its flush fails where it does not flush.
+    pub fn narrow(alloc: Global, at_once: usize, room: usize, flushes: bool) -> Page
+        ensures { result.failed ≡ false }
+    {
+        Page {
+            bytes: Vec::new(alloc),
+            at_once,
+            room,
+            flushes,
+            failed: false,
+        }
+    }
+
+    /// What was written.
+    pub fn bytes(&self) -> &[u8] {
+        self.bytes.as_slice()
+    }
+}
+
+impl Outlet for Page {
+    ghost told = { λ s. record { contents = None; failed = s.failed } };
+
+    fn write(&mut self, piece: &[u8]) -> Result<usize, Failed> {
+        let count = piece.len().min(self.at_once).min(self.room);
+        if count == 0 || self.bytes.extend_from_slice(&piece[..count]).is_err() {
+            self.failed = true;
+            return Err(Failed);
+        }
+        self.room -= count;
+        Ok(count)
+    }
+
+    fn flush(&mut self) -> Result<(), Failed> {
+        if self.flushes {
+            return Ok(());
+        }
+        self.failed = true;
+        Err(Failed)
+    }
+
+    fn failed(&self) -> bool {
+        self.failed
+    }
+}

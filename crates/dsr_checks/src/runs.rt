@@ -1,0 +1,36 @@
+//! Running on readers of the tests.
+ghost use Rattle.std.specs.Prelude.{◌≡◌, false, All};
+
+use crate::page::Page;
+use crate::script::Script;
+use dsr_intake::{Options, Status, run};
+use dsr_records::Layout;
+use std::alloc::Global;
+use std::sync::Wait;
+use std::thread::Threads;
+
+/// Options with the standard layout.
+pub fn options(capacity: u32, max_reads: u32) -> Options {
+    Options {
+        capacity,
+        max_reads,
+        layout: Layout::standard(),
+    }
+}
+
+/// Whether the statement of what the readers give is this one, and what it comes to is this.
+pub fn gives<H: Threads + Wait + Copy + Send + 'static>(
+    rt: &H,
+    alloc: Global,
+    readers: Vec<Script>,
+    options: Options,
+    status: Status,
+    statement: &[u8],
+) -> bool
+    requires { All (λ r. r.failed ≡ false) readers.items }
+{
+    let mut readers = readers;
+    let mut page = Page::new(alloc);
+    let answer = run(rt, alloc, &mut readers, options, &mut page);
+    answer == Ok(status) && page.bytes() == statement
+}

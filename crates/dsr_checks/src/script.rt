@@ -1,0 +1,172 @@
+//! A reader that gives a text as it is told to.
+ghost use Rattle.std.specs.Prelude.{◌≡◌, ◌≤◌, None, false, length};
+
+use dsr_file::{Failed, Source};
+use std::alloc::{AllocError, Global};
+use std::sync::Arc;
+use std::sync::atomic::{AtomicU64, Ordering};
+use std::thread;
+
+/// How much each read gives.
+#[derive(Clone, Copy)]
+pub enum Step {
+    /// As much as there is room for.
+    Full,
+    /// One byte.
+    Byte,
+    /// A line with its end, or what is left.
+    Line,
+}
+
+/// What comes after the text.
+#[derive(Clone, Copy)]
+pub enum After {
+    End,
+    /// A read that fails.
+    Failure,
+    /// The text again, for ever.
+    Again,
+}
+
+/// When a reader waits for another one.
+#[derive(Clone, Copy)]
+pub enum Wait {
+    Never,
+    /// Before its first read, until the other one has begun one.
+    First,
+    /// Before it tells the end. Where the other one begins so many reads meanwhile, the read fails.
+    Unless(u64),
+}
+
+/// A reader that gives a text as it is told to. It waits for a while only, and then its read fails.
+#[derive(Drop)]
+pub struct Script {
+    text: Vec<u8>,
+    at: usize,
+    step: Step,
+    after: After,
+    wait: Wait,
+    own: Arc<AtomicU64, Global>,
+    other: Arc<AtomicU64, Global>,
+    failed: bool,
+}
+
+impl Script {
+    /// The reader of a text. Its reads are counted in `own`, and those of the reader that it waits for in `other`.
+    pub fn new(
+        text: Vec<u8>,
+        step: Step,
+        after: After,
+        wait: Wait,
+        own: Arc<AtomicU64, Global>,
+        other: Arc<AtomicU64, Global>,
+    ) -> Script
+        ensures { result.failed ≡ false }
+    {
+        Script {
+            text,
+            at: 0,
+            step,
+            after,
+            wait,
+            own,
+            other,
+            failed: false,
+        }
+    }
+
+    /// The reader of a text, which waits for nobody.
+    pub fn alone(
+        alloc: Global,
+        text: &[u8],
+        step: Step,
+        after: After,
+    ) -> Result<Script, AllocError> {
+        let text = Vec::from_slice(alloc, text)?;
+        let own = Arc::new(alloc, AtomicU64::new(0))?;
+        let other = Arc::try_clone(&own)?;
+        Ok(Script::new(text, step, after, Wait::Never, own, other))
+    }
+
+    /// Whether the reader may go on with its read, of which `own` are begun.
+    fn may_read(&self, own: u64) -> bool {
+        match self.wait {
+            Wait::Never => true,
+            Wait::First => own > 1 || reaches(&self.other, 1, 10_000_000),
+            Wait::Unless(reads) => self.at < self.text.len()
+                || !reaches(&self.other, reads, 1_000_000),
+        }
+    }
+}
+
+/// Waits, for so many turns at most, until the count is so high.
+fn reaches(count: &AtomicU64, wanted: u64, turns: u32) -> bool {
+    for _ in 0..turns {
+        if count.load(Ordering::SeqCst) >= wanted {
+            return true;
+        }
+        thread::yield_now();
+    }
+    false
+}
+
+/// How many bytes of the rest a step gives.
+fn step_of(step: Step, rest: &[u8]) -> usize
+    ensures { result ≤ length rest.now }
+{
+    match step {
+        Step::Full => rest.len(),
+        Step::Byte => rest.len().min(1),
+        Step::Line => match rest.iter().position(|byte| *byte == b'\n') {
+            Some(place) if place < rest.len() => place + 1,
+            _ => rest.len(),
+        },
+    }
+}
+
+/// Copies the next bytes of a text from place `at` on into the front of a piece: how many.
+fn give(text: &[u8], at: usize, step: Step, piece: &mut [u8]) -> usize
+    ensures count { result ≤ length piece.old }
+    ensures room { length piece.new ≡ length piece.old }
+{
+    if at >= text.len() {
+        return 0;
+    }
+    let rest = &text[at..];
+    let count = step_of(step, rest).min(piece.len());
+    piece[..count].copy_from_slice(&rest[..count]);
+    count
+}
+
+impl Source for Script {
+    ghost told = { λ s. record { remaining = None; failed = s.failed } };
+
+    fn read(&mut self, piece: &mut [u8]) -> Result<usize, Failed> {
+        let own = self.own.fetch_add(1, Ordering::SeqCst).wrapping_add(1);
+        if !self.may_read(own) {
+            self.failed = true;
+            return Err(Failed);
+        }
+        let count = give(&self.text, self.at, self.step, piece);
+        self.at = self.at.wrapping_add(count);
+        if count > 0 {
+            return Ok(count);
+        }
+        match self.after {
+            After::End => Ok(0),
+            After::Failure => {
+                self.failed = true;
+                Err(Failed)
+            }
+            After::Again => {
+                let count = give(&self.text, 0, self.step, piece);
+                self.at = count;
+                Ok(count)
+            }
+        }
+    }
+
+    fn failed(&self) -> bool {
+        self.failed
+    }
+}

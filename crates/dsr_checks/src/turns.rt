@@ -1,0 +1,98 @@
+//! Readers that wait for one another: the files are read at once, and a full relay holds its reader back.
+use crate::runs::{gives, options};
+use crate::script::{After, Script, Step, Wait};
+use crate::texts::{FIRST_OF_TWO, HUNDRED_AND_ONE_STATEMENT, SECOND_OF_TWO, TWO_STATEMENT};
+use dsr_intake::Status;
+use std::alloc::{AllocError, Global};
+use std::sync::Arc;
+use std::sync::atomic::AtomicU64;
+
+/// Each reader's first read waits until the other's has begun.
+#[test]
+fn the_files_are_read_at_once(rt: HostRuntime) -> Result<(), AllocError> {
+    let alloc = rt.alloc();
+    let a = Arc::new(alloc, AtomicU64::new(0))?;
+    let b = Arc::new(alloc, AtomicU64::new(0))?;
+    let first = Script::new(
+        Vec::from_slice(alloc, FIRST_OF_TWO)?,
+        Step::Full,
+        After::End,
+        Wait::First,
+        Arc::try_clone(&a)?,
+        Arc::try_clone(&b)?,
+    );
+    let second = Script::new(
+        Vec::from_slice(alloc, SECOND_OF_TWO)?,
+        Step::Full,
+        After::End,
+        Wait::First,
+        b,
+        a,
+    );
+    let readers = vec![in alloc; first, second]?;
+    assert!(rt;
+        gives(
+            &rt,
+            alloc,
+            readers,
+            options(16, 100),
+            Status::Clean,
+            TWO_STATEMENT
+        )
+    );
+    Ok(())
+}
+
+/// A file of a hundred blocks, the second of two.
+pub fn hundred_blocks(alloc: Global) -> Result<Vec<u8>, AllocError> {
+    let mut text = Vec::from_slice(
+        alloc,
+        b"HEAD\tR1\t2\t2\t2024-01-01\t2024-01-31\tS\tL\nSY01\tS1\tGB\tOnDemandStream\tGBP\t100\t1\n",
+    )?;
+    for i in 1..101u32 {
+        let lines = format!(in alloc;
+            "AS01\t{i}\tGBABC2400001\tSong\tBand\nSU01\t{i}\tS1\t1\t0.01\n"
+        )?;
+        text.extend_from_slice(lines.as_bytes())?;
+    }
+    text.extend_from_slice(b"FOOT\t203\t1\t100\n")?;
+    Ok(text)
+}
+
+/// While the first reader has not told its end, nothing is taken of the second file. A relay of one message then holds a message, and a
+/// second one waits to be sent: two messages of 32 events, whose last event comes with line 129. So the second reader begins no 130th
+/// read, unless its events go another way.
+#[test]
+fn a_full_relay_holds_its_reader_back(rt: HostRuntime) -> Result<(), AllocError> {
+    let alloc = rt.alloc();
+    let a = Arc::new(alloc, AtomicU64::new(0))?;
+    let b = Arc::new(alloc, AtomicU64::new(0))?;
+    let first = Script::new(
+        Vec::from_slice(alloc, FIRST_OF_TWO)?,
+        Step::Line,
+        After::End,
+        Wait::Unless(130),
+        Arc::try_clone(&a)?,
+        Arc::try_clone(&b)?,
+    );
+    let second = Script::new(
+        hundred_blocks(alloc)?,
+        Step::Line,
+        After::End,
+        Wait::Never,
+        b,
+        a,
+    );
+    let readers = vec![in alloc; first, second]?;
+    assert!(rt;
+        gives(
+            &rt,
+            alloc,
+            readers,
+            options(1, 1000),
+            Status::Clean,
+            HUNDRED_AND_ONE_STATEMENT
+        )
+    );
+    Ok(())
+}

@@ -1,0 +1,108 @@
+-- The file that a list of events tells of, event by event.
+use Rattle.std.proofs.Common.{◌≡◌, ℕ, zero, suc, ◌<◌, ◌≤◌, ◌^◌, ◌||◌, true, false, List, [], ◌∷◌, ◌++◌, length, Some, IsSome, refl, sym, ap, subst, ◌∙◌, arith, length-append, set, slice_get}
+use Rattle.std.specs.List.{filter_map}
+use Rattle.std.proofs.lemmas.List.{append-nil, set-set, set-get_or}
+use Rattle.std.proofs.lemmas.Option.{get_or_from_slice_get}
+use Rattle.std.proofs.lemmas.List.Elements.{filter_map-append}
+use Rattle.dsr_file.specs.declared.event.EventPart.{EventPart}
+use Rattle.dsr_file.specs.declared.event.EventPart.TheVariants as part
+use Rattle.dsr_file.specs.Placed.{Placed}
+use Rattle.dsr_file.specs.Orderly.{is_ended, has_ended, MayStandAt, IsOrderly}
+use Rattle.dsr_relay.specs.Views.{TapView}
+use Rattle.dsr_ledger.specs.declared.books.Books.{Books}
+use Rattle.dsr_ledger.specs.Files.{File}
+use Rattle.dsr_ledger.specs.BooksWords.{Stands}
+use Rattle.dsr_intake.specs.Ends.{ends_clean, is_clean_end}
+use Rattle.dsr_intake.specs.Texts.{opening_in, block_in, outcome_in, first, file_of}
+use Rattle.dsr_intake.specs.Collecting.{with_part, is_opening, IsGoing, Knows, Changes, IsTapped}
+use Rattle.dsr_intake.proofs.EndLemmas.{ends_clean_push, has_ended_push}
+
+abbrev event : ℕ → EventPart → Placed
+event n p = record { place = n; part = p }
+
+-- the parts of one event, by what it is
+module _ (n : ℕ) where
+  none_at : (p : EventPart) (es : List Placed) → has_ended (event n p ∷ es) ≡ false → has_ended es ≡ false
+  none_at (part.Opened o) es h = h
+  none_at (part.Block b) es h = h
+  none_at (part.Ended o) es h = cc
+
+  no_outcome_at : (p : EventPart) (es : List Placed) → has_ended (event n p ∷ es) ≡ false → filter_map outcome_in es ≡ [] → filter_map outcome_in (event n p ∷ es) ≡ []
+  no_outcome_at (part.Opened o) es h ih = ih
+  no_outcome_at (part.Block b) es h ih = ih
+  no_outcome_at (part.Ended o) es h ih = cc
+
+  opened_at : (p : EventPart) (es : List Placed) → MayStandAt 0 p → has_ended (event n p ∷ es) ≡ false → IsSome (first (filter_map opening_in (event n p ∷ es)))
+  opened_at (part.Opened o) es f h = refl
+  opened_at (part.Block b) es f h = absurd (f refl)
+  opened_at (part.Ended o) es f h = cc
+
+  blocks_at : (p : EventPart) (es : List Placed) → length (filter_map block_in es) ≤ length es → length (filter_map block_in (event n p ∷ es)) ≤ suc (length es)
+  blocks_at (part.Opened o) es h = omega arith
+  blocks_at (part.Block b) es h = omega arith
+  blocks_at (part.Ended o) es h = omega arith
+
+  more_at : (es : List Placed) (p : EventPart) → is_opening p ≡ false → filter_map outcome_in es ≡ [] → file_of (es ++ event n p ∷ []) ≡ with_part (file_of es) p
+  more_at es (part.Opened o) later none = cc
+  more_at es (part.Block b) later none = simp (filter_map-append, append-nil)
+  more_at es (part.Ended o) later none = simp (filter_map-append, append-nil) (rw none refl)
+
+  later_at : (k : ℕ) (p : EventPart) → 0 < k → MayStandAt k p → is_opening p ≡ false
+  later_at k (part.Opened o) some f = absurd (omega (arith, f))
+  later_at k (part.Block b) some f = refl
+  later_at k (part.Ended o) some f = refl
+
+-- an event that has not ended tells no outcome
+no_outcome : (es : List Placed) → has_ended es ≡ false → filter_map outcome_in es ≡ []
+no_outcome [] h = refl
+no_outcome (e ∷ es) h = no_outcome_at e.place e.part es h (no_outcome es (none_at e.place e.part es h))
+
+-- the first of an orderly list that has not ended is its opening
+opened_first : (es : List Placed) → IsOrderly es → 0 < length es → has_ended es ≡ false → IsSome (first (filter_map opening_in es))
+opened_first [] o some h = absurd (omega arith)
+opened_first (e ∷ es) o some h = opened_at e.place e.part es (o.parts 0 e refl) h
+
+blocks_le : (es : List Placed) → length (filter_map block_in es) ≤ length es
+blocks_le [] = omega arith
+blocks_le (e ∷ es) = blocks_at e.place e.part es (blocks_le es)
+
+pub get_end : {A : Type 0} (xs : List A) (x : A) → slice_get (xs ++ x ∷ []) (length xs) ≡ Some x
+get_end [] x = refl
+get_end (y ∷ xs) x = get_end xs x
+
+-- the later event is no opening
+pub later_part : (es : List Placed) (e : Placed) → IsOrderly (es ++ e ∷ []) → 0 < length es → is_opening e.part ≡ false
+later_part es e o some = later_at e.place (length es) e.part some (o.parts (length es) e (get_end es e))
+
+-- a later event tells of its part
+pub file_more : (es : List Placed) (e : Placed) → IsOrderly (es ++ e ∷ []) → 0 < length es → has_ended es ≡ false → file_of (es ++ e ∷ []) ≡ with_part (file_of es) e.part
+file_more es e o some h = more_at e.place es e.part (later_part es e o some) (no_outcome es h)
+
+-- a file that has not ended may take a further event, whose place shows that there is room
+pub going : (es : List Placed) → IsOrderly es → 0 < length es → has_ended es ≡ false → length es < 2 ^ 37 → IsGoing (file_of es)
+going es o some h short =
+    record { running = ap first (no_outcome es h); opened = opened_first es o some h; short = omega (arith, blocks_le es) }
+
+-- the tap goes on
+pub tapped_more : (t u : TapView) (e : Placed) → IsTapped t → u.taken ≡ t.taken ++ e ∷ [] → IsOrderly u.taken → (is_ended e.part ≡ true → is_clean_end e.part ≡ true) → has_ended t.taken ≡ false → IsTapped u
+tapped_more t u e h same o clean none =
+    record {
+      orderly = o;
+      some = omega (arith, ap length same, length-append t.taken (e ∷ []));
+      clean = λ ended. ap ends_clean same ∙ ends_clean_push t.taken e ∙ clean (sym (has_ended_push t.taken e ∙ ap (λ b. b || is_ended e.part) none) ∙ ap has_ended (sym same) ∙ ended);
+    }
+
+pub get_set_same : {A : Type 0} (xs : List A) (k : ℕ) (x y : A) → slice_get xs k ≡ Some x → slice_get (set xs k y) k ≡ Some y
+get_set_same [] k x y h = cc
+get_set_same (z ∷ xs) zero x y h = refl
+get_set_same (z ∷ xs) (suc k) x y h = get_set_same xs k x y h
+
+pub changes_more : (a b c : Books) (k : ℕ) (f g h : File) → Changes a b k f g → Changes b c k g h → Changes a c k f h
+changes_more a b c k f g h p q files stands at =
+    subst (Stands c) (set-set files k g h) (q (set files k g) (p files stands at) (get_set_same files k f g at))
+
+pub knows_more : (a b : Books) (k : ℕ) (f g : File) → Knows a k f → Changes a b k f g → Knows b k g
+knows_more a b k f g w p = (set w.0 k g, p w.0 w.1 w.2, get_set_same w.0 k f g w.2)
+
+pub changes_none : (a : Books) (k : ℕ) (f : File) → Changes a a k f f
+changes_none a k f files stands at = subst (Stands a) (sym (ap (set files k) (sym (get_or_from_slice_get files k f f at)) ∙ set-get_or files k f)) stands

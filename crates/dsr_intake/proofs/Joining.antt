@@ -1,0 +1,125 @@
+-- What holds while the threads are started, and while they are joined.
+use Rattle.std.proofs.Common.{◌≡◌, true, false, List, [], ◌∷◌, ◌++◌, map, All, refl, sym, ap, subst, ◌∙◌, append_assoc}
+use Rattle.std.proofs.lemmas.List.{append-nil, map-append}
+use Rattle.std.proofs.lemmas.List.Elements.{All-head, All-tail, All-cons, All-append, All-nil}
+use Rattle.dsr_file.specs.Placed.{Placed}
+use Rattle.dsr_file.specs.Orderly.{IsOrderly}
+use Rattle.dsr_file.specs.Runs.{FileText, events_of_text}
+use Rattle.dsr_file.specs.Sources.{Told, GaveText}
+use Rattle.dsr_relay.specs.declared.name.Name.{Name}
+use Rattle.dsr_relay.specs.Views.{TapView}
+use Rattle.dsr_records.specs.Records.{LayoutTable}
+use Rattle.dsr_intake.specs.declared.options.Options.{Options}
+use Rattle.dsr_intake.specs.Ends.{ends_clean}
+use Rattle.dsr_intake.specs.Given.{IsGiven}
+use Rattle.dsr_intake.specs.Texts.{GaveEach, file_of}
+use Rattle.dsr_intake.proofs.EndLemmas.{clean_is_whole}
+
+All-one : {A : Type 0} (P : A → Type 0) (x : A) → P x → All P (x ∷ [])
+All-one P x h = All-cons P x [] h (All-nil P)
+
+gave_more : {R : Type 0} (told : R → Told) (options : Options) (rs ss : List R) (ts : List FileText) (r s : R) (t : FileText)
+    → GaveEach told options rs ss ts → GaveText options.layout options.max_reads (told r) (told s) t → GaveEach told options (rs ++ r ∷ []) (ss ++ s ∷ []) (ts ++ t ∷ [])
+gave_more told options [] [] [] r s t h new = (new, tt)
+gave_more told options (x ∷ rs) (y ∷ ss) (z ∷ ts) r s t h new = (h.0, gave_more told options rs ss ts r s t h.1 new)
+gave_more told options [] [] (z ∷ ts) r s t h new = absurd h
+gave_more told options [] (y ∷ ss) ts r s t h new = absurd h
+gave_more told options (x ∷ rs) [] ts r s t h new = absurd h
+gave_more told options (x ∷ rs) (y ∷ ss) [] r s t h new = absurd h
+
+-- a tap of which all was taken
+abbrev pub IsDrained : TapView → Type 0
+IsDrained t = IsOrderly t.taken × (ends_clean t.taken ≡ true)
+
+-- `H` is a handle of a thread, of which `reader`, `name` and `terms` tell what the thread was given
+module _ {R H : Type 0} (told : R → Told) (options : Options) (reader : H → R) (name : H → Name) (terms : H → Options) where
+  -- some threads run, and the readers that are left are to be started
+  pub record Starting (all : List R) (hs : List H) (ts : List TapView) (left : List R) : Type 0 where
+    pub readers : map reader hs ++ left ≡ all
+    pub names : map name hs ≡ map (λ t. t.name) ts
+    pub terms_are : All (λ h. terms h ≡ options) hs
+    pub untouched : All (λ t. t.taken ≡ []) ts
+    pub fresh : All (λ r. (told r).failed ≡ false) left
+
+  pub starting_none : (all : List R) → All (λ r. (told r).failed ≡ false) all → Starting all [] [] all
+  starting_none all h =
+      record { readers = refl; names = refl; terms_are = All-nil _; untouched = All-nil _; fresh = h }
+
+  pub starting_more : (all : List R) (hs : List H) (ts : List TapView) (r : R) (left : List R) (h : H) (t : TapView) → Starting all hs ts (r ∷ left)
+      → reader h ≡ r → name h ≡ t.name → terms h ≡ options → t.taken ≡ [] → Starting all (hs ++ h ∷ []) (ts ++ t ∷ []) left
+  starting_more all hs ts r left h t s same named granted none =
+      record {
+        readers = rw (map-append, append_assoc) (rw same s.readers);
+        names = rw map-append (rw map-append (rw (s.names, named) refl));
+        terms_are = All-append (λ x. terms x ≡ options) hs (h ∷ []) s.terms_are (All-one (λ x. terms x ≡ options) h granted);
+        untouched = All-append (λ x. x.taken ≡ []) ts (t ∷ []) s.untouched (All-one (λ x. x.taken ≡ []) t none);
+        fresh = All-tail (λ x. (told x).failed ≡ false) r left s.fresh;
+      }
+
+  -- some threads are joined, and the ones that are left still run
+  pub record Joining (all : List R) (lists : List (List Placed)) (hs : List H) (ts : List TapView) (news : List R) : Type 0 where
+    pub names : map name hs ≡ map (λ t. t.name) ts
+    pub terms_are : All (λ h. terms h ≡ options) hs
+    pub drained : All IsDrained ts
+    pub texts : List FileText
+    pub before : List R
+    pub gave : GaveEach told options before news texts
+    pub readers : before ++ map reader hs ≡ all
+    pub taken : map (events_of_text options.layout) texts ++ map (λ t. t.taken) ts ≡ lists
+
+  pub joining_none : (hs : List H) (ts : List TapView) → map name hs ≡ map (λ t. t.name) ts → All (λ h. terms h ≡ options) hs → All IsDrained ts
+      → Joining (map reader hs) (map (λ t. t.taken) ts) hs ts []
+  joining_none hs ts names terms_are drained =
+      record { names = names; terms_are = terms_are; drained = drained; texts = []; before = []; gave = tt; readers = refl; taken = refl }
+
+  -- each thread that is left has its tap
+  pub joining_tap : (all : List R) (lists : List (List Placed)) (h : H) (hs : List H) (news : List R) → Joining all lists (h ∷ hs) [] news → ⊥
+  joining_tap all lists h hs news j = let e = j.names in cc
+
+  pub joining_name : (all : List R) (lists : List (List Placed)) (h : H) (hs : List H) (t : TapView) (ts : List TapView) (news : List R)
+      → Joining all lists (h ∷ hs) (t ∷ ts) news → name h ≡ t.name
+  joining_name all lists h hs t ts news j = let e = j.names in cc
+
+  -- what the join told of one thread
+  pub record Settled (h : H) (t : TapView) (new : R) : Type 0 where
+    pub sent : List Placed
+    pub left : List Placed
+    pub given : IsGiven (terms h) (told (reader h)) (told new) sent
+    pub meets : sent ≡ t.taken ++ left
+    pub orderly : IsOrderly sent
+
+  pub joining_more : (all : List R) (lists : List (List Placed)) (h : H) (hs : List H) (t : TapView) (ts : List TapView) (news : List R) (new : R)
+      → Joining all lists (h ∷ hs) (t ∷ ts) news → Settled h t new → Joining all lists hs ts (news ++ new ∷ [])
+  joining_more all lists h hs t ts news new j s =
+      let drained = All-head IsDrained t ts j.drained in
+      let none = clean_is_whole t.taken s.left (subst IsOrderly s.meets s.orderly) drained.1 in
+      let whole : s.sent ≡ t.taken = s.meets ∙ ap (λ l. t.taken ++ l) none ∙ append-nil t.taken in
+      let g = (subst (λ o. IsGiven o (told (reader h)) (told new) s.sent) (All-head (λ x. terms x ≡ options) h hs j.terms_are) s.given).given (ap ends_clean whole ∙ drained.1) in
+      record {
+        names = let e = j.names in cc;
+        terms_are = All-tail (λ x. terms x ≡ options) h hs j.terms_are;
+        drained = All-tail IsDrained t ts j.drained;
+        texts = j.texts ++ g.0 ∷ [];
+        before = j.before ++ reader h ∷ [];
+        gave = gave_more told options j.before news j.texts (reader h) new g.0 j.gave g.1;
+        readers = append_assoc j.before (reader h ∷ []) (map reader hs) ∙ j.readers;
+        taken = rw (map-append, append_assoc) (subst (λ l. map (events_of_text options.layout) j.texts ++ l ∷ map (λ x. x.taken) ts ≡ lists) (sym whole ∙ g.2) j.taken);
+      }
+
+  pub joining_done : (all : List R) (lists : List (List Placed)) (ts : List TapView) (news : List R) → Joining all lists [] ts news
+      → (texts : List FileText) × GaveEach told options all news texts × (lists ≡ map (events_of_text options.layout) texts)
+  joining_done all lists [] news j =
+      (j.texts, subst (λ rs. GaveEach told options rs news j.texts) (sym (append-nil j.before) ∙ j.readers) j.gave, sym j.taken ∙ append-nil (map (events_of_text options.layout) j.texts))
+  joining_done all lists (t ∷ ts) news j = let e = j.names in cc
+
+-- where what was taken is the texts' events, the files are the texts'
+pub files_of : (layout : LayoutTable) (ts : List TapView) (texts : List FileText) → map (λ t. t.taken) ts ≡ map (events_of_text layout) texts
+    → map (λ t. file_of t.taken) ts ≡ map (λ t. file_of (events_of_text layout t)) texts
+files_of layout [] [] h = refl
+files_of layout [] (x ∷ texts) h = cc
+files_of layout (t ∷ ts) [] h = cc
+files_of layout (t ∷ ts) (x ∷ texts) h =
+    let same : t.taken ≡ events_of_text layout x = cc in
+    let rest : map (λ u. u.taken) ts ≡ map (events_of_text layout) texts = cc in
+    let more = files_of layout ts texts rest in
+    rw (same, more) refl

@@ -1,0 +1,36 @@
+-- What a thread's list is, by what the reading of its file answered.
+use Rattle.std.proofs.Common.{◌≡◌, false, List, [], ◌∷◌, ◌++◌, inl, inr, ap, Result, Ok, Err, IfErr}
+use Rattle.std.specs.Prelude.{OnOk}
+use Rattle.dsr_file.specs.declared.fault.Outcome.{Outcome}
+use Rattle.dsr_file.specs.declared.reading.ReadFileError.{ReadFileError}
+use Rattle.dsr_file.specs.declared.reading.ReadFileError.TheVariants.{Memory, Refused}
+use Rattle.dsr_file.specs.Placed.{Placed}
+use Rattle.dsr_file.specs.Sources.{Told, IsRead, IsRefused}
+use Rattle.dsr_file.specs.Refusals.{IsRefusal}
+use Rattle.dsr_file.proofs.RunLemmas.{run_orderly}
+use Rattle.dsr_intake.specs.declared.options.Options.{Options}
+use Rattle.dsr_intake.specs.Ends.{ends_clean}
+use Rattle.dsr_intake.specs.Given.{IsGiven}
+use Rattle.dsr_intake.proofs.EndLemmas.{clean_is_whole, memory_is_unclean}
+
+module _ (options : Options) (before after : Told) (sent : List Placed) where
+  pub given_from_unclean : ends_clean sent ≡ false → IsGiven options before after sent
+  given_from_unclean h = record { given = λ clean. cc }
+
+  given_from_read : IsRead options.layout options.max_reads before after sent → IsGiven options before after sent
+  given_from_read h =
+      elim h [
+        | inl whole ↦ record { given = λ clean. whole }
+        | inr cut ↦ given_from_unclean (memory_is_unclean _ _ sent cut.2.events_are)
+      ]
+
+  given_from_refused : (e : Placed) → IsRefused options.layout before after (sent ++ e ∷ []) → IsGiven options before after sent
+  given_from_refused e h =
+      record { given = λ clean. let none = clean_is_whole sent (e ∷ []) (run_orderly options.layout h.0 _ h.2) clean in cc }
+
+  pub given_from_answer : (answer : Result Outcome ReadFileError)
+      → OnOk answer (IsRead options.layout options.max_reads before after sent) → IfErr answer (IsRefusal options.layout before after sent)
+      → IsGiven options before after sent
+  given_from_answer (Ok o) read refused = given_from_read read
+  given_from_answer (Err Memory) read refused = given_from_unclean (ap ends_clean refused.1)
+  given_from_answer (Err (Refused e)) read refused = given_from_refused e refused

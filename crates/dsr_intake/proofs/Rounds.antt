@@ -1,0 +1,191 @@
+-- What holds while the files are opened, and in a round.
+use Rattle.std.proofs.Common.{◌≡◌, ℕ, zero, suc, ◌+◌, ◌<◌, ◌≤◌, true, List, [], ◌∷◌, ◌++◌, map, take, set, length, get_or, All, Some, None, Result, Ok, Err, refl, sym, ap, subst, ◌∙◌, arith, length-take, add-one, ◌⊎◌, inl, inr, IsSome, is_some, slice_get}
+use Rattle.std.specs.List.{filter_map}
+use Rattle.std.specs.Prelude.{MatchResult, OnOk}
+use Rattle.dsr_cells.specs.declared.text.NoMemory.{NoMemory}
+use Rattle.std.specs.Option.{option_map}
+use Rattle.std.proofs.lemmas.List.Elements.{All-tail}
+use Rattle.std.proofs.lemmas.List.{map-append, length-map, map-set}
+use Rattle.std.proofs.Math.Seq.{take-suc-set, map-set_same, set-append_seam}
+use Rattle.std.proofs.lemmas.Option.{slice_get-map, slice_get-get_or, get_or_from_slice_get, slice_get_within, slice_get_read}
+use Rattle.dsr_records.specs.Blocks.{BlockParts}
+use Rattle.dsr_file.specs.declared.event.EventPart.{EventPart}
+use Rattle.dsr_file.specs.declared.event.EventPart.TheVariants as part
+use Rattle.dsr_file.specs.declared.fault.Outcome.{Outcome}
+use Rattle.dsr_file.specs.Placed.{Placed}
+use Rattle.dsr_file.specs.Orderly.{MayStandAt, has_ended}
+use Rattle.dsr_relay.specs.Views.{TapView}
+use Rattle.dsr_ledger.specs.declared.books.Books.{Books}
+use Rattle.dsr_ledger.specs.Files.{File, opened, add_block, end_with, with_block, with_outcome}
+use Rattle.dsr_ledger.specs.Books.{has_opening_in, ended_in, blocks_in}
+use Rattle.dsr_ledger.specs.BooksWords.{Stands, files_count, opened_count, CanBook, CanEnd, AllEnded}
+use Rattle.dsr_ledger.proofs.CallerLemmas.{opened_is, can_book, can_end, all_ended}
+use Rattle.dsr_intake.specs.Texts.{file_of, first, outcome_in}
+use Rattle.dsr_intake.specs.Stops.{IsStopped}
+use Rattle.dsr_intake.specs.declared.collector.CollectError.{CollectError}
+use Rattle.dsr_intake.specs.declared.collector.CollectError.TheVariants.{Memory, Closed}
+use Rattle.dsr_intake.specs.Collecting.{IsTapped, IsStoppedAt, IsFileAt, Changes, Opens, first_file, IsGoing, Knows, IsNext}
+use Rattle.dsr_intake.proofs.Filing.{get_end, get_set_same}
+
+abbrev event : ℕ → EventPart → Placed
+event n p = record { place = n; part = p }
+
+-- the list with a file changed is the same by either word
+pub block_is_set : (files : List File) (k : ℕ) (f : File) (b : BlockParts) → IsFileAt files k f → with_block files k b ≡ set files k (add_block b f)
+block_is_set [] k f b at = absurd (cc)
+block_is_set (g ∷ files) zero f b at = let e : g ≡ f = cc in ap (λ h. add_block b h ∷ files) e
+block_is_set (g ∷ files) (suc k) f b at = ap (λ l. g ∷ l) (block_is_set files k f b at)
+
+pub outcome_is_set : (files : List File) (k : ℕ) (f : File) (o : Outcome) → IsFileAt files k f → with_outcome files k o ≡ set files k (end_with o f)
+outcome_is_set [] k f o at = absurd (cc)
+outcome_is_set (g ∷ files) zero f o at = let e : g ≡ f = cc in ap (λ h. end_with o h ∷ files) e
+outcome_is_set (g ∷ files) (suc k) f o at = ap (λ l. g ∷ l) (outcome_is_set files k f o at)
+
+-- ending a file changes it
+pub outcome_changes : (a c : Books) (k : ℕ) (o : Outcome) (answer : Result Unit NoMemory)
+    → ((files : List File) → Stands a files → MatchResult answer (λ _. Stands c (with_outcome files k o)) (λ _. Stands c files))
+    → OnOk answer ((f : File) → Changes a c k f (end_with o f))
+outcome_changes a c k o (Ok v) h = λ f files stands at. subst (Stands c) (outcome_is_set files k f o at) (h files stands)
+outcome_changes a c k o (Err e) h = tt
+
+module _ (n : ℕ) where
+  first_at : (p : EventPart) → MayStandAt 0 p → file_of (event n p ∷ []) ≡ first_file p
+  first_at (part.Opened o) h = refl
+  first_at (part.Block b) h = absurd (h refl)
+  first_at (part.Ended o) h = refl
+
+-- the file of a first event
+pub file_first : (e : Placed) → MayStandAt 0 e.part → file_of (e ∷ []) ≡ first_file e.part
+file_first e h = first_at e.place e.part h
+
+-- a file that is opened and ended at once
+pub opens_ended : (a b c : Books) (k : ℕ) (o : Outcome) → Opens a b k (opened None)
+    → ((files : List File) → Stands b files → Stands c (with_outcome files k o)) → Opens a c k (end_with o (opened None))
+opens_ended a b c k o p q files stands len =
+    let f = opened None in
+    let at : slice_get (files ++ f ∷ []) k ≡ Some f = subst (λ i. slice_get (files ++ f ∷ []) i ≡ Some f) len (get_end files f) in
+    let same : set (files ++ f ∷ []) k (end_with o f) ≡ files ++ end_with o f ∷ [] = subst (λ i. set (files ++ f ∷ []) i (end_with o f) ≡ files ++ end_with o f ∷ []) len (set-append_seam files f [] (end_with o f)) in
+    subst (Stands c) (outcome_is_set (files ++ f ∷ []) k f o at ∙ same) (q (files ++ f ∷ []) (p files stands len))
+
+pub get_set_other : {A : Type 0} (xs : List A) (k j : ℕ) (y : A) → (j ≡ k → ⊥) → slice_get (set xs k y) j ≡ slice_get xs j
+get_set_other [] k j y h = refl
+get_set_other (x ∷ xs) zero zero y h = absurd (h refl)
+get_set_other (x ∷ xs) zero (suc j) y h = refl
+get_set_other (x ∷ xs) (suc k) zero y h = refl
+get_set_other (x ∷ xs) (suc k) (suc j) y h = get_set_other xs k j y (λ e. h (ap suc e))
+
+same_or_other : (j k : ℕ) → (j ≡ k) ⊎ (j ≡ k → ⊥)
+same_or_other zero zero = inl refl
+same_or_other zero (suc k) = inr (λ e. absurd (omega arith))
+same_or_other (suc j) zero = inr (λ e. absurd (omega arith))
+same_or_other (suc j) (suc k) = elim (same_or_other j k) [ inl e ↦ inl (ap suc e) | inr n ↦ inr (λ e. n (omega arith)) ]
+
+put_here : (now : List TapView) (k : ℕ) (t u x : TapView) → slice_get now k ≡ Some t → slice_get (set now k u) k ≡ Some x → u ≡ x
+put_here now k t u x at here = let e = get_set_same now k t u at in cc
+
+pub names_set : (now : List TapView) (k : ℕ) (t u : TapView) → slice_get now k ≡ Some t → u.name ≡ t.name → map (λ x. x.name) (set now k u) ≡ map (λ x. x.name) now
+names_set now k t u at name = map-set_same (λ x. x.name) now k u t (name ∙ ap (λ x. x.name) (sym (get_or_from_slice_get now k t t at)))
+
+take_whole : (k : ℕ) (ts : List TapView) → length ts ≤ k → take k ts ≡ ts
+take_whole zero [] h = refl
+take_whole zero (t ∷ ts) h = absurd (omega arith)
+take_whole (suc k) [] h = refl
+take_whole (suc k) (t ∷ ts) h = ap (λ l. t ∷ l) (take_whole k ts (omega arith))
+
+-- the files below k are opened, and nothing is taken of the others
+pub record Opening (all now : List TapView) (k : ℕ) (books : Books) : Type 0 where
+  pub names : map (λ t. t.name) now ≡ map (λ t. t.name) all
+  pub tapped : (j : ℕ) (t : TapView) → j < k → slice_get now j ≡ Some t → IsTapped t
+  pub fresh : (j : ℕ) (t : TapView) → k ≤ j → slice_get now j ≡ Some t → t.taken ≡ []
+  pub stands : Stands books (map (λ t. file_of t.taken) (take k now))
+
+pub opening_none : (all : List TapView) (books : Books) → All (λ t. t.taken ≡ []) all → Stands books [] → Opening all all 0 books
+opening_none all books h s =
+    record {
+      names = refl;
+      tapped = λ j t low at. absurd (omega arith);
+      fresh = λ j t low at. subst (λ x. x.taken ≡ []) (get_or_from_slice_get all j t t at) (h j t (slice_get_within all j t at));
+      stands = s;
+    }
+
+pub opening_more : (all now : List TapView) (k : ℕ) (books new : Books) (t u : TapView) → Opening all now k books → slice_get now k ≡ Some t
+    → u.name ≡ t.name → IsTapped u → Opens books new k (file_of u.taken) → Opening all (set now k u) (k + 1) new
+opening_more all now k books new t u o at name tapped opens =
+    let low : k < length now = slice_get_within now k t at in
+    let files = map (λ (x : TapView). file_of x.taken) (take k now) in
+    let len : length files ≡ k = length-map (take k now) (λ x. file_of x.taken) ∙ length-take k now ∙ omega arith in
+    let grown : take (k + 1) (set now k u) ≡ take k now ++ u ∷ [] = rw add-one (take-suc-set now k u low) in
+    record {
+      names = names_set now k t u at name ∙ o.names;
+      tapped = λ j x below here. elim (same_or_other j k) [
+        | inl e ↦ (let f : u ≡ x = put_here now k t u x at (subst (λ i. slice_get (set now k u) i ≡ Some x) e here) in subst IsTapped f tapped)
+        | inr n ↦ o.tapped j x (omega arith) (sym (get_set_other now k j u n) ∙ here)
+      ];
+      fresh = λ j x below here. o.fresh j x (omega arith) (sym (get_set_other now k j u (λ e. omega arith)) ∙ here);
+      stands = rw (grown, map-append) (opens files o.stands len);
+    }
+
+pub opening_done : (all now : List TapView) (k : ℕ) (books : Books) → Opening all now k books → length now ≤ k → All IsTapped now × Stands books (map (λ t. file_of t.taken) now)
+opening_done all now k books o h = (
+  λ j d low. o.tapped j (get_or now j d) (omega arith) (slice_get-get_or now j d low),
+  rw (take_whole k now h) at o.stands,
+)
+
+-- a further message of file k
+pub round_more : (now : List TapView) (k : ℕ) (books new : Books) (t u : TapView) → slice_get now k ≡ Some t → Stands books (map (λ x. file_of x.taken) now)
+    → Changes books new k (file_of t.taken) (file_of u.taken) → Stands new (map (λ x. file_of x.taken) (set now k u))
+round_more now k books new t u at stands changes =
+    let f : TapView → File = λ x. file_of x.taken in
+    rw map-set (changes (map f now) stands (slice_get-map f now k ∙ ap (option_map f) at))
+
+pub stopped_at : (now : List TapView) (k : ℕ) (t u : TapView) (e : CollectError) → slice_get now k ≡ Some t → IsStoppedAt k u e → IsStopped (set now k u) e
+stopped_at now k t u Memory at s = tt
+stopped_at now k t u (Closed n) at s = (k, u, s.0, get_set_same now k t u at, s.1)
+
+outcome_at : (n : ℕ) (p : EventPart) (es : List Placed) → has_ended (event n p ∷ es) ≡ true → (has_ended es ≡ true → IsSome (first (filter_map outcome_in es))) → IsSome (first (filter_map outcome_in (event n p ∷ es)))
+outcome_at n (part.Opened o) es h ih = ih h
+outcome_at n (part.Block b) es h ih = ih h
+outcome_at n (part.Ended o) es h ih = refl
+
+ended_outcome : (es : List Placed) → has_ended es ≡ true → IsSome (first (filter_map outcome_in es))
+ended_outcome [] h = cc
+ended_outcome (e ∷ es) h = outcome_at e.place e.part es h (ended_outcome es)
+
+ended_at : (ts : List TapView) (k : ℕ) → All (λ t. has_ended t.taken ≡ true) ts → k < length ts → ended_in (map (λ t. file_of t.taken) ts) k ≡ true
+ended_at [] k h below = absurd (omega arith)
+ended_at (t ∷ ts) zero h below = ended_outcome t.taken (h 0 t (omega arith))
+ended_at (t ∷ ts) (suc k) h below = ended_at ts k (All-tail (λ x. has_ended x.taken ≡ true) t ts h) (omega arith)
+
+-- all files have ended
+pub files_ended : (books : Books) (ts : List TapView) → Stands books (map (λ t. file_of t.taken) ts) → length ts ≡ files_count books → All (λ t. has_ended t.taken ≡ true) ts → AllEnded books
+files_ended books ts stands count h =
+    let len = length-map ts (λ t. file_of t.taken) in
+    all_ended books (map (λ t. file_of t.taken) ts) stands (len ∙ count) (λ k below. ended_at ts k h (omega (arith, len, below)))
+
+-- a file that goes on takes a block, and may end
+pub going_books : (books : Books) (k : ℕ) (f : File) → Knows books k f → IsGoing f → CanBook books k
+going_books books k f known going =
+    can_book books known.0 k known.1 (rw known.2 going.opened) (rw known.2 (ap is_some going.running)) (rw known.2 going.short)
+
+pub going_ends : (books : Books) (k : ℕ) (f : File) → Knows books k f → IsGoing f → CanEnd books k
+going_ends books k f known going =
+    can_end books known.0 k known.1 (slice_get_within known.0 k f known.2) (rw known.2 (ap is_some going.running))
+
+-- the next file can be opened
+pub next_opens : (books : Books) (k : ℕ) → IsNext books k → opened_count books < files_count books
+next_opens books k next = omega (arith, opened_is books next.0 next.1, next.2, next.3)
+
+-- a file that was opened without an opening may end at once
+pub opened_ends : (a b : Books) (k : ℕ) → IsNext a k → ((files : List File) → Stands a files → Stands b (files ++ opened None ∷ [])) → CanEnd b k
+opened_ends a b k next opens =
+    let f = opened None in
+    let at : slice_get (next.0 ++ f ∷ []) k ≡ Some f = subst (λ i. slice_get (next.0 ++ f ∷ []) i ≡ Some f) next.2 (get_end next.0 f) in
+    can_end b (next.0 ++ f ∷ []) k (opens next.0 next.1) (slice_get_within (next.0 ++ f ∷ []) k f at) (rw at refl)
+
+-- the tap that was lent stands at its place
+pub lent : (now : List TapView) (k : ℕ) (t : TapView) → k < length now → t ≡ get_or now k t → slice_get now k ≡ Some t
+lent now k t low h = slice_get_read now (length now) k t refl low h
+
+-- taps with the same names are as many
+pub same_count : (xs ys : List TapView) → map (λ t. t.name) xs ≡ map (λ t. t.name) ys → length xs ≡ length ys
+same_count xs ys e = sym (length-map xs (λ t. t.name)) ∙ ap length e ∙ length-map ys (λ t. t.name)

@@ -1,0 +1,81 @@
+//! What an intake is asked to do, and why it gives up.
+ghost use Rattle.std.specs.Prelude.{◌≡◌};
+ghost use Rattle.dsr_intake.specs.Options.{standard_options, refusal_of};
+
+use dsr_records::Layout;
+use thiserror::Error;
+
+/// How an intake goes about its files.
+#[derive(Drop)]
+pub struct Options {
+    /// How many messages the relay of a file holds at most: 1 to 1,024.
+    pub capacity: u32,
+    /// After how many reads the reading of a file stops: 1 to 16,777,216.
+    pub max_reads: u32,
+    /// Where the columns of the records stand.
+    pub layout: Layout,
+}
+
+impl Options {
+    /// 16 messages, 4,194,304 reads and the standard layout.
+    pub fn standard() -> Options
+        ensures { result ≡ standard_options }
+    {
+        Options {
+            capacity: 16,
+            max_reads: 4_194_304,
+            layout: Layout::standard(),
+        }
+    }
+
+    /// Equal options.
+    pub(crate) fn copy(&self) -> Options
+        ensures { result ≡ self.now }
+    {
+        Options {
+            capacity: self.capacity,
+            max_reads: self.max_reads,
+            layout: self.layout.copy(),
+        }
+    }
+}
+
+/// Why there is no report. The first four are found before anything is read.
+#[derive(Debug, Clone, Copy, PartialEq, Eq, Error)]
+pub enum IntakeError {
+    #[error("no files")]
+    NoFiles,
+    /// There are more than 64 files.
+    #[error("too many files")]
+    TooManyFiles,
+    #[error("capacity out of range")]
+    Capacity,
+    #[error("reads out of range")]
+    Reads,
+    /// A growth was refused.
+    #[error("out of memory")]
+    Memory,
+    /// A thread could not be started.
+    #[error("cannot start a thread")]
+    Thread,
+    /// The relay of this file, counted from 1, closed before the file had ended.
+    #[error("relay of file {0} closed early")]
+    Broken(u32),
+}
+
+/// What is refused before anything is read.
+pub(crate) fn refusal(files: usize, options: &Options) -> Option<IntakeError>
+    ensures { result ≡ refusal_of files options.now }
+{
+    if files == 0 {
+        Some(IntakeError::NoFiles)
+    } else if files > 64 {
+        Some(IntakeError::TooManyFiles)
+    } else if options.capacity == 0 || options.capacity > 1024 {
+        Some(IntakeError::Capacity)
+    } else if options.max_reads == 0 || options.max_reads > 16_777_216 {
+        Some(IntakeError::Reads)
+    } else {
+        None
+    }
+}

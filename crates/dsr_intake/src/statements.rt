@@ -1,0 +1,108 @@
+//! The statement of a report, and what it comes to.
+ghost use Rattle.std.specs.Prelude.{◌≡◌, ◌++◌, OnOk, IfOk};
+ghost use Rattle.std.specs.List.{flat_map, list_all};
+ghost use Rattle.dsr_intake.specs.Statement.{statement_of, file_lines, missing_line, difference_line, ledger_lines, reject_line};
+ghost use Rattle.dsr_intake.specs.Status.{status_of, is_clean_file};
+
+use crate::lines::{put_difference, put_file, put_head, put_ledger, put_missing, put_reject};
+use crate::verdict::Status;
+use dsr_cells::NoMemory;
+use dsr_file::Outcome;
+use dsr_ledger::{Difference, FileLine, LedgerLine, Reject, Report, Standing};
+use std::alloc::Global;
+
+/// The bytes of the statement.
+pub fn statement(alloc: Global, report: &Report) -> Result<Vec<u8>, NoMemory>
+    ensures { IfOk result (λ v. v.items ≡ statement_of report.now) }
+{
+    let mut out = Vec::new(alloc);
+    put_head(&mut out, &report.key)?;
+    put_files(&mut out, report.files.as_slice())?;
+    put_numbers(&mut out, report.missing.as_slice())?;
+    put_differences(&mut out, report.differences.as_slice())?;
+    put_ledgers(&mut out, report.ledger.as_slice())?;
+    put_rejects(&mut out, report.rejects.as_slice())?;
+    Ok(out)
+}
+
+/// Puts the lines of the files.
+fn put_files(out: &mut Vec<u8>, files: &[FileLine]) -> Result<(), NoMemory>
+    ensures { OnOk result (out.new.items ≡ out.old.items ++ file_lines 1 files.now) }
+{
+    let mut place = 1;
+    for file in files {
+        put_file(out, place, file)?;
+        place += 1;
+    }
+    Ok(())
+}
+
+/// Puts the lines of the missing files.
+fn put_numbers(out: &mut Vec<u8>, numbers: &[u32]) -> Result<(), NoMemory>
+    ensures { OnOk result (out.new.items ≡ out.old.items ++ flat_map missing_line numbers.now) }
+{
+    for number in numbers {
+        put_missing(out, *number)?;
+    }
+    Ok(())
+}
+
+/// Puts the lines of the summaries that differ.
+fn put_differences(out: &mut Vec<u8>, differences: &[Difference]) -> Result<(), NoMemory>
+    ensures { OnOk result (out.new.items ≡ out.old.items ++ flat_map difference_line differences.now) }
+{
+    for difference in differences {
+        put_difference(out, difference)?;
+    }
+    Ok(())
+}
+
+/// Puts the lines of the ledger.
+fn put_ledgers(out: &mut Vec<u8>, lines: &[LedgerLine]) -> Result<(), NoMemory>
+    ensures { OnOk result (out.new.items ≡ out.old.items ++ flat_map ledger_lines lines.now) }
+{
+    for line in lines {
+        put_ledger(out, line)?;
+    }
+    Ok(())
+}
+
+/// Puts the lines of the rejected blocks.
+fn put_rejects(out: &mut Vec<u8>, rejects: &[Reject]) -> Result<(), NoMemory>
+    ensures { OnOk result (out.new.items ≡ out.old.items ++ flat_map reject_line rejects.now) }
+{
+    for reject in rejects {
+        put_reject(out, reject)?;
+    }
+    Ok(())
+}
+
+/// Whether anybody has to look at the statement.
+pub fn status(report: &Report) -> Status
+    ensures { result ≡ status_of report.now }
+{
+    if report.key.is_some()
+        && are_clean(report.files.as_slice())
+        && report.missing.len() == 0
+        && report.differences.len() == 0
+        && report.rejects.len() == 0
+    {
+        Status::Clean
+    } else {
+        Status::Remarks
+    }
+}
+
+/// Whether every file is ours and whole.
+fn are_clean(files: &[FileLine]) -> bool
+    ensures { result ≡ list_all is_clean_file files.now }
+{
+    files.iter().all(|file| is_clean(file))
+}
+
+/// Whether a file is ours and whole.
+fn is_clean(file: &FileLine) -> bool
+    ensures { result ≡ is_clean_file file.now }
+{
+    matches!(file.standing, Standing::Ours) && matches!(file.outcome, Outcome::Whole)
+}

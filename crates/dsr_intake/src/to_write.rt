@@ -1,0 +1,54 @@
+//! An outlet over a writer of the library.
+ghost use Rattle.std.specs.Prelude.{◌≡◌, false};
+
+use crate::outlet::Outlet;
+use dsr_file::Failed;
+use std::io::Write;
+
+/// An outlet over a writer.
+#[derive(Drop)]
+pub struct ToWrite<W> {
+    writer: W,
+    failed: bool,
+}
+
+impl<W: Write> ToWrite<W> {
+    /// The outlet over this writer, which has not failed.
+    pub fn new(writer: W) -> ToWrite<W>
+        ensures { ⟦<ToWrite<W> as Outlet>⟧.told result ≡ record { contents = W.contents writer; failed = false } }
+    {
+        ToWrite {
+            writer,
+            failed: false,
+        }
+    }
+}
+
+impl<W: Write> Outlet for ToWrite<W> {
+    ghost told = { λ s. record { contents = W.contents s.writer; failed = s.failed } };
+
+    /// An answer of 0 bytes is a failure.
+    fn write(&mut self, piece: &[u8]) -> Result<usize, Failed> {
+        match self.writer.write(piece) {
+            Ok(n) if n > 0 => Ok(n),
+            _ => {
+                self.failed = true;
+                Err(Failed)
+            }
+        }
+    }
+
+    fn flush(&mut self) -> Result<(), Failed> {
+        match self.writer.flush() {
+            Ok(()) => Ok(()),
+            Err(_) => {
+                self.failed = true;
+                Err(Failed)
+            }
+        }
+    }
+
+    fn failed(&self) -> bool {
+        self.failed
+    }
+}
