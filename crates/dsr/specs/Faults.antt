@@ -4,8 +4,8 @@ use Rattle.dsr_intake.specs.declared.options.IntakeError.{IntakeError}
 use Rattle.dsr_intake.specs.declared.options.IntakeError.TheVariants as intake
 use Rattle.dsr_intake.specs.declared.run_error.RunError.{RunError}
 use Rattle.dsr_intake.specs.declared.run_error.RunError.TheVariants as run
-use Rattle.dsr_intake.specs.declared.status.Status.{Status}
-use Rattle.dsr_intake.specs.declared.status.Status.TheVariants.{Clean, Remarks}
+use Rattle.dsr_intake.specs.declared.verdict.Status.{Status}
+use Rattle.dsr_intake.specs.declared.verdict.Status.TheVariants.{Clean, Remarks}
 
 abbrev pub status_number : Result Status RunError → ℕ
 status_number (Ok Clean) = 0

@@ -1,5 +1,5 @@
 //! Opening the files of the report.
-ghost use Rattle.std.specs.Prelude.{◌≡◌, ◌<◌, false, All, length, IfOk, if◌then◌else◌, ◌==◌};
+ghost use Rattle.std.specs.Prelude.{◌≡◌, ◌+◌, false, All, length, IfOk, OnOk, if◌then◌else◌, ◌==◌};
 
 use crate::command::Names;
 use dsr_cells::{NoMemory, Text};
@@ -61,7 +61,10 @@ pub fn open_inputs<H: Files<File = File> + io::Input<Reader = StdinLock<'static>
 }
 
 /// Adds a source that has not failed.
-fn add(inputs: &mut Inputs, reader: InputReader) -> Result<(), OpenError> {
+fn add(inputs: &mut Inputs, reader: InputReader) -> Result<(), OpenError>
+    ensures count { OnOk result (length inputs.new.items ≡ length inputs.old.items + 1) }
+    ensures unfailed { OnOk result (All (λ r. r.failed ≡ false) inputs.old.items → All (λ r. r.failed ≡ false) inputs.new.items) }
+{
     match inputs.push(FromRead::new(reader)) {
         Ok(()) => Ok(()),
         Err(_) => Err(OpenError::Memory),

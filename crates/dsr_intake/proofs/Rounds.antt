@@ -1,8 +1,7 @@
 -- What holds while the files are opened, and in a round.
 use Rattle.std.proofs.Common.{◌≡◌, ℕ, zero, suc, ◌+◌, ◌<◌, ◌≤◌, true, List, [], ◌∷◌, ◌++◌, map, take, set, length, get_or, All, Some, None, Result, Ok, Err, refl, sym, ap, subst, ◌∙◌, arith, length-take, add-one, ◌⊎◌, inl, inr, IsSome, is_some, slice_get}
 use Rattle.std.specs.List.{filter_map}
-use Rattle.std.specs.Prelude.{MatchResult, OnOk}
-use Rattle.dsr_cells.specs.declared.text.NoMemory.{NoMemory}
+use Rattle.std.specs.Prelude.{OnOk}
 use Rattle.std.specs.Option.{option_map}
 use Rattle.std.proofs.lemmas.List.Elements.{All-tail}
 use Rattle.std.proofs.lemmas.List.{map-append, length-map, map-set}
@@ -42,11 +41,12 @@ outcome_is_set (g ∷ files) zero f o at = let e : g ≡ f = cc in ap (λ h. end
 outcome_is_set (g ∷ files) (suc k) f o at = ap (λ l. g ∷ l) (outcome_is_set files k f o at)
 
 -- ending a file changes it
-pub outcome_changes : (a c : Books) (k : ℕ) (o : Outcome) (answer : Result Unit NoMemory)
-    → ((files : List File) → Stands a files → MatchResult answer (λ _. Stands c (with_outcome files k o)) (λ _. Stands c files))
-    → OnOk answer ((f : File) → Changes a c k f (end_with o f))
-outcome_changes a c k o (Ok v) h = λ f files stands at. subst (Stands c) (outcome_is_set files k f o at) (h files stands)
-outcome_changes a c k o (Err e) h = tt
+pub outcome_changes : (a c : Books) (k : ℕ) (o : Outcome) → ((files : List File) → Stands a files → Stands c (with_outcome files k o)) → (f : File) → Changes a c k f (end_with o f)
+outcome_changes a c k o h f files stands at = subst (Stands c) (outcome_is_set files k f o at) (h files stands)
+
+pub on_any : {A E P : Type 0} (answer : Result A E) → P → OnOk answer P
+on_any (Ok v) p = p
+on_any (Err e) p = tt
 
 module _ (n : ℕ) where
   first_at : (p : EventPart) → MayStandAt 0 p → file_of (event n p ∷ []) ≡ first_file p

@@ -4,12 +4,12 @@ use Rattle.dsr_intake.proofs.collector.open_part.Goals as goal
 pub open_next-requires : goal.open_next-requires
 open_next-requires c = next_opens c.args.books.now c.args.k c.requires.next
 
-pub open_next-requires-2 : goal.open_next-requires-2
-open_next-requires-2 c = next_opens c.args.books.now c.args.k c.requires.next
+pub open_next-requires-in-Ended : goal.open_next-requires-in-Ended
+open_next-requires-in-Ended c = next_opens c.args.books.now c.args.k c.requires.next
 
 pub end_file-requires : goal.end_file-requires
-end_file-requires c = opened_ends c.args.books.now _ c.args.k c.requires.next (λ files stands. c.in_ok-open_next-in-Ended.ensures.stands files stands)
+end_file-requires c = opened_ends c.args.books.now _ c.args.k c.requires.next (λ files stands. (c.in_ok-open_next-in-Ended.ensures.stands files stands).1)
 
 pub returns-in_ok-end_file-in-Ended-clause-opened : goal.returns-in_ok-end_file-in-Ended-clause-opened
 returns-in_ok-end_file-in-Ended-clause-opened c =
-    rw c.in-Ended.is (opens_ended _ _ _ c.args.k c.in-Ended.outcome (λ files stands len. c.in_ok-open_next-in-Ended.ensures.stands files stands) c.in_ok-end_file-in-Ended.ensures.stands)
+    rw c.in-Ended.is (opens_ended c.args.books.now c.open_next-in-Ended.new.self c.end_file.new.self c.args.k c.in-Ended.outcome (λ files stands len. (c.in_ok-open_next-in-Ended.ensures.stands files stands).1) c.in_ok-end_file-in-Ended.ensures.stands)

@@ -1,4 +1,5 @@
 use Rattle.std.proofs.Common.{◌∙◌}
+use Rattle.dsr_intake.specs.Texts.{file_of}
 use Rattle.dsr_intake.proofs.Filing.{changes_more, knows_more}
 use Rattle.dsr_intake.proofs.collector.take_message.Goals as goal
 
@@ -10,6 +11,6 @@ loop-tap-preserved g c =
       name = step.name ∙ was.name;
       files = step.files ∙ was.files;
       tapped = step.tapped;
-      changes = changes_more _ _ _ c.args.k _ _ _ was.changes step.booked;
-      some = knows_more _ _ c.args.k _ _ was.some step.booked;
+      changes = changes_more c.args.books.now c.loop-tap.books c.take_one-in-loop-tap.new.books c.args.k (file_of c.args.tap.now.taken) (file_of c.loop-tap.tap.taken) (file_of c.take_one-in-loop-tap.new.tap.taken) was.changes step.booked;
+      some = knows_more c.loop-tap.books c.take_one-in-loop-tap.new.books c.args.k (file_of c.loop-tap.tap.taken) (file_of c.take_one-in-loop-tap.new.tap.taken) was.some step.booked;
     }
