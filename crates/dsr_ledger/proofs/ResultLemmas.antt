@@ -1,0 +1,10 @@
+-- What holds of a result.
+use Rattle.std.specs.Prelude.{Result, Ok, Err, IfOk, OnErr}
+
+pub ok_both : {A E : Type 0} (P Q R : A → Type 0) (r : Result A E) → ((x : A) → P x → Q x → R x) → IfOk r P → IfOk r Q → IfOk r R
+ok_both P Q R (Ok x) f p q = f x p q
+ok_both P Q R (Err e) f p q = tt
+
+pub on_err : {A E : Type 0} (P Q : Type 0) (r : Result A E) → (P → Q) → OnErr r P → OnErr r Q
+on_err P Q (Ok x) f p = tt
+on_err P Q (Err e) f p = f p

@@ -1,0 +1,121 @@
+-- What is kept still stands for the file after a block.
+use Rattle.std.proofs.Common.{◌≡◌, ℕ, ◌+◌, List, [], ◌∷◌, ◌++◌, length, length-append, append-nil, Bool, true, false, cond, refl, sym, ◌∙◌, ap, arith}
+use Rattle.std.specs.Prelude.{◌||◌, Option, None, Some, option_map, is_some, find}
+use Rattle.std.specs.List.{flat_map, list_any}
+use Rattle.std.specs.Str.{bytes_eq}
+use Rattle.std.specs.Ordering.{is_eq}
+use Rattle.std.specs.HashMap.{get}
+use Rattle.std.specs.BTreeSet.{contains}
+use Rattle.std.proofs.lemmas.List.Concat.{flat_map-append}
+use Rattle.std.proofs.lemmas.List.Folds.{list_any-append}
+use Rattle.dsr_records.specs.declared.record.Summary.{Summary}
+use Rattle.dsr_records.specs.declared.record.Usage.{Usage}
+use Rattle.dsr_records.specs.Blocks.{BlockParts}
+use Rattle.dsr_ledger.specs.declared.lines.Lines.{Lines}
+use Rattle.dsr_ledger.specs.declared.file.FileBooks.{FileBooks}
+use Rattle.dsr_ledger.specs.declared.verdict.Verdict.{Verdict}
+use Rattle.dsr_ledger.specs.declared.verdict.Verdict.TheVariants.{Booked, Rejected}
+use Rattle.dsr_ledger.specs.Files.{Filed, summaries_of, with_one}
+use Rattle.dsr_ledger.specs.Verdicts.{has_id, is_summary, verdict_of, verdict_by}
+use Rattle.dsr_ledger.specs.Bookings.{Place, place_of, place_named, block_bookings, verdict_bookings}
+use Rattle.dsr_ledger.specs.Findings.{usages_in, rejects_from}
+use Rattle.dsr_ledger.specs.Keys.{text_cmp}
+use Rattle.dsr_ledger.specs.Found.{shown, shown_with, place_at, is_known, found_in, nothing_found}
+use Rattle.dsr_ledger.specs.Tallies.{tally_at, tally_plus, key_tally}
+use Rattle.dsr_ledger.specs.FileSteps.{IsSameFile, TakesBlock, bookings_by}
+use Rattle.dsr_ledger.specs.Stands.{FileStands, Took}
+use Rattle.dsr_ledger.proofs.TextLemmas.{text_ties, text_tie}
+use Rattle.dsr_ledger.proofs.ShownLemmas.{shown_with-append}
+use Rattle.dsr_ledger.proofs.JudgedLemmas.{rejects_more}
+
+is_some-map : {A B : Type 0} (f : A → B) (o : Option A) → is_some (option_map f o) ≡ is_some o
+is_some-map f None = refl
+is_some-map f (Some x) = refl
+
+-- the summaries that are kept are those of the file
+known_is : (f : FileBooks) (d : Filed) → FileStands f d → (id : List ℕ) → is_known f.founds id ≡ is_summary (summaries_of d.file.opening) id
+known_is f d h id =
+    sym (is_some-map shown (get bytes_eq f.founds id)) ∙ ap is_some (h.founds id) ∙ is_some-map _ (find (λ s. bytes_eq id s.id) (summaries_of d.file.opening))
+
+-- so the verdict is that of the file
+verdict_is : (f : FileBooks) (d : Filed) (b : BlockParts) → FileStands f d → verdict_by f.standing (contains text_cmp f.ids b.id) (is_known f.founds) b ≡ verdict_of d b
+verdict_is f d b h = λ i. verdict_by (h.standing i) (h.ids b.id i) (λ id. known_is f d h id i) b
+
+place-found : (id : List ℕ) (us : List Usage) (o : Option Summary) → option_map (λ s. s.place) (option_map (λ s. shown_with id us (nothing_found s)) o) ≡ option_map place_of o
+place-found id us None = refl
+place-found id us (Some s) = refl
+
+places_are : (f : FileBooks) (d : Filed) → FileStands f d → place_at f.founds ≡ place_named (summaries_of d.file.opening)
+places_are f d h = λ i id. (ap (option_map (λ s. s.place)) (h.founds id) ∙ place-found id (usages_in d.file.blocks) (find (λ s. bytes_eq id s.id) (summaries_of d.file.opening))) i
+
+-- a further usage is found
+found_more : (os : List Summary) (us vs : List Usage) (id : List ℕ) → option_map (shown_with id vs) (found_in os us id) ≡ found_in os (us ++ vs) id
+found_more os us vs id = both (find (λ s. bytes_eq id s.id) os)
+  where
+    both : (o : Option Summary) → option_map (shown_with id vs) (option_map (λ s. shown_with id us (nothing_found s)) o) ≡ option_map (λ s. shown_with id (us ++ vs) (nothing_found s)) o
+    both None = refl
+    both (Some s) = ap Some (shown_with-append id us vs (nothing_found s))
+
+usages_in-push : (bs : List BlockParts) (b : BlockParts) → usages_in (bs ++ b ∷ []) ≡ usages_in bs ++ b.usages
+usages_in-push bs b =
+    let f = λ (x : BlockParts). x.usages in
+    flat_map-append f bs (b ∷ []) ∙ ap (λ l. flat_map f bs ++ l) (append-nil b.usages)
+
+or_last : (x y : Bool) → cond x true y ≡ (y || (x || false))
+or_last true true = refl
+or_last true false = refl
+or_last false true = refl
+or_last false false = refl
+
+same_bookings : (os : List Summary) (b : BlockParts) (v : Verdict) → bookings_by (place_named os) b v ≡ verdict_bookings os (b, v)
+unfolding block_bookings
+same_bookings os b Booked = refl
+same_bookings os b (Rejected r) = refl
+
+-- a block was taken, and its identifier noted
+pub took : (d : Filed) (f g : FileBooks) (b : BlockParts) (v : Verdict) (seen : Bool) (old new : Lines) → FileStands f d → verdict_by f.standing seen (is_known f.founds) b ≡ v → seen ≡ contains text_cmp f.ids b.id → TakesBlock f g old new b v → ((id : List ℕ) → contains text_cmp g.ids id ≡ cond (is_eq (text_cmp b.id id)) true (contains text_cmp f.ids id)) → Took d b v g old new
+took d f g b v seen old new h judged_so same t ids =
+    let is = sym judged_so ∙ ap (λ s. verdict_by f.standing s (is_known f.founds) b) same ∙ verdict_is f d b h in
+    let os = summaries_of d.file.opening in
+    let position : f.blocks + 1 ≡ 1 + length d.file.blocks = let e = h.blocks in omega arith in
+    record {
+      is_verdict = is;
+      stands = record {
+        place = t.place ∙ h.place;
+        opening = t.opening ∙ h.opening;
+        standing = t.standing ∙ h.standing;
+        blocks = t.blocks ∙ ap (λ n. n + 1) h.blocks ∙ sym (length-append d.file.blocks (b ∷ []));
+        ids = λ id.
+            ids id ∙ (λ i. cond (text_ties b.id id i) true (h.ids id i)) ∙ or_last (bytes_eq b.id id) (list_any (has_id id) d.file.blocks)
+            ∙ sym (list_any-append (has_id id) d.file.blocks (b ∷ []));
+        founds = λ id.
+            t.founds id ∙ ap (option_map (shown_with id b.usages)) (h.founds id) ∙ found_more os (usages_in d.file.blocks) b.usages id
+            ∙ ap (λ us. found_in os us id) (sym (usages_in-push d.file.blocks b));
+        rejects = t.rejects ∙ (λ i. h.rejects i ++ rejects_from (h.place i) (position i) ((b, is i) ∷ [])) ∙ sym (rejects_more d b);
+        outcome = t.outcome ∙ h.outcome;
+      };
+      tallies = λ q. t.tallies q ∙ (λ i. tally_plus (tally_at old q) (key_tally (bookings_by (places_are f d h i) b v) q)) ∙ ap (λ l. tally_plus (tally_at old q) (key_tally l q)) (same_bookings os b v);
+      range = t.range;
+    }
+
+-- where nothing that counts has changed
+pub stands_same : (f g : FileBooks) (d : Filed) → FileStands f d → IsSameFile f g → FileStands g d
+stands_same f g d h t = record {
+  place = t.place ∙ h.place;
+  opening = t.opening ∙ h.opening;
+  standing = t.standing ∙ h.standing;
+  blocks = t.blocks ∙ h.blocks;
+  ids = λ id. t.ids id ∙ h.ids id;
+  founds = λ id. t.founds id ∙ h.founds id;
+  rejects = t.rejects ∙ h.rejects;
+  outcome = t.outcome ∙ h.outcome;
+}
+
+-- an identifier that was noted and taken out again
+pub taken_out : (was noted out : List ℕ → Bool) (k : List ℕ) → ((q : List ℕ) → noted q ≡ cond (is_eq (text_cmp k q)) true (was q)) → ((q : List ℕ) → out q ≡ cond (is_eq (text_cmp k q)) false (noted q)) → was k ≡ false → (q : List ℕ) → out q ≡ was q
+taken_out was noted out k put took_out absent q =
+    took_out q ∙ ap (λ x. cond (is_eq (text_cmp k q)) false x) (put q)
+    ∙ elim (is_eq (text_cmp k q)) as (λ b. is_eq (text_cmp k q) ≡ b → cond b false (cond b true (was q)) ≡ was q) [
+      | true ↦ λ e. sym (ap was (sym ((text_tie k q).0 e)) ∙ absent)
+      | false ↦ λ _. refl
+    ] refl

@@ -1,0 +1,34 @@
+use Rattle.std.proofs.Common.{◌≡◌, ◌+◌, ◌<◌, ◌≤◌, List, [], ◌∷◌, ◌++◌, Bool, true, false, cond, refl, arith, ap, ◌∙◌, subst, length, length-append}
+use Rattle.std.specs.Prelude.{is_ok}
+use Rattle.std.proofs.Math.Logic.{∥∥₁_map}
+use Rattle.dsr_ledger.specs.declared.kept.Kept.{Kept}
+use Rattle.dsr_ledger.specs.declared.file.FileBooks.{FileBooks}
+use Rattle.dsr_ledger.proofs.BooksLemmas.{OpenedAfter, reached_opened, opened_next}
+use Rattle.dsr_ledger.proofs.books.Books.open_next.Goals as goal
+
+grown : (b : Bool) (fs : List FileBooks) (f : FileBooks) → length (cond b (fs ++ f ∷ []) fs) ≤ length fs + 1
+grown true fs f = let e = length-append fs (f ∷ []) in omega arith
+grown false fs f = omega arith
+
+pub invariant_of-self : goal.invariant_of-self
+invariant_of-self c =
+    let old = c.args.self.now.kept in
+    let f = c.in_ok-file.file in
+    let new : Kept = record { files = c.push.new.self; lines = old.lines } in
+    let one = subst (λ (fs : List FileBooks). OpenedAfter fs c.args.opening f) c.as_slice.ensures.value c.in_ok-file.ensures in
+    let below = c.requires in
+    let more = grown (is_ok c.push.result) old.files.items f in
+    let long = ap length c.push.ensures.items in
+    record {
+      most = c.args.self.now.most;
+      room = omega arith;
+      reached = ∥∥₁_map c.args.self.now.reached (reached_opened old new (is_ok c.push.result) f c.args.opening one c.push.ensures.items refl);
+    }
+
+pub returns-clause-stands : goal.returns-clause-stands
+returns-clause-stands c = λ files h.
+    let old = c.args.self.now.kept in
+    let f = c.in_ok-file.file in
+    let new : Kept = record { files = c.push.new.self; lines = old.lines } in
+    let one = subst (λ (fs : List FileBooks). OpenedAfter fs c.args.opening f) c.as_slice.ensures.value c.in_ok-file.ensures in
+    opened_next old new f c.args.opening files one c.in_ok-push.ensures.items refl h

@@ -1,0 +1,60 @@
+-- What the booked blocks add to the ledger: one booking for each usage.
+use Rattle.std.specs.Prelude.{ℕ, Option, None, Some, List, [], ◌∷◌, find, option_map}
+use Rattle.std.specs.List.{flat_map}
+use Rattle.std.specs.Str.{bytes_eq}
+use Rattle.dsr_records.specs.declared.record.Summary.{Summary}
+use Rattle.dsr_records.specs.declared.record.Usage.{Usage}
+use Rattle.dsr_records.specs.Works.{WorkParts}
+use Rattle.dsr_records.specs.Blocks.{BlockParts}
+use Rattle.dsr_ledger.specs.declared.key.Key.{Key}
+use Rattle.dsr_ledger.specs.declared.verdict.Verdict.{Verdict}
+use Rattle.dsr_ledger.specs.declared.verdict.Verdict.TheVariants.{Booked, Rejected}
+use Rattle.dsr_ledger.specs.Files.{File, Filed, filed, summaries_of}
+use Rattle.dsr_ledger.specs.Verdicts.{judged_in}
+
+-- the three parts of a key that a summary gives
+pub record Place : Type 0 where
+  pub territory : List ℕ
+  pub use_type : List ℕ
+  pub currency : List ℕ
+
+abbrev pub place_of : Summary → Place
+place_of s = record { territory = s.territory; use_type = s.use_type; currency = s.currency }
+
+abbrev pub key_under : List ℕ → Place → Key
+key_under isrc p = record { isrc = isrc; territory = p.territory; use_type = p.use_type; currency = p.currency }
+
+-- one booked usage: the key that it counts under, and the works of its block
+pub record Booking : Type 0 where
+  pub key : Key
+  pub usage : Usage
+  pub works : List WorkParts
+
+-- the place of the summary of this name
+abbrev pub place_named : List Summary → List ℕ → Option Place
+place_named summaries id = option_map place_of (find (λ s. bytes_eq id s.id) summaries)
+
+-- a usage under the place of its summary
+abbrev pub booked_under : List ℕ → List WorkParts → Usage → Option Place → List Booking
+booked_under isrc works u None = []
+booked_under isrc works u (Some p) = record { key = key_under isrc p; usage = u; works = works } ∷ []
+
+-- the bookings of usages whose summaries have these places
+abbrev pub usage_bookings : (List ℕ → Option Place) → List ℕ → List WorkParts → List Usage → List Booking
+usage_bookings place isrc works us = flat_map (λ u. booked_under isrc works u (place u.summary_id)) us
+
+-- the bookings of a block that is booked
+unfoldable pub block_bookings : List Summary → BlockParts → List Booking
+block_bookings summaries b = usage_bookings (place_named summaries) b.resource.isrc b.works b.usages
+
+abbrev pub verdict_bookings : List Summary → BlockParts × Verdict → List Booking
+verdict_bookings summaries (b, Booked) = block_bookings summaries b
+verdict_bookings summaries (b, Rejected reason) = []
+
+-- the bookings of a file
+abbrev pub filed_bookings : Filed → List Booking
+filed_bookings d = flat_map (verdict_bookings (summaries_of d.file.opening)) (judged_in d)
+
+-- all bookings of the files
+abbrev pub bookings : List File → List Booking
+bookings files = flat_map filed_bookings (filed files)

@@ -1,0 +1,97 @@
+-- Files as they are handed in, and how they stand.
+use Rattle.std.specs.Prelude.{ℕ, zero, suc, ◌+◌, Bool, false, not, ◌==◌, ◌&&◌, Option, None, Some, List, [], ◌∷◌, ◌++◌, if◌then◌else◌}
+use Rattle.std.specs.List.{list_any}
+use Rattle.std.specs.Str.{bytes_eq}
+use Rattle.dsr_cells.specs.Days.{CivilDay}
+use Rattle.dsr_records.specs.declared.record.Head.{Head}
+use Rattle.dsr_records.specs.declared.record.Summary.{Summary}
+use Rattle.dsr_records.specs.Blocks.{BlockParts}
+use Rattle.dsr_file.specs.declared.fault.Outcome.{Outcome}
+use Rattle.dsr_file.specs.Openings.{OpeningParts}
+use Rattle.dsr_ledger.specs.declared.verdict.Standing.{Standing}
+use Rattle.dsr_ledger.specs.declared.verdict.Standing.TheVariants.{Ours, Foreign, Doubled, Headless}
+
+-- a file: its opening, or none, its blocks, and how it ended, or none so far
+pub record File : Type 0 where
+  pub opening : Option OpeningParts
+  pub blocks : List BlockParts
+  pub outcome : Option Outcome
+
+abbrev pub same_day : CivilDay → CivilDay → Bool
+same_day a b = (a.year == b.year) && ((a.month == b.month) && (a.day == b.day))
+
+-- two files are of one report: the same message, number of files and days
+abbrev pub is_same_report : Head → Head → Bool
+is_same_report a b =
+    bytes_eq a.message_id b.message_id && ((a.number_of_files == b.number_of_files)
+    && (same_day a.first_day b.first_day && same_day a.last_day b.last_day))
+
+-- the head of the first file that has an opening, which is that of the report
+abbrev pub first_head : List (Option OpeningParts) → Option Head
+first_head [] = None
+first_head (None ∷ os) = first_head os
+first_head (Some o ∷ os) = Some o.head
+
+abbrev pub is_of_report : Option Head → Head → Bool
+is_of_report None h = false
+is_of_report (Some first) h = is_same_report first h
+
+-- that opening is of the same report and has the same number
+abbrev pub has_number_of : Head → Option OpeningParts → Bool
+has_number_of h None = false
+has_number_of h (Some o) = is_same_report h o.head && (h.file_number == o.head.file_number)
+
+-- how a file with this opening stands after files with the earlier openings
+unfoldable pub standing : List (Option OpeningParts) → Option OpeningParts → Standing
+standing earlier None = Headless
+standing earlier (Some o) =
+    if not (is_of_report (first_head (earlier ++ Some o ∷ [])) o.head) then Foreign
+    else if list_any (has_number_of o.head) earlier then Doubled
+    else Ours
+
+abbrev pub summaries_of : Option OpeningParts → List Summary
+summaries_of None = []
+summaries_of (Some o) = o.summaries
+
+-- a file with its place in the order given, from 1, and its standing
+pub record Filed : Type 0 where
+  pub place : ℕ
+  pub standing : Standing
+  pub file : File
+
+-- files from this place on, after files with the earlier openings
+abbrev pub filed_after : ℕ → List (Option OpeningParts) → List File → List Filed
+filed_after place earlier [] = []
+filed_after place earlier (f ∷ fs) =
+    record { place = place; standing = standing earlier f.opening; file = f } ∷ filed_after (suc place) (earlier ++ f.opening ∷ []) fs
+
+abbrev pub filed : List File → List Filed
+filed files = filed_after 1 [] files
+
+-- a file of which the opening alone is known
+abbrev pub opened : Option OpeningParts → File
+opened o = record { opening = o; blocks = []; outcome = None }
+
+abbrev pub add_block : BlockParts → File → File
+add_block b f = record f { blocks = f.blocks ++ b ∷ [] }
+
+abbrev pub end_with : Outcome → File → File
+end_with o f = record f { outcome = Some o }
+
+-- the files, where file k, from 0, is changed so
+abbrev pub with_file : (File → File) → List File → ℕ → List File
+with_file g [] k = []
+with_file g (f ∷ fs) zero = g f ∷ fs
+with_file g (f ∷ fs) (suc k) = f ∷ with_file g fs k
+
+-- the files, with the block added to file k
+abbrev pub with_block : List File → ℕ → BlockParts → List File
+with_block files k b = with_file (add_block b) files k
+
+-- the files, with file k ended so
+abbrev pub with_outcome : List File → ℕ → Outcome → List File
+with_outcome files k o = with_file (end_with o) files k
+
+-- the file with one more block
+abbrev pub with_one : Filed → BlockParts → Filed
+with_one d b = record d { file = add_block b d.file }

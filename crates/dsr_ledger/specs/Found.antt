@@ -1,0 +1,64 @@
+-- What is kept of a file's summaries.
+use Rattle.std.specs.Prelude.{◌≡◌, ℕ, ℤ, pos, ◌+ℤ◌, Bool, is_some, List, [], ◌∷◌, Option, option_map, find}
+use Rattle.std.specs.Str.{bytes_eq}
+use Rattle.std.specs.HashMap.{HashMap, get}
+use Rattle.indexmap.specs.IndexMap.{index_of}
+use Rattle.dsr_records.specs.declared.record.Summary.{Summary}
+use Rattle.dsr_records.specs.declared.record.Usage.{Usage}
+use Rattle.dsr_ledger.specs.declared.sums.Sums.{Sums}
+use Rattle.dsr_ledger.specs.declared.found.Found.{Found}
+use Rattle.dsr_ledger.specs.Sums.{int_sum_by}
+use Rattle.dsr_ledger.specs.Bookings.{Place, place_of}
+use Rattle.dsr_ledger.specs.Findings.{naming}
+use Rattle.dsr_ledger.specs.Ranges.{SumsFit}
+
+-- all but the recording of the block at hand
+pub record Shown : Type 0 where
+  pub place : Place
+  pub sums : Sums
+
+abbrev pub shown : Found → Shown
+shown f = record {
+  place = record { territory = f.key.territory; use_type = f.key.use_type; currency = f.key.currency };
+  sums = f.sums;
+}
+
+-- with one more usage
+abbrev pub shown_plus : Usage → Shown → Shown
+shown_plus u s = record { place = s.place; sums = record { usages = s.sums.usages +ℤ u.usages; amount = s.sums.amount +ℤ u.amount } }
+
+-- what is kept of the summary of this name
+abbrev pub shown_at : {S : Type 0} → HashMap (List ℕ) Found S → List ℕ → Option Shown
+shown_at founds id = option_map shown (get bytes_eq founds id)
+
+abbrev pub place_at : {S : Type 0} → HashMap (List ℕ) Found S → List ℕ → Option Place
+place_at founds id = option_map (λ s. s.place) (shown_at founds id)
+
+-- the place of the summary of this name among the others
+abbrev pub index_at : {S : Type 0} → HashMap (List ℕ) Found S → List ℕ → Option ℕ
+index_at founds id = index_of bytes_eq founds id
+
+-- with the usages added that name it
+abbrev pub shown_with : List ℕ → List Usage → Shown → Shown
+shown_with id us s = record {
+  place = s.place;
+  sums = record {
+    usages = s.sums.usages +ℤ int_sum_by (λ u. u.usages) (naming id us);
+    amount = s.sums.amount +ℤ int_sum_by (λ u. u.amount) (naming id us);
+  };
+}
+
+-- there is a summary of this name
+abbrev pub is_known : {S : Type 0} → HashMap (List ℕ) Found S → List ℕ → Bool
+is_known founds id = is_some (get bytes_eq founds id)
+
+abbrev pub nothing_found : Summary → Shown
+nothing_found s = record { place = place_of s; sums = record { usages = pos 0; amount = pos 0 } }
+
+-- what is found for the summary of this name
+abbrev pub found_in : List Summary → List Usage → List ℕ → Option Shown
+found_in summaries us id = option_map (λ s. shown_with id us (nothing_found s)) (find (λ s. bytes_eq id s.id) summaries)
+
+-- n more usages can be added
+abbrev pub ShownFits : ℕ → Shown → Type 0
+ShownFits n s = SumsFit n s.sums

@@ -1,0 +1,16 @@
+-- The openings that are kept.
+use Rattle.std.specs.Prelude.{ℕ, List, Option, None, Some, map, if◌then◌else◌}
+use Rattle.std.specs.Str.{bytes_eq}
+use Rattle.dsr_records.specs.declared.record.Summary.{Summary}
+use Rattle.dsr_file.specs.Openings.{OpeningParts}
+use Rattle.dsr_ledger.specs.declared.file.FileBooks.{FileBooks}
+
+abbrev pub openings_of : List FileBooks → List (Option OpeningParts)
+openings_of fs = map (λ f. f.opening) fs
+
+abbrev pub first_of : {X : Type 0} → Option X → Option X → Option X
+first_of None other = other
+first_of (Some x) other = Some x
+
+abbrev pub named : List ℕ → Summary → Option Summary
+named id s = if bytes_eq id s.id then Some s else None

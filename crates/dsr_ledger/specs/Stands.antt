@@ -1,0 +1,48 @@
+-- What is kept stands for a list of files.
+use Rattle.std.specs.Prelude.{◌≡◌, ℕ, suc, Option, List, [], ◌∷◌, ◌++◌, ⊤, length}
+use Rattle.std.specs.List.{list_any}
+use Rattle.std.specs.BTreeSet.{contains}
+use Rattle.dsr_records.specs.Blocks.{BlockParts}
+use Rattle.dsr_file.specs.Openings.{OpeningParts}
+use Rattle.dsr_ledger.specs.declared.key.Key.{Key}
+use Rattle.dsr_ledger.specs.declared.lines.Lines.{Lines}
+use Rattle.dsr_ledger.specs.declared.file.FileBooks.{FileBooks}
+use Rattle.dsr_ledger.specs.declared.verdict.Verdict.{Verdict}
+use Rattle.dsr_ledger.specs.Files.{File, Filed, standing, summaries_of, with_one}
+use Rattle.dsr_ledger.specs.Verdicts.{has_id, verdict_of}
+use Rattle.dsr_ledger.specs.Bookings.{Booking, verdict_bookings}
+use Rattle.dsr_ledger.specs.Findings.{usages_in, rejects_in}
+use Rattle.dsr_ledger.specs.Keys.{text_cmp}
+use Rattle.dsr_ledger.specs.Found.{shown_at, found_in}
+use Rattle.dsr_ledger.specs.Tallies.{tally_at, tally_plus, key_tally}
+use Rattle.dsr_ledger.specs.FileSteps.{IsBlockInRange}
+
+-- what is kept of a file stands for it
+pub record FileStands (f : FileBooks) (d : Filed) : Type 0 where
+  pub place : f.place ≡ d.place
+  pub opening : f.opening ≡ d.file.opening
+  pub standing : f.standing ≡ d.standing
+  pub blocks : f.blocks ≡ length d.file.blocks
+  pub ids : (id : List ℕ) → contains text_cmp f.ids id ≡ list_any (has_id id) d.file.blocks
+  pub founds : (id : List ℕ) → shown_at f.founds id ≡ found_in (summaries_of d.file.opening) (usages_in d.file.blocks) id
+  pub rejects : f.rejects.items ≡ rejects_in d
+  pub outcome : f.outcome ≡ d.file.outcome
+
+-- file by file, from this place on, after files with the earlier openings
+abbrev pub FilesStand : ℕ → List (Option OpeningParts) → List FileBooks → List File → Type 0
+FilesStand place earlier [] [] = ⊤
+FilesStand place earlier [] (file ∷ files) = ⊥
+FilesStand place earlier (f ∷ fs) [] = ⊥
+FilesStand place earlier (f ∷ fs) (file ∷ files) =
+    FileStands f (record { place = place; standing = standing earlier file.opening; file = file }) × FilesStand (suc place) (earlier ++ file.opening ∷ []) fs files
+
+-- what is kept of each key is what the bookings make
+abbrev pub LinesStand : Lines → List Booking → Type 0
+LinesStand lines bs = (key : Key) → tally_at lines key ≡ key_tally bs key
+
+-- a block was taken with this verdict: its file stands for one more block, and the lines have its bookings
+pub record Took (d : Filed) (b : BlockParts) (v : Verdict) (g : FileBooks) (old new : Lines) : Type 0 where
+  pub is_verdict : v ≡ verdict_of d b
+  pub stands : FileStands g (with_one d b)
+  pub tallies : (key : Key) → tally_at new key ≡ tally_plus (tally_at old key) (key_tally (verdict_bookings (summaries_of d.file.opening) (b, v)) key)
+  pub range : IsBlockInRange b

@@ -1,0 +1,139 @@
+//! The books of a report.
+ghost use Rattle.std.specs.Prelude.{◌≤◌, length};
+ghost use Rattle.dsr_ledger.specs.Books.{IsReached};
+
+use crate::draft::Draft;
+use crate::kept::Kept;
+use crate::lines::Lines;
+use crate::open::open_after;
+use crate::verdict::{Standing, Verdict};
+use dsr_cells::NoMemory;
+use dsr_file::{Opening, Outcome};
+use dsr_records::Block;
+use std::alloc::Global;
+
+/// The books of a report: they take its files' openings, blocks and outcomes, and come to its report. Files are
+/// numbered from 0.
+#[derive(Drop)]
+pub struct Books {
+    files: u32,
+    alloc: Global,
+    kept: Kept,
+    draft: Draft,
+    ghost most: { files ≤ 64 },
+    ghost room: { length kept.files.items ≤ files },
+    ghost reached: { ∥ IsReached kept ∥₁ },
+}
+
+impl Books {
+    ghost use Rattle.std.specs.Prelude.{◌≡◌, ◌<◌, ℕ, List, [], ◌∷◌, ◌++◌, Option, map, length, IfOk, IsOk, MatchResult};
+    ghost use Rattle.dsr_ledger.specs.Files.{File, standing, opened, with_block, with_outcome};
+    ghost use Rattle.dsr_ledger.specs.Verdicts.{verdict_in};
+    ghost use Rattle.dsr_ledger.specs.Books.{has_opening_in, ended_in, blocks_in};
+    ghost use Rattle.dsr_ledger.specs.BooksWords.{Stands, files_count, opened_count, has_opening_at, ended_at, blocks_at, CanBook, CanEnd};
+
+    /// New books of a report in so many files, from 1 to 64, of which none is open.
+    pub fn new(alloc: Global, files: u32) -> Result<Books, NoMemory>
+        requires some { 1 ≤ files }
+        requires most { files ≤ 64 }
+        ensures stands { IfOk result (λ books. Stands books []) }
+        ensures count { IfOk result (λ books. files_count books ≡ files) }
+    {
+        let kept = Kept {
+            files: Vec::with_capacity(alloc, files as usize)?,
+            lines: Lines::new(alloc),
+        };
+        Ok(Books {
+            files,
+            alloc,
+            kept,
+            draft: Draft::new(alloc),
+        })
+    }
+
+    /// How many files there will be.
+    pub fn files(&self) -> u32
+        ensures { result ≡ files_count self.now }
+    {
+        self.files
+    }
+
+    /// How many files were opened.
+    pub fn opened(&self) -> u32
+        ensures value { result ≡ opened_count self.now }
+        ensures stands { (files : List File) → Stands self.now files → result ≡ length files }
+    {
+        self.kept.files.len() as u32
+    }
+
+    /// How many blocks were taken from file k; 0 for a file that is not opened.
+    pub fn blocks(&self, k: u32) -> u64
+        ensures value { result ≡ blocks_at self.now k }
+        ensures stands { (files : List File) → Stands self.now files → result ≡ blocks_in files k }
+    {
+        match self.kept.file(k) {
+            Some(file) => file.blocks,
+            None => 0,
+        }
+    }
+
+    /// Whether file k is ended.
+    pub fn ended(&self, k: u32) -> bool
+        ensures value { result ≡ ended_at self.now k }
+        ensures stands { (files : List File) → Stands self.now files → result ≡ ended_in files k }
+    {
+        match self.kept.file(k) {
+            Some(file) => file.outcome.is_some(),
+            None => false,
+        }
+    }
+
+    /// Whether file k is opened and has an opening.
+    pub fn has_opening(&self, k: u32) -> bool
+        ensures value { result ≡ has_opening_at self.now k }
+        ensures stands { (files : List File) → Stands self.now files → result ≡ has_opening_in files k }
+    {
+        match self.kept.file(k) {
+            Some(file) => file.opening.is_some(),
+            None => false,
+        }
+    }
+
+    /// Opens the next file in the order given, and answers how it stands. After want of memory nothing has changed.
+    pub fn open_next(&mut self, opening: Option<Opening>) -> Result<Standing, NoMemory>
+        requires { opened_count self.old < files_count self.old }
+        ensures count { files_count self.new ≡ files_count self.old }
+        ensures stands { (files : List File) → Stands self.old files → MatchResult result
+            (λ s. (s ≡ standing (map (λ f. f.opening) files) opening) × Stands self.new (files ++ opened opening ∷ []))
+            (λ _. Stands self.new files) }
+    {
+        let file = open_after(self.kept.files.as_slice(), self.alloc, opening)?;
+        let standing = file.standing;
+        self.kept.files.push(file)?;
+        Ok(standing)
+    }
+
+    /// Takes a block of file k, and answers its verdict. After want of memory nothing has changed.
+    pub fn book(&mut self, k: u32, block: &Block) -> Result<Verdict, NoMemory>
+        requires { CanBook self.old k }
+        ensures count { files_count self.new ≡ files_count self.old }
+        ensures stands { (files : List File) → Stands self.old files → MatchResult result
+            (λ v. (v ≡ verdict_in files k block.now) × Stands self.new (with_block files k block.now))
+            (λ _. Stands self.new files) }
+    {
+        let file = &mut self.kept.files[k as usize];
+        file.book(&mut self.kept.lines, &mut self.draft, self.alloc, block)
+    }
+
+    /// Ends file k. This wants no memory.
+    pub fn end_file(&mut self, k: u32, outcome: Outcome) -> Result<(), NoMemory>
+        requires { CanEnd self.old k }
+        ensures ends { IsOk result }
+        ensures count { files_count self.new ≡ files_count self.old }
+        ensures stands { (files : List File) → Stands self.old files → Stands self.new (with_outcome files k outcome) }
+    {
+        let file = &mut self.kept.files[k as usize];
+        file.outcome = Some(outcome);
+        Ok(())
+    }
+}

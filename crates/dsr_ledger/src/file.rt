@@ -1,0 +1,175 @@
+//! What is kept of a file.
+ghost use Rattle.std.specs.Prelude.{◌≡◌, ◌+◌, ◌<◌, ◌^◌, ◌≤◌, ◌∷◌, ◌++◌, [], ℕ, List, OnOk, OnErr, IfOk, Some, map, if◌then◌else◌, true};
+ghost use Rattle.std.specs.Option.{ForSome};
+ghost use Rattle.std.specs.BTreeSet.{contains};
+ghost use Rattle.dsr_ledger.specs.Keys.{text_cmp};
+ghost use Rattle.dsr_ledger.specs.Verdicts.{share_total, verdict_by};
+ghost use Rattle.dsr_ledger.specs.Files.{Filed};
+ghost use Rattle.dsr_ledger.specs.Found.{shown_at, index_at, is_known, ShownFits};
+ghost use Rattle.dsr_ledger.specs.Tallies.{tally_at, TallyFits};
+ghost use Rattle.dsr_ledger.specs.FileSteps.{IsSameFile, TakesBlock};
+ghost use Rattle.dsr_ledger.specs.Stands.{FileStands, Took};
+
+use crate::adding::add_usages;
+use crate::counting::count_usages;
+use crate::draft::Draft;
+use crate::found::Founds;
+use crate::judge::judge;
+use crate::lines::Lines;
+use crate::noting::note_usages;
+use crate::report::Reject;
+use crate::verdict::{Reason, Standing, Verdict};
+use dsr_cells::{Isrc, NoMemory, Text};
+use dsr_file::{Opening, Outcome};
+use dsr_records::Block;
+use std::alloc::Global;
+use std::collections::BTreeSet;
+
+/// What is kept of a file.
+#[derive(Drop)]
+pub struct FileBooks {
+    /// Its place in the order given, from 1.
+    pub place: u32,
+    pub opening: Option<Opening>,
+    pub standing: Standing,
+    /// How many blocks were taken.
+    pub blocks: u64,
+    /// The identifiers of all blocks, whatever their verdicts.
+    pub ids: BTreeSet<Text>,
+    pub founds: Founds,
+    pub rejects: Vec<Reject>,
+    pub outcome: Option<Outcome>,
+}
+
+impl FileBooks {
+    /// Takes a block that is booked. All growths come first.
+    fn accept(
+        &mut self,
+        lines: &mut Lines,
+        draft: &mut Draft,
+        alloc: Global,
+        block: &Block,
+        isrc: Isrc,
+    ) -> Result<(), NoMemory>
+        requires blocks { self.old.blocks + 1 < 2 ^ 64 }
+        requires recording { isrc ≡ block.now.resource.isrc }
+        requires shares { share_total block.now.works ≤ 1000000 }
+        requires found { map (λ u. index_at self.old.founds u.summary_id) block.now.usages ≡ map Some draft.old.summaries.items }
+        requires lines_fit { (q : _) → TallyFits 63 (tally_at lines.old q) }
+        requires founds_fit { (id : List ℕ) → ForSome (shown_at self.old.founds id) (ShownFits 63) }
+        ensures ids { (id : List ℕ) → contains text_cmp self.new.ids id ≡ contains text_cmp self.old.ids id }
+        ensures err { OnErr result (IsSameFile self.old self.new) }
+        ensures same_lines { OnErr result ((q : _) → tally_at lines.new q ≡ tally_at lines.old q) }
+        ensures ok { OnOk result (TakesBlock self.old self.new lines.old lines.new block.now Verdict.Booked) }
+    {
+        draft.usages.clear();
+        draft.parts.clear();
+        let usages = block.usages.as_slice();
+        note_usages(
+            lines,
+            alloc,
+            &mut self.founds,
+            isrc,
+            block.works.as_slice(),
+            usages,
+            draft.summaries.as_slice(),
+            &mut draft.usages,
+            &mut draft.parts,
+        )?;
+        add_usages(
+            lines,
+            &mut self.founds,
+            usages,
+            draft.usages.as_slice(),
+            draft.parts.as_slice(),
+        );
+        self.blocks += 1;
+        Ok(())
+    }
+
+    /// Takes a block that is rejected. All growths come first.
+    fn reject(
+        &mut self,
+        lines: &Lines,
+        alloc: Global,
+        block: &Block,
+        reason: Reason,
+    ) -> Result<(), NoMemory>
+        requires blocks { self.old.blocks + 1 < 2 ^ 64 }
+        requires founds_fit { (id : List ℕ) → ForSome (shown_at self.old.founds id) (ShownFits 63) }
+        ensures ids { (id : List ℕ) → contains text_cmp self.new.ids id ≡ contains text_cmp self.old.ids id }
+        ensures err { OnErr result (IsSameFile self.old self.new) }
+        ensures ok { OnOk result (TakesBlock self.old self.new lines.now lines.now block.now (Verdict.Rejected reason)) }
+    {
+        let reject = Reject {
+            file: self.place,
+            position: self.blocks + 1,
+            block_id: block.id.copy(alloc)?,
+            reason,
+        };
+        self.rejects.push(reject)?;
+        count_usages(&mut self.founds, block.usages.as_slice());
+        self.blocks += 1;
+        Ok(())
+    }
+
+    /// Takes a block whose identifier was seen before, or not, and answers its verdict.
+    fn take(
+        &mut self,
+        lines: &mut Lines,
+        draft: &mut Draft,
+        alloc: Global,
+        block: &Block,
+        seen: bool,
+    ) -> Result<Verdict, NoMemory>
+        requires blocks { self.old.blocks + 1 < 2 ^ 64 }
+        requires lines_fit { (q : _) → TallyFits 63 (tally_at lines.old q) }
+        requires founds_fit { (id : List ℕ) → ForSome (shown_at self.old.founds id) (ShownFits 63) }
+        ensures ids { (id : List ℕ) → contains text_cmp self.new.ids id ≡ contains text_cmp self.old.ids id }
+        ensures err { OnErr result (IsSameFile self.old self.new) }
+        ensures same_lines { OnErr result ((q : _) → tally_at lines.new q ≡ tally_at lines.old q) }
+        ensures verdict { IfOk result (λ v. verdict_by self.old.standing seen (is_known self.old.founds) block.now ≡ v) }
+        ensures ok { IfOk result (λ v. TakesBlock self.old self.new lines.old lines.new block.now v) }
+    {
+        match judge(
+            self.standing,
+            seen,
+            &self.founds,
+            block,
+            &mut draft.summaries,
+        )? {
+            Ok(isrc) => {
+                self.accept(lines, draft, alloc, block, isrc)?;
+                Ok(Verdict::Booked)
+            }
+            Err(reason) => {
+                self.reject(lines, alloc, block, reason)?;
+                Ok(Verdict::Rejected(reason))
+            }
+        }
+    }
+
+    /// Takes a block, and answers its verdict. After want of memory nothing that counts has changed.
+    pub fn book(
+        &mut self,
+        lines: &mut Lines,
+        draft: &mut Draft,
+        alloc: Global,
+        block: &Block,
+    ) -> Result<Verdict, NoMemory>
+        requires blocks { self.old.blocks + 1 < 2 ^ 64 }
+        requires lines_fit { (q : _) → TallyFits 63 (tally_at lines.old q) }
+        requires founds_fit { (id : List ℕ) → ForSome (shown_at self.old.founds id) (ShownFits 63) }
+        ensures ok { (d : Filed) → FileStands self.old d → IfOk result (λ v. Took d block.now v self.new lines.old lines.new) }
+        ensures count { OnOk result (self.new.blocks ≡ self.old.blocks + 1) }
+        ensures err { OnErr result (IsSameFile self.old self.new) }
+        ensures same_lines { OnErr result ((q : _) → tally_at lines.new q ≡ tally_at lines.old q) }
+    {
+        let is_new = self.ids.insert(block.id.copy(alloc)?)?;
+        let answer = self.take(lines, draft, alloc, block, !is_new);
+        if answer.is_err() && is_new {
+            self.ids.remove(&block.id);
+        }
+        answer
+    }
+}

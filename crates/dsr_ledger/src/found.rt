@@ -1,0 +1,33 @@
+//! What is found for a file's summaries.
+ghost use Rattle.std.specs.Prelude.{◌≡◌};
+ghost use Rattle.dsr_ledger.specs.Ranges.{IsInRange, SumsFit};
+ghost use Rattle.dsr_ledger.specs.Found.{shown, shown_plus};
+
+use crate::key::Key;
+use crate::sums::Sums;
+use dsr_cells::Text;
+use dsr_records::Usage;
+use indexmap::IndexMap;
+
+/// What is kept of a summary: the key of its bookings, with the recording of the block at hand, and the sums of the
+/// usages that name it.
+#[derive(Drop)]
+pub struct Found {
+    pub key: Key,
+    pub sums: Sums,
+}
+
+/// A file's summaries by their identifiers, in file order.
+pub type Founds = IndexMap<Text, Found>;
+
+impl Found {
+    /// Adds a usage that names the summary.
+    pub fn count(&mut self, usage: &Usage)
+        requires { SumsFit 1 self.old.sums }
+        ensures key { self.new.key ≡ self.old.key }
+        ensures shown { shown self.new ≡ shown_plus usage.now (shown self.old) }
+        ensures range { IsInRange usage.now }
+    {
+        self.sums.add(usage);
+    }
+}

@@ -1,0 +1,84 @@
+//! The verdict of a block.
+ghost use Rattle.std.specs.Prelude.{◌≡◌, ◌≤◌, ℕ, List, sum, nat_lt, not, true, map, Some, OnOk, IfOk, MatchResult};
+ghost use Rattle.std.specs.List.{list_any};
+ghost use Rattle.dsr_ledger.specs.Found.{is_known, index_at};
+ghost use Rattle.dsr_ledger.specs.Verdicts.{names_unknown, share_total, verdict_by};
+
+use crate::found::Founds;
+use crate::verdict::{Reason, Standing, Verdict};
+use dsr_cells::{Isrc, NoMemory};
+use dsr_records::{Block, Usage, Work};
+
+/// Finds the summaries of usages. Answers whether each usage names one.
+fn find_summaries(
+    founds: &Founds,
+    usages: &[Usage],
+    summaries: &mut Vec<usize>,
+) -> Result<bool, NoMemory>
+    ensures known { IfOk result (λ known. known ≡ not (list_any (names_unknown (is_known founds.now)) usages.now)) }
+    ensures found { IfOk result (λ known. known ≡ true → map (λ u. index_at founds.now u.summary_id) usages.now ≡ map Some summaries.new.items) }
+{
+    summaries.clear();
+    for usage in usages {
+        match founds.get_index_of(&usage.summary_id) {
+            Some(index) => summaries.push(index)?,
+            None => return Ok(false),
+        }
+    }
+    Ok(true)
+}
+
+/// The shares of all works are above a whole.
+fn shares_over(works: &[Work]) -> bool
+    ensures { result ≡ nat_lt 1000000 (share_total works.now) }
+{
+    let mut total: u32 = 0;
+    for work in works {
+        for share in work.shares.as_slice() {
+            let parts = share.parts();
+            if parts > 1_000_000 - total {
+                return true;
+            }
+            total += parts;
+        }
+    }
+    false
+}
+
+#[tactic(auto, unfolding(crate::specs::Verdicts::verdict_by))]
+/// The recording of a block that is booked, or why it is rejected. Where it is booked, finds the summaries of its usages.
+pub fn judge(
+    standing: Standing,
+    seen: bool,
+    founds: &Founds,
+    block: &Block,
+    summaries: &mut Vec<usize>,
+) -> Result<Result<Isrc, Reason>, NoMemory>
+    ensures verdict { IfOk result (λ r. MatchResult r
+        (λ isrc. (verdict_by standing seen (is_known founds.now) block.now ≡ Verdict.Booked) × (isrc ≡ block.now.resource.isrc) × (share_total block.now.works ≤ 1000000))
+        (λ reason. verdict_by standing seen (is_known founds.now) block.now ≡ Verdict.Rejected reason)) }
+    ensures found { IfOk result (λ r. OnOk r (map (λ u. index_at founds.now u.summary_id) block.now.usages ≡ map Some summaries.new.items)) }
+{
+    match standing {
+        Standing::Foreign => return Ok(Err(Reason::ForeignFile)),
+        Standing::Doubled => return Ok(Err(Reason::DoubledFile)),
+        Standing::Ours | Standing::Headless => {}
+    }
+    if seen {
+        return Ok(Err(Reason::DoubledBlock));
+    }
+    let isrc = block.resource.isrc.as_str();
+    if isrc.is_empty() {
+        return Ok(Err(Reason::NoIsrc));
+    }
+    let Some(isrc) = Isrc::read(isrc) else {
+        return Ok(Err(Reason::BadIsrc));
+    };
+    if !find_summaries(founds, block.usages.as_slice(), summaries)? {
+        return Ok(Err(Reason::UnknownSummary));
+    }
+    if shares_over(block.works.as_slice()) {
+        return Ok(Err(Reason::ShareOver));
+    }
+    Ok(Ok(isrc))
+}

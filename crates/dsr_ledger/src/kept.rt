@@ -1,0 +1,21 @@
+//! All that is kept.
+ghost use Rattle.std.specs.Prelude.{◌≡◌, option_map, slice_get};
+
+use crate::file::FileBooks;
+use crate::lines::Lines;
+
+/// The files that were opened, and the ledger's lines.
+#[derive(Drop)]
+pub struct Kept {
+    pub files: Vec<FileBooks>,
+    pub lines: Lines,
+}
+
+impl Kept {
+    /// File k, where it was opened.
+    pub fn file(&self, k: u32) -> Option<&FileBooks>
+        ensures { option_map (λ f. f.now) result ≡ slice_get self.now.files.items k }
+    {
+        self.files.get(k as usize)
+    }
+}

@@ -1,0 +1,31 @@
+//! The books of a report: how its files stand, what is said of each block, the ledger, and the report.
+#![tactic(auto)]
+
+mod adding;
+mod books;
+mod counting;
+mod draft;
+mod file;
+mod found;
+mod judge;
+mod kept;
+mod key;
+pub mod laws;
+mod line;
+mod lines;
+mod noting;
+mod open;
+mod order;
+mod owed;
+mod parties;
+mod parts;
+mod report;
+mod sums;
+mod verdict;
+
+pub use books::Books;
+pub use report::{
+    Difference, Differences, FileLine, FileLines, LedgerLine, LedgerLines, Numbers, Parties,
+    PartyLine, Reject, Rejects, Report, ReportKey,
+};
+pub use verdict::{Reason, Standing, Verdict};

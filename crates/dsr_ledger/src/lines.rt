@@ -1,0 +1,90 @@
+//! The ledger's lines by their keys.
+ghost use Rattle.std.specs.Prelude.{length};
+ghost use Rattle.std.specs.BTreeMap.{get};
+ghost use Rattle.dsr_ledger.specs.Keys.{key_cmp};
+ghost use Rattle.dsr_ledger.specs.Numbered.{IsNumbered};
+
+use crate::key::Key;
+use crate::line::Line;
+use crate::owed::PartNote;
+use crate::parts::note_parts;
+use dsr_cells::{Amount, NoMemory};
+use dsr_records::{Usage, Work};
+use std::alloc::Global;
+use std::collections::BTreeMap;
+
+/// The ledger's lines. They are numbered in the order in which they came.
+#[derive(Drop)]
+pub struct Lines {
+    pub numbers: BTreeMap<Key, usize>,
+    pub lines: Vec<Line>,
+    ghost numbered: { IsNumbered (get key_cmp numbers) (length lines.items) },
+}
+
+impl Lines {
+    ghost use Rattle.std.specs.Prelude.{◌≡◌, ◌<◌, ◌≤◌, ◌^◌, ℕ, List, IfOk, OnOk, Some, if◌then◌else◌};
+    ghost use Rattle.std.specs.List.{flat_map};
+    ghost use Rattle.dsr_ledger.specs.Keys.{key_eq};
+    ghost use Rattle.dsr_ledger.specs.Parts.{Part, work_parts};
+    ghost use Rattle.dsr_ledger.specs.Owed.{AreNoted, NotedMore, notes_size};
+    ghost use Rattle.dsr_ledger.specs.Ranges.{IsInRange};
+    ghost use Rattle.dsr_ledger.specs.Tallies.{no_tally, tally_at, tally_with, number_of, seat_in, LinesGrow, TallyFits};
+
+    /// No lines.
+    pub fn new(alloc: Global) -> Lines
+        ensures { (q : Key) → tally_at result q ≡ no_tally }
+    {
+        Lines {
+            numbers: BTreeMap::new(alloc),
+            lines: Vec::new(alloc),
+        }
+    }
+
+    /// The number of a key's line, which is made where there is none. What is kept of each key stays.
+    pub fn number(&mut self, alloc: Global, key: &Key) -> Result<usize, NoMemory>
+        ensures same { (q : Key) → tally_at self.new q ≡ tally_at self.old q }
+        ensures grows { LinesGrow self.old self.new }
+        ensures there { IfOk result (λ number. number_of self.new key.now ≡ Some number) }
+    {
+        if let Some(number) = self.numbers.get(key) {
+            return Ok(*number);
+        }
+        let number = self.lines.len();
+        self.lines.reserve(1)?;
+        self.numbers.insert(key.copy(alloc)?, number)?;
+        self.lines.push(Line::new(alloc))?;
+        Ok(number)
+    }
+
+    /// Notes the parts of a usage that counts under a line. What is kept of each key stays.
+    pub fn note(
+        &mut self,
+        alloc: Global,
+        number: usize,
+        amount: Amount,
+        works: &[Work],
+        notes: &mut Vec<PartNote>,
+    ) -> Result<(), NoMemory>
+        requires { number < length self.old.lines.items }
+        ensures same { (q : Key) → tally_at self.new q ≡ tally_at self.old q }
+        ensures grows { LinesGrow self.old self.new }
+        ensures noted { OnOk result (NotedMore (seat_in self.new number) notes.old.items notes.new.items (flat_map (work_parts amount) works.now)) }
+    {
+        let line = &mut self.lines[number];
+        note_parts(&mut line.parties, alloc, amount, works, notes)
+    }
+
+    /// Adds a usage and its parts to a line, and to no other.
+    pub fn add(&mut self, number: usize, usage: &Usage, notes: &[PartNote])
+        requires there { (key : Key) × (number_of self.old key ≡ Some number) × TallyFits 1 (tally_at self.old key) }
+        requires small { notes_size notes.now ≤ 10 ^ 22 }
+        requires noted { (parts : List Part) × AreNoted (seat_in self.old number) notes.now parts }
+        ensures range { IsInRange usage.now }
+        ensures numbers { (q : Key) → number_of self.new q ≡ number_of self.old q }
+        ensures seats { (i : ℕ) (q : List ℕ) → seat_in self.new i q ≡ seat_in self.old i q }
+        ensures tally { (key : Key) (parts : List Part) → number_of self.old key ≡ Some number → AreNoted (seat_in self.old number) notes.now parts
+            → (q : Key) → tally_at self.new q ≡ (if key_eq key q then tally_with usage.now parts (tally_at self.old q) else tally_at self.old q) }
+    {
+        self.lines[number].add(usage, notes);
+    }
+}

@@ -1,0 +1,160 @@
+//! How a file is opened.
+ghost use Rattle.std.specs.Prelude.{◌≡◌, ◌+◌, ◌<◌, ◌≤◌, List, [], ◌∷◌, ◌++◌, ℕ, Some, None, OnOk, IfOk, option_map, length};
+ghost use Rattle.std.specs.List.{list_any};
+ghost use Rattle.dsr_ledger.specs.Files.{opened, is_same_report, has_number_of, is_of_report, first_head, standing, summaries_of};
+ghost use Rattle.dsr_ledger.specs.Found.{shown_at, found_in, nothing_found};
+ghost use Rattle.dsr_ledger.specs.Stands.{FileStands};
+ghost use Rattle.dsr_ledger.specs.Openings.{openings_of, first_of, named};
+
+use crate::file::FileBooks;
+use crate::found::{Found, Founds};
+use crate::key::Key;
+use crate::sums::Sums;
+use crate::verdict::Standing;
+use dsr_cells::{Isrc, NoMemory};
+use dsr_file::Opening;
+use dsr_records::{Head, Summary};
+use indexmap::IndexMap;
+use std::alloc::Global;
+use std::collections::BTreeSet;
+
+/// Whether two files are of one report.
+fn same_report(a: &Head, b: &Head) -> bool
+    ensures { result ≡ is_same_report a.now b.now }
+{
+    a.message_id == b.message_id
+        && a.number_of_files == b.number_of_files
+        && a.first_day == b.first_day
+        && a.last_day == b.last_day
+}
+
+/// Whether the file is of the report of these and itself.
+fn is_of_their_report(files: &[FileBooks], opening: &Opening) -> bool
+    ensures { result ≡ is_of_report (first_head (openings_of files.now ++ Some opening.now ∷ [])) opening.now.head }
+{
+    for file in files {
+        if let Some(first) = &file.opening {
+            return same_report(&first.head, &opening.head);
+        }
+    }
+    true
+}
+
+/// Whether a file is of the same report and has the number.
+fn has_number(head: &Head, opening: &Option<Opening>) -> bool
+    ensures { result ≡ has_number_of head.now opening.now }
+{
+    match opening {
+        Some(opening) => {
+            same_report(head, &opening.head) && head.file_number == opening.head.file_number
+        }
+        None => false,
+    }
+}
+
+/// Whether one of the files is of the same report and has the number.
+fn is_number_taken(files: &[FileBooks], opening: &Opening) -> bool
+    ensures { result ≡ list_any (has_number_of opening.now.head) (openings_of files.now) }
+{
+    for file in files {
+        if has_number(&opening.head, &file.opening) {
+            return true;
+        }
+    }
+    false
+}
+
+#[tactic(auto, unfolding(crate::specs::Files::standing))]
+/// How a file stands after these.
+fn standing_after(files: &[FileBooks], opening: &Option<Opening>) -> Standing
+    ensures { result ≡ standing (openings_of files.now) opening.now }
+{
+    match opening {
+        None => Standing::Headless,
+        Some(opening) => {
+            if !is_of_their_report(files, opening) {
+                Standing::Foreign
+            } else if is_number_taken(files, opening) {
+                Standing::Doubled
+            } else {
+                Standing::Ours
+            }
+        }
+    }
+}
+
+/// A recording that stands in keys until a block gives one.
+fn no_recording() -> Isrc {
+    let Some(isrc) = Isrc::read("AA0000000000") else {
+        unreachable!()
+    };
+    isrc
+}
+
+/// Adds a summary that no usage names so far, unless its name is there.
+fn add_summary(founds: &mut Founds, alloc: Global, summary: &Summary) -> Result<(), NoMemory>
+    ensures { OnOk result ((id : List ℕ) → shown_at founds.new id ≡ first_of (shown_at founds.old id) (option_map nothing_found (named id summary.now))) }
+{
+    if founds.contains_key(&summary.id) {
+        return Ok(());
+    }
+    let key = Key {
+        isrc: no_recording(),
+        territory: summary.territory.copy(alloc)?,
+        use_type: summary.use_type.copy(alloc)?,
+        currency: summary.currency.copy(alloc)?,
+    };
+    let found = Found {
+        key,
+        sums: Sums {
+            usages: 0,
+            amount: 0,
+        },
+    };
+    founds.insert(summary.id.copy(alloc)?, found)?;
+    Ok(())
+}
+
+/// What is kept of summaries that no usage names so far.
+fn founds_of(alloc: Global, summaries: &[Summary]) -> Result<Founds, NoMemory>
+    ensures { IfOk result (λ m. (id : List ℕ) → shown_at m id ≡ found_in summaries.now [] id) }
+{
+    let mut founds = IndexMap::with_capacity(alloc, summaries.len())?;
+    for summary in summaries {
+        add_summary(&mut founds, alloc, summary)?;
+    }
+    Ok(founds)
+}
+
+/// The same, of a file that may have no opening.
+fn founds_for(alloc: Global, opening: &Option<Opening>) -> Result<Founds, NoMemory>
+    ensures { IfOk result (λ m. (id : List ℕ) → shown_at m id ≡ found_in (summaries_of opening.now) [] id) }
+{
+    match opening {
+        Some(opening) => founds_of(alloc, opening.summaries.as_slice()),
+        None => Ok(IndexMap::new(alloc)),
+    }
+}
+
+/// What is kept of a file that is opened after these.
+pub fn open_after(
+    files: &[FileBooks],
+    alloc: Global,
+    opening: Option<Opening>,
+) -> Result<FileBooks, NoMemory>
+    requires { length files.now < 64 }
+    ensures { IfOk result (λ f. FileStands f (record { place = length files.now + 1; standing = standing (openings_of files.now) opening; file = opened opening })) }
+{
+    let standing = standing_after(files, &opening);
+    let founds = founds_for(alloc, &opening)?;
+    Ok(FileBooks {
+        place: files.len() as u32 + 1,
+        opening,
+        standing,
+        blocks: 0,
+        ids: BTreeSet::new(alloc),
+        founds,
+        rejects: Vec::new(alloc),
+        outcome: None,
+    })
+}

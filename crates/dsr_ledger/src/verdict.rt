@@ -1,0 +1,40 @@
+//! How files stand and what is said of blocks.
+
+/// How a file stands in the report.
+#[derive(Clone, Copy, PartialEq, Eq)]
+pub enum Standing {
+    /// Its opening has the report's key, and no earlier file has its number.
+    Ours,
+    /// Its opening has another key.
+    Foreign,
+    /// An earlier file of the report has its number.
+    Doubled,
+    /// It has no opening.
+    Headless,
+}
+
+/// Why a block is rejected: the first of these that applies.
+#[derive(Clone, Copy, PartialEq, Eq)]
+pub enum Reason {
+    /// Its file is of another report.
+    ForeignFile,
+    /// Its file's number was there before.
+    DoubledFile,
+    /// An earlier block of the file has its identifier.
+    DoubledBlock,
+    /// Its resource has no ISRC.
+    NoIsrc,
+    /// Its resource's ISRC is not spelled as one.
+    BadIsrc,
+    /// A usage names no summary of its file.
+    UnknownSummary,
+    /// The shares of all its works are together above 100 percent.
+    ShareOver,
+}
+
+/// What is said of a block.
+#[derive(Clone, Copy, PartialEq, Eq)]
+pub enum Verdict {
+    Booked,
+    Rejected(Reason),
+}
