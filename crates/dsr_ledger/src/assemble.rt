@@ -1,0 +1,37 @@
+//! The report, from all that is kept.
+ghost use Rattle.std.specs.Prelude.{◌≡◌, List, IfOk};
+ghost use Rattle.dsr_ledger.specs.Files.{File};
+ghost use Rattle.dsr_ledger.specs.Reports.{report_of};
+ghost use Rattle.dsr_ledger.specs.Books.{IsReached, Stands};
+
+use crate::differences::differences_of;
+use crate::file_lines::file_lines;
+use crate::kept::Kept;
+use crate::missing::{missing_numbers, own_numbers};
+use crate::order::ledger_lines;
+use crate::rejects::key_and_rejects;
+use crate::report::Report;
+use dsr_cells::NoMemory;
+use std::alloc::Global;
+
+/// The report of the files.
+pub fn assemble(alloc: Global, kept: Kept) -> Result<Report, NoMemory>
+    requires { ∥ IsReached kept ∥₁ }
+    ensures { (files : List File) → Stands kept files → IfOk result (λ r. r ≡ report_of files) }
+{
+    let Kept { files, lines } = kept;
+    let file_lines = file_lines(alloc, files.as_slice())?;
+    let numbers = own_numbers(alloc, files.as_slice())?;
+    let differences = differences_of(alloc, files.as_slice())?;
+    let (key, rejects) = key_and_rejects(alloc, files)?;
+    let missing = missing_numbers(alloc, &key, &numbers)?;
+    let ledger = ledger_lines(alloc, lines)?;
+    Ok(Report {
+        key,
+        files: file_lines,
+        missing,
+        differences,
+        ledger,
+        rejects,
+    })
+}
