@@ -1,11 +1,12 @@
 -- What is told of the files that are kept is what is told of the files that they stand for.
-use Rattle.std.proofs.Common.{◌≡◌, ℕ, suc, Bool, true, false, cond, not, ◌&&◌, ◌||◌, List, [], ◌∷◌, ◌++◌, append_assoc, refl, sym, ◌∙◌, ap, subst}
+use Rattle.std.proofs.Common.{◌≡◌, ℕ, zero, suc, ◌+◌, ◌^◌, ◌≤◌, length, arith, Bool, true, false, cond, not, ◌&&◌, ◌||◌, List, [], ◌∷◌, ◌++◌, append_assoc, refl, sym, ◌∙◌, ap, subst}
 use Rattle.std.specs.Prelude.{pos, ◌+ℤ◌, Option, None, Some, option_map, map, filter, find, is_some, if◌then◌else◌}
 use Rattle.std.specs.List.{flat_map, list_any, range_with_len, AllByRecursion}
 use Rattle.std.specs.Str.{bytes_eq}
 use Rattle.std.specs.HashMap.{HashMap}
 use Rattle.std.specs.BTreeSet.{BTreeSet, contains}
 use Rattle.std.specs.Ordering.{nat_cmp}
+use Rattle.std.proofs.lemmas.List.Elements.{filter-append}
 use Rattle.dsr_records.specs.declared.record.Summary.{Summary}
 use Rattle.dsr_records.specs.declared.record.Usage.{Usage}
 use Rattle.dsr_records.specs.declared.record.Head.{Head}
@@ -26,11 +27,13 @@ use Rattle.dsr_ledger.specs.Bookings.{Booking, bookings}
 use Rattle.dsr_ledger.specs.Ledger.{ledger}
 use Rattle.dsr_ledger.specs.Reports.{key_of, outcome_of, file_line, report_head, missing, report_of}
 use Rattle.dsr_ledger.specs.Stands.{FileStands, FilesStand, LinesStand}
-use Rattle.dsr_ledger.specs.Books.{Stands}
+use Rattle.dsr_ledger.specs.Books.{IsSmallFile, IsReached, Stands}
+use Rattle.dsr_ledger.specs.Order.{AreOfSmall}
 use Rattle.dsr_ledger.specs.Assembly.{line_kept, is_number_kept, not_in, sums_shown, difference_to, differences_to, differences_kept}
 use Rattle.dsr_ledger.proofs.TextLemmas.{text_itself}
 use Rattle.dsr_ledger.proofs.SumLemmas.{zero-add}
-use Rattle.dsr_ledger.proofs.FilesLemmas.{openings_are}
+use Rattle.dsr_ledger.proofs.FilesLemmas.{openings_are, length-stand}
+use Rattle.dsr_ledger.proofs.SmallBookings.{IsShort, bookings_small}
 
 -- lists that are told file by file
 module _ {W : Type 0} (g : FileBooks → W) (h : Filed → W) (agree : (f : FileBooks) (d : Filed) → FileStands f d → g f ≡ h d) where
@@ -69,6 +72,19 @@ number_stands n f d s = λ i. is_ours (s.standing i) && has_number n (s.opening 
 pub not_in_is : (head : Option Head) (numbers : BTreeSet ℕ) (ds : List Filed) → ((n : ℕ) → contains nat_cmp numbers n ≡ is_there n ds) → not_in (option_map key_of head) numbers ≡ missing_for head ds
 not_in_is None numbers ds is = refl
 not_in_is (Some head) numbers ds is = λ i. filter (λ n. not (is n i)) (range_with_len 1 head.number_of_files)
+
+range_more : (a n : ℕ) → range_with_len a (suc n) ≡ range_with_len a n ++ (a + n) ∷ []
+range_more a zero = let e : a ≡ a + 0 = omega arith in ap (λ b. b ∷ []) e
+range_more a (suc n) = let e : (a + 1) + n ≡ a + suc n = omega arith in ap (λ l. a ∷ l) (range_more (a + 1) n ∙ ap (λ b. range_with_len (a + 1) n ++ b ∷ []) e)
+
+-- the numbers from 1 that pass a test, up to the next one
+pub filter_range_more : (p : ℕ → Bool) (n : ℕ) → filter p (range_with_len 1 (n + 1)) ≡ filter p (range_with_len 1 n) ++ filter p ((n + 1) ∷ [])
+filter_range_more p n =
+    let up : n + 1 ≡ suc n = omega arith in
+    let e : 1 + n ≡ n + 1 = omega arith in
+    ap (λ m. filter p (range_with_len 1 m)) up
+    ∙ ap (filter p) (range_more 1 n ∙ ap (λ b. range_with_len 1 n ++ b ∷ []) e)
+    ∙ filter-append p (range_with_len 1 n) ((n + 1) ∷ [])
 
 -- what is kept of a summary that is there has the sums of the usages that name it
 sums_found : (ss : List Summary) (us : List Usage) (id : List ℕ) → list_any (λ s. bytes_eq id s.id) ss ≡ true → sums_shown (found_in ss us id) ≡ record { usages = int_sum_by (λ u. u.usages) (naming id us); amount = int_sum_by (λ u. u.amount) (naming id us) }
@@ -120,6 +136,20 @@ key_step None None os = refl
 pub key_last : (key : Option ReportKey) → first_of key None ≡ key
 key_last (Some k) = refl
 key_last None = refl
+
+short_files : (files : List File) → AllByRecursion IsSmallFile files → AllByRecursion (IsShort (2 ^ 37)) files
+short_files [] h = tt
+short_files (f ∷ files) h = (record { few = h.0.few; range = h.0.range }, short_files files h.1)
+
+-- the lines of books that are reached are of small bookings
+pub small_lines : (kept : Kept) → length kept.files.items ≤ 64 → IsReached kept → AreOfSmall kept.lines
+small_lines kept few r =
+    let long = length-stand 1 [] kept.files.items r.files r.stands.each in
+    record {
+      bookings = bookings r.files;
+      stand = r.stands.lines;
+      small = bookings_small r.files (omega arith) (short_files r.files r.small);
+    }
 
 -- the parts of the report, as they were told of what is kept
 pub record Assembled (kept : Kept) (numbers : BTreeSet ℕ) (r : Report) : Type 0 where

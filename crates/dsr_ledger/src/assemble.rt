@@ -1,5 +1,5 @@
 //! The report, from all that is kept.
-ghost use Rattle.std.specs.Prelude.{◌≡◌, List, IfOk};
+ghost use Rattle.std.specs.Prelude.{◌≡◌, ◌≤◌, List, IfOk, length};
 ghost use Rattle.dsr_ledger.specs.Files.{File};
 ghost use Rattle.dsr_ledger.specs.Reports.{report_of};
 ghost use Rattle.dsr_ledger.specs.Books.{IsReached, Stands};
@@ -16,7 +16,8 @@ use std::alloc::Global;
 
 /// The report of the files.
 pub fn assemble(alloc: Global, kept: Kept) -> Result<Report, NoMemory>
-    requires { ∥ IsReached kept ∥₁ }
+    requires reached { ∥ IsReached kept ∥₁ }
+    requires few { length kept.files.items ≤ 64 }
     ensures { (files : List File) → Stands kept files → IfOk result (λ r. r ≡ report_of files) }
 {
     let Kept { files, lines } = kept;

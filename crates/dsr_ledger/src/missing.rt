@@ -1,5 +1,5 @@
 //! The numbers of missing files.
-ghost use Rattle.std.specs.Prelude.{◌≡◌, ◌||◌, ℕ, not, filter, IfOk, OnOk};
+ghost use Rattle.std.specs.Prelude.{◌≡◌, ◌||◌, ◌++◌, ◌∷◌, [], ℕ, not, filter, IfOk, OnOk};
 ghost use Rattle.std.specs.List.{list_any, range_with_len};
 ghost use Rattle.std.specs.BTreeSet.{contains};
 ghost use Rattle.std.specs.Ordering.{nat_cmp};
@@ -33,15 +33,23 @@ pub fn own_numbers(alloc: Global, files: &[FileBooks]) -> Result<BTreeSet<u32>, 
     Ok(numbers)
 }
 
-/// The numbers up to a last one that are not in the set, rising.
+/// Adds a number that is not in the set.
+fn add_absent(absent: &mut Numbers, number: u32, numbers: &BTreeSet<u32>) -> Result<(), NoMemory>
+    ensures { OnOk result (absent.new ≡ absent.old ++ filter (λ n. not (contains nat_cmp numbers.now n)) (number ∷ [])) }
+{
+    if numbers.contains(&number) {
+        return Ok(());
+    }
+    absent.push(number).map_err(|_number| NoMemory)
+}
+
+/// The numbers from 1 to a last one that are not in the set, rising.
 fn absent_numbers(alloc: Global, last: u32, numbers: &BTreeSet<u32>) -> Result<Numbers, NoMemory>
     ensures { IfOk result (λ l. l ≡ filter (λ n. not (contains nat_cmp numbers.now n)) (range_with_len 1 last)) }
 {
     let mut absent = Items::new(alloc);
-    for number in 1..=last {
-        if !numbers.contains(&number) {
-            absent.push(number).map_err(|_number| NoMemory)?;
-        }
+    for before in 0..last {
+        add_absent(&mut absent, before + 1, numbers)?;
     }
     Ok(absent)
 }

@@ -5,5 +5,5 @@ use Rattle.std.specs.BTreeSet.{contains}
 use Rattle.std.specs.Ordering.{nat_cmp}
 use Rattle.dsr_ledger.proofs.missing.absent_numbers.Given as goal
 
-abbrev pub invariant-loop-number : goal.invariant-loop-number
-invariant-loop-number l = l.absent ≡ filter (λ n. not (contains nat_cmp l.numbers n)) (range_with_len 1 l.number-counter)
+abbrev pub invariant-loop-before : goal.invariant-loop-before
+invariant-loop-before l = l.absent ≡ filter (λ n. not (contains nat_cmp l.numbers n)) (range_with_len 1 l.before)
