@@ -21,9 +21,10 @@ pub fn assemble(alloc: Global, kept: Kept) -> Result<Report, NoMemory>
     ensures { (files : List File) → Stands kept files → IfOk result (λ r. r ≡ report_of files) }
 {
     let Kept { files, lines } = kept;
-    let file_lines = file_lines(alloc, files.as_slice())?;
-    let numbers = own_numbers(alloc, files.as_slice())?;
-    let differences = differences_of(alloc, files.as_slice())?;
+    let in_order = files.as_slice();
+    let file_lines = file_lines(alloc, in_order)?;
+    let numbers = own_numbers(alloc, in_order)?;
+    let differences = differences_of(alloc, in_order)?;
     let (key, rejects) = key_and_rejects(alloc, files)?;
     let missing = missing_numbers(alloc, &key, &numbers)?;
     let ledger = ledger_lines(alloc, lines)?;
