@@ -28,3 +28,4 @@ pub mod ResultLemmas
 pub mod EachLemmas
 pub mod TallyPlusLemmas
 pub mod ShownLemmas
+pub mod AssemblyLemmas

@@ -22,3 +22,4 @@ pub mod Openings
 pub mod Books
 pub mod BooksWords
 pub mod Order
+pub mod Assembly

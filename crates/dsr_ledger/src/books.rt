@@ -2,10 +2,12 @@
 ghost use Rattle.std.specs.Prelude.{◌≤◌, length};
 ghost use Rattle.dsr_ledger.specs.Books.{IsReached};
 
+use crate::assemble::assemble;
 use crate::draft::Draft;
 use crate::kept::Kept;
 use crate::lines::Lines;
 use crate::open::open_after;
+use crate::report::Report;
 use crate::verdict::{Standing, Verdict};
 use dsr_cells::NoMemory;
 use dsr_file::{Opening, Outcome};
@@ -30,7 +32,8 @@ impl Books {
     ghost use Rattle.dsr_ledger.specs.Files.{File, standing, opened, with_block, with_outcome};
     ghost use Rattle.dsr_ledger.specs.Verdicts.{verdict_in};
     ghost use Rattle.dsr_ledger.specs.Books.{has_opening_in, ended_in, blocks_in};
-    ghost use Rattle.dsr_ledger.specs.BooksWords.{Stands, files_count, opened_count, has_opening_at, ended_at, blocks_at, CanBook, CanEnd};
+    ghost use Rattle.dsr_ledger.specs.Reports.{report_of};
+    ghost use Rattle.dsr_ledger.specs.BooksWords.{Stands, files_count, opened_count, has_opening_at, ended_at, blocks_at, CanBook, CanEnd, AllEnded};
 
     /// New books of a report in so many files, from 1 to 64, of which none is open.
     pub fn new(alloc: Global, files: u32) -> Result<Books, NoMemory>
@@ -135,5 +138,14 @@ impl Books {
         let file = &mut self.kept.files[k as usize];
         file.outcome = Some(outcome);
         Ok(())
+    }
+
+    /// The report of the files, which all ended. Its texts are moved out of the books, but for the identifiers in its
+    /// differences. After want of memory the books are gone.
+    pub fn into_report(self) -> Result<Report, NoMemory>
+        requires { AllEnded self }
+        ensures { (files : List File) → Stands self files → IfOk result (λ r. r ≡ report_of files) }
+    {
+        assemble(self.alloc, self.kept)
     }
 }

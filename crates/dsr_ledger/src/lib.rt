@@ -2,10 +2,13 @@
 #![tactic(auto)]
 
 mod adding;
+mod assemble;
 mod books;
 mod counting;
+mod differences;
 mod draft;
 mod file;
+mod file_lines;
 mod found;
 mod judge;
 mod kept;
@@ -13,12 +16,14 @@ mod key;
 pub mod laws;
 mod line;
 mod lines;
+mod missing;
 mod noting;
 mod open;
 mod order;
 mod owed;
 mod parties;
 mod parts;
+mod rejects;
 mod report;
 mod sums;
 mod verdict;

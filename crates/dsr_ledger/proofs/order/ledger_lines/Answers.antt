@@ -64,6 +64,20 @@ loop-key-preserved c =
           ∙ c.loop-key.invariant.booked bs stand;
     }
 
+pub loop-key-preserved-else-line : goal.loop-key-preserved-else-line
+loop-key-preserved-else-line c =
+    let key = c.in-Some.key in
+    let e : Key × ℕ = (key, c.in-Some.number) in
+    let left = subst (AreLeft c.args.lines c.loop-key.lines.items) c.in-Some.ensures.steps c.loop-key.invariant.left in
+    let tally = ap line_tally c.replace-line.ensures.value ∙ left_tally c.args.lines c.loop-key.lines.items e c.next.new.self c.index_mut.result.now left c.index_mut.ensures.value in
+    record {
+      left = left_step c.args.lines c.loop-key.lines.items e c.next.new.self c.replace-line.new.dest left.0.0 left.1 left.2;
+      booked = λ bs stand.
+          line_left bs c.loop-key.ledger key c.in-Some.number c.next.new.self (sym (ap (λ t. t.is_booked) (tally ∙ stand key)) ∙ c.if-line.false)
+          ∙ ap (λ l. c.loop-key.ledger ++ booked_lines bs l) (sym c.in-Some.ensures.steps)
+          ∙ c.loop-key.invariant.booked bs stand;
+    }
+
 pub returns : goal.returns
 returns c = λ bs stand.
     sym (append-nil c.loop-key.ledger)

@@ -52,6 +52,18 @@ loop-party-preserved c =
       found = All-rest (IsFound c.args.parties) _ _ _ c.in-Some.ensures.steps c.loop-party.invariant.found;
     }
 
+pub loop-party-preserved-else-owed : goal.loop-party-preserved-else-owed
+loop-party-preserved-else-owed c =
+    let all = subst (All (IsFound c.args.parties)) c.in-Some.ensures.steps c.loop-party.invariant.found in
+    let here = All-head (IsFound c.args.parties) (c.in-Some.party, c.in-Some.seat) c.next.new.self all in
+    let owed = owed_here c.args.parties c.in-Some.party c.in-Some.seat c.index-owed.result.now here c.index-owed.ensures in
+    record {
+      kept = line_left c.args.parties c.loop-party.lines c.in-Some.party c.in-Some.seat c.next.new.self c.index-owed.result.now owed c.if-owed.false
+          ∙ ap (λ l. c.loop-party.lines ++ kept_lines c.args.parties l) (sym c.in-Some.ensures.steps)
+          ∙ c.loop-party.invariant.kept;
+      found = All-rest (IsFound c.args.parties) _ _ _ c.in-Some.ensures.steps c.loop-party.invariant.found;
+    }
+
 pub returns : goal.returns
 returns c = λ bs is.
     sym (append-nil c.loop-party.lines)

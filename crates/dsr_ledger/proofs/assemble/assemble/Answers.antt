@@ -1,0 +1,23 @@
+use Rattle.std.proofs.Common.{◌≡◌, ◌∙◌, ap}
+use Rattle.std.specs.Prelude.{map}
+use Rattle.std.specs.List.{flat_map, list_any}
+use Rattle.std.proofs.Math.Logic.{∥∥₁_map}
+use Rattle.dsr_ledger.specs.Assembly.{line_kept, is_number_kept, differences_kept}
+use Rattle.dsr_ledger.proofs.AssemblyLemmas.{report_is, small_lines}
+use Rattle.dsr_ledger.proofs.assemble.assemble.Goals as goal
+
+pub ledger_lines-requires : goal.ledger_lines-requires
+ledger_lines-requires c = ∥∥₁_map c.requires.reached (small_lines c.args.kept c.requires.few)
+
+pub returns : goal.returns
+returns c = λ files h.
+    let same : c.as_slice-in_order.result.now ≡ c.args.kept.files.items = c.as_slice-in_order.ensures.value in
+    report_is c.args.kept c.in_ok-numbers.numbers _ (record {
+      key = c.in_ok-key.ensures.key;
+      lines = c.in_ok-file_lines.ensures ∙ ap (map line_kept) same;
+      own = λ n. c.in_ok-numbers.ensures n ∙ ap (list_any (is_number_kept n)) same;
+      missing = c.in_ok-missing.ensures;
+      differences = c.in_ok-differences.ensures ∙ ap (flat_map differences_kept) same;
+      ledger = c.in_ok-ledger.ensures;
+      rejects = c.in_ok-key.ensures.rejects;
+    }) files h

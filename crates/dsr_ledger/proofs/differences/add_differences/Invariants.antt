@@ -1,0 +1,6 @@
+use Rattle.std.proofs.Common.{◌≡◌, ◌++◌, take}
+use Rattle.dsr_ledger.specs.Assembly.{differences_to}
+use Rattle.dsr_ledger.proofs.differences.add_differences.Given as goal
+
+abbrev pub invariant-loop-summary : goal.invariant-loop-summary
+invariant-loop-summary l = l.differences ≡ l.fn.differences ++ differences_to l.place l.founds (take l.summary-index l.summaries)

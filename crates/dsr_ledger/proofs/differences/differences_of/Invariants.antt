@@ -1,0 +1,7 @@
+use Rattle.std.proofs.Common.{◌≡◌, take}
+use Rattle.std.specs.List.{flat_map}
+use Rattle.dsr_ledger.specs.Assembly.{differences_kept}
+use Rattle.dsr_ledger.proofs.differences.differences_of.Given as goal
+
+abbrev pub invariant-loop-file : goal.invariant-loop-file
+invariant-loop-file l = l.differences ≡ flat_map differences_kept (take l.file-index l.files)

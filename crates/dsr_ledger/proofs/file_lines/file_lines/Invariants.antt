@@ -1,0 +1,7 @@
+use Rattle.std.proofs.Common.{◌≡◌, take}
+use Rattle.std.specs.Prelude.{map}
+use Rattle.dsr_ledger.specs.Assembly.{line_kept}
+use Rattle.dsr_ledger.proofs.file_lines.file_lines.Given as goal
+
+abbrev pub invariant-loop-file : goal.invariant-loop-file
+invariant-loop-file l = l.lines ≡ map line_kept (take l.file-index l.files)

@@ -1,0 +1,9 @@
+use Rattle.std.proofs.Common.{◌≡◌, not}
+use Rattle.std.specs.Prelude.{filter}
+use Rattle.std.specs.List.{range_with_len}
+use Rattle.std.specs.BTreeSet.{contains}
+use Rattle.std.specs.Ordering.{nat_cmp}
+use Rattle.dsr_ledger.proofs.missing.absent_numbers.Given as goal
+
+abbrev pub invariant-loop-before : goal.invariant-loop-before
+invariant-loop-before l = l.absent ≡ filter (λ n. not (contains nat_cmp l.numbers n)) (range_with_len 1 l.before)

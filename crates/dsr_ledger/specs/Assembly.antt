@@ -1,0 +1,60 @@
+-- What the report tells of the files, from what is kept of them.
+use Rattle.std.specs.Prelude.{ℕ, pos, Bool, not, ◌&&◌, Option, None, Some, List, [], filter, map, option_map, if◌then◌else◌}
+use Rattle.std.specs.List.{range_with_len}
+use Rattle.std.specs.HashMap.{HashMap}
+use Rattle.std.specs.BTreeSet.{BTreeSet, contains}
+use Rattle.std.specs.Ordering.{nat_cmp}
+use Rattle.dsr_records.specs.declared.record.Summary.{Summary}
+use Rattle.dsr_ledger.specs.declared.sums.Sums.{Sums}
+use Rattle.dsr_ledger.specs.declared.found.Found.{Found}
+use Rattle.dsr_ledger.specs.declared.file.FileBooks.{FileBooks}
+use Rattle.dsr_ledger.specs.declared.report.ReportKey.{ReportKey}
+use Rattle.dsr_ledger.specs.declared.report.FileLine.{FileLine}
+use Rattle.dsr_ledger.specs.declared.report.Difference.{Difference}
+use Rattle.dsr_ledger.specs.Files.{summaries_of}
+use Rattle.dsr_ledger.specs.Findings.{is_ours, ended_whole, differs, has_number}
+use Rattle.dsr_ledger.specs.Found.{shown_at, Shown}
+use Rattle.dsr_ledger.specs.Reports.{outcome_of}
+
+-- the line of a file
+abbrev pub line_kept : FileBooks → FileLine
+line_kept f = record {
+  number = option_map (λ o. o.head.file_number) f.opening;
+  standing = f.standing;
+  blocks = f.blocks;
+  outcome = outcome_of f.outcome;
+}
+
+-- the file is one of ours and has this number
+abbrev pub is_number_kept : ℕ → FileBooks → Bool
+is_number_kept n f = is_ours f.standing && has_number n f.opening
+
+-- of the numbers from 1 to that of the report's files, those that are not in the set
+abbrev pub not_in : Option ReportKey → BTreeSet ℕ → List ℕ
+not_in None numbers = []
+not_in (Some key) numbers = filter (λ n. not (contains nat_cmp numbers n)) (range_with_len 1 key.number_of_files)
+
+-- the sums of what is kept of a summary
+abbrev pub sums_shown : Option Shown → Sums
+sums_shown None = record { usages = pos 0; amount = pos 0 }
+sums_shown (Some s) = s.sums
+
+-- what a summary states beside these sums
+abbrev pub difference_to : ℕ → Sums → Summary → Difference
+difference_to place found s = record {
+  file = place;
+  summary_id = s.id;
+  stated_usages = s.usages;
+  found_usages = found.usages;
+  stated_amount = s.amount;
+  found_amount = found.amount;
+}
+
+-- the summaries that state something else than is kept of them
+abbrev pub differences_to : {S : Type 0} → ℕ → HashMap (List ℕ) Found S → List Summary → List Difference
+differences_to place founds ss = filter differs (map (λ s. difference_to place (sums_shown (shown_at founds s.id)) s) ss)
+
+-- the differences of a file: none but in a file of ours that ended whole
+abbrev pub differences_kept : FileBooks → List Difference
+differences_kept f =
+    if is_ours f.standing && ended_whole f.outcome then differences_to f.place f.founds (summaries_of f.opening) else []

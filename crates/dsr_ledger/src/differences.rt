@@ -1,0 +1,107 @@
+//! The differences between what summaries state and what is found for them.
+ghost use Rattle.std.specs.Prelude.{◌≡◌, ◌++◌, ◌∷◌, [], ◌&&◌, IfOk, OnOk, filter};
+ghost use Rattle.std.specs.List.{flat_map};
+ghost use Rattle.std.specs.Ordering.{int_eq};
+ghost use Rattle.dsr_ledger.specs.Findings.{differs};
+ghost use Rattle.dsr_ledger.specs.Found.{shown_at};
+ghost use Rattle.dsr_ledger.specs.Assembly.{sums_shown, difference_to, differences_to, differences_kept};
+
+use crate::file::FileBooks;
+use crate::found::Founds;
+use crate::report::{Difference, Differences};
+use crate::sums::Sums;
+use crate::verdict::Standing;
+use dsr_cells::{Items, NoMemory};
+use dsr_file::Outcome;
+use dsr_records::Summary;
+use std::alloc::Global;
+
+/// What is found for a summary.
+fn found_for(founds: &Founds, summary: &Summary) -> Sums
+    ensures { result ≡ sums_shown (shown_at founds.now summary.now.id) }
+{
+    match founds.get(&summary.id) {
+        Some(found) => found.sums,
+        None => Sums {
+            usages: 0,
+            amount: 0,
+        },
+    }
+}
+
+/// Whether a summary states what is found for it.
+fn states(summary: &Summary, found: Sums) -> bool
+    ensures { result ≡ (int_eq summary.now.usages found.usages && int_eq summary.now.amount found.amount) }
+{
+    i128::from(summary.usages) == found.usages && summary.amount.units() == found.amount
+}
+
+/// Adds the difference of a summary, where what it states is not what is found.
+fn add_difference(
+    differences: &mut Differences,
+    alloc: Global,
+    place: u32,
+    summary: &Summary,
+    found: Sums,
+) -> Result<(), NoMemory>
+    ensures { OnOk result (differences.new ≡ differences.old ++ filter differs (difference_to place found summary.now ∷ [])) }
+{
+    if states(summary, found) {
+        return Ok(());
+    }
+    let difference = Difference {
+        file: place,
+        summary_id: summary.id.copy(alloc)?,
+        stated_usages: summary.usages,
+        found_usages: found.usages,
+        stated_amount: summary.amount.units(),
+        found_amount: found.amount,
+    };
+    differences.push(difference).map_err(|_difference| NoMemory)
+}
+
+/// Adds the differences of summaries, in their order.
+fn add_differences(
+    differences: &mut Differences,
+    alloc: Global,
+    place: u32,
+    summaries: &[Summary],
+    founds: &Founds,
+) -> Result<(), NoMemory>
+    ensures { OnOk result (differences.new ≡ differences.old ++ differences_to place founds.now summaries.now) }
+{
+    for summary in summaries {
+        add_difference(
+            differences,
+            alloc,
+            place,
+            summary,
+            found_for(founds, summary),
+        )?;
+    }
+    Ok(())
+}
+
+/// Adds the differences of a file: none but in a file of ours that ended whole.
+fn add_file(differences: &mut Differences, alloc: Global, file: &FileBooks) -> Result<(), NoMemory>
+    ensures { OnOk result (differences.new ≡ differences.old ++ differences_kept file.now) }
+{
+    match (file.standing, file.outcome, &file.opening) {
+        (Standing::Ours, Some(Outcome::Whole), Some(opening)) => {
+            let summaries = opening.summaries.as_slice();
+            add_differences(differences, alloc, file.place, summaries, &file.founds)
+        }
+        _ => Ok(()),
+    }
+}
+
+/// The differences of the files, by file and then in file order.
+pub fn differences_of(alloc: Global, files: &[FileBooks]) -> Result<Differences, NoMemory>
+    ensures { IfOk result (λ l. l ≡ flat_map differences_kept files.now) }
+{
+    let mut differences = Items::new(alloc);
+    for file in files {
+        add_file(&mut differences, alloc, file)?;
+    }
+    Ok(differences)
+}

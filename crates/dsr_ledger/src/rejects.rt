@@ -1,0 +1,63 @@
+//! The key of a report and its rejected blocks, which are taken out of the files.
+ghost use Rattle.std.specs.Prelude.{◌≡◌, ◌++◌, IfOk, OnOk, option_map};
+ghost use Rattle.std.specs.List.{flat_map};
+ghost use Rattle.dsr_ledger.specs.Files.{first_head};
+ghost use Rattle.dsr_ledger.specs.Openings.{openings_of, first_of};
+ghost use Rattle.dsr_ledger.specs.Reports.{key_of};
+
+use crate::file::FileBooks;
+use crate::report::{Reject, Rejects, ReportKey};
+use dsr_cells::{Items, NoMemory};
+use dsr_file::Opening;
+use dsr_records::Head;
+use std::alloc::Global;
+
+/// The key that a head gives.
+fn key_of(head: Head) -> ReportKey
+    ensures { result ≡ key_of head }
+{
+    ReportKey {
+        message_id: head.message_id,
+        number_of_files: head.number_of_files,
+        first_day: head.first_day,
+        last_day: head.last_day,
+    }
+}
+
+/// The key of a report whose first files came to this key, or to none, with the next file's opening.
+fn key_after(key: Option<ReportKey>, opening: Option<Opening>) -> Option<ReportKey>
+    ensures { result ≡ first_of key (option_map (λ o. key_of o.head) opening) }
+{
+    match (key, opening) {
+        (Some(key), _) => Some(key),
+        (None, Some(opening)) => Some(key_of(opening.head)),
+        (None, None) => None,
+    }
+}
+
+/// Adds rejected blocks at the end.
+fn add_rejects(rejects: &mut Rejects, more: Vec<Reject>) -> Result<(), NoMemory>
+    ensures { OnOk result (rejects.new ≡ rejects.old ++ more.items) }
+{
+    for reject in more {
+        rejects.push(reject).map_err(|_reject| NoMemory)?;
+    }
+    Ok(())
+}
+
+/// The key of the first file that has an opening, and the rejected blocks by file and then in file order.
+pub fn key_and_rejects(
+    alloc: Global,
+    files: Vec<FileBooks>,
+) -> Result<(Option<ReportKey>, Rejects), NoMemory>
+    ensures key { IfOk result (λ p. p.0 ≡ option_map key_of (first_head (openings_of files.items))) }
+    ensures rejects { IfOk result (λ p. p.1 ≡ flat_map (λ f. f.rejects.items) files.items) }
+{
+    let mut key = None;
+    let mut rejects = Items::new(alloc);
+    for file in files {
+        key = key_after(key, file.opening);
+        add_rejects(&mut rejects, file.rejects)?;
+    }
+    Ok((key, rejects))
+}
