@@ -73,7 +73,7 @@ fn ends_well<H: Threads + Wait + Copy + Send + 'static>(
 fn clean_reader(alloc: Global) -> Result<Vec<Script>, AllocError>
     ensures { IfOk result (λ v. All (λ r. r.failed ≡ false) v.items) }
 {
-    vec![in alloc; Script::alone(alloc, CLEAN, Step::Full, After::End)?]
+    Ok(vec![in alloc; Script::alone(alloc, CLEAN, Step::Full, After::End)?]?)
 }
 
 /// The reader of a hundred blocks.
@@ -81,7 +81,7 @@ fn hundred_reader(alloc: Global) -> Result<Vec<Script>, AllocError>
     ensures { IfOk result (λ v. All (λ r. r.failed ≡ false) v.items) }
 {
     let text = hundred_blocks(alloc)?;
-    vec![in alloc; Script::alone(alloc, &text, Step::Line, After::End)?]
+    Ok(vec![in alloc; Script::alone(alloc, &text, Step::Line, After::End)?]?)
 }
 
 #[test]
