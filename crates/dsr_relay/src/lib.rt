@@ -28,3 +28,6 @@ pub use name::Name;
 pub use open::{RelayError, open_relay};
 pub use settled::Settled;
 pub use tap::Tap;
+
+#[cfg(test)]
+mod tests;
