@@ -1,6 +1,6 @@
 -- What is told of the files that are kept is what is told of the files that they stand for.
-use Rattle.std.proofs.Common.{◌≡◌, ℕ, zero, suc, ◌+◌, ◌^◌, ◌≤◌, length, arith, Bool, true, false, cond, not, ◌&&◌, ◌||◌, List, [], ◌∷◌, ◌++◌, append_assoc, refl, sym, ◌∙◌, ap, subst}
-use Rattle.std.specs.Prelude.{pos, ◌+ℤ◌, Option, None, Some, option_map, map, filter, find, is_some, if◌then◌else◌}
+use Rattle.std.proofs.Common.{◌≡◌, ℕ, zero, suc, ◌+◌, ◌^◌, ◌≤◌, length, arith, Bool, true, false, cond, not, ◌&&◌, ◌||◌, List, [], ◌∷◌, ◌++◌, append_assoc, refl, sym, ◌∙◌, ap}
+use Rattle.std.specs.Prelude.{Option, None, Some, option_map, map, filter, find, if◌then◌else◌}
 use Rattle.std.specs.List.{flat_map, list_any, range_with_len, AllByRecursion}
 use Rattle.std.specs.Str.{bytes_eq}
 use Rattle.std.specs.HashMap.{HashMap}
@@ -11,17 +11,15 @@ use Rattle.dsr_records.specs.declared.record.Summary.{Summary}
 use Rattle.dsr_records.specs.declared.record.Usage.{Usage}
 use Rattle.dsr_records.specs.declared.record.Head.{Head}
 use Rattle.dsr_file.specs.Openings.{OpeningParts}
-use Rattle.dsr_ledger.specs.declared.sums.Sums.{Sums}
 use Rattle.dsr_ledger.specs.declared.found.Found.{Found}
 use Rattle.dsr_ledger.specs.declared.file.FileBooks.{FileBooks}
 use Rattle.dsr_ledger.specs.declared.kept.Kept.{Kept}
 use Rattle.dsr_ledger.specs.declared.report.Report.{Report}
-use Rattle.dsr_ledger.specs.declared.report.Difference.{Difference}
 use Rattle.dsr_ledger.specs.declared.report.ReportKey.{ReportKey}
 use Rattle.dsr_ledger.specs.Sums.{int_sum_by}
 use Rattle.dsr_ledger.specs.Files.{File, Filed, filed, filed_after, standing, summaries_of, first_head}
 use Rattle.dsr_ledger.specs.Findings.{is_ours, ended_whole, usages_in, naming, difference, differs, differences_in, differences, has_number, is_there, missing_for, rejects_in, rejects}
-use Rattle.dsr_ledger.specs.Found.{Shown, shown_at, shown_with, nothing_found, found_in}
+use Rattle.dsr_ledger.specs.Found.{shown_at, shown_with, nothing_found, found_in}
 use Rattle.dsr_ledger.specs.Openings.{openings_of, first_of}
 use Rattle.dsr_ledger.specs.Bookings.{Booking, bookings}
 use Rattle.dsr_ledger.specs.Ledger.{ledger}

@@ -1,10 +1,9 @@
 -- What the report tells of the files, from what is kept of them.
-use Rattle.std.specs.Prelude.{ℕ, pos, Bool, false, not, ◌==◌, ◌&&◌, Option, None, Some, List, [], filter, map, option_map, if◌then◌else◌}
-use Rattle.std.specs.List.{list_any, range_with_len}
+use Rattle.std.specs.Prelude.{ℕ, pos, Bool, not, ◌&&◌, Option, None, Some, List, [], filter, map, option_map, if◌then◌else◌}
+use Rattle.std.specs.List.{range_with_len}
 use Rattle.std.specs.HashMap.{HashMap}
 use Rattle.std.specs.BTreeSet.{BTreeSet, contains}
 use Rattle.std.specs.Ordering.{nat_cmp}
-use Rattle.dsr_records.specs.declared.record.Head.{Head}
 use Rattle.dsr_records.specs.declared.record.Summary.{Summary}
 use Rattle.dsr_ledger.specs.declared.sums.Sums.{Sums}
 use Rattle.dsr_ledger.specs.declared.found.Found.{Found}
@@ -12,11 +11,10 @@ use Rattle.dsr_ledger.specs.declared.file.FileBooks.{FileBooks}
 use Rattle.dsr_ledger.specs.declared.report.ReportKey.{ReportKey}
 use Rattle.dsr_ledger.specs.declared.report.FileLine.{FileLine}
 use Rattle.dsr_ledger.specs.declared.report.Difference.{Difference}
-use Rattle.dsr_ledger.specs.Files.{summaries_of, first_head}
+use Rattle.dsr_ledger.specs.Files.{summaries_of}
 use Rattle.dsr_ledger.specs.Findings.{is_ours, ended_whole, differs, has_number}
 use Rattle.dsr_ledger.specs.Found.{shown_at, Shown}
-use Rattle.dsr_ledger.specs.Openings.{openings_of}
-use Rattle.dsr_ledger.specs.Reports.{key_of, outcome_of}
+use Rattle.dsr_ledger.specs.Reports.{outcome_of}
 
 -- the line of a file
 abbrev pub line_kept : FileBooks → FileLine

@@ -140,8 +140,8 @@ impl Books {
         Ok(())
     }
 
-    /// The report of the files, which all ended. The files' texts are moved into it; after want of memory the books are
-    /// gone.
+    /// The report of the files, which all ended. Its texts are moved out of the books, but for the identifiers in its
+    /// differences. After want of memory the books are gone.
     pub fn into_report(self) -> Result<Report, NoMemory>
         requires { AllEnded self }
         ensures { (files : List File) → Stands self files → IfOk result (λ r. r ≡ report_of files) }

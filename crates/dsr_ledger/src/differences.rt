@@ -83,11 +83,7 @@ fn add_differences(
 }
 
 /// Adds the differences of a file: none but in a file of ours that ended whole.
-fn add_file(
-    differences: &mut Differences,
-    alloc: Global,
-    file: &FileBooks,
-) -> Result<(), NoMemory>
+fn add_file(differences: &mut Differences, alloc: Global, file: &FileBooks) -> Result<(), NoMemory>
     ensures { OnOk result (differences.new ≡ differences.old ++ differences_kept file.now) }
 {
     match (file.standing, file.outcome, &file.opening) {

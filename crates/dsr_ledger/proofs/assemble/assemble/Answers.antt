@@ -1,8 +1,7 @@
-use Rattle.std.proofs.Common.{◌≡◌, ℕ, List, ◌∙◌, ap}
+use Rattle.std.proofs.Common.{◌≡◌, ◌∙◌, ap}
 use Rattle.std.specs.Prelude.{map}
 use Rattle.std.specs.List.{flat_map, list_any}
 use Rattle.std.proofs.Math.Logic.{∥∥₁_map}
-use Rattle.dsr_ledger.specs.declared.file.FileBooks.{FileBooks}
 use Rattle.dsr_ledger.specs.Assembly.{line_kept, is_number_kept, differences_kept}
 use Rattle.dsr_ledger.proofs.AssemblyLemmas.{report_is, small_lines}
 use Rattle.dsr_ledger.proofs.assemble.assemble.Goals as goal
