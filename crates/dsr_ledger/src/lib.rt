@@ -26,6 +26,8 @@ mod parts;
 mod rejects;
 mod report;
 mod sums;
+#[cfg(test)]
+mod tests;
 mod verdict;
 
 pub use books::Books;
