@@ -2,7 +2,7 @@
 ghost use Rattle.std.specs.Prelude.{◌≡◌, ℕ, ◌+◌, ◌<◌, true, false, [], length, IfSome, IfOk, OnOk, OnErr};
 ghost use Rattle.dsr_file.specs.Orderly.{has_ended, is_ended, MayStandAt};
 
-use crate::{Closed, Feed, RelayError, Tap, open_relay};
+use crate::{Feed, RelayError, Tap, open_relay};
 use dsr_file::{Ending, Event, EventList, EventPart, Outcome, whole_events};
 use dsr_records::Layout;
 use std::alloc::{AllocError, Global};
@@ -217,14 +217,29 @@ fn takes_end<R: Wait>(rt: &R, tap: &mut Tap, place: u64) -> bool
     is_end(&event, place)
 }
 
-/// Whether there is nothing to take and the feed is gone.
-fn is_closed<R: Wait>(rt: &R, tap: &mut Tap) -> bool
+/// Takes one event, and answers its place, or none where the feed is gone.
+fn takes_place<R: Wait>(rt: &R, tap: &mut Tap) -> Option<u64>
     requires { has_ended tap.old.taken ≡ false }
 {
-    let Err(Closed) = tap.take(rt) else {
-        return false;
+    let Ok(event) = tap.take(rt) else {
+        return None;
     };
-    true
+    Some(event.place)
+}
+
+/// Sends the opening out and lets the feed go.
+fn send_and_leave<R: Wait>(rt: &R, alloc: Global, mut feed: Feed) -> bool
+    requires { feed.sent ≡ [] }
+{
+    send_opened(rt, alloc, &mut feed) && flushes(rt, &mut feed)
+}
+
+/// Flushes, and answers whether the batch went out.
+fn flushes<R: Wait>(rt: &R, feed: &mut Feed) -> bool
+    ensures sent { feed.new.sent ≡ feed.old.sent }
+    ensures name { feed.new.name ≡ feed.old.name }
+{
+    feed.flush(rt).is_ok()
 }
 
 /// A new relay.
@@ -237,12 +252,20 @@ fn relay(alloc: Global, capacity: u32) -> Result<(Feed, Tap), Fail>
     }
 }
 
+/// Whether a relay of this capacity is made, or the capacity is refused.
+fn is_made(alloc: Global, capacity: u32) -> Option<bool> {
+    match open_relay(alloc, capacity) {
+        Ok(_) => Some(true),
+        Err(RelayError::Capacity) => Some(false),
+        Err(RelayError::Memory) => None,
+    }
+}
+
 #[test]
 fn capacities(rt: HostRuntime) {
-    assert!(rt; matches!(open_relay(rt.alloc(), 0), Err(RelayError::Capacity)));
-    assert!(rt; matches!(open_relay(rt.alloc(), 1025), Err(RelayError::Capacity)));
-    assert!(rt; open_relay(rt.alloc(), 1).is_ok());
-    assert!(rt; open_relay(rt.alloc(), 1024).is_ok());
+    for (capacity, made) in [(0, false), (1, true), (1024, true), (1025, false)] {
+        assert!(rt; is_made(rt.alloc(), capacity) == Some(made));
+    }
 }
 
 #[test]
@@ -266,13 +289,11 @@ fn an_ended_comes_back_twice(rt: HostRuntime) -> Result<(), Fail> {
 
 #[test]
 fn a_dropped_feed_closes(rt: HostRuntime) -> Result<(), Fail> {
-    let (mut feed, mut tap) = relay(rt.alloc(), 1)?;
-    assert!(rt; send_opened(&rt, rt.alloc(), &mut feed));
-    assert!(rt; feed.flush(&rt).is_ok());
-    drop(feed);
+    let (feed, mut tap) = relay(rt.alloc(), 1)?;
+    assert!(rt; send_and_leave(&rt, rt.alloc(), feed));
     assert!(rt; takes_opened(&rt, &mut tap));
     assert!(rt; !tap.ended());
-    assert!(rt; is_closed(&rt, &mut tap));
+    assert!(rt; takes_place(&rt, &mut tap).is_none());
     Ok(())
 }
 
@@ -301,13 +322,11 @@ fn one_of_forty_is_taken(rt: HostRuntime) -> Result<(), Fail> {
 fn a_closed_tap_hands_back(rt: HostRuntime) -> Result<(), Fail> {
     let (mut feed, mut tap) = relay(rt.alloc(), 2)?;
     assert!(rt; send_opened(&rt, rt.alloc(), &mut feed));
-    let flushed = feed.flush(&rt).is_ok();
-    assert!(rt; flushed);
+    assert!(rt; flushes(&rt, &mut feed));
     assert!(rt; takes_opened(&rt, &mut tap));
     drop(tap);
     assert!(rt; send_block(&rt, rt.alloc(), &mut feed));
-    let refused = feed.flush(&rt).is_err();
-    assert!(rt; refused);
+    assert!(rt; !flushes(&rt, &mut feed));
     assert!(rt; ended_comes_back(&rt, &mut feed, 2));
     assert_eq!(rt; feed.sent_count(), 2);
     Ok(())
@@ -379,10 +398,9 @@ fn take_first<R: Wait>(rt: &R, mut tap: Tap) -> bool
 
 #[test]
 fn a_tap_moves_to_a_thread(rt: HostRuntime) -> Result<(), Fail> {
-    let (mut feed, tap) = relay(rt.alloc(), 1)?;
+    let (feed, tap) = relay(rt.alloc(), 1)?;
     let taker = thread::spawn(&rt, move || take_first(&rt, tap))?;
-    assert!(rt; send_opened(&rt, rt.alloc(), &mut feed));
-    assert!(rt; feed.flush(&rt).is_ok());
+    assert!(rt; send_and_leave(&rt, rt.alloc(), feed));
     assert!(rt; taker.join(&rt));
     Ok(())
 }
