@@ -23,3 +23,6 @@ pub use reading::{ReadFileError, read_file};
 pub use sink::Sink;
 pub use source::{Failed, FromRead, Source};
 pub use whole::whole_events;
+
+#[cfg(test)]
+mod tests;
