@@ -22,7 +22,7 @@ def blocks(asked, rng, file, room):
         isrc = f'GBX{song // 2_000_000:02d}{10 + song // 100_000 % 20}{song % 100_000:05d}'
         lines = [f'AS01\t{number}\t{isrc}\tSong {number % 9973} of {file}\tThe {number % 401} Lanterns']
         for work in range(asked.works):
-            parties = '|'.join(f'Party {rng.randrange(2000)}' for _ in range(asked.parties))
+            parties = '|'.join(f'Party {(7 * song + 3 * work + place) % 2000}' for place in range(asked.parties))
             shares = '|'.join([share] * asked.parties)
             lines.append(f'MW01\t{number}\tT-{number:09d}-{work}\tSong {number % 9973}\t{parties}\t{shares}')
         used = [(rng.randrange(asked.summaries), rng.randrange(1, 5000), rng.randrange(1, 90000)) for _ in range(asked.usages)]
