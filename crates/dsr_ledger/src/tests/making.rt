@@ -17,6 +17,22 @@ fn events_once(alloc: Global, text: &str) -> Result<Result<EventList, NoMemory>,
     Ok(whole_events(alloc, &Layout::standard(), bytes, Ending::Whole))
 }
 
+fn joined_once(alloc: Global, first: &str, second: &str, third: &str) -> Result<String, NoMemory> {
+    let mut text = String::new(alloc);
+    text.push_str(first)?;
+    text.push_str(second)?;
+    text.push_str(third)?;
+    Ok(text)
+}
+
+/// A text of three parts.
+pub fn joined(alloc: Global, first: &str, second: &str, third: &str) -> Result<String, NoMemory> {
+    match joined_once(alloc, first, second, third) {
+        Ok(text) => Ok(text),
+        Err(NoMemory) => joined_once(alloc, first, second, third),
+    }
+}
+
 /// The events of a whole text.
 fn events_of(alloc: Global, text: &str) -> Result<EventList, Fail> {
     match events_once(alloc, text)? {

@@ -1,6 +1,6 @@
 //! What the parties of a ledger line have of its amount.
-use super::making::report_of;
-use super::shown::{ledger_of, report_lines};
+use super::making::{joined, report_of};
+use super::shown::{ledger_lines, report_lines};
 use super::texts::{head_of_block, two_blocks};
 use std::alloc::Global;
 use std::test::Fail;
@@ -27,12 +27,9 @@ fn parties_have_their_shares(rt: HostRuntime) -> Result<(), Fail> {
 
 /// The ledger's lines of a file of one block with these works and usages.
 fn ledger_with(alloc: Global, records: &str, foot: &str) -> Result<Vec<u8>, Fail> {
-    let mut text = String::new(alloc);
-    text.push_str(head_of_block())?;
-    text.push_str(records)?;
-    text.push_str(foot)?;
+    let text = joined(alloc, head_of_block(), records, foot)?;
     let report = report_of(alloc, &[text.as_str()])?;
-    Ok(ledger_of(alloc, &report)?)
+    Ok(ledger_lines(alloc, &report)?)
 }
 
 #[test]

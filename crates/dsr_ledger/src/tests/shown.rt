@@ -216,9 +216,16 @@ pub fn report_lines(alloc: Global, report: &Report) -> Result<Vec<u8>, NoMemory>
     }
 }
 
-/// The ledger's lines of a report.
-pub fn ledger_of(alloc: Global, report: &Report) -> Result<Vec<u8>, NoMemory> {
+fn ledger_once(alloc: Global, report: &Report) -> Result<Vec<u8>, NoMemory> {
     let mut page = new_page(alloc);
     page.lines(report)?;
     Ok(page.bytes)
+}
+
+/// The ledger's lines of a report.
+pub fn ledger_lines(alloc: Global, report: &Report) -> Result<Vec<u8>, NoMemory> {
+    match ledger_once(alloc, report) {
+        Ok(lines) => Ok(lines),
+        Err(NoMemory) => ledger_once(alloc, report),
+    }
 }
