@@ -1,12 +1,12 @@
 //! The collector over relays that the test itself feeds.
-ghost use Rattle.std.specs.Prelude.{◌≡◌, []};
+ghost use Rattle.std.specs.Prelude.{◌≡◌, [], IfOk};
 
 use crate::texts::{FIRST_OF_TWO, SECOND_OF_TWO, TWO_STATEMENT};
 use dsr_file::{Event, FromRead, Sink, read_file};
 use dsr_intake::{CollectError, FeedSink, collect, statement};
 use dsr_ledger::Report;
 use dsr_records::Layout;
-use dsr_relay::{Feed, Name, open_relay};
+use dsr_relay::{Feed, Name, Tap, open_relay};
 use std::alloc::{AllocError, Global};
 use std::sync::Wait;
 use std::thread;
@@ -50,14 +50,25 @@ fn send_text<H: Wait>(rt: &H, alloc: Global, text: &'static [u8], most: u32, fee
     let _ = feed.flush(rt);
 }
 
+/// The two ends of a relay of one message.
+fn open(alloc: Global) -> Result<(Feed, Tap), AllocError>
+    ensures sent { IfOk result (λ ends. ends.0.sent ≡ []) }
+    ensures taken { IfOk result (λ ends. ends.1.taken ≡ []) }
+{
+    match open_relay(alloc, 1) {
+        Ok(ends) => Ok(ends),
+        Err(_) => Err(AllocError),
+    }
+}
+
 /// What is collected of two files of which the second thread sends so many events, and whether both taps have ended.
 fn collected<H: Threads + Wait + Copy + Send + 'static>(
     rt: &H,
     alloc: Global,
     most: u32,
 ) -> Result<(Result<Report, CollectError>, bool), AllocError> {
-    let (first_feed, first_tap) = open_relay(alloc, 1).map_err(|_| AllocError)?;
-    let (second_feed, second_tap) = open_relay(alloc, 1).map_err(|_| AllocError)?;
+    let (first_feed, first_tap) = open(alloc)?;
+    let (second_feed, second_tap) = open(alloc)?;
     let mut taps = vec![in alloc; first_tap, second_tap]?;
     let own = *rt;
     let first = thread::spawn(

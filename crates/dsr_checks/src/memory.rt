@@ -24,12 +24,10 @@ impl Outlet for Mirror {
     ghost told = { λ s. record { contents = None; failed = s.failed } };
 
     fn write(&mut self, piece: &[u8]) -> Result<usize, Failed> {
-        for byte in piece {
-            if self.expected.get(self.written) != Some(byte) {
-                self.agrees = false;
-            }
-            self.written = self.written.wrapping_add(1);
+        if !stands_at(self.expected, self.written, piece) {
+            self.agrees = false;
         }
+        self.written = self.written.wrapping_add(piece.len());
         Ok(piece.len())
     }
 
@@ -40,6 +38,11 @@ impl Outlet for Mirror {
     fn failed(&self) -> bool {
         self.failed
     }
+}
+
+/// Whether a piece stands in a text from this place on.
+fn stands_at(text: &[u8], at: usize, piece: &[u8]) -> bool {
+    at <= text.len() && text[at..].starts_with(piece)
 }
 
 /// Whether a run on these readers writes this statement, or wants memory or a thread and writes nothing.

@@ -1,4 +1,6 @@
 //! What is refused, what fails, and what was written then.
+ghost use Rattle.std.specs.Prelude.{◌≡◌, false};
+
 use crate::page::Page;
 use crate::runs::{gives, options};
 use crate::script::{After, Script, Step};
@@ -171,6 +173,7 @@ fn each_read_fails_in_turn(rt: HostRuntime) -> Result<(), AllocError> {
     let alloc = rt.alloc();
     let mut given = 0;
     for line in CLEAN.split(|byte| *byte == b'\n') {
+        assert!(rt; given <= CLEAN.len());
         let text = &CLEAN[..given];
         let expected = failed_statement(alloc, text)?;
         let readers = vec![in alloc; Script::alone(alloc, text, Step::Line, After::Failure)?]?;

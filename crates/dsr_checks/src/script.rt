@@ -1,5 +1,5 @@
 //! A reader that gives a text as it is told to.
-ghost use Rattle.std.specs.Prelude.{◌≡◌, ◌≤◌, None, false, length};
+ghost use Rattle.std.specs.Prelude.{◌≡◌, ◌≤◌, None, false, length, IfOk};
 
 use dsr_file::{Failed, Source};
 use std::alloc::{AllocError, Global};
@@ -76,12 +76,9 @@ impl Script {
     }
 
     /// The reader of a text, which waits for nobody.
-    pub fn alone(
-        alloc: Global,
-        text: &[u8],
-        step: Step,
-        after: After,
-    ) -> Result<Script, AllocError> {
+    pub fn alone(alloc: Global, text: &[u8], step: Step, after: After) -> Result<Script, AllocError>
+        ensures { IfOk result (λ s. s.failed ≡ false) }
+    {
         let text = Vec::from_slice(alloc, text)?;
         let own = Arc::new(alloc, AtomicU64::new(0))?;
         let other = Arc::try_clone(&own)?;
