@@ -76,7 +76,7 @@ fn refused_words(rt: HostRuntime) -> Result<(), AllocError> {
 fn help(rt: HostRuntime) -> Result<(), AllocError> {
     let answer = asked_by(rt.alloc(), &["--help"])?;
     assert!(rt;
-        matches!(answer, Err(CommandFault::Help(text)) if text.as_str().contains("--layout"))
+        matches!(&answer, Err(CommandFault::Help(text)) if text.as_str().contains("--layout"))
     );
     Ok(())
 }
@@ -177,7 +177,7 @@ fn a_file_that_is_not_there(rt: HostRuntime) -> Result<(), AllocError> {
     let names = name_list(alloc, "not_there.tsv")?;
     let answer = open_inputs(&rt, alloc, &names);
     assert!(rt;
-        matches!(answer, Err(OpenError::CannotOpen(name)) if name.as_str() == "not_there.tsv")
+        matches!(&answer, Err(OpenError::CannotOpen(name)) if name.as_str() == "not_there.tsv")
     );
     Ok(())
 }
