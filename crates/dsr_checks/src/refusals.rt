@@ -191,3 +191,38 @@ fn each_read_fails_in_turn(rt: HostRuntime) -> Result<(), AllocError> {
     }
     Ok(())
 }
+
+/// Whether the statement of a file of one line tells this fault. The line has this first byte and is so long, no line feed
+/// ends it, and then a read fails.
+fn ends_by<H: Threads + Wait + Copy + Send + 'static>(
+    rt: &H,
+    alloc: Global,
+    first: u8,
+    len: usize,
+    fault: &str,
+) -> Result<bool, AllocError> {
+    let mut line = vec![in alloc; first]?;
+    line.resize(len, b'x')?;
+    let readers = vec![in alloc;
+        Script::alone(alloc, line.as_slice(), Step::Full, After::Failure)?,
+    ]?;
+    let expected = format!(in alloc; "NOREPORT\nFILE\t1\t-\tHeadless\t0\tFault\t1\t{fault}\n")?;
+    Ok(gives(
+        rt,
+        alloc,
+        readers,
+        options(16, 100),
+        Status::Remarks,
+        expected.as_bytes(),
+    ))
+}
+
+/// A line of 8,193 bytes is too long before its end comes, a comment too; at 8,192 bytes the failed read is told.
+#[test]
+fn a_long_line_and_then_a_read_that_fails(rt: HostRuntime) -> Result<(), AllocError> {
+    let alloc = rt.alloc();
+    assert!(rt; ends_by(&rt, alloc, b'x', 8193, "LongLine")?);
+    assert!(rt; ends_by(&rt, alloc, b'#', 8193, "LongLine")?);
+    assert!(rt; ends_by(&rt, alloc, b'#', 8192, "Read")?);
+    Ok(())
+}

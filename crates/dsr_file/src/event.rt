@@ -67,6 +67,12 @@ impl Model for Event {
 
 /// An event that fills the unused places of a list of fixed size.
 impl Default for Event {
+    ghost use Rattle.std.specs.Prelude.{◌≡◌};
+    ghost use Rattle.dsr_file.specs.declared.event.EventPart.TheVariants as part;
+    ghost use Rattle.dsr_file.specs.declared.fault.Outcome.TheVariants as outcome;
+
+    ghost is_default = { λ e. e ≡ record { place = 0; part = part.Ended outcome.Whole } };
+
     fn default() -> Event {
         Event {
             place: 0,

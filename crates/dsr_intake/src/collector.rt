@@ -47,24 +47,24 @@ fn is_memory(outcome: &Outcome) -> bool
 }
 
 /// Books a later event of file k.
-fn book_part(books: &mut Books, k: u32, part: EventPart) -> Result<(), NoMemory>
-    requires later { is_opening part ≡ false }
+fn book_part(books: &mut Books, k: u32, part: &EventPart) -> Result<(), NoMemory>
+    requires later { is_opening part.now ≡ false }
     requires file { (f : File) × Knows books.old k f × IsGoing f }
-    ensures booked { OnOk result ((f : File) → Changes books.old books.new k f (with_part f part)) }
-    ensures clean { OnOk result (is_ended part ≡ true → is_clean_end part ≡ true) }
+    ensures booked { OnOk result ((f : File) → Changes books.old books.new k f (with_part f part.now)) }
+    ensures clean { OnOk result (is_ended part.now ≡ true → is_clean_end part.now ≡ true) }
     ensures files { files_count books.new ≡ files_count books.old }
 {
     match part {
         EventPart::Opened(_) => unreachable!(),
         EventPart::Block(block) => {
-            books.book(k, &block)?;
+            books.book(k, block)?;
             Ok(())
         }
         EventPart::Ended(outcome) => {
-            if is_memory(&outcome) {
+            if is_memory(outcome) {
                 return Err(NoMemory);
             }
-            books.end_file(k, outcome)
+            books.end_file(k, *outcome)
         }
     }
 }
@@ -85,7 +85,9 @@ fn take_one<H: Wait>(rt: &H, books: &mut Books, k: u32, tap: &mut Tap) -> Result
     let Ok(event) = tap.take(rt) else {
         return Err(closed(k));
     };
-    match book_part(books, k, event.part) {
+    let answer = book_part(books, k, &event.part);
+    tap.give_back(rt, event);
+    match answer {
         Ok(()) => Ok(()),
         Err(NoMemory) => Err(CollectError::Memory),
     }

@@ -3,7 +3,6 @@ use Rattle.std.proofs.Common.{◌≡◌, ℕ, zero, suc, ◌+◌, ◌^◌, ◌�
 use Rattle.std.specs.Prelude.{Option, None, Some, option_map, map, filter, find, if◌then◌else◌}
 use Rattle.std.specs.List.{flat_map, list_any, range_with_len, AllByRecursion}
 use Rattle.std.specs.Str.{bytes_eq}
-use Rattle.std.specs.HashMap.{HashMap}
 use Rattle.std.specs.BTreeSet.{BTreeSet, contains}
 use Rattle.std.specs.Ordering.{nat_cmp}
 use Rattle.std.proofs.lemmas.List.Elements.{filter-append}
@@ -11,7 +10,7 @@ use Rattle.dsr_records.specs.declared.record.Summary.{Summary}
 use Rattle.dsr_records.specs.declared.record.Usage.{Usage}
 use Rattle.dsr_records.specs.declared.record.Head.{Head}
 use Rattle.dsr_file.specs.Openings.{OpeningParts}
-use Rattle.dsr_ledger.specs.declared.found.Found.{Found}
+use Rattle.dsr_ledger.specs.declared.founds.Founds.{Founds}
 use Rattle.dsr_ledger.specs.declared.file.FileBooks.{FileBooks}
 use Rattle.dsr_ledger.specs.declared.kept.Kept.{Kept}
 use Rattle.dsr_ledger.specs.declared.report.Report.{Report}
@@ -98,7 +97,7 @@ here_too p [] s ss h = ap (λ b. b || list_any p ss) h
 here_too p (t ∷ done) s ss h = elim (p t) as (λ b. (b || list_any p (done ++ s ∷ ss)) ≡ true) [ true ↦ refl | false ↦ here_too p done s ss h ]
 
 -- each summary beside what is kept of it
-differences_found : {S : Type 0} (place : ℕ) (m : HashMap (List ℕ) Found S) (us : List Usage) (done ss all : List Summary) → all ≡ done ++ ss → ((id : List ℕ) → shown_at m id ≡ found_in all us id) → map (λ s. difference_to place (sums_shown (shown_at m s.id)) s) ss ≡ map (difference place us) ss
+differences_found : (place : ℕ) (m : Founds) (us : List Usage) (done ss all : List Summary) → all ≡ done ++ ss → ((id : List ℕ) → shown_at m id ≡ found_in all us id) → map (λ s. difference_to place (sums_shown (shown_at m s.id)) s) ss ≡ map (difference place us) ss
 differences_found place m us done [] all split is = refl
 differences_found place m us done (s ∷ ss) all split is =
     let p : Summary → Bool = λ t. bytes_eq s.id t.id in

@@ -1,8 +1,7 @@
 -- The books after a block, an opening or an outcome.
-use Rattle.std.proofs.Common.{◌≡◌, ℕ, zero, suc, ◌+◌, ◌^◌, ◌<◌, ◌≤◌, Bool, true, false, cond, List, [], ◌∷◌, ◌++◌, length, length-append, set, refl, sym, ◌∙◌, ap, subst, arith}
-use Rattle.std.specs.Prelude.{Option, None, Some, map, slice_get, Result, Ok, Err, MatchResult, IfOk, OnOk, OnErr}
+use Rattle.std.proofs.Common.{◌≡◌, ℕ, ◌+◌, ◌^◌, ◌<◌, ◌≤◌, Bool, true, false, cond, List, [], ◌∷◌, ◌++◌, length, length-append, set, refl, sym, ◌∙◌, ap, subst, arith}
+use Rattle.std.specs.Prelude.{Option, Some, map, slice_get, Result, Ok, Err, MatchResult, IfOk, OnErr}
 use Rattle.std.specs.Option.{ForSome}
-use Rattle.std.specs.List.{AllByRecursion}
 use Rattle.std.proofs.Math.Logic.{∥∥₁_elim}
 use Rattle.std.proofs.Props.{props}
 use Rattle.dsr_records.specs.Blocks.{BlockParts}
@@ -13,7 +12,7 @@ use Rattle.dsr_ledger.specs.declared.sums.Sums.{Sums}
 use Rattle.dsr_ledger.specs.declared.file.FileBooks.{FileBooks}
 use Rattle.dsr_ledger.specs.declared.kept.Kept.{Kept}
 use Rattle.dsr_ledger.specs.declared.verdict.Verdict.{Verdict}
-use Rattle.dsr_ledger.specs.Files.{File, Filed, filed, standing, opened, with_block, with_outcome}
+use Rattle.dsr_ledger.specs.Files.{File, Filed, standing, opened, with_block, with_outcome}
 use Rattle.dsr_ledger.specs.Verdicts.{verdict_in, verdict_after}
 use Rattle.dsr_ledger.specs.Openings.{openings_of}
 use Rattle.dsr_ledger.specs.Found.{shown_at, ShownFits}

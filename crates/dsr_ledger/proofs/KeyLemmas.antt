@@ -1,5 +1,5 @@
 -- The equality and the order of keys.
-use Rattle.std.proofs.Common.{◌≡◌, Bool, true, refl, sym, ap, subst}
+use Rattle.std.proofs.Common.{◌≡◌, true, refl, ap, subst}
 use Rattle.std.specs.Bool.{Decides}
 use Rattle.std.specs.Ordering.{is_eq, ordering_then}
 use Rattle.std.specs.declared.cmp.Ordering.{Ordering}

@@ -1,6 +1,7 @@
 pub mod SumLemmas
 pub mod NumberedLemmas
 pub mod TextLemmas
+pub mod NameLemmas
 pub mod OwedLemmas
 pub mod NoteLemmas
 pub mod KeyLemmas

@@ -95,7 +95,7 @@ below_too (x ∷ xs) (y ∷ ys) (suc n) same h = let b = below_too xs ys n same 
 pub left_below : (lines : Lines) (ls : List Line) (e : Key × ℕ) (es : List (Key × ℕ)) → AreLeft lines ls (e ∷ es) → e.1 < length ls
 left_below lines ls e es h = below_too ls lines.lines.items e.1 h.0.1 (lines.numbered.below e.0 e.1 h.0.0)
 
-got : {X : Type 0} (ls : List X) (i : ℕ) (l : X) → i < length ls → l ≡ get_or ls i l → slice_get ls i ≡ Some l
+pub got : {X : Type 0} (ls : List X) (i : ℕ) (l : X) → i < length ls → l ≡ get_or ls i l → slice_get ls i ≡ Some l
 got [] i l below is = absurd (omega arith)
 got (x ∷ ls) zero l below is = ap Some (sym is)
 got (x ∷ ls) (suc i) l below is = got ls i l (omega arith) is
@@ -105,6 +105,10 @@ pub left_tally : (lines : Lines) (ls : List Line) (e : Key × ℕ) (es : List (K
 left_tally lines ls e es l h is =
     ap (λ o. option_map_or line_tally o no_tally) (sym (got ls e.1 l (left_below lines ls e es h) is) ∙ h.0.1)
     ∙ ap (read_at line_tally no_tally lines.lines.items) (sym h.0.0)
+
+-- the next line is its key's own
+pub left_key : (lines : Lines) (ls : List Line) (e : Key × ℕ) (es : List (Key × ℕ)) (l : Line) → AreLeft lines ls (e ∷ es) → l ≡ get_or ls e.1 l → l.key ≡ e.0
+left_key lines ls e es l h is = lines.numbered.apart l.key e.0 e.1 (lines.named e.1 l (sym h.0.1 ∙ got ls e.1 l (left_below lines ls e es h) is)) h.0.0
 
 fewer : {X : Type 0} (p : X → Bool) (xs : List X) → length (filter p xs) ≤ length xs
 fewer p [] = omega arith

@@ -1,10 +1,10 @@
 -- Notes of parts.
-use Rattle.std.proofs.Common.{◌≡◌, ℕ, zero, suc, ◌<◌, List, [], ◌∷◌, ◌++◌, length, take, get_or, refl, sym, ap, ◌∙◌, arith, append_assoc}
-use Rattle.std.specs.Prelude.{ℤ, map, Option, Some}
+use Rattle.std.proofs.Common.{◌≡◌, ℕ, zero, suc, ◌<◌, List, [], ◌∷◌, ◌++◌, length, take, get_or, sym, ap, ◌∙◌, arith, append_assoc}
+use Rattle.std.specs.Prelude.{ℤ, map, Option}
 use Rattle.std.specs.List.{zip}
 use Rattle.dsr_ledger.specs.declared.owed.PartNote.{PartNote}
 use Rattle.dsr_ledger.specs.Numbered.{Grows}
-use Rattle.dsr_ledger.specs.Parts.{Part, part_of, rounded}
+use Rattle.dsr_ledger.specs.Parts.{Part, part_of}
 use Rattle.dsr_ledger.specs.Owed.{AreNoted, NotedMore}
 
 pub noted_append : (seat : List ℕ → Option ℕ) (ns ms : List PartNote) (qs rs : List Part) → AreNoted seat ns qs → AreNoted seat ms rs → AreNoted seat (ns ++ ms) (qs ++ rs)

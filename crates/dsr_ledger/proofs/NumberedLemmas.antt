@@ -1,9 +1,12 @@
 -- Numbered keys: one more key, and one more value.
-use Rattle.std.proofs.Common.{◌≡◌, ℕ, zero, suc, ◌+◌, ◌<◌, Bool, true, false, cond, true≢false, List, [], ◌∷◌, ◌++◌, length, set, get_or, ◌⊎◌, inl, inr, ⊎_elim, refl, sym, ap, ◌∙◌, subst, arith}
-use Rattle.std.specs.Prelude.{Option, None, Some, slice_get, unwrap_or}
-use Rattle.std.specs.Option.{option_map_or}
+use Rattle.std.proofs.Common.{◌≡◌, ℕ, zero, suc, ◌+◌, ◌<◌, ◌≤◌, Bool, true, false, cond, true≢false, List, [], ◌∷◌, ◌++◌, length, take, set, get_or, ◌⊎◌, inl, inr, ⊎_elim, refl, sym, ap, ◌∙◌, arith}
+use Rattle.std.specs.Prelude.{Option, None, Some, is_some, map, slice_get, unwrap_or}
+use Rattle.std.specs.List.{position, position_from}
+use Rattle.std.specs.Option.{option_map, option_map_or}
 use Rattle.std.specs.Bool.{Decides}
-use Rattle.dsr_ledger.specs.Numbered.{IsNumbered, Grows, read_at}
+use Rattle.std.proofs.lemmas.Iterator.Adapters.{position_from-zero}
+use Rattle.std.proofs.lemmas.List.Quantifiers.{position-Some}
+use Rattle.dsr_ledger.specs.Numbered.{IsNumbered, Grows, AreNamed, read_at}
 
 same_Some : {X : Type 0} (x y : X) → Some x ≡ Some y → x ≡ y
 same_Some x y e = ap (λ o. unwrap_or o x) e
@@ -15,6 +18,16 @@ not_Some x e = absurd (cc)
 either : {X : Type 0} (b : Bool) (x y : X) (o : Option X) → cond b (Some x) o ≡ Some y → ((b ≡ true) × (x ≡ y)) ⊎ ((b ≡ false) × (o ≡ Some y))
 either true x y o e = inl (refl, same_Some x y e)
 either false x y o e = inr (refl, e)
+
+-- something is read of each key that has a number
+pub read_some : {V W : Type 0} (read : V → W) (vs : List V) (o : Option ℕ) → ((i : ℕ) → o ≡ Some i → i < length vs) → is_some (read_at (λ v. Some (read v)) None vs o) ≡ is_some o
+read_some {V} read vs None below = refl
+read_some {V} read vs (Some i) below = by vs i (below i refl)
+  where
+    by : (vs : List V) (i : ℕ) → i < length vs → is_some (option_map_or (λ v. Some (read v)) (slice_get vs i) None) ≡ true
+    by [] i h = absurd (omega arith)
+    by (x ∷ vs) zero h = refl
+    by (x ∷ vs) (suc i) h = by vs i (omega arith)
 
 module _ {K : Type 0} (same : K → K → Bool) (decides : (a b : K) → Decides (same a b) (a ≡ b)) where
   pub numbered_more : (old new : K → Option ℕ) (k : K) (n : ℕ) → IsNumbered old n → ((q : K) → new q ≡ cond (same k q) (Some n) (old q)) → IsNumbered new (n + 1)
@@ -35,6 +48,33 @@ module _ {K : Type 0} (same : K → K → Bool) (decides : (a b : K) → Decides
         | false ↦ λ _. e
       ] refl
 
+  module _ {V : Type 0} (name : V → K) where
+    value_pushed : (vs : List V) (v w : V) (i : ℕ) → slice_get (vs ++ v ∷ []) i ≡ Some w → (slice_get vs i ≡ Some w) ⊎ ((i ≡ length vs) × (v ≡ w))
+    value_pushed [] v w zero e = inr (refl, same_Some v w e)
+    value_pushed [] v w (suc i) e = absurd (cc)
+    value_pushed (x ∷ vs) v w zero e = inl e
+    value_pushed (x ∷ vs) v w (suc i) e = ⊎_elim (λ s. inl s) (λ s. inr (ap suc s.0, s.1)) (value_pushed vs v w i e)
+
+    -- one more value, whose name has its number
+    pub named_more : (old new : K → Option ℕ) (k : K) (vs : List V) (v : V) → AreNamed old name vs → old k ≡ None → k ≡ name v → ((q : K) → new q ≡ cond (same k q) (Some (length vs)) (old q)) → AreNamed new name (vs ++ v ∷ [])
+    named_more old new k vs v h none named is i w e =
+        ⊎_elim
+        (λ s. grows_more old new k (length vs) none is (name w) i (h i w s))
+        (λ s. is (name w) ∙ ap (λ b. cond b (Some (length vs)) (old (name w))) ((decides k (name w)).1 (named ∙ ap name s.1)) ∙ ap Some (sym s.0))
+        (value_pushed vs v w i e)
+
+    value_set : (vs : List V) (v w x : V) (i j : ℕ) → slice_get vs i ≡ Some v → slice_get (set vs i w) j ≡ Some x → (slice_get vs j ≡ Some x) ⊎ ((j ≡ i) × (w ≡ x))
+    value_set [] v w x i j at e = inl e
+    value_set (y ∷ vs) v w x zero zero at e = inr (refl, same_Some w x e)
+    value_set (y ∷ vs) v w x zero (suc j) at e = inl e
+    value_set (y ∷ vs) v w x (suc i) zero at e = inl e
+    value_set (y ∷ vs) v w x (suc i) (suc j) at e = ⊎_elim (λ s. inl s) (λ s. inr (ap suc s.0, s.1)) (value_set vs v w x i j at e)
+
+    -- a value that keeps its name is written over
+    pub named_set : (number : K → Option ℕ) (vs : List V) (i : ℕ) (v w : V) → AreNamed number name vs → slice_get vs i ≡ Some v → name w ≡ name v → AreNamed number name (set vs i w)
+    named_set number vs i v w h at kept j x e =
+        ⊎_elim (λ s. h j x s) (λ s. ap number (ap name (sym s.1) ∙ kept) ∙ h i v at ∙ ap Some (sym s.0)) (value_set vs v w x i j at e)
+
   module _ {V W : Type 0} (read : V → W) (none : W) where
     push_last : (vs : List V) (v : V) → option_map_or read (slice_get (vs ++ v ∷ []) (length vs)) none ≡ read v
     push_last [] v = refl
@@ -48,6 +88,15 @@ module _ {K : Type 0} (same : K → K → Bool) (decides : (a b : K) → Decides
     read_before : (vs : List V) (v : V) (o : Option ℕ) → ((i : ℕ) → o ≡ Some i → i < length vs) → read_at read none (vs ++ v ∷ []) o ≡ read_at read none vs o
     read_before vs v None h = refl
     read_before vs v (Some i) h = ap (λ o. option_map_or read o none) (push_before vs v i (h i refl))
+
+    -- a new key with a value: it is read there, and what is read of the other keys stays
+    pub read_added : (old new : K → Option ℕ) (k : K) (vs : List V) (v : V) → IsNumbered old (length vs) → ((q : K) → new q ≡ cond (same k q) (Some (length vs)) (old q)) → (q : K) → read_at read none (vs ++ v ∷ []) (new q) ≡ cond (same k q) (read v) (read_at read none vs (old q))
+    read_added old new k vs v h is q =
+        ap (read_at read none (vs ++ v ∷ [])) (is q)
+        ∙ elim (same k q) as (λ b. read_at read none (vs ++ v ∷ []) (cond b (Some (length vs)) (old q)) ≡ cond b (read v) (read_at read none vs (old q))) [
+          | true ↦ push_last vs v
+          | false ↦ read_before vs v (old q) (λ i e. h.below q i e)
+        ]
 
     -- a new key with a value of which nothing is read: nothing that is read changes
     pub read_pushed : (old new : K → Option ℕ) (k : K) (vs : List V) (v : V) → IsNumbered old (length vs) → old k ≡ None → ((q : K) → new q ≡ cond (same k q) (Some (length vs)) (old q)) → read v ≡ none → (q : K) → read_at read none (vs ++ v ∷ []) (new q) ≡ read_at read none vs (old q)
@@ -112,3 +161,106 @@ module _ {K : Type 0} (same : K → K → Bool) (decides : (a b : K) → Decides
         by (x ∷ vs) zero (suc j) at = refl
         by (x ∷ vs) (suc i) zero at = refl
         by (x ∷ vs) (suc i) (suc j) at = by vs i j at
+
+-- the place of a key among keys
+
+-- over what a function gives of each element
+position_from-map : {X Y : Type 0} (p : Y → Bool) (f : X → Y) (xs : List X) (n : ℕ) → position_from (λ x. p (f x)) n xs ≡ position_from p n (map f xs)
+position_from-map p f [] n = refl
+position_from-map p f (x ∷ xs) n = ap (cond (p (f x)) (Some n)) (position_from-map p f xs (n + 1))
+
+pub position-map : {X Y : Type 0} (p : Y → Bool) (f : X → Y) (xs : List X) → position (λ x. p (f x)) xs ≡ position p (map f xs)
+position-map p f xs = position_from-zero (λ x. p (f x)) xs ∙ position_from-map p f xs 0 ∙ sym (position_from-zero p (map f xs))
+
+-- of a first element and further ones
+position_from-later : {X : Type 0} (p : X → Bool) (xs : List X) (n : ℕ) → position_from p (n + 1) xs ≡ option_map suc (position_from p n xs)
+position_from-later p [] n = refl
+position_from-later p (x ∷ xs) n =
+    elim (p x) as (λ b. cond b (Some (n + 1)) (position_from p (n + 1 + 1) xs) ≡ option_map suc (cond b (Some n) (position_from p (n + 1) xs))) [
+      | true ↦ ap Some (omega arith)
+      | false ↦ position_from-later p xs (n + 1)
+    ]
+
+pub position-cons : {X : Type 0} (p : X → Bool) (x : X) (xs : List X) → position p (x ∷ xs) ≡ cond (p x) (Some 0) (option_map suc (position p xs))
+position-cons p x xs =
+    position_from-zero p (x ∷ xs)
+    ∙ ap (cond (p x) (Some 0)) (position_from-later p xs 0 ∙ ap (option_map suc) (sym (position_from-zero p xs)))
+
+-- one more element
+position_from-push : {X : Type 0} (p : X → Bool) (xs : List X) (y : X) (n : ℕ) → (p y ≡ true → position_from p n xs ≡ None) → position_from p n (xs ++ y ∷ []) ≡ cond (p y) (Some (n + length xs)) (position_from p n xs)
+position_from-push p [] y n h = ap (λ m. cond (p y) (Some m) None) (omega arith)
+position_from-push p (x ∷ xs) y n h =
+    elim (p x) as (λ b. (p y ≡ true → cond b (Some n) (position_from p (n + 1) xs) ≡ None) → cond b (Some n) (position_from p (n + 1) (xs ++ y ∷ [])) ≡ cond (p y) (Some (n + suc (length xs))) (cond b (Some n) (position_from p (n + 1) xs))) [
+      | true ↦ λ k. elim (p y) as (λ b. p y ≡ b → Some n ≡ cond b (Some (n + suc (length xs))) (Some n)) [
+        | true ↦ λ e. absurd (not_Some n (sym (k e)))
+        | false ↦ λ _. refl
+      ] refl
+      | false ↦ λ k. position_from-push p xs y (n + 1) k ∙ ap (λ m. cond (p y) (Some m) (position_from p (n + 1) xs)) (omega arith)
+    ] h
+
+pub position-push : {X : Type 0} (p : X → Bool) (xs : List X) (y : X) → (p y ≡ true → position p xs ≡ None) → position p (xs ++ y ∷ []) ≡ cond (p y) (Some (length xs)) (position p xs)
+position-push p xs y h =
+    position_from-zero p (xs ++ y ∷ [])
+    ∙ position_from-push p xs y 0 (λ e. sym (position_from-zero p xs) ∙ h e)
+    ∙ ap (λ m. cond (p y) (Some m) (position_from p 0 xs)) (omega arith)
+    ∙ ap (cond (p y) (Some (length xs))) (sym (position_from-zero p xs))
+
+-- where none of the first i elements passes
+position_from-taken : {X : Type 0} (p : X → Bool) (xs : List X) (i n : ℕ) (d : X) → i ≤ length xs → ((k : ℕ) → k < i → p (get_or xs k d) ≡ false) → position_from p n (take i xs) ≡ None
+position_from-taken p xs zero n d le h = refl
+position_from-taken p [] (suc i) n d le h = absurd (omega arith)
+position_from-taken p (x ∷ xs) (suc i) n d le h =
+    ap (λ b. cond b (Some n) (position_from p (n + 1) (take i xs))) (h zero (omega arith))
+    ∙ position_from-taken p xs i (n + 1) d (omega arith) (λ k l. h (suc k) (omega arith))
+
+-- the elements before the first that passes
+pub position-before : {X : Type 0} (p : X → Bool) (xs : List X) (i : ℕ) (d : X) → position p xs ≡ Some i → position p (take i xs) ≡ None
+position-before p xs i d e =
+    let first = position-Some p xs i d e in
+    position_from-zero p (take i xs) ∙ position_from-taken p xs i 0 d (let within = first.0 in omega arith) first.2
+
+pushed_at : {X : Type 0} (xs : List X) (y : X) (i : ℕ) (x : X) → slice_get (xs ++ y ∷ []) i ≡ Some x → (slice_get xs i ≡ Some x) ⊎ ((i ≡ length xs) × (y ≡ x))
+pushed_at [] y zero x e = inr (refl, same_Some y x e)
+pushed_at [] y (suc i) x e = absurd (not_Some x e)
+pushed_at (z ∷ xs) y zero x e = inl e
+pushed_at (z ∷ xs) y (suc i) x e = ⊎_elim (λ before. inl before) (λ last. inr (ap suc last.0, last.1)) (pushed_at xs y i x e)
+
+module _ {K : Type 0} (same : K → K → Bool) (decides : (a b : K) → Decides (same a b) (a ≡ b)) where
+  abbrev place : List K → K → Option ℕ
+  place ks q = position (same q) ks
+
+  -- keys have their places as numbers
+  pub places_are_numbered : (ks : List K) → IsNumbered (place ks) (length ks)
+  places_are_numbered ks = record {
+    below = λ k i e. (position-Some (same k) ks i k e).0;
+    apart = λ k l i e f. (decides k (get_or ks i k)).0 (position-Some (same k) ks i k e).1 ∙ sym ((decides l (get_or ks i k)).0 (position-Some (same l) ks i k f).1);
+  }
+
+  -- a key more, that was not among them
+  pub place_more : (ks : List K) (k q : K) → place ks k ≡ None → place (ks ++ k ∷ []) q ≡ cond (same k q) (Some (length ks)) (place ks q)
+  place_more ks k q none =
+      position-push (same q) ks k (λ e. ap (place ks) ((decides q k).0 e) ∙ none)
+      ∙ ap (λ b. cond b (Some (length ks)) (place ks q)) (turned (same q k) (same k q) (decides q k) (decides k q))
+    where
+      turned : (a b : Bool) → Decides a (q ≡ k) → Decides b (k ≡ q) → a ≡ b
+      turned true b h g = sym (g.1 (sym (h.0 refl)))
+      turned false true h g = h.1 (sym (g.0 refl))
+      turned false false h g = refl
+
+  -- no key stands twice
+  abbrev Apart : List K → Type 0
+  Apart ks = (i : ℕ) (k : K) → slice_get ks i ≡ Some k → place ks k ≡ Some i
+
+  pub apart_more : (ks : List K) (k : K) → place ks k ≡ None → Apart ks → Apart (ks ++ k ∷ [])
+  apart_more ks k none h i q at =
+      ⊎_elim
+      (λ before. grows_more same decides (place ks) (place (ks ++ k ∷ [])) k (length ks) none (λ r. place_more ks k r none) q i (h i q before))
+      (λ last.
+      place_more ks k q none
+      ∙ ap (λ b. cond b (Some (length ks)) (place ks q)) ((decides k q).1 last.1)
+      ∙ ap Some (sym last.0))
+      (pushed_at ks k i q at)
+
+  -- the key at a place is not among those before
+  pub place_before : (ks : List K) (i : ℕ) (k : K) → Apart ks → slice_get ks i ≡ Some k → place (take i ks) k ≡ None
+  place_before ks i k h at = position-before (same k) ks i k (h i k at)

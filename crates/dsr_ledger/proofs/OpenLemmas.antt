@@ -1,10 +1,8 @@
 -- How files are opened.
 use Rattle.std.proofs.Common.{◌≡◌, ℕ, zero, suc, ◌<◌, Bool, List, [], ◌∷◌, ◌++◌, length, get_or, true, false, cond, refl, sym, ◌∙◌, ap, true≢false, arith}
-use Rattle.std.specs.Prelude.{Option, None, Some, option_map, is_some, find, map, ◌||◌}
+use Rattle.std.specs.Prelude.{Option, None, Some, option_map, is_some, find, ◌||◌}
 use Rattle.std.specs.List.{list_any}
 use Rattle.std.specs.Str.{bytes_eq}
-use Rattle.std.specs.HashMap.{HashMap, get}
-use Rattle.std.specs.Cmp.Lexicographic.{nat_list_eq_equiv}
 use Rattle.std.proofs.lemmas.Slice.Eq.{bytes_eq-Decides}
 use Rattle.std.proofs.lemmas.Bool.{and_from}
 use Rattle.std.proofs.lemmas.Bool.Decides.{Decides-eqb}
@@ -12,11 +10,11 @@ use mathlib.Core.Bool.{false≢true}
 use Rattle.dsr_cells.specs.Days.{CivilDay}
 use Rattle.dsr_records.specs.declared.record.Head.{Head}
 use Rattle.dsr_records.specs.declared.record.Summary.{Summary}
-use Rattle.dsr_ledger.specs.declared.found.Found.{Found}
 use Rattle.dsr_ledger.specs.Files.{is_same_report, same_day, has_number_of}
-use Rattle.dsr_ledger.specs.Found.{Shown, shown, shown_at, found_in, nothing_found}
+use Rattle.dsr_ledger.specs.Found.{found_in, nothing_found}
 use Rattle.dsr_ledger.specs.Openings.{first_of, named, openings_of}
 use Rattle.dsr_ledger.specs.declared.file.FileBooks.{FileBooks}
+use Rattle.dsr_ledger.proofs.TextLemmas.{same_text}
 
 same_day-itself : (d : CivilDay) → same_day d d ≡ true
 same_day-itself d =
@@ -39,34 +37,33 @@ map-first_of f (Some x) p = refl
 pub found_in-push : (id : List ℕ) (os : List Summary) (s : Summary) → found_in (os ++ s ∷ []) [] id ≡ first_of (found_in os [] id) (option_map nothing_found (named id s))
 found_in-push id os s = ap (option_map nothing_found) (find-push id os s) ∙ map-first_of nothing_found (find (λ x. bytes_eq id x.id) os) (named id s)
 
-is_some-shown : (o : Option Found) → is_some o ≡ true → (p : Option Shown) → option_map shown o ≡ first_of (option_map shown o) p
-is_some-shown None e p = absurd (false≢true e)
-is_some-shown (Some x) e p = refl
+first_there : {X : Type 0} (o p : Option X) → is_some o ≡ true → o ≡ first_of o p
+first_there None p e = absurd (false≢true e)
+first_there (Some x) p e = refl
 
-not-shown : (o : Option Found) → is_some o ≡ false → (p : Option Shown) → p ≡ first_of (option_map shown o) p
-not-shown None e p = refl
-not-shown (Some x) e p = absurd (true≢false e)
+first_absent : {X : Type 0} (o p : Option X) → is_some o ≡ false → p ≡ first_of o p
+first_absent None p e = refl
+first_absent (Some x) p e = absurd (true≢false e)
 
-left-shown : (o : Option Shown) → o ≡ first_of o None
-left-shown None = refl
-left-shown (Some x) = refl
+first_alone : {X : Type 0} (o : Option X) → o ≡ first_of o None
+first_alone None = refl
+first_alone (Some x) = refl
 
 -- a name that is there already
-pub added_none : {R : Type 0} (m : HashMap (List ℕ) Found R) (s : Summary) → is_some (get bytes_eq m s.id) ≡ true → (id : List ℕ) → shown_at m id ≡ first_of (shown_at m id) (option_map nothing_found (named id s))
-added_none m s there id =
-    elim (bytes_eq id s.id) as (λ b. bytes_eq id s.id ≡ b → shown_at m id ≡ first_of (shown_at m id) (option_map nothing_found (cond b (Some s) None))) [
-      | true ↦ λ h. is_some-shown (get bytes_eq m id) (ap (λ k. is_some (get bytes_eq m k)) ((bytes_eq-Decides id s.id).0 h) ∙ there) _
-      | false ↦ λ _. left-shown (shown_at m id)
+pub added_none : {X : Type 0} (at : List ℕ → Option X) (k : List ℕ) (x : X) → is_some (at k) ≡ true → (id : List ℕ) → at id ≡ first_of (at id) (cond (bytes_eq id k) (Some x) None)
+added_none at k x there id =
+    elim (bytes_eq id k) as (λ b. bytes_eq id k ≡ b → at id ≡ first_of (at id) (cond b (Some x) None)) [
+      | true ↦ λ e. first_there (at id) (Some x) (ap (λ n. is_some (at n)) (same_text id k e) ∙ there)
+      | false ↦ λ _. first_alone (at id)
     ] refl
 
 -- a new name
-pub added_one : {R : Type 0} (m n : HashMap (List ℕ) Found R) (k : List ℕ) (s : Summary) (found : Found) → shown found ≡ nothing_found s → k ≡ s.id → is_some (get bytes_eq m s.id) ≡ false → ((q : List ℕ) → get bytes_eq n q ≡ cond (bytes_eq k q) (Some found) (get bytes_eq m q)) → (id : List ℕ) → shown_at n id ≡ first_of (shown_at m id) (option_map nothing_found (named id s))
-added_one m n k s found is same absent h id =
-    ap (option_map shown) (h id)
-    ∙ ap (λ b. option_map shown (cond b (Some found) (get bytes_eq m id))) (ap (λ x. bytes_eq x id) same ∙ nat_list_eq_equiv.symm s.id id)
-    ∙ elim (bytes_eq id s.id) as (λ b. bytes_eq id s.id ≡ b → option_map shown (cond b (Some found) (get bytes_eq m id)) ≡ first_of (shown_at m id) (option_map nothing_found (cond b (Some s) None))) [
-      | true ↦ λ e. ap Some is ∙ not-shown (get bytes_eq m id) (ap (λ x. is_some (get bytes_eq m x)) ((bytes_eq-Decides id s.id).0 e) ∙ absent) (Some (nothing_found s))
-      | false ↦ λ _. left-shown (shown_at m id)
+pub added_one : {X : Type 0} (was is : List ℕ → Option X) (k : List ℕ) (x : X) → is_some (was k) ≡ false → ((q : List ℕ) → is q ≡ cond (bytes_eq q k) (Some x) (was q)) → (id : List ℕ) → is id ≡ first_of (was id) (cond (bytes_eq id k) (Some x) None)
+added_one was is k x absent put id =
+    put id
+    ∙ elim (bytes_eq id k) as (λ b. bytes_eq id k ≡ b → cond b (Some x) (was id) ≡ first_of (was id) (cond b (Some x) None)) [
+      | true ↦ λ e. first_absent (was id) (Some x) (ap (λ n. is_some (was n)) (same_text id k e) ∙ absent)
+      | false ↦ λ _. first_alone (was id)
     ] refl
 
 -- the number of file i is taken

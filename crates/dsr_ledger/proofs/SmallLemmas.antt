@@ -1,5 +1,5 @@
 -- How many bookings there can be, and how large their numbers.
-use Rattle.std.proofs.Common.{◌≡◌, ℕ, zero, suc, ◌+◌, ◌*◌, ◌^◌, ◌<◌, ◌≤◌, Bool, true, false, List, [], ◌∷◌, ◌++◌, length, length-append, refl, sym, ◌∙◌, ap, subst, arith}
+use Rattle.std.proofs.Common.{◌≡◌, ℕ, suc, ◌+◌, ◌*◌, ◌^◌, ◌<◌, ◌≤◌, Bool, true, false, List, [], ◌∷◌, ◌++◌, length, length-append, refl, sym, ◌∙◌, ap, subst, arith}
 use Rattle.std.specs.Prelude.{not, nat_lt, ◌==◌, Option, None, Some, option_map, find}
 use Rattle.std.specs.Option.{ForSome}
 use Rattle.std.specs.List.{flat_map, list_any, AllByRecursion}
@@ -20,12 +20,12 @@ use Rattle.dsr_ledger.specs.declared.verdict.Reason.TheVariants.{ForeignFile, Do
 use Rattle.dsr_ledger.specs.declared.verdict.Verdict.{Verdict}
 use Rattle.dsr_ledger.specs.declared.verdict.Verdict.TheVariants.{Booked, Rejected}
 use Rattle.dsr_ledger.specs.Files.{File, Filed, filed_after, standing, summaries_of}
-use Rattle.dsr_ledger.specs.Verdicts.{first_reason, is_foreign, is_doubled, names_unknown, share_total, verdict_by, verdict, judged, judged_in}
-use Rattle.dsr_ledger.specs.Bookings.{Booking, verdict_bookings, block_bookings, filed_bookings, bookings, place_named}
+use Rattle.dsr_ledger.specs.Verdicts.{first_reason, is_foreign, is_doubled, names_unknown, share_total, verdict_by, verdict, judged}
+use Rattle.dsr_ledger.specs.Bookings.{verdict_bookings, block_bookings, filed_bookings, bookings, place_named}
 use Rattle.dsr_ledger.specs.Findings.{usages_in}
-use Rattle.dsr_ledger.specs.Found.{Shown, shown_at, shown_with, found_in, nothing_found, ShownFits}
-use Rattle.dsr_ledger.specs.Ranges.{IsInRange, SumsFit}
-use Rattle.dsr_ledger.specs.Tallies.{tally_at, tally_of, tally_plus, key_tally, TallyFits}
+use Rattle.dsr_ledger.specs.Found.{Shown, shown_at, shown_with, nothing_found, ShownFits}
+use Rattle.dsr_ledger.specs.Ranges.{IsInRange}
+use Rattle.dsr_ledger.specs.Tallies.{tally_at, tally_of, key_tally, TallyFits}
 use Rattle.dsr_ledger.specs.FileSteps.{IsBlockInRange}
 use Rattle.dsr_ledger.specs.Stands.{FileStands, LinesStand}
 use Rattle.dsr_ledger.specs.Books.{IsSmallFile}

@@ -4,7 +4,6 @@ use Rattle.std.specs.Prelude.{◌||◌, Option, None, Some, option_map, is_some,
 use Rattle.std.specs.List.{flat_map, list_any}
 use Rattle.std.specs.Str.{bytes_eq}
 use Rattle.std.specs.Ordering.{is_eq}
-use Rattle.std.specs.HashMap.{get}
 use Rattle.std.specs.BTreeSet.{contains}
 use Rattle.std.proofs.lemmas.List.Concat.{flat_map-append}
 use Rattle.std.proofs.lemmas.List.Folds.{list_any-append}
@@ -15,16 +14,17 @@ use Rattle.dsr_ledger.specs.declared.lines.Lines.{Lines}
 use Rattle.dsr_ledger.specs.declared.file.FileBooks.{FileBooks}
 use Rattle.dsr_ledger.specs.declared.verdict.Verdict.{Verdict}
 use Rattle.dsr_ledger.specs.declared.verdict.Verdict.TheVariants.{Booked, Rejected}
-use Rattle.dsr_ledger.specs.Files.{Filed, summaries_of, with_one}
+use Rattle.dsr_ledger.specs.Files.{Filed, summaries_of}
 use Rattle.dsr_ledger.specs.Verdicts.{has_id, is_summary, verdict_of, verdict_by}
-use Rattle.dsr_ledger.specs.Bookings.{Place, place_of, place_named, block_bookings, verdict_bookings}
+use Rattle.dsr_ledger.specs.Bookings.{place_of, place_named, block_bookings, verdict_bookings}
 use Rattle.dsr_ledger.specs.Findings.{usages_in, rejects_from}
 use Rattle.dsr_ledger.specs.Keys.{text_cmp}
-use Rattle.dsr_ledger.specs.Found.{shown, shown_with, place_at, is_known, found_in, nothing_found}
+use Rattle.dsr_ledger.specs.Found.{shown_with, place_at, is_known, found_in, nothing_found}
 use Rattle.dsr_ledger.specs.Tallies.{tally_at, tally_plus, key_tally}
 use Rattle.dsr_ledger.specs.FileSteps.{IsSameFile, TakesBlock, bookings_by}
 use Rattle.dsr_ledger.specs.Stands.{FileStands, Took}
 use Rattle.dsr_ledger.proofs.TextLemmas.{text_ties, text_tie}
+use Rattle.dsr_ledger.proofs.FoundLemmas.{known_shown}
 use Rattle.dsr_ledger.proofs.ShownLemmas.{shown_with-append}
 use Rattle.dsr_ledger.proofs.JudgedLemmas.{rejects_more}
 
@@ -35,7 +35,7 @@ is_some-map f (Some x) = refl
 -- the summaries that are kept are those of the file
 known_is : (f : FileBooks) (d : Filed) → FileStands f d → (id : List ℕ) → is_known f.founds id ≡ is_summary (summaries_of d.file.opening) id
 known_is f d h id =
-    sym (is_some-map shown (get bytes_eq f.founds id)) ∙ ap is_some (h.founds id) ∙ is_some-map _ (find (λ s. bytes_eq id s.id) (summaries_of d.file.opening))
+    sym (known_shown f.founds id) ∙ ap is_some (h.founds id) ∙ is_some-map _ (find (λ s. bytes_eq id s.id) (summaries_of d.file.opening))
 
 -- so the verdict is that of the file
 verdict_is : (f : FileBooks) (d : Filed) (b : BlockParts) → FileStands f d → verdict_by f.standing (contains text_cmp f.ids b.id) (is_known f.founds) b ≡ verdict_of d b

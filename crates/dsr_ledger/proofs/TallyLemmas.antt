@@ -1,6 +1,6 @@
 -- Lines and their numbers.
 use Rattle.std.proofs.Common.{◌≡◌, ℕ, zero, suc, ◌<◌, List, [], ◌∷◌, ◌++◌, length, set, get_or, refl, sym, ap, ◌∙◌, arith}
-use Rattle.std.specs.Prelude.{Option, None, Some, slice_get}
+use Rattle.std.specs.Prelude.{Option, Some, slice_get}
 use Rattle.std.specs.Option.{option_and_then}
 use Rattle.dsr_ledger.specs.declared.line.Line.{Line}
 use Rattle.dsr_ledger.specs.Owed.{seat_of}

@@ -1,6 +1,6 @@
 -- Tallies of bookings one after another.
-use Rattle.std.proofs.Common.{◌≡◌, ℕ, ◌+◌, ◌*◌, ◌^◌, ◌≤◌, List, [], ◌∷◌, ◌++◌, length, Bool, true, false, cond, append-nil, refl, sym, ◌∙◌, ap, subst, arith, length-append}
-use Rattle.std.specs.Prelude.{◌||◌, ◌+ℤ◌, Option, None, Some, filter, unsigned_abs, sum_by}
+use Rattle.std.proofs.Common.{◌≡◌, ℕ, ◌+◌, ◌*◌, ◌^◌, ◌≤◌, List, [], ◌∷◌, ◌++◌, length, Bool, true, false, cond, append-nil, sym, ◌∙◌, ap, subst, arith, length-append}
+use Rattle.std.specs.Prelude.{◌+ℤ◌, Option, None, Some, filter, unsigned_abs, sum_by}
 use Rattle.std.specs.List.{flat_map, AllByRecursion}
 use Rattle.std.proofs.lemmas.List.Concat.{flat_map-append, flat_map-cons}
 use Rattle.std.proofs.lemmas.List.Elements.{filter-append}
@@ -9,11 +9,10 @@ use Rattle.dsr_records.specs.declared.record.Usage.{Usage}
 use Rattle.dsr_records.specs.Works.{WorkParts}
 use Rattle.dsr_ledger.specs.declared.key.Key.{Key}
 use Rattle.dsr_ledger.specs.Verdicts.{share_total}
-use Rattle.dsr_ledger.specs.Sums.{int_sum_by}
 use Rattle.dsr_ledger.specs.Keys.{key_eq}
 use Rattle.dsr_ledger.specs.Bookings.{Booking, Place, key_under, booked_under, usage_bookings}
 use Rattle.dsr_ledger.specs.Parts.{Part, rounded, parts_of, all_parts, work_parts}
-use Rattle.dsr_ledger.specs.Ledger.{is_at_key, at_key, usages_sum, amount_sum}
+use Rattle.dsr_ledger.specs.Ledger.{is_at_key, at_key}
 use Rattle.dsr_ledger.specs.Owed.{owed_for, owed_plus}
 use Rattle.dsr_ledger.specs.Ranges.{IsInRange}
 use Rattle.dsr_ledger.specs.Tallies.{Tally, tally_of, key_tally, tally_plus, tally_with, TallyFits}

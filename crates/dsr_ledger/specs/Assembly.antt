@@ -1,12 +1,11 @@
 -- What the report tells of the files, from what is kept of them.
 use Rattle.std.specs.Prelude.{ℕ, pos, Bool, not, ◌&&◌, Option, None, Some, List, [], filter, map, option_map, if◌then◌else◌}
 use Rattle.std.specs.List.{range_with_len}
-use Rattle.std.specs.HashMap.{HashMap}
 use Rattle.std.specs.BTreeSet.{BTreeSet, contains}
 use Rattle.std.specs.Ordering.{nat_cmp}
 use Rattle.dsr_records.specs.declared.record.Summary.{Summary}
 use Rattle.dsr_ledger.specs.declared.sums.Sums.{Sums}
-use Rattle.dsr_ledger.specs.declared.found.Found.{Found}
+use Rattle.dsr_ledger.specs.declared.founds.Founds.{Founds}
 use Rattle.dsr_ledger.specs.declared.file.FileBooks.{FileBooks}
 use Rattle.dsr_ledger.specs.declared.report.ReportKey.{ReportKey}
 use Rattle.dsr_ledger.specs.declared.report.FileLine.{FileLine}
@@ -51,7 +50,7 @@ difference_to place found s = record {
 }
 
 -- the summaries that state something else than is kept of them
-abbrev pub differences_to : {S : Type 0} → ℕ → HashMap (List ℕ) Found S → List Summary → List Difference
+abbrev pub differences_to : ℕ → Founds → List Summary → List Difference
 differences_to place founds ss = filter differs (map (λ s. difference_to place (sums_shown (shown_at founds s.id)) s) ss)
 
 -- the differences of a file: none but in a file of ours that ended whole

@@ -1,5 +1,5 @@
 -- The books as a whole.
-use Rattle.std.specs.Prelude.{◌≡◌, ℕ, ◌^◌, ◌≤◌, Bool, true, false, is_some, List, [], length, slice_get, Option}
+use Rattle.std.specs.Prelude.{ℕ, ◌^◌, ◌≤◌, Bool, false, is_some, List, [], length, slice_get}
 use Rattle.std.specs.Option.{option_map_or}
 use Rattle.std.specs.List.{AllByRecursion}
 use Rattle.dsr_ledger.specs.declared.kept.Kept.{Kept}

@@ -1,13 +1,12 @@
 -- What is noted of the block at hand before anything is added.
-use Rattle.std.specs.Prelude.{◌≡◌, ℕ, ◌≤◌, ◌^◌, List, [], ◌∷◌, ◌++◌, length, Option, Some}
+use Rattle.std.specs.Prelude.{◌≡◌, ℕ, List, [], ◌∷◌, ◌++◌, length, Option, Some}
 use Rattle.std.specs.List.{flat_map}
-use Rattle.std.specs.HashMap.{HashMap}
 use Rattle.dsr_records.specs.declared.record.Usage.{Usage}
 use Rattle.dsr_records.specs.Works.{WorkParts}
 use Rattle.dsr_ledger.specs.declared.key.Key.{Key}
 use Rattle.dsr_ledger.specs.declared.owed.PartNote.{PartNote}
 use Rattle.dsr_ledger.specs.declared.draft.UsageNote.{UsageNote}
-use Rattle.dsr_ledger.specs.declared.found.Found.{Found}
+use Rattle.dsr_ledger.specs.declared.founds.Founds.{Founds}
 use Rattle.dsr_ledger.specs.declared.lines.Lines.{Lines}
 use Rattle.dsr_ledger.specs.Bookings.{Place, key_under}
 use Rattle.dsr_ledger.specs.Parts.{work_parts}
@@ -22,7 +21,7 @@ pub record Numbers : Type 0 where
   pub number : Key → Option ℕ
   pub seat : ℕ → List ℕ → Option ℕ
 
-abbrev pub numbers_in : {S : Type 0} → Lines → HashMap (List ℕ) Found S → Numbers
+abbrev pub numbers_in : Lines → Founds → Numbers
 numbers_in lines founds = record { index = index_at founds; place = place_at founds; number = number_of lines; seat = seat_in lines }
 
 -- a note of a usage, and the notes of its parts

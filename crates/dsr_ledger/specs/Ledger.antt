@@ -1,5 +1,5 @@
 -- The ledger: for each key, sums over all bookings of that key.
-use Rattle.std.specs.Prelude.{ℕ, ℤ, Bool, List, filter, map}
+use Rattle.std.specs.Prelude.{ℤ, Bool, List, filter, map}
 use Rattle.dsr_ledger.specs.declared.key.Key.{Key}
 use Rattle.dsr_ledger.specs.declared.report.PartyLine.{PartyLine}
 use Rattle.dsr_ledger.specs.declared.report.LedgerLine.{LedgerLine}

@@ -12,6 +12,7 @@ pub mod Laws
 -- Words that relate what is kept to them.
 pub mod Numbered
 pub mod Ranges
+pub mod Names
 pub mod Owed
 pub mod Tallies
 pub mod Found

@@ -1,12 +1,12 @@
 -- What is kept of a line's parties.
-use Rattle.std.specs.Prelude.{◌≡◌, ℕ, ◌+◌, ◌<◌, ◌^◌, ℤ, pos, Bool, true, false, ◌+ℤ◌, List, [], ◌∷◌, ◌++◌, Option, Some, ◌||◌, nat_lt, length, filter, sum_by, unsigned_abs, slice_get}
-use Rattle.std.specs.BTreeMap.{get}
+use Rattle.std.specs.Prelude.{◌≡◌, ℕ, ℤ, pos, true, false, ◌+ℤ◌, List, [], ◌∷◌, ◌++◌, Option, Some, ◌||◌, nat_lt, length, filter, sum_by, unsigned_abs}
 use Rattle.dsr_ledger.specs.declared.owed.Owed.{Owed}
 use Rattle.dsr_ledger.specs.declared.owed.PartNote.{PartNote}
+use Rattle.dsr_ledger.specs.declared.party_entry.PartyEntry.{PartyEntry}
 use Rattle.dsr_ledger.specs.declared.parties.Parties.{Parties}
 use Rattle.dsr_ledger.specs.Sums.{int_sum_by}
 use Rattle.dsr_ledger.specs.Numbered.{read_at}
-use Rattle.dsr_ledger.specs.Keys.{text_cmp}
+use Rattle.dsr_ledger.specs.Names.{names_of, place_of}
 use Rattle.dsr_ledger.specs.Parts.{Part, rounded, is_for}
 
 abbrev pub nothing_owed : Owed
@@ -28,11 +28,15 @@ owed_for party ps = owed_of (filter (is_for party) ps)
 
 -- the number of a party
 abbrev pub seat_of : Parties → List ℕ → Option ℕ
-seat_of parties party = get text_cmp parties.seats party
+seat_of parties party = place_of (names_of parties.entries.items) party
+
+-- what a party among these is owed
+abbrev pub owed_among : List PartyEntry → List ℕ → Owed
+owed_among entries party = read_at (λ e. e.owed) nothing_owed entries (place_of (names_of entries) party)
 
 -- what a party is owed
 abbrev pub owed_at : Parties → List ℕ → Owed
-owed_at parties party = read_at (λ o. o) nothing_owed parties.owed.items (seat_of parties party)
+owed_at parties party = owed_among parties.entries.items party
 
 -- each note has the number and the amount of a part
 abbrev pub AreNoted : (List ℕ → Option ℕ) → List PartNote → List Part → Type 0

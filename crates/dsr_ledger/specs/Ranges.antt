@@ -1,5 +1,5 @@
 -- The ranges of what is added.
-use Rattle.std.specs.Prelude.{◌≡◌, ℕ, ◌+◌, ◌*◌, ◌^◌, ◌<◌, ◌≤◌, unsigned_abs}
+use Rattle.std.specs.Prelude.{ℕ, ◌+◌, ◌*◌, ◌^◌, ◌<◌, ◌≤◌, unsigned_abs}
 use Rattle.dsr_records.specs.declared.record.Usage.{Usage}
 use Rattle.dsr_ledger.specs.declared.sums.Sums.{Sums}
 

@@ -11,7 +11,7 @@ ghost use Rattle.dsr_ledger.specs.Found.{shown_at, shown_with, place_at, index_a
 ghost use Rattle.dsr_ledger.specs.Drafts.{numbers_in, IsNoted, AreDrafted};
 
 use crate::draft::UsageNote;
-use crate::found::Founds;
+use crate::founds::Founds;
 use crate::lines::Lines;
 use crate::owed::PartNote;
 use dsr_records::Usage;
@@ -35,10 +35,7 @@ fn add_usage(
     ensures lines { (isrc : List ℕ) (works : List WorkParts) → IsNoted (numbers_in lines.old founds.old) isrc works usage.now note.now own.now
         → (q : _) → tally_at lines.new q ≡ tally_plus (tally_at lines.old q) (key_tally (booked_under isrc works usage.now (place_at founds.old usage.now.summary_id)) q) }
 {
-    let Some(found) = founds.get_index_mut(note.summary) else {
-        unreachable!()
-    };
-    found.count(usage);
+    founds.count(note.summary, usage);
     lines.add(note.line, usage, own);
 }
 

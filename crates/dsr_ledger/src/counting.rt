@@ -5,7 +5,7 @@ ghost use Rattle.std.specs.Option.{ForSome};
 ghost use Rattle.dsr_ledger.specs.Ranges.{IsInRange};
 ghost use Rattle.dsr_ledger.specs.Found.{shown_at, shown_with, ShownFits};
 
-use crate::found::Founds;
+use crate::founds::Founds;
 use crate::sums::check_range;
 use dsr_records::Usage;
 
@@ -16,8 +16,8 @@ fn count_one(founds: &mut Founds, usage: &Usage)
     ensures founds { (id : List ℕ) → shown_at founds.new id ≡ option_map (shown_with id (usage.now ∷ [])) (shown_at founds.old id) }
 {
     check_range(usage);
-    if let Some(found) = founds.get_mut(&usage.summary_id) {
-        found.count(usage);
+    if let Some(number) = founds.index(&usage.summary_id) {
+        founds.count(number, usage);
     }
 }
 

@@ -7,7 +7,7 @@ ghost use Rattle.dsr_ledger.specs.Found.{shown_at};
 ghost use Rattle.dsr_ledger.specs.Assembly.{sums_shown, difference_to, differences_to, differences_kept};
 
 use crate::file::FileBooks;
-use crate::found::Founds;
+use crate::founds::Founds;
 use crate::report::{Difference, Differences};
 use crate::sums::Sums;
 use crate::verdict::Standing;
@@ -20,8 +20,8 @@ use std::alloc::Global;
 fn found_for(founds: &Founds, summary: &Summary) -> Sums
     ensures { result ≡ sums_shown (shown_at founds.now summary.now.id) }
 {
-    match founds.get(&summary.id) {
-        Some(found) => found.sums,
+    match founds.sums(&summary.id) {
+        Some(sums) => sums,
         None => Sums {
             usages: 0,
             amount: 0,

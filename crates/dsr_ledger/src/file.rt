@@ -13,7 +13,7 @@ ghost use Rattle.dsr_ledger.specs.Stands.{FileStands, Took};
 use crate::adding::add_usages;
 use crate::counting::count_usages;
 use crate::draft::Draft;
-use crate::found::Founds;
+use crate::founds::Founds;
 use crate::judge::judge;
 use crate::lines::Lines;
 use crate::noting::note_usages;

@@ -1,24 +1,21 @@
-//! What is found for a file's summaries.
+//! What is found for a summary.
 ghost use Rattle.std.specs.Prelude.{◌≡◌};
 ghost use Rattle.dsr_ledger.specs.Ranges.{IsInRange, SumsFit};
 ghost use Rattle.dsr_ledger.specs.Found.{shown, shown_plus};
 
 use crate::key::Key;
 use crate::sums::Sums;
-use dsr_cells::Text;
 use dsr_records::Usage;
-use indexmap::IndexMap;
 
 /// What is kept of a summary: the key of its bookings, with the recording of the block at hand, and the sums of the
 /// usages that name it.
 #[derive(Drop)]
 pub struct Found {
     pub key: Key,
+    /// What tells its keys apart from those of other summaries where guesses are kept.
+    pub salt: u64,
     pub sums: Sums,
 }
-
-/// A file's summaries by their identifiers, in file order.
-pub type Founds = IndexMap<Text, Found>;
 
 impl Found {
     /// Adds a usage that names the summary.

@@ -4,7 +4,7 @@ ghost use Rattle.std.specs.List.{list_any};
 ghost use Rattle.dsr_ledger.specs.Found.{is_known, index_at};
 ghost use Rattle.dsr_ledger.specs.Verdicts.{names_unknown, share_total, verdict_by};
 
-use crate::found::Founds;
+use crate::founds::Founds;
 use crate::verdict::{Reason, Standing, Verdict};
 use dsr_cells::{Isrc, NoMemory};
 use dsr_records::{Block, Usage, Work};
@@ -20,7 +20,7 @@ fn find_summaries(
 {
     summaries.clear();
     for usage in usages {
-        match founds.get_index_of(&usage.summary_id) {
+        match founds.index(&usage.summary_id) {
             Some(index) => summaries.push(index)?,
             None => return Ok(false),
         }

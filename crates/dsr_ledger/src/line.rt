@@ -5,15 +5,17 @@ ghost use Rattle.dsr_ledger.specs.Owed.{seat_of, AreNoted, notes_size};
 ghost use Rattle.dsr_ledger.specs.Ranges.{IsInRange};
 ghost use Rattle.dsr_ledger.specs.Tallies.{no_tally, line_tally, tally_with, TallyFits};
 
+use crate::key::Key;
 use crate::owed::PartNote;
 use crate::parties::Parties;
 use crate::sums::Sums;
 use dsr_records::Usage;
 use std::alloc::Global;
 
-/// A ledger line: whether a booked usage counts under it, the sums of these, and their parties.
+/// A ledger line: what it is of, whether a booked usage counts under it, the sums of these, and their parties.
 #[derive(Drop)]
 pub struct Line {
+    pub key: Key,
     pub is_booked: bool,
     pub sums: Sums,
     pub parties: Parties,
@@ -21,10 +23,12 @@ pub struct Line {
 
 impl Line {
     /// A line under which nothing counts.
-    pub fn new(alloc: Global) -> Line
-        ensures { line_tally result ≡ no_tally }
+    pub fn new(alloc: Global, key: Key) -> Line
+        ensures key { result.key ≡ key }
+        ensures tally { line_tally result ≡ no_tally }
     {
         Line {
+            key,
             is_booked: false,
             sums: Sums {
                 usages: 0,
@@ -40,6 +44,7 @@ impl Line {
         requires small { notes_size notes.now ≤ 10 ^ 22 }
         requires noted { (parts : List Part) × AreNoted (seat_of self.old.parties) notes.now parts }
         ensures range { IsInRange usage.now }
+        ensures key { self.new.key ≡ self.old.key }
         ensures seats { (q : List ℕ) → seat_of self.new.parties q ≡ seat_of self.old.parties q }
         ensures tally { (parts : List Part) → AreNoted (seat_of self.old.parties) notes.now parts
             → line_tally self.new ≡ tally_with usage.now parts (line_tally self.old) }

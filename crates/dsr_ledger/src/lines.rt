@@ -2,12 +2,13 @@
 ghost use Rattle.std.specs.Prelude.{length};
 ghost use Rattle.std.specs.BTreeMap.{get};
 ghost use Rattle.dsr_ledger.specs.Keys.{key_cmp};
-ghost use Rattle.dsr_ledger.specs.Numbered.{IsNumbered};
+ghost use Rattle.dsr_ledger.specs.Numbered.{IsNumbered, AreNamed};
 
 use crate::key::Key;
 use crate::line::Line;
 use crate::owed::PartNote;
 use crate::parts::note_parts;
+use crate::recent::Recent;
 use dsr_cells::{Amount, NoMemory};
 use dsr_records::{Usage, Work};
 use std::alloc::Global;
@@ -18,11 +19,13 @@ use std::collections::BTreeMap;
 pub struct Lines {
     pub numbers: BTreeMap<Key, usize>,
     pub lines: Vec<Line>,
+    pub recent: Recent,
     ghost numbered: { IsNumbered (get key_cmp numbers) (length lines.items) },
+    ghost named: { AreNamed (get key_cmp numbers) (λ l. l.key) lines.items },
 }
 
 impl Lines {
-    ghost use Rattle.std.specs.Prelude.{◌≡◌, ◌<◌, ◌≤◌, ◌^◌, ℕ, List, IfOk, OnOk, Some, if◌then◌else◌};
+    ghost use Rattle.std.specs.Prelude.{◌≡◌, ◌<◌, ◌≤◌, ◌^◌, ℕ, List, IfOk, IfSome, OnOk, Some, None, if◌then◌else◌};
     ghost use Rattle.std.specs.List.{flat_map};
     ghost use Rattle.dsr_ledger.specs.Keys.{key_eq};
     ghost use Rattle.dsr_ledger.specs.Parts.{Part, work_parts};
@@ -37,11 +40,39 @@ impl Lines {
         Lines {
             numbers: BTreeMap::new(alloc),
             lines: Vec::new(alloc),
+            recent: Recent::new(alloc),
         }
     }
 
-    /// The number of a key's line, which is made where there is none. What is kept of each key stays.
-    pub fn number(&mut self, alloc: Global, key: &Key) -> Result<usize, NoMemory>
+    /// The number that stands at a place of guesses, where it is this key's.
+    fn guessed(&self, place: usize, key: &Key) -> Option<usize>
+        ensures { IfSome result (λ number. number_of self.now key.now ≡ Some number) }
+    {
+        let number = self.recent.guess(place)?;
+        if self.lines.get(number)?.key == *key {
+            return Some(number);
+        }
+        None
+    }
+
+    /// Makes the line of a key that has none, and answers its number. What is kept of each key stays.
+    fn make(&mut self, alloc: Global, key: &Key) -> Result<usize, NoMemory>
+        requires { number_of self.old key.now ≡ None }
+        ensures same { (q : Key) → tally_at self.new q ≡ tally_at self.old q }
+        ensures grows { LinesGrow self.old self.new }
+        ensures there { IfOk result (λ number. number_of self.new key.now ≡ Some number) }
+    {
+        let number = self.lines.len();
+        self.recent.grow(alloc, number);
+        self.lines.reserve(1)?;
+        let line = Line::new(alloc, key.copy(alloc)?);
+        self.numbers.insert(key.copy(alloc)?, number)?;
+        self.lines.push(line)?;
+        Ok(number)
+    }
+
+    /// The number of a key's line, found by search; the line is made where there is none.
+    fn searched(&mut self, alloc: Global, key: &Key) -> Result<usize, NoMemory>
         ensures same { (q : Key) → tally_at self.new q ≡ tally_at self.old q }
         ensures grows { LinesGrow self.old self.new }
         ensures there { IfOk result (λ number. number_of self.new key.now ≡ Some number) }
@@ -49,10 +80,22 @@ impl Lines {
         if let Some(number) = self.numbers.get(key) {
             return Ok(*number);
         }
-        let number = self.lines.len();
-        self.lines.reserve(1)?;
-        self.numbers.insert(key.copy(alloc)?, number)?;
-        self.lines.push(Line::new(alloc))?;
+        self.make(alloc, key)
+    }
+
+    /// The number of a key's line, which is made where there is none. What is kept of each key stays. The salt tells
+    /// keys of one recording apart where guesses are kept; any salt will do.
+    pub fn number(&mut self, alloc: Global, key: &Key, salt: u64) -> Result<usize, NoMemory>
+        ensures same { (q : Key) → tally_at self.new q ≡ tally_at self.old q }
+        ensures grows { LinesGrow self.old self.new }
+        ensures there { IfOk result (λ number. number_of self.new key.now ≡ Some number) }
+    {
+        let place = self.recent.place(key, salt);
+        if let Some(number) = self.guessed(place, key) {
+            return Ok(number);
+        }
+        let number = self.searched(alloc, key)?;
+        self.recent.note(place, number);
         Ok(number)
     }
 

@@ -6,7 +6,7 @@ ghost use Rattle.dsr_ledger.specs.Found.{shown_at, index_at};
 ghost use Rattle.dsr_ledger.specs.Drafts.{numbers_in, NotedUnder, DraftedMore, AreDrafted};
 
 use crate::draft::UsageNote;
-use crate::found::Founds;
+use crate::founds::Founds;
 use crate::key::Key;
 use crate::lines::Lines;
 use crate::owed::PartNote;
@@ -19,6 +19,7 @@ fn note_under(
     lines: &mut Lines,
     alloc: Global,
     key: &Key,
+    salt: u64,
     works: &[Work],
     usage: &Usage,
     summary: usize,
@@ -29,7 +30,7 @@ fn note_under(
     ensures grows { LinesGrow lines.old lines.new }
     ensures noted { OnOk result (NotedUnder lines.new key.now works.now usage.now summary notes.old.items notes.new.items parts.old.items parts.new.items) }
 {
-    let line = lines.number(alloc, key)?;
+    let line = lines.number(alloc, key, salt)?;
     let before = parts.len();
     lines.note(alloc, line, usage.amount, works, parts)?;
     let parts = parts.len() - before;
@@ -60,12 +61,10 @@ fn note_usage(
     ensures same_index { (id : List ℕ) → index_at founds.new id ≡ index_at founds.old id }
     ensures noted { OnOk result (DraftedMore (numbers_in lines.new founds.new) isrc works.now usage.now notes.old.items notes.new.items parts.old.items parts.new.items) }
 {
-    let Some(found) = founds.get_index_mut(summary) else {
-        unreachable!()
-    };
+    let found = &mut founds.founds[summary];
     found.key.isrc = isrc;
     note_under(
-        lines, alloc, &found.key, works, usage, summary, notes, parts,
+        lines, alloc, &found.key, found.salt, works, usage, summary, notes, parts,
     )
 }
 

@@ -7,14 +7,15 @@ ghost use Rattle.dsr_ledger.specs.Stands.{FileStands};
 ghost use Rattle.dsr_ledger.specs.Openings.{openings_of, first_of, named};
 
 use crate::file::FileBooks;
-use crate::found::{Found, Founds};
+use crate::found::Found;
+use crate::founds::Founds;
 use crate::key::Key;
+use crate::recent::salt_of;
 use crate::sums::Sums;
 use crate::verdict::Standing;
 use dsr_cells::{Isrc, NoMemory};
 use dsr_file::Opening;
 use dsr_records::{Head, Summary};
-use indexmap::IndexMap;
 use std::alloc::Global;
 use std::collections::BTreeSet;
 
@@ -95,9 +96,6 @@ fn no_recording() -> Isrc {
 fn add_summary(founds: &mut Founds, alloc: Global, summary: &Summary) -> Result<(), NoMemory>
     ensures { OnOk result ((id : List ℕ) → shown_at founds.new id ≡ first_of (shown_at founds.old id) (option_map nothing_found (named id summary.now))) }
 {
-    if founds.contains_key(&summary.id) {
-        return Ok(());
-    }
     let key = Key {
         isrc: no_recording(),
         territory: summary.territory.copy(alloc)?,
@@ -105,21 +103,21 @@ fn add_summary(founds: &mut Founds, alloc: Global, summary: &Summary) -> Result<
         currency: summary.currency.copy(alloc)?,
     };
     let found = Found {
+        salt: salt_of(&key),
         key,
         sums: Sums {
             usages: 0,
             amount: 0,
         },
     };
-    founds.insert(summary.id.copy(alloc)?, found)?;
-    Ok(())
+    founds.add(alloc, &summary.id, found)
 }
 
 /// What is kept of summaries that no usage names so far.
 fn founds_of(alloc: Global, summaries: &[Summary]) -> Result<Founds, NoMemory>
     ensures { IfOk result (λ m. (id : List ℕ) → shown_at m id ≡ found_in summaries.now [] id) }
 {
-    let mut founds = IndexMap::with_capacity(alloc, summaries.len())?;
+    let mut founds = Founds::with_room(alloc, summaries.len())?;
     for summary in summaries {
         add_summary(&mut founds, alloc, summary)?;
     }
@@ -132,7 +130,7 @@ fn founds_for(alloc: Global, opening: &Option<Opening>) -> Result<Founds, NoMemo
 {
     match opening {
         Some(opening) => founds_of(alloc, opening.summaries.as_slice()),
-        None => Ok(IndexMap::new(alloc)),
+        None => Ok(Founds::new(alloc)),
     }
 }
 

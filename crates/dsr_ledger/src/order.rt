@@ -1,31 +1,47 @@
 //! The ledger's lines in their order.
-ghost use Rattle.std.specs.Prelude.{◌≡◌, ◌+◌, ◌<◌, ◌^◌, ◌-ℤ◌, ℕ, List, IfOk, sum_by, unsigned_abs};
+ghost use Rattle.std.specs.Prelude.{◌≡◌, ◌+◌, ◌<◌, ◌^◌, ◌-ℤ◌, ℕ, List, IfOk, sum_by, unsigned_abs, unwrap_or};
+ghost use Rattle.std.specs.BTreeMap.{get};
 ghost use Rattle.dsr_ledger.specs.Sums.{int_sum_by};
 ghost use Rattle.dsr_ledger.specs.Bookings.{Booking};
 ghost use Rattle.dsr_ledger.specs.Parts.{all_parts};
 ghost use Rattle.dsr_ledger.specs.Ledger.{party_lines, line_of, ledger};
-ghost use Rattle.dsr_ledger.specs.Owed.{owed_at, owed_for};
+ghost use Rattle.dsr_ledger.specs.Owed.{nothing_owed, owed_among, owed_at, owed_for};
+ghost use Rattle.dsr_ledger.specs.Keys.{text_cmp};
 ghost use Rattle.dsr_ledger.specs.Tallies.{line_tally, tally_of};
 ghost use Rattle.dsr_ledger.specs.Stands.{LinesStand};
 ghost use Rattle.dsr_ledger.specs.Order.{IsOfSmall, AreOfSmall};
 
-use crate::key::Key;
 use crate::line::Line;
 use crate::lines::Lines;
+use crate::owed::Owed;
 use crate::parties::Parties;
+use crate::party_entry::PartyEntry;
 use crate::report::{LedgerLine, LedgerLines, PartyLine};
-use dsr_cells::{Items, NoMemory};
+use dsr_cells::{Items, NoMemory, Text};
 use std::alloc::Global;
+use std::collections::BTreeMap;
 use std::mem;
+
+/// What each of these parties is owed, by the bytes of their names.
+fn owed_by_name(
+    alloc: Global,
+    mut entries: Vec<PartyEntry>,
+) -> Result<BTreeMap<Text, Owed>, NoMemory>
+    ensures { IfOk result (λ owed. (q : List ℕ) → unwrap_or (get text_cmp owed q) nothing_owed ≡ owed_among entries.items q) }
+{
+    let mut owed = BTreeMap::new(alloc);
+    while let Some(entry) = entries.pop() {
+        owed.insert(entry.party, entry.owed)?;
+    }
+    Ok(owed)
+}
 
 /// The lines of the parties that have a part, by the bytes of their names.
 fn party_lines(alloc: Global, parties: Parties) -> Result<Items<PartyLine>, NoMemory>
     ensures { (bs : List Booking) → ((q : List ℕ) → owed_at parties q ≡ owed_for q (all_parts bs)) → IfOk result (λ lines. lines ≡ party_lines bs) }
 {
-    let Parties { seats, owed } = parties;
     let mut lines = Items::new(alloc);
-    for (party, seat) in seats {
-        let owed = owed[seat];
+    for (party, owed) in owed_by_name(alloc, parties.entries)? {
         if owed.has_part {
             let amount = owed.amount;
             lines
@@ -48,18 +64,18 @@ fn unclaimed(amount: i128, parties: &[PartyLine]) -> i128
     left
 }
 
-/// The line of a key.
-fn ledger_line(alloc: Global, key: Key, line: Line) -> Result<LedgerLine, NoMemory>
+/// The line of a key, with its parties in their order.
+fn ledger_line(alloc: Global, line: Line) -> Result<LedgerLine, NoMemory>
     requires { ∥ IsOfSmall line ∥₁ }
-    ensures { (bs : List Booking) → line_tally line ≡ tally_of bs → IfOk result (λ l. l ≡ line_of key bs) }
+    ensures { (bs : List Booking) → line_tally line ≡ tally_of bs → IfOk result (λ l. l ≡ line_of line.key bs) }
 {
     let parties = party_lines(alloc, line.parties)?;
     let amount = line.sums.amount;
     Ok(LedgerLine {
-        isrc: key.isrc,
-        territory: key.territory,
-        use_type: key.use_type,
-        currency: key.currency,
+        isrc: line.key.isrc,
+        territory: line.key.territory,
+        use_type: line.key.use_type,
+        currency: line.key.currency,
         usages: line.sums.usages,
         amount,
         unclaimed: unclaimed(amount, parties.as_slice()),
@@ -72,13 +88,17 @@ pub fn ledger_lines(alloc: Global, lines: Lines) -> Result<LedgerLines, NoMemory
     requires { ∥ AreOfSmall lines ∥₁ }
     ensures { (bs : List Booking) → LinesStand lines bs → IfOk result (λ l. l ≡ ledger bs) }
 {
-    let Lines { numbers, mut lines } = lines;
+    let Lines {
+        numbers,
+        mut lines,
+        ..
+    } = lines;
     let mut ledger = Items::new(alloc);
     for (key, number) in numbers {
-        let line = mem::replace(&mut lines[number], Line::new(alloc));
+        let line = mem::replace(&mut lines[number], Line::new(alloc, key));
         if line.is_booked {
             ledger
-                .push(ledger_line(alloc, key, line)?)
+                .push(ledger_line(alloc, line)?)
                 .map_err(|_line| NoMemory)?;
         }
     }

@@ -1,10 +1,14 @@
 //! What the parties of a ledger line are owed.
-ghost use Rattle.std.specs.Prelude.{length};
+ghost use Rattle.std.specs.Prelude.{◌≡◌, ◌<◌, ℕ, List, length};
 ghost use Rattle.std.specs.BTreeMap.{get};
+ghost use Rattle.std.specs.List.{position};
+ghost use Rattle.std.specs.Str.{bytes_eq};
 ghost use Rattle.dsr_ledger.specs.Keys.{text_cmp};
-ghost use Rattle.dsr_ledger.specs.Numbered.{IsNumbered};
+ghost use Rattle.dsr_ledger.specs.Names.{names_of, place_of, AreApart};
 
+use crate::index::{FEW, index_more};
 use crate::owed::{Owed, PartNote};
+use crate::party_entry::PartyEntry;
 use dsr_cells::{NoMemory, Text};
 use std::alloc::Global;
 use std::collections::BTreeMap;
@@ -12,13 +16,23 @@ use std::collections::BTreeMap;
 /// The parties of a line. They are numbered in the order in which they came.
 #[derive(Drop)]
 pub struct Parties {
-    pub seats: BTreeMap<Text, usize>,
-    pub owed: Vec<Owed>,
-    ghost numbered: { IsNumbered (get text_cmp seats) (length owed.items) },
+    /// An entry for each party, at its number.
+    pub entries: Vec<PartyEntry>,
+    /// The index: the numbers by the names. It is made once the parties are more than a few.
+    pub numbers: BTreeMap<Text, usize>,
+    ghost apart: { AreApart (names_of entries.items) },
+    ghost indexed: { 16 < length entries.items → (q : List ℕ) → get text_cmp numbers q ≡ place_of (names_of entries.items) q },
+}
+
+/// The first place of a party.
+fn first_place(entries: &[PartyEntry], party: &Text) -> Option<usize>
+    ensures { result ≡ position (λ e. bytes_eq e.party party.now) entries.now }
+{
+    entries.iter().position(|entry| entry.party == *party)
 }
 
 impl Parties {
-    ghost use Rattle.std.specs.Prelude.{◌≡◌, ◌+◌, ◌<◌, ◌^◌, ◌+ℤ◌, ℕ, List, IfOk, Some, unsigned_abs, if◌then◌else◌};
+    ghost use Rattle.std.specs.Prelude.{◌≡◌, ◌+◌, ◌<◌, ◌^◌, ◌+ℤ◌, ℕ, List, IfOk, Some, None, unsigned_abs, if◌then◌else◌};
     ghost use Rattle.std.specs.Int.{w128};
     ghost use Rattle.std.specs.Int.RustNames.{FitsSigned};
     ghost use Rattle.std.specs.Str.{bytes_eq};
@@ -31,25 +45,55 @@ impl Parties {
         ensures { (q : List ℕ) → owed_at result q ≡ nothing_owed }
     {
         Parties {
-            seats: BTreeMap::new(alloc),
-            owed: Vec::new(alloc),
+            entries: Vec::new(alloc),
+            numbers: BTreeMap::new(alloc),
         }
     }
 
-    /// The number of a party, which is given one where it has none. What each party is owed stays.
-    pub fn seat(&mut self, alloc: Global, party: &Text) -> Result<usize, NoMemory>
+    /// The number of a party, if it has one. The party with the number `guess` is looked at first.
+    fn find(&self, party: &Text, guess: usize) -> Option<usize>
+        ensures { result ≡ seat_of self.now party.now }
+    {
+        if let Some(entry) = self.entries.get(guess) {
+            if entry.party == *party {
+                return Some(guess);
+            }
+        }
+        if self.entries.len() > FEW {
+            return self.numbers.get(party).copied();
+        }
+        first_place(self.entries.as_slice(), party)
+    }
+
+    /// Gives a party that has no number the next one. What each party is owed stays.
+    fn add_party(&mut self, alloc: Global, party: &Text) -> Result<usize, NoMemory>
+        requires { seat_of self.old party.now ≡ None }
         ensures same { (q : List ℕ) → owed_at self.new q ≡ owed_at self.old q }
         ensures grows { Grows (seat_of self.old) (seat_of self.new) }
         ensures there { IfOk result (λ seat. seat_of self.new party.now ≡ Some seat) }
     {
-        if let Some(seat) = self.seats.get(party) {
-            return Ok(*seat);
-        }
-        let seat = self.owed.len();
-        self.owed.reserve(1)?;
-        self.seats.insert(party.copy(alloc)?, seat)?;
-        self.owed.push(Owed::nothing())?;
+        let seat = self.entries.len();
+        self.entries.reserve(1)?;
+        let entry = PartyEntry {
+            party: party.copy(alloc)?,
+            owed: Owed::nothing(),
+        };
+        index_more(&mut self.numbers, alloc, self.entries.as_slice(), party)?;
+        self.entries.push(entry)?;
         Ok(seat)
+    }
+
+    /// The number of a party, which is given one where it has none. What each party is owed stays.
+    /// Any `guess` will do; the number itself is found soonest.
+    pub fn seat(&mut self, alloc: Global, party: &Text, guess: usize) -> Result<usize, NoMemory>
+        ensures same { (q : List ℕ) → owed_at self.new q ≡ owed_at self.old q }
+        ensures grows { Grows (seat_of self.old) (seat_of self.new) }
+        ensures there { IfOk result (λ seat. seat_of self.new party.now ≡ Some seat) }
+    {
+        if let Some(seat) = self.find(party, guess) {
+            return Ok(seat);
+        }
+        self.add_party(alloc, party)
     }
 
     /// Adds a part to what its party is owed, and to no other.
@@ -59,7 +103,7 @@ impl Parties {
         ensures owed { (party : List ℕ) → seat_of self.old party ≡ Some note.now.seat
             → (q : List ℕ) → owed_at self.new q ≡ (if bytes_eq party q then owed_with note.now.amount (owed_at self.old q) else owed_at self.old q) }
     {
-        self.owed[note.seat].add(note.amount);
+        self.entries[note.seat].owed.add(note.amount);
     }
 
     /// Adds parts to what their parties are owed, and to no other.

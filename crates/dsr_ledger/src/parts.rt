@@ -21,11 +21,15 @@ fn share_of(amount: i128, share: u32) -> i128
 }
 
 /// Notes a part of a party. What each party is owed stays.
+///
+/// The usage's first part is the note `first`. The usages of a recording mostly name its parties in one
+/// order, so a part's place among those of its usage is a good guess of its party's number.
 fn note_part(
     parties: &mut Parties,
     alloc: Global,
     party: &Text,
     amount: i128,
+    first: usize,
     notes: &mut Vec<PartNote>,
 ) -> Result<(), NoMemory>
     ensures same { (q : List ℕ) → owed_at parties.new q ≡ owed_at parties.old q }
@@ -33,17 +37,21 @@ fn note_part(
     ensures noted { OnOk result ((seat : ℕ) × (seat_of parties.new party.now ≡ Some seat)
         × (notes.new.items ≡ notes.old.items ++ record { seat = seat; amount = amount } ∷ [])) }
 {
-    let seat = parties.seat(alloc, party)?;
+    let guess = notes.len().wrapping_sub(first);
+    let seat = parties.seat(alloc, party, guess)?;
     notes.push(PartNote { seat, amount })?;
     Ok(())
 }
 
 /// Notes the parts of a work. What each party is owed stays.
+///
+/// The usage's first part is the note `first`.
 fn note_work(
     parties: &mut Parties,
     alloc: Global,
     amount: Amount,
     work: &Work,
+    first: usize,
     notes: &mut Vec<PartNote>,
 ) -> Result<(), NoMemory>
     ensures same { (q : List ℕ) → owed_at parties.new q ≡ owed_at parties.old q }
@@ -57,6 +65,7 @@ fn note_work(
             alloc,
             party,
             share_of(amount.units(), shares[i].parts()),
+            first,
             notes,
         )?;
     }
@@ -75,8 +84,9 @@ pub fn note_parts(
     ensures grows { Grows (seat_of parties.old) (seat_of parties.new) }
     ensures noted { OnOk result (NotedMore (seat_of parties.new) notes.old.items notes.new.items (flat_map (work_parts amount) works.now)) }
 {
+    let first = notes.len();
     for work in works {
-        note_work(parties, alloc, amount, work, notes)?;
+        note_work(parties, alloc, amount, work, first, notes)?;
     }
     Ok(())
 }

@@ -21,6 +21,7 @@ mod open;
 mod rule;
 mod settled;
 mod tap;
+mod used;
 
 pub use channel::Closed;
 pub use feed::Feed;

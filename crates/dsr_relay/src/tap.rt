@@ -6,6 +6,7 @@ use crate::channel::{Closed, take_next};
 use crate::feed::Feed;
 use crate::rule::{InOrder, Log, Meet, Message, Rest};
 use crate::settled::Settled;
+use crate::used::Returns;
 use arrayvec::IntoIter;
 use crossbeam_channel::{Pass, RuledReceiver};
 use dsr_file::Event;
@@ -21,6 +22,7 @@ pub struct Tap {
     pub(crate) held: IntoIter<Event, 32>,
     pub(crate) count: u64,
     pub(crate) ended: bool,
+    pub(crate) returns: Returns,
 }
 
 impl Model for Tap {
@@ -87,6 +89,14 @@ impl Tap {
         Ok(event)
     }
 
+    /// Gives an event back that was taken and is no longer wanted, so that the thread of the feed frees its memory. The
+    /// call waits for no room, and what contracts see of the tap stays as it is.
+    pub fn give_back<R: Wait>(&mut self, rt: &R, event: Event)
+        ensures { self.new ≡ self.old }
+    {
+        self.returns.add(rt, event);
+    }
+
     /// Whether Ended was taken.
     pub fn ended(&self) -> bool
         ensures { result ≡ has_ended self.now.taken }
@@ -119,12 +129,14 @@ impl Tap {
             held: _,
             count: taken,
             ended: _,
+            returns: _,
         } = self;
         let Feed {
             sender,
             mut pass,
             batch: _,
             count,
+            used: _,
         } = feed;
         sender.absorb::<Meet>(&mut pass, theirs);
         sender.learn_as::<Rest>(&mut pass);

@@ -124,3 +124,38 @@ UNCLAIMED 0.0000000000
     assert_eq!(rt; lines.as_slice(), want.as_bytes());
     Ok(())
 }
+
+/// More parties than are searched without an index, in two works with opposite orders.
+#[test]
+fn many_parties_have_their_lines(rt: HostRuntime) -> Result<(), Fail> {
+    let lines = ledger_with(
+        rt.alloc(),
+        "MW01\t1\tW1\tSong\tP20|P19|P18|P17|P16|P15|P14|P13|P12|P11|P10|P09|P08|P07|P06|P05|P04|P03|P02|P01\t4|4|4|4|4|4|4|4|4|4|4|4|4|4|4|4|4|4|4|4\nMW01\t1\tW2\tSong\tP01|P02|P03|P04|P05|P06|P07|P08|P09|P10|P11|P12|P13|P14|P15|P16|P17|P18|P19|P20\t1|1|1|1|1|1|1|1|1|1|1|1|1|1|1|1|1|1|1|1\nSU01\t1\tS1\t1\t1\nSU01\t1\tS1\t1\t1\n",
+        "FOOT\t8\t1\t1\n",
+    )?;
+    let want = "LEDGER GBABC2400001 GB OnDemandStream GBP 2 2.0000000000
+PARTY P01 0.1000000000
+PARTY P02 0.1000000000
+PARTY P03 0.1000000000
+PARTY P04 0.1000000000
+PARTY P05 0.1000000000
+PARTY P06 0.1000000000
+PARTY P07 0.1000000000
+PARTY P08 0.1000000000
+PARTY P09 0.1000000000
+PARTY P10 0.1000000000
+PARTY P11 0.1000000000
+PARTY P12 0.1000000000
+PARTY P13 0.1000000000
+PARTY P14 0.1000000000
+PARTY P15 0.1000000000
+PARTY P16 0.1000000000
+PARTY P17 0.1000000000
+PARTY P18 0.1000000000
+PARTY P19 0.1000000000
+PARTY P20 0.1000000000
+UNCLAIMED 0.0000000000
+";
+    assert_eq!(rt; lines.as_slice(), want.as_bytes());
+    Ok(())
+}

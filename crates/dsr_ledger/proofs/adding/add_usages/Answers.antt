@@ -1,4 +1,4 @@
-use Rattle.std.proofs.Common.{◌≡◌, ℕ, suc, ◌+◌, ◌≤◌, List, [], ◌∷◌, ◌++◌, take, drop, get_or, length, refl, sym, ap, ◌∙◌, subst, arith}
+use Rattle.std.proofs.Common.{◌≡◌, ℕ, suc, ◌+◌, ◌≤◌, List, [], ◌∷◌, ◌++◌, take, drop, get_or, length, sym, ap, ◌∙◌, subst, arith}
 use Rattle.std.specs.Prelude.{option_map, Option}
 use Rattle.std.specs.Option.{ForSome}
 use Rattle.std.specs.List.{AllByRecursion}
@@ -6,9 +6,9 @@ use Rattle.std.proofs.lemmas.List.{take_more, length-take}
 use Rattle.dsr_ledger.specs.declared.draft.UsageNote.{UsageNote}
 use Rattle.dsr_ledger.specs.Bookings.{booked_under, usage_bookings}
 use Rattle.dsr_ledger.specs.Ranges.{IsInRange}
-use Rattle.dsr_ledger.specs.Tallies.{Tally, tally_at, tally_plus, key_tally, TallyFits}
+use Rattle.dsr_ledger.specs.Tallies.{tally_at, tally_plus, key_tally, TallyFits}
 use Rattle.dsr_ledger.specs.Found.{Shown, shown_at, shown_with, place_at, ShownFits}
-use Rattle.dsr_ledger.specs.Drafts.{Numbers, numbers_in, IsNoted, AreDrafted}
+use Rattle.dsr_ledger.specs.Drafts.{numbers_in, IsNoted, AreDrafted}
 use Rattle.dsr_ledger.proofs.EachLemmas.{each_append}
 use Rattle.dsr_ledger.proofs.DraftLemmas.{next_drafted}
 use Rattle.dsr_ledger.proofs.ShownLemmas.{shown_more, shown_fits_at, same_place}

@@ -1,4 +1,4 @@
-use Rattle.std.proofs.Common.{◌≡◌, ℕ, take, map, false}
+use Rattle.std.proofs.Common.{◌≡◌, take, map, false}
 use Rattle.std.specs.Prelude.{Some}
 use Rattle.std.specs.List.{list_any}
 use Rattle.dsr_ledger.specs.Found.{is_known, index_at}

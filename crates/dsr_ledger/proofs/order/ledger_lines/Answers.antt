@@ -3,10 +3,11 @@ use Rattle.std.proofs.Common.{rules, ◌≡◌, ◌<◌, ℕ, [], ◌∷◌, ◌
 use Rattle.std.specs.Vec.{vec_len}
 use Rattle.std.proofs.lemmas.Map.Views.{All-found}
 use Rattle.dsr_ledger.specs.declared.key.Key.{Key}
-use Rattle.dsr_ledger.specs.Ledger.{at_key}
-use Rattle.dsr_ledger.specs.Tallies.{line_tally, tally_of}
+use Rattle.dsr_ledger.specs.declared.line.Line.{Line}
+use Rattle.dsr_ledger.specs.Ledger.{at_key, line_of}
+use Rattle.dsr_ledger.specs.Tallies.{line_tally}
 use Rattle.dsr_ledger.proofs.KeyLemmas.{key_total}
-use Rattle.dsr_ledger.proofs.LinesOrderLemmas.{AreLeft, booked_lines, left_init, left_below, left_step, left_tally, line_kept, line_left, small_at, ledger_is}
+use Rattle.dsr_ledger.proofs.LinesOrderLemmas.{AreLeft, booked_lines, left_init, left_below, left_step, left_key, left_tally, line_kept, line_left, small_at, ledger_is}
 use Rattle.dsr_ledger.proofs.order.ledger_lines.Goals as goal
 
 pub loop-key-init : goal.loop-key-init
@@ -39,33 +40,20 @@ loop-key-preserved-in_ok-map_err c =
     let e : Key × ℕ = (key, c.in-Some.number) in
     let left = subst (AreLeft c.args.lines c.loop-key.lines.items) c.in-Some.ensures.steps c.loop-key.invariant.left in
     let tally = ap line_tally c.replace-line.ensures.value ∙ left_tally c.args.lines c.loop-key.lines.items e c.next.new.self c.index_mut.result.now left c.index_mut.ensures.value in
+    let own = ap (λ (l : Line). l.key) c.replace-line.ensures.value ∙ left_key c.args.lines c.loop-key.lines.items e c.next.new.self c.index_mut.result.now left c.index_mut.ensures.value in
     let pushed : c.push.new.self ≡ c.loop-key.ledger ++ c.in_ok-ledger_line.field-0 ∷ [] = search rules in
     record {
       left = left_step c.args.lines c.loop-key.lines.items e c.next.new.self c.replace-line.new.dest left.0.0 left.1 left.2;
       booked = λ bs stand.
           let is = tally ∙ stand key in
           ap (λ l. l ++ booked_lines bs c.next.new.self) pushed
-          ∙ line_kept bs c.loop-key.ledger key c.in-Some.number c.next.new.self c.in_ok-ledger_line.field-0 (c.in_ok-ledger_line.ensures (at_key key bs) is) (sym (ap (λ t. t.is_booked) is) ∙ c.if-line.true)
+          ∙ line_kept bs c.loop-key.ledger key c.in-Some.number c.next.new.self c.in_ok-ledger_line.field-0 (c.in_ok-ledger_line.ensures (at_key key bs) is ∙ ap (λ k. line_of k (at_key key bs)) own) (sym (ap (λ t. t.is_booked) is) ∙ c.if-line.true)
           ∙ ap (λ l. c.loop-key.ledger ++ booked_lines bs l) (sym c.in-Some.ensures.steps)
           ∙ c.loop-key.invariant.booked bs stand;
     }
 
 pub loop-key-preserved : goal.loop-key-preserved
 loop-key-preserved c =
-    let key = c.in-Some.key in
-    let e : Key × ℕ = (key, c.in-Some.number) in
-    let left = subst (AreLeft c.args.lines c.loop-key.lines.items) c.in-Some.ensures.steps c.loop-key.invariant.left in
-    let tally = ap line_tally c.replace-line.ensures.value ∙ left_tally c.args.lines c.loop-key.lines.items e c.next.new.self c.index_mut.result.now left c.index_mut.ensures.value in
-    record {
-      left = left_step c.args.lines c.loop-key.lines.items e c.next.new.self c.replace-line.new.dest left.0.0 left.1 left.2;
-      booked = λ bs stand.
-          line_left bs c.loop-key.ledger key c.in-Some.number c.next.new.self (sym (ap (λ t. t.is_booked) (tally ∙ stand key)) ∙ c.if-line.false)
-          ∙ ap (λ l. c.loop-key.ledger ++ booked_lines bs l) (sym c.in-Some.ensures.steps)
-          ∙ c.loop-key.invariant.booked bs stand;
-    }
-
-pub loop-key-preserved-else-line : goal.loop-key-preserved-else-line
-loop-key-preserved-else-line c =
     let key = c.in-Some.key in
     let e : Key × ℕ = (key, c.in-Some.number) in
     let left = subst (AreLeft c.args.lines c.loop-key.lines.items) c.in-Some.ensures.steps c.loop-key.invariant.left in

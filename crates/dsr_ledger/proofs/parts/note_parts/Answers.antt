@@ -1,8 +1,8 @@
-use Rattle.std.proofs.Common.{◌≡◌, ◌+◌, List, [], ◌∷◌, ◌++◌, take, sym, ap, ◌∙◌, subst, append-nil}
+use Rattle.std.proofs.Common.{[], ◌∷◌, ◌++◌, take, sym, ap, ◌∙◌, subst, append-nil}
 use Rattle.std.specs.List.{flat_map}
 use Rattle.std.proofs.lemmas.List.{take_more, take_all}
 use Rattle.std.proofs.lemmas.List.Concat.{flat_map-append}
-use Rattle.dsr_ledger.specs.Parts.{Part, work_parts}
+use Rattle.dsr_ledger.specs.Parts.{work_parts}
 use Rattle.dsr_ledger.specs.Owed.{seat_of, NotedMore}
 use Rattle.dsr_ledger.proofs.NoteLemmas.{noted_more}
 use Rattle.dsr_ledger.proofs.parts.note_parts.Goals as goal

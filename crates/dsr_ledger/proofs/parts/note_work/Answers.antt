@@ -1,8 +1,8 @@
-use Rattle.std.proofs.Common.{◌≡◌, ℕ, suc, ◌+◌, List, [], ◌∷◌, ◌++◌, take, get_or, length, sym, ap, ◌∙◌, subst, arith, rules, to_z, of_z, refl}
+use Rattle.std.proofs.Common.{◌≡◌, suc, ◌+◌, [], ◌∷◌, ◌++◌, take, get_or, length, sym, ap, ◌∙◌, subst, arith, rules, to_z, of_z}
 use Rattle.std.specs.Prelude.{pos, ◌*ℤ◌, map}
 use Rattle.std.specs.List.{zip}
 use Rattle.std.specs.Int.{w128}
-use Rattle.std.specs.Int.RustNames.{int_div, FitsSigned}
+use Rattle.std.specs.Int.RustNames.{int_div}
 use Rattle.std.proofs.lemmas.Int.{to_z-of_z}
 use Rattle.std.proofs.lemmas.List.{take_all}
 use Rattle.std.proofs.lemmas.List.{length-map}

@@ -1,11 +1,10 @@
-use Rattle.std.proofs.Common.{◌≡◌, ◌≤◌, ◌<◌, ◌^◌, Bool, false, refl, arith, ap, subst, length}
+use Rattle.std.proofs.Common.{◌<◌, ◌^◌, refl, arith, subst}
 use Rattle.std.specs.Prelude.{is_some}
 use Rattle.std.specs.Option.{option_map_or}
 use Rattle.std.proofs.Math.Logic.{∥∥₁_map}
 use Rattle.std.proofs.Math.ListN.{length-set}
 use Rattle.std.specs.Vec.{with_item}
 use Rattle.dsr_ledger.specs.declared.kept.Kept.{Kept}
-use Rattle.dsr_ledger.specs.declared.file.FileBooks.{FileBooks}
 use Rattle.dsr_ledger.proofs.FilesLemmas.{open_at}
 use Rattle.dsr_ledger.proofs.BooksLemmas.{lines_fit_reached, founds_fit_reached, Answered, answered_stands, answered_reached}
 use Rattle.dsr_ledger.proofs.books.Books.book.Goals as goal

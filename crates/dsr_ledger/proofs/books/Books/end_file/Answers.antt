@@ -1,4 +1,4 @@
-use Rattle.std.proofs.Common.{◌≡◌, ◌≤◌, refl, arith, ap, ◌∙◌, length}
+use Rattle.std.proofs.Common.{refl, arith}
 use Rattle.std.proofs.Math.Logic.{∥∥₁_map}
 use Rattle.std.proofs.Math.ListN.{length-set}
 use Rattle.std.specs.Vec.{with_item}

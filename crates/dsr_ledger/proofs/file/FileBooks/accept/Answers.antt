@@ -1,12 +1,10 @@
-use Rattle.std.proofs.Common.{◌≡◌, ℕ, List, ◌≤◌, append-nil, length, refl, sym, ap, ◌∙◌, subst, arith}
-use Rattle.std.specs.Prelude.{option_map, Option}
+use Rattle.std.proofs.Common.{◌≡◌, ◌≤◌, append-nil, length, refl, sym, ap, ◌∙◌, subst, arith}
+use Rattle.std.specs.Prelude.{option_map}
 use Rattle.std.specs.List.{AllByRecursion}
-use Rattle.dsr_records.specs.declared.record.Usage.{Usage}
-use Rattle.dsr_records.specs.Works.{WorkParts}
-use Rattle.dsr_ledger.specs.Bookings.{Place, usage_bookings}
+use Rattle.dsr_ledger.specs.Bookings.{usage_bookings}
 use Rattle.dsr_ledger.specs.Ranges.{IsInRange}
 use Rattle.dsr_ledger.specs.Tallies.{tally_plus, key_tally}
-use Rattle.dsr_ledger.specs.Found.{shown_at, shown_with, place_at}
+use Rattle.dsr_ledger.specs.Found.{shown_with, place_at}
 use Rattle.dsr_ledger.specs.Drafts.{numbers_in, AreDrafted}
 use Rattle.dsr_ledger.proofs.FitLemmas.{fewer_sums}
 use Rattle.dsr_ledger.proofs.file.FileBooks.accept.Goals as goal

@@ -1,13 +1,11 @@
-use Rattle.std.proofs.Common.{◌≡◌, ℕ, List, Bool, true, false, cond, refl, sym, ap, ◌∙◌, rules}
+use Rattle.std.proofs.Common.{◌≡◌, ℕ, List, Bool, true, false, cond, refl, sym, ap, ◌∙◌}
 use Rattle.std.specs.Prelude.{not}
 use Rattle.std.specs.Ordering.{is_eq}
 use Rattle.std.specs.BTreeSet.{contains}
-use Rattle.dsr_ledger.specs.declared.file.FileBooks.{FileBooks}
 use Rattle.dsr_ledger.specs.declared.verdict.Verdict.{Verdict}
 use Rattle.dsr_ledger.specs.Keys.{text_cmp}
 use Rattle.dsr_ledger.specs.Found.{is_known}
 use Rattle.dsr_ledger.specs.Verdicts.{verdict_by}
-use Rattle.dsr_ledger.specs.FileSteps.{IsSameFile, TakesBlock}
 use Rattle.dsr_ledger.specs.Stands.{Took}
 use Rattle.dsr_ledger.proofs.ResultLemmas.{ok_both, on_err}
 use Rattle.dsr_ledger.proofs.StandLemmas.{took, taken_out}

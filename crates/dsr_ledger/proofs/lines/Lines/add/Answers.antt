@@ -1,8 +1,7 @@
-use Rattle.std.proofs.Common.{◌≡◌, List, ℕ, subst, sym, ap, ◌∙◌, refl}
+use Rattle.std.proofs.Common.{◌≡◌, List, ℕ, subst}
 use Rattle.std.specs.Prelude.{Option}
-use Rattle.dsr_ledger.specs.Numbered.{read_at}
 use Rattle.dsr_ledger.specs.Owed.{seat_of, AreNoted}
-use Rattle.dsr_ledger.specs.Tallies.{TallyFits, tally_at, tally_with, line_tally, no_tally, number_of, seat_in}
+use Rattle.dsr_ledger.specs.Tallies.{TallyFits, tally_with, line_tally, no_tally, number_of, seat_in}
 use Rattle.dsr_ledger.specs.Keys.{key_eq}
 use Rattle.dsr_ledger.proofs.KeyLemmas.{same_key}
 use Rattle.dsr_ledger.proofs.NumberedLemmas.{read_here, read_changed}

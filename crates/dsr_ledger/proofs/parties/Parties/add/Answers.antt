@@ -1,9 +1,9 @@
-use Rattle.std.proofs.Common.{◌≡◌, ℕ, suc, ◌+◌, take, get_or, length, sym, ap, ◌∙◌, subst, arith, cond, refl}
-use Rattle.std.specs.Prelude.{pos, ◌+ℤ◌}
+use Rattle.std.proofs.Common.{◌≡◌, suc, ◌+◌, take, get_or, sym, ap, ◌∙◌, arith, cond, refl}
+use Rattle.std.specs.Prelude.{pos}
 use Rattle.std.proofs.lemmas.List.{take_all}
 use Rattle.dsr_ledger.specs.declared.owed.PartNote.{PartNote}
-use Rattle.dsr_ledger.specs.Parts.{Part, is_for}
-use Rattle.dsr_ledger.specs.Owed.{seat_of, owed_at, owed_for, owed_plus, owed_with, AreNoted, notes_size}
+use Rattle.dsr_ledger.specs.Parts.{is_for}
+use Rattle.dsr_ledger.specs.Owed.{seat_of, owed_at, owed_for, owed_plus, owed_with, notes_size}
 use Rattle.dsr_ledger.proofs.OwedLemmas.{noted_step, part_fits, owed_more, length-noted}
 use Rattle.dsr_ledger.proofs.parties.Parties.add.Goals as goal
 
