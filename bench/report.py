@@ -2,13 +2,19 @@
 """Writes a large valid report: FOLDER/1.tsv, FOLDER/2.tsv and so on. The same arguments give the same bytes.
 
   report.py FOLDER [--bytes N] [--files N] [--isrcs N] [--works N] [--parties N] [--usages N] [--summaries N]
+            [--recordings FILE]
 
 --bytes is the size of all files together (about), --isrcs how many recordings there are, --works the works of a
-block, --parties the parties of a work, --usages the usages of a block, --summaries the summaries of a file.
+block, --parties the parties of a work, --usages the usages of a block, --summaries the summaries of a file. With
+--recordings the ISRCs are the lines of FILE, and --isrcs says nothing.
 """
 import argparse
 import os
 import random
+
+
+def isrc_of(song):
+    return f'GBX{song // 2_000_000:02d}{10 + song // 100_000 % 20}{song % 100_000:05d}'
 
 
 def blocks(asked, rng, file, room):
@@ -19,7 +25,7 @@ def blocks(asked, rng, file, room):
     while size < room:
         number += 1
         song = rng.randrange(asked.isrcs)
-        isrc = f'GBX{song // 2_000_000:02d}{10 + song // 100_000 % 20}{song % 100_000:05d}'
+        isrc = asked.recordings[song] if asked.recordings else isrc_of(song)
         lines = [f'AS01\t{number}\t{isrc}\tSong {number % 9973} of {file}\tThe {number % 401} Lanterns']
         for work in range(asked.works):
             parties = '|'.join(f'Party {(7 * song + 3 * work + place) % 2000}' for place in range(asked.parties))
@@ -64,7 +70,11 @@ def main():
     for name, standard in (('bytes', 10_000_000), ('files', 1), ('isrcs', 1000), ('works', 1), ('parties', 2),
                            ('usages', 2), ('summaries', 8)):
         parser.add_argument(f'--{name}', type=int, default=standard)
+    parser.add_argument('--recordings', type=argparse.FileType('r'))
     asked = parser.parse_args()
+    if asked.recordings:
+        asked.recordings = asked.recordings.read().split()
+        asked.isrcs = len(asked.recordings)
     os.makedirs(asked.folder, exist_ok=True)
     for file in range(1, asked.files + 1):
         write_file(asked, file, asked.folder)
