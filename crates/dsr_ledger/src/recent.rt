@@ -6,6 +6,9 @@ use std::alloc::Global;
 /// How many guesses a table has at first.
 const LEAST: usize = 1024;
 
+/// How many guesses a table has for each line at least, so that few lines share one.
+const ROOM: usize = 4;
+
 /// An odd number whose bits are spread: the upper half of a product with it depends on all bits of the other number.
 const SPREAD: u64 = 0x9e37_79b9_7f4a_7c15;
 
@@ -24,7 +27,8 @@ fn mixed(isrc: &Isrc, salt: u64) -> u64 {
     let [a, b, c, d, e, f, g, h, i, j, k, l] = bytes;
     let first = u64::from_le_bytes([a, b, c, d, e, f, g, h]);
     let last = u32::from_le_bytes([i, j, k, l]);
-    let both = first.wrapping_mul(SPREAD) ^ u64::from(last) ^ salt;
+    let both = (first ^ salt).wrapping_mul(SPREAD);
+    let both = both ^ (both >> 32) ^ u64::from(last);
     both.wrapping_mul(SPREAD) >> 32
 }
 
@@ -75,7 +79,7 @@ impl Recent {
     /// Makes the table as large as that many lines want. Where no memory is left, it stays as it is.
     pub fn grow(&mut self, alloc: Global, lines: usize) {
         let len = self.numbers.len();
-        if lines < len {
+        if lines < len / ROOM {
             return;
         }
         let larger = if len < LEAST {
