@@ -1,5 +1,5 @@
 -- What is kept of summaries, after a usage was counted.
-use Rattle.std.proofs.Common.{◌≡◌, ℕ, List, [], ◌∷◌, Bool, true, false, cond, refl, sym, ◌∙◌, ap}
+use Rattle.std.proofs.Common.{◌≡◌, ℕ, List, [], ◌∷◌, Bool, true, false, cond, true≢false, refl, sym, ◌∙◌, ap}
 use Rattle.std.specs.Prelude.{◌+ℤ◌, Option, None, Some, is_some, option_map}
 use Rattle.std.specs.Str.{bytes_eq}
 use Rattle.std.specs.Cmp.Lexicographic.{nat_list_eq_equiv}
@@ -13,6 +13,10 @@ use Rattle.dsr_ledger.proofs.SumLemmas.{add-zero}
 -- something is kept of each summary that has a number
 pub known_shown : (founds : Founds) (id : List ℕ) → is_some (shown_at founds id) ≡ is_known founds id
 known_shown founds id = read_some shown founds.founds.items (index_at founds id) (founds.numbered.below id)
+
+pub not_there : {X : Type 0} (o : Option X) → is_some o ≡ false → o ≡ None
+not_there None e = refl
+not_there (Some x) e = absurd (true≢false e)
 
 -- a usage under another name adds nothing
 other_name : (id : List ℕ) (u : Usage) (s : Shown) → bytes_eq id u.summary_id ≡ false → s ≡ shown_with id (u ∷ []) s

@@ -14,7 +14,7 @@ use Rattle.dsr_ledger.specs.Ranges.{SumsFit}
 use Rattle.dsr_ledger.specs.Keys.{text_cmp}
 use Rattle.dsr_ledger.specs.Numbered.{read_at}
 
--- all but the recording of the block at hand
+-- all but the identifier, the recording of the block at hand and the salt
 pub record Shown : Type 0 where
   pub place : Place
   pub sums : Sums

@@ -2,9 +2,11 @@
 ghost use Rattle.std.specs.Prelude.{length};
 ghost use Rattle.std.specs.BTreeMap.{get};
 ghost use Rattle.dsr_ledger.specs.Keys.{text_cmp};
-ghost use Rattle.dsr_ledger.specs.Numbered.{IsNumbered};
+ghost use Rattle.dsr_ledger.specs.Numbered.{IsNumbered, AreNamed};
 
 use crate::found::Found;
+use crate::guesses::Guesses;
+use crate::mixing::mixed_name;
 use crate::sums::Sums;
 use dsr_cells::{NoMemory, Text};
 use dsr_records::Usage;
@@ -16,11 +18,13 @@ use std::collections::BTreeMap;
 pub struct Founds {
     pub numbers: BTreeMap<Text, usize>,
     pub founds: Vec<Found>,
+    pub guesses: Guesses,
     ghost numbered: { IsNumbered (get text_cmp numbers) (length founds.items) },
+    ghost named: { AreNamed (get text_cmp numbers) (λ f. f.id) founds.items },
 }
 
 impl Founds {
-    ghost use Rattle.std.specs.Prelude.{◌≡◌, [], ◌∷◌, ℕ, List, IfOk, OnOk, None, Some, option_map, if◌then◌else◌};
+    ghost use Rattle.std.specs.Prelude.{◌≡◌, [], ◌∷◌, ℕ, List, IfOk, IfSome, OnOk, None, Some, option_map, if◌then◌else◌};
     ghost use Rattle.std.specs.Option.{ForSome};
     ghost use Rattle.std.specs.Str.{bytes_eq};
     ghost use Rattle.dsr_ledger.specs.Found.{shown, shown_at, shown_with, index_at, ShownFits};
@@ -34,6 +38,7 @@ impl Founds {
         Founds {
             numbers: BTreeMap::new(alloc),
             founds: Vec::new(alloc),
+            guesses: Guesses::new(alloc),
         }
     }
 
@@ -44,13 +49,28 @@ impl Founds {
         Ok(Founds {
             numbers: BTreeMap::new(alloc),
             founds: Vec::with_capacity(alloc, many)?,
+            guesses: Guesses::with_room(alloc, many),
         })
     }
 
-    /// The number of a summary.
+    /// The number that is guessed of a summary, where it is this summary's.
+    fn guessed(&self, id: &Text) -> Option<usize>
+        ensures { IfSome result (λ number. index_at self.now id.now ≡ Some number) }
+    {
+        let number = self.guesses.guess(mixed_name(id))?;
+        if self.founds.get(number)?.id == *id {
+            return Some(number);
+        }
+        None
+    }
+
+    /// The number of a summary. It is searched for where the guess is wrong.
     pub fn index(&self, id: &Text) -> Option<usize>
         ensures { result ≡ index_at self.now id.now }
     {
+        if let Some(number) = self.guessed(id) {
+            return Some(number);
+        }
         self.numbers.get(id).copied()
     }
 
@@ -64,17 +84,19 @@ impl Founds {
         }
     }
 
-    /// Adds a summary of this name, unless the name is there. What is kept of the others stays.
-    pub fn add(&mut self, alloc: Global, id: &Text, found: Found) -> Result<(), NoMemory>
-        ensures { OnOk result ((q : List ℕ) → shown_at self.new q ≡ first_of (shown_at self.old q) (if bytes_eq q id.now then Some (shown found) else None)) }
+    /// Adds a summary, unless its name is there. What is kept of the others stays.
+    pub fn add(&mut self, alloc: Global, found: Found) -> Result<(), NoMemory>
+        ensures { OnOk result ((q : List ℕ) → shown_at self.new q ≡ first_of (shown_at self.old q) (if bytes_eq q found.id then Some (shown found) else None)) }
     {
-        if self.index(id).is_some() {
+        if self.index(&found.id).is_some() {
             return Ok(());
         }
+        let mixed = mixed_name(&found.id);
         let number = self.founds.len();
         self.founds.reserve(1)?;
-        self.numbers.insert(id.copy(alloc)?, number)?;
+        self.numbers.insert(found.id.copy(alloc)?, number)?;
         self.founds.push(found)?;
+        self.guesses.note(mixed, number);
         Ok(())
     }
 

@@ -4,11 +4,12 @@ ghost use Rattle.std.specs.BTreeMap.{get};
 ghost use Rattle.dsr_ledger.specs.Keys.{key_cmp};
 ghost use Rattle.dsr_ledger.specs.Numbered.{IsNumbered, AreNamed};
 
+use crate::guesses::Guesses;
 use crate::key::Key;
 use crate::line::Line;
+use crate::mixing::mixed_key;
 use crate::owed::PartNote;
 use crate::parts::note_parts;
-use crate::recent::Recent;
 use dsr_cells::{Amount, NoMemory};
 use dsr_records::{Usage, Work};
 use std::alloc::Global;
@@ -19,7 +20,7 @@ use std::collections::BTreeMap;
 pub struct Lines {
     pub numbers: BTreeMap<Key, usize>,
     pub lines: Vec<Line>,
-    pub recent: Recent,
+    pub guesses: Guesses,
     ghost numbered: { IsNumbered (get key_cmp numbers) (length lines.items) },
     ghost named: { AreNamed (get key_cmp numbers) (λ l. l.key) lines.items },
 }
@@ -40,15 +41,15 @@ impl Lines {
         Lines {
             numbers: BTreeMap::new(alloc),
             lines: Vec::new(alloc),
-            recent: Recent::new(alloc),
+            guesses: Guesses::new(alloc),
         }
     }
 
-    /// The number that stands at a place of guesses, where it is this key's.
-    fn guessed(&self, place: usize, key: &Key) -> Option<usize>
+    /// The number that is guessed of a key, where it is this key's. The key is mixed to find the guess.
+    fn guessed(&self, mixed: u64, key: &Key) -> Option<usize>
         ensures { IfSome result (λ number. number_of self.now key.now ≡ Some number) }
     {
-        let number = self.recent.guess(place)?;
+        let number = self.guesses.guess(mixed)?;
         if self.lines.get(number)?.key == *key {
             return Some(number);
         }
@@ -63,7 +64,7 @@ impl Lines {
         ensures there { IfOk result (λ number. number_of self.new key.now ≡ Some number) }
     {
         let number = self.lines.len();
-        self.recent.grow(alloc, number);
+        self.guesses.grow(alloc, number);
         self.lines.reserve(1)?;
         let line = Line::new(alloc, key.copy(alloc)?);
         self.numbers.insert(key.copy(alloc)?, number)?;
@@ -90,12 +91,12 @@ impl Lines {
         ensures grows { LinesGrow self.old self.new }
         ensures there { IfOk result (λ number. number_of self.new key.now ≡ Some number) }
     {
-        let place = self.recent.place(key, salt);
-        if let Some(number) = self.guessed(place, key) {
+        let mixed = mixed_key(&key.isrc, salt);
+        if let Some(number) = self.guessed(mixed, key) {
             return Ok(number);
         }
         let number = self.searched(alloc, key)?;
-        self.recent.note(place, number);
+        self.guesses.note(mixed, number);
         Ok(number)
     }
 

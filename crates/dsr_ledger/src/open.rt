@@ -10,7 +10,7 @@ use crate::file::FileBooks;
 use crate::found::Found;
 use crate::founds::Founds;
 use crate::key::Key;
-use crate::recent::salt_of;
+use crate::mixing::salt_of;
 use crate::sums::Sums;
 use crate::verdict::Standing;
 use dsr_cells::{Isrc, NoMemory};
@@ -103,6 +103,7 @@ fn add_summary(founds: &mut Founds, alloc: Global, summary: &Summary) -> Result<
         currency: summary.currency.copy(alloc)?,
     };
     let found = Found {
+        id: summary.id.copy(alloc)?,
         salt: salt_of(&key),
         key,
         sums: Sums {
@@ -110,7 +111,7 @@ fn add_summary(founds: &mut Founds, alloc: Global, summary: &Summary) -> Result<
             amount: 0,
         },
     };
-    founds.add(alloc, &summary.id, found)
+    founds.add(alloc, found)
 }
 
 /// What is kept of summaries that no usage names so far.

@@ -1,0 +1,69 @@
+//! Numbers that give keys and names their places where guesses are kept.
+use crate::key::Key;
+use dsr_cells::{Isrc, Text};
+
+/// An odd number whose bits are spread: each bit of a product with it depends on all bits of the other number that
+/// are not above it.
+const SPREAD: u64 = 0x9e37_79b9_7f4a_7c15;
+
+/// Two numbers, mixed: the low bits depend on all bits of both.
+fn mixed(first: u64, last: u64) -> u64 {
+    let both = first.wrapping_mul(SPREAD) ^ last;
+    (both ^ (both >> 32)).wrapping_mul(SPREAD) >> 32
+}
+
+/// A number mixed with the bytes of a text.
+fn with_text(salt: u64, text: &Text) -> u64 {
+    let mut salt = salt ^ text.as_str().len() as u64;
+    for byte in text.as_str().as_bytes() {
+        salt = (salt ^ u64::from(*byte)).wrapping_mul(SPREAD);
+    }
+    salt
+}
+
+/// What the parts of a key beside its recording give.
+pub fn salt_of(key: &Key) -> u64 {
+    let salt = with_text(0, &key.territory);
+    let salt = with_text(salt, &key.use_type);
+    with_text(salt, &key.currency)
+}
+
+/// A recording's code and a salt, mixed.
+pub fn mixed_key(isrc: &Isrc, salt: u64) -> u64 {
+    let Ok(bytes) = <[u8; 12]>::try_from(isrc.as_bytes()) else {
+        return salt;
+    };
+    let [a, b, c, d, e, f, g, h, i, j, k, l] = bytes;
+    let first = u64::from_le_bytes([a, b, c, d, e, f, g, h]);
+    let last = u32::from_le_bytes([i, j, k, l]);
+    mixed(first, u64::from(last) ^ salt)
+}
+
+/// The first and the last eight bytes, which may share some; of less than eight bytes the first and the last four, and
+/// so on.
+fn ends(bytes: &[u8]) -> (u64, u64) {
+    if let (Some(first), Some(last)) = (bytes.first_chunk::<8>(), bytes.last_chunk::<8>()) {
+        return (u64::from_le_bytes(*first), u64::from_le_bytes(*last));
+    }
+    if let (Some(first), Some(last)) = (bytes.first_chunk::<4>(), bytes.last_chunk::<4>()) {
+        let first = u32::from_le_bytes(*first);
+        let last = u32::from_le_bytes(*last);
+        return (u64::from(first), u64::from(last));
+    }
+    if let (Some(first), Some(last)) = (bytes.first_chunk::<2>(), bytes.last_chunk::<2>()) {
+        let first = u16::from_le_bytes(*first);
+        let last = u16::from_le_bytes(*last);
+        return (u64::from(first), u64::from(last));
+    }
+    match bytes.first() {
+        Some(byte) => (u64::from(*byte), 0),
+        None => (0, 0),
+    }
+}
+
+/// A name's length and its bytes, mixed. Of a long name the first and the last bytes are enough.
+pub fn mixed_name(name: &Text) -> u64 {
+    let bytes = name.as_str().as_bytes();
+    let (first, last) = ends(bytes);
+    mixed(first, last ^ bytes.len() as u64)
+}
