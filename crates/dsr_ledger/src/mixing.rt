@@ -61,9 +61,17 @@ fn ends(bytes: &[u8]) -> (u64, u64) {
     }
 }
 
-/// A name's length and its bytes, mixed. Of a long name the first and the last bytes are enough.
+/// A name's length and its bytes, mixed. Of a name of more than 32 bytes some bytes may be left out.
 pub fn mixed_name(name: &Text) -> u64 {
     let bytes = name.as_str().as_bytes();
+    let len = bytes.len();
     let (first, last) = ends(bytes);
-    mixed(first, last ^ bytes.len() as u64)
+    let inner = match bytes.get(8..len.wrapping_sub(8)) {
+        Some(inner) => {
+            let (first, last) = ends(inner);
+            mixed(first, last)
+        }
+        None => 0,
+    };
+    mixed(first, last ^ inner ^ len as u64)
 }
