@@ -1,12 +1,14 @@
 //! A line whose cells are those of a record, before anything of it is copied.
-ghost use Rattle.std.specs.Prelude.{◌≡◌, [], Ok, Err, IfOk, OnErr, MatchResult, true, length, map, nat_lt, slice_get};
+ghost use Rattle.std.specs.Prelude.{◌≡◌, ◌+◌, ◌<◌, [], Ok, Err, IfOk, OnOk, OnErr, MatchResult, true, length, map, nat_lt, slice_get};
 ghost use Rattle.std.specs.Option.{option_map, unwrap_or};
 ghost use Rattle.dsr_cells.specs.Cells.{cells};
+ghost use Rattle.dsr_records.specs.Blocks.{with_member};
 ghost use Rattle.dsr_records.specs.Checked.{record_seen};
 ghost use Rattle.dsr_records.specs.Records.{cell_in};
 ghost use Rattle.dsr_records.specs.Reads.{AnswersRecord, kind_of_record, id_of_record, has_texts};
 ghost use Rattle.dsr_records.specs.Values.{id_of, kind_of, record_by_row, record_of};
 
+use crate::block::Block;
 use crate::borrowed::BorrowedRecord;
 use crate::check::{
     check_foot, check_head, check_resource, check_summary, check_usage, check_work,
@@ -79,6 +81,23 @@ impl<'l> CheckedLine<'l> {
             BorrowedRecord::Foot(foot) => Record::Foot(*foot),
             BorrowedRecord::Skipped => Record::Skipped,
         })
+    }
+
+    /// Appends the work or the usage of the line to a block of fewer than 64 records; another record appends
+    /// nothing. Want of memory changes nothing.
+    pub fn append_to(&self, alloc: Global, block: &mut Block) -> Result<(), NoMemory>
+        requires room { 1 + length block.old.works + length block.old.usages < 64 }
+        ensures added { OnOk result (block.new ≡ with_member block.old self.now) }
+        ensures refused { OnErr result (block.new ≡ block.old) }
+        ensures memory { OnErr result (has_texts self.now ≡ true) }
+    {
+        match &self.found {
+            BorrowedRecord::Work(work) => block.push_work(work.copy(alloc)?).map_err(|_| NoMemory),
+            BorrowedRecord::Usage(usage) => block
+                .push_usage(usage.copy(alloc)?)
+                .map_err(|_| NoMemory),
+            _ => Ok(()),
+        }
     }
 }
 
