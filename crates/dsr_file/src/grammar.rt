@@ -212,9 +212,9 @@ impl Grammar {
             self.skip_line();
             return Step::Good;
         }
-        match check_line(layout, text) {
-            Err(fault) => Step::Faulty(file_fault(fault)),
-            Ok(line) => self.checked(alloc, &line, closed),
+        match &check_line(layout, text) {
+            Err(fault) => Step::Faulty(file_fault(*fault)),
+            Ok(line) => self.checked(alloc, line, closed),
         }
     }
 

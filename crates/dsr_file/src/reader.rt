@@ -143,6 +143,7 @@ impl FileReader {
     }
 
     /// What a line has done, which closed this.
+    #[inline(always)]
     fn answer(
         &mut self,
         line: u64,
@@ -171,6 +172,7 @@ impl FileReader {
     }
 
     /// Gives the event of a good line, if there is one.
+    #[inline(always)]
     fn good(&mut self, closed: Option<EventPart>, event: &mut Option<Event>)
         requires reading { self.old.phase ≡ phases.Reading }
         requires room { self.old.place + 1 ≤ self.old.given }

@@ -116,11 +116,11 @@ fn record_type<'l>(cursor: &mut Cursor<'l>) -> &'l str
     cursor.cell(0).unwrap_or("")
 }
 
-/// Checks the cells of a kind's columns: the record, or the first fault.
-fn check_row<'l>(row: &Row<'l>, kind: Kind) -> Result<BorrowedRecord<'l>, RecordFault>
-    ensures { MatchResult result (λ found. record_by_row row.now kind ≡ Ok (record_seen found)) (λ fault. record_by_row row.now kind ≡ Err fault) }
+/// Checks the cells of a kind's columns: the line's record, not yet copied, or the first fault.
+fn check_row<'l>(row: &Row<'l>, kind: Kind) -> Result<CheckedLine<'l>, RecordFault>
+    ensures { result ≡ record_by_row row.now kind }
 {
-    Ok(match kind {
+    let found = match kind {
         Kind::Head => BorrowedRecord::Head(check_head(row)?),
         Kind::Summary => BorrowedRecord::Summary(check_summary(row)?),
         Kind::Resource => BorrowedRecord::Resource(check_resource(row)?),
@@ -128,7 +128,8 @@ fn check_row<'l>(row: &Row<'l>, kind: Kind) -> Result<BorrowedRecord<'l>, Record
         Kind::Usage => BorrowedRecord::Usage(check_usage(row)?),
         Kind::Foot => BorrowedRecord::Foot(check_foot(row)?),
         Kind::Skipped => BorrowedRecord::Skipped,
-    })
+    };
+    Ok(CheckedLine { found })
 }
 
 /// Checks the cells of a line by the layout line of its record type.
@@ -136,10 +137,7 @@ fn check_role<'l>(cursor: Cursor<'l>, role: &RoleLine) -> Result<CheckedLine<'l>
     ensures { result ≡ record_by_row (map (cell_in cursor.entry) role.now.positions) role.now.kind }
 {
     let row = Row::of(cursor, role.positions.as_slice());
-    match check_row(&row, role.kind) {
-        Ok(found) => Ok(CheckedLine { found }),
-        Err(fault) => Err(fault),
-    }
+    check_row(&row, role.kind)
 }
 
 /// Checks a line by a layout: its record, not yet copied, or its first fault. It takes no memory.
