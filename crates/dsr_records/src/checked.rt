@@ -136,7 +136,8 @@ fn check_row<'l>(row: &Row<'l>, kind: Kind) -> Result<CheckedLine<'l>, RecordFau
 fn check_role<'l>(cursor: Cursor<'l>, role: &RoleLine) -> Result<CheckedLine<'l>, RecordFault>
     ensures { result ≡ record_by_row (map (cell_in cursor.entry) role.now.positions) role.now.kind }
 {
-    let row = Row::of(cursor, role.positions.as_slice());
+    let mut row = Row::new();
+    row.take(cursor, role.positions.as_slice());
     check_row(&row, role.kind)
 }
 
