@@ -16,7 +16,7 @@ use Rattle.dsr_file.specs.Parts.{closed, summaries, events_of}
 use Rattle.dsr_file.specs.Faults.{fault_if, fault_of, early_fault, count_fault}
 use Rattle.dsr_records.specs.Records.{or_else}
 use Rattle.dsr_file.specs.Texts.{counts_fault}
-use Rattle.dsr_file.specs.Stages.{KeepsStage, stage_after, given_by}
+use Rattle.dsr_file.specs.Stages.{KeepsStage, IsMember, stage_after, given_by}
 use Rattle.dsr_file.specs.Counting.{foot_in, summary_count, block_count}
 use Rattle.dsr_file.specs.Grammars.{Keeps, kept_count_fault, IsRecord}
 use Rattle.dsr_file.proofs.StepLemmas.{Steps, step_record, summaries-append}
@@ -32,6 +32,26 @@ pub record Adds (old new : Grammar) (item : Record) (part : Option EventPart) : 
   pub skipped_records : new.skipped_records ≡ old.skipped_records
   pub summaries : new.summaries ≡ old.summaries + summary_count item
   pub blocks : new.blocks ≡ old.blocks + block_count part
+
+-- what a work or a usage does to the numbers
+module _ (old new : Grammar) where
+  pub member_adds : (item : Record) → IsMember item → new.stage ≡ stage_after old.stage item → new.lines ≡ old.lines + 1 → new.records ≡ old.records + 1 → new.skipped_lines ≡ old.skipped_lines → new.skipped_records ≡ old.skipped_records → new.summaries ≡ old.summaries + 0 → new.blocks ≡ old.blocks + 0 → Adds old new item None
+  member_adds (Work w) m s l r a b ss bs = record { stage = s; given = refl; lines = l; records = r; skipped_lines = a; skipped_records = b; summaries = ss; blocks = bs }
+  member_adds (Usage u) m s l r a b ss bs = record { stage = s; given = refl; lines = l; records = r; skipped_lines = a; skipped_records = b; summaries = ss; blocks = bs }
+  member_adds (Head h) m s l r a b ss bs = absurd m
+  member_adds (Summary h) m s l r a b ss bs = absurd m
+  member_adds (Resource h) m s l r a b ss bs = absurd m
+  member_adds (Foot h) m s l r a b ss bs = absurd m
+  member_adds Skipped m s l r a b ss bs = absurd m
+
+  pub member_has_no_counts : (item : Record) → IsMember item → option_and_then (kept_count_fault new) (foot_in item) ≡ None
+  member_has_no_counts (Work w) m = refl
+  member_has_no_counts (Usage u) m = refl
+  member_has_no_counts (Head h) m = refl
+  member_has_no_counts (Summary h) m = refl
+  member_has_no_counts (Resource h) m = refl
+  member_has_no_counts (Foot h) m = absurd m
+  member_has_no_counts Skipped m = refl
 
 summary_added : (item : Record) → length (summaries (item ∷ [])) ≡ summary_count item
 summary_added (Summary s) = refl

@@ -81,31 +81,31 @@ pub same_text : {old new : FileReader} → new.layout ≡ old.layout → new.giv
 same_text l g e = record { layout = l; given = g; ending = e }
 
 -- the last line and its step
-module _ (layout : LayoutTable) (r : FileReader) (b : List ℕ) (es : List Placed) (a : AtEnd layout r endings.Whole b es) (some : 0 < length r.cutter.bytes.items) (h : Grammar) (step : Step) (steps : (ls : List Reading) → Keeps r.grammar ls → LineSteps ls (reading r.layout r.cutter.bytes.items) step h) where
+module _ (layout : LayoutTable) (r : FileReader) (b : List ℕ) (es : List Placed) (a : AtEnd layout r endings.Whole b es) (some : 0 < length r.cutter.bytes.items) (h : Grammar) (step : Step) (closed : Option EventPart) (steps : (ls : List Reading) → Keeps r.grammar ls → LineSteps ls (reading r.layout r.cutter.bytes.items) step closed h) where
   now : readings layout b endings.Whole ≡ map (reading layout) a.whole ++ reading layout r.cutter.bytes.items ∷ []
   now = readings_end layout b r.cutter.bytes.items a.whole endings.Whole a.cuts.pieces_are ∙ ap (λ x. map (reading layout) a.whole ++ map (reading layout) x) (line_end r.cutter.bytes.items some)
 
-  did : (s : Step) → step ≡ s → LineSteps (map (reading layout) a.whole) (reading layout r.cutter.bytes.items) s h
-  did s is = subst (λ x. LineSteps (map (reading layout) a.whole) (reading layout r.cutter.bytes.items) x h) is (subst (λ x. LineSteps (map (reading layout) a.whole) (reading x r.cutter.bytes.items) step h) a.layout_is (steps (map (reading layout) a.whole) a.keeps))
+  did : (s : Step) → step ≡ s → LineSteps (map (reading layout) a.whole) (reading layout r.cutter.bytes.items) s closed h
+  did s is = subst (λ x. LineSteps (map (reading layout) a.whole) (reading layout r.cutter.bytes.items) x closed h) is (subst (λ x. LineSteps (map (reading layout) a.whole) (reading x r.cutter.bytes.items) step closed h) a.layout_is (steps (map (reading layout) a.whole) a.keeps))
 
-  pub good_last : (new : FileReader) (part : Option EventPart) (o : Outcome) (e : Placed) → step ≡ Good part → o ≡ outcome_at (column_at h.stage) endings.Whole (h.lines + 1) → FaultyGives r.place part o e new → SameText r new → new.place ≡ r.place + 1 → Stands layout new b (es ++ e ∷ [])
-  good_last new part o e s os gives same p =
+  pub good_last : (new : FileReader) (o : Outcome) (e : Placed) → step ≡ Good → o ≡ outcome_at (column_at h.stage) endings.Whole (h.lines + 1) → FaultyGives r.place closed o e new → SameText r new → new.place ≡ r.place + 1 → Stands layout new b (es ++ e ∷ [])
+  good_last new o e s os gives same p =
       let ls = map (reading layout) a.whole in
-      let d = did (Good part) s in
-      let text : text_events layout b endings.Whole ≡ placed 0 ((events_of (records ls) ++ option_to_list part) ++ Ended o ∷ []) =
+      let d = did Good s in
+      let text : text_events layout b endings.Whole ≡ placed 0 ((events_of (records ls) ++ option_to_list closed) ++ Ended o ∷ []) =
       ap (λ x. placed 0 (events x endings.Whole)) now ∙ ap (placed 0) (good_end _ endings.Whole d.0.good ∙ ap (λ x. events_of (records (ls ++ reading layout r.cutter.bytes.items ∷ [])) ++ Ended x ∷ []) (sym (os ∙ end_kept h _ endings.Whole d.0)) ∙ ap (λ x. x ++ Ended o ∷ []) d.2) in
-      gives_stands layout r new b es part o e a.layout_is a.given_is a.place_is (ap (known_events layout b) (same.ending ∙ a.ending_is) ∙ all_end es (text_events layout b endings.Whole) (events_of (records ls)) (option_to_list part) o r.place a.events_are a.place_is text)
-      (going_is _ _ _ (placed_more es (events_of (records ls)) (option_to_list part) r.place a.events_are a.place_is) (sym d.2)) gives same p
+      gives_stands layout r new b es closed o e a.layout_is a.given_is a.place_is (ap (known_events layout b) (same.ending ∙ a.ending_is) ∙ all_end es (text_events layout b endings.Whole) (events_of (records ls)) (option_to_list closed) o r.place a.events_are a.place_is text)
+      (going_is _ _ _ (placed_more es (events_of (records ls)) (option_to_list closed) r.place a.events_are a.place_is) (sym d.2)) gives same p
 
-  pub faulty_last : (new : FileReader) (part : Option EventPart) (f : FileFault) (e : Placed) → step ≡ Faulty part f → FaultyGives r.place part (outcomes.Fault (r.grammar.lines + 1) f) e new → SameText r new → new.place ≡ r.place + 1 → Stands layout new b (es ++ e ∷ [])
-  faulty_last new part f e s gives same p =
+  pub faulty_last : (new : FileReader) (f : FileFault) (e : Placed) → step ≡ Faulty f → FaultyGives r.place closed (outcomes.Fault (r.grammar.lines + 1) f) e new → SameText r new → new.place ≡ r.place + 1 → Stands layout new b (es ++ e ∷ [])
+  faulty_last new f e s gives same p =
       let ls = map (reading layout) a.whole in
-      let d = did (Faulty part f) s in
+      let d = did (Faulty f) s in
       let o = outcomes.Fault (r.grammar.lines + 1) f in
-      let text : text_events layout b endings.Whole ≡ placed 0 ((events_of (records ls) ++ option_to_list part) ++ Ended o ∷ []) =
+      let text : text_events layout b endings.Whole ≡ placed 0 ((events_of (records ls) ++ option_to_list closed) ++ Ended o ∷ []) =
       ap (λ x. placed 0 (events x endings.Whole)) now ∙ ap (placed 0) (fault_end ls (reading layout r.cutter.bytes.items) f endings.Whole a.keeps.good d.0 ∙ ap (λ m. events_of (records (if counts_fault f then ls ++ reading layout r.cutter.bytes.items ∷ [] else ls)) ++ Ended (outcomes.Fault (m + 1) f) ∷ []) (sym a.keeps.lines_are) ∙ ap (λ x. x ++ Ended o ∷ []) d.1) in
-      gives_stands layout r new b es part o e a.layout_is a.given_is a.place_is (ap (known_events layout b) (same.ending ∙ a.ending_is) ∙ all_end es (text_events layout b endings.Whole) (events_of (records ls)) (option_to_list part) o r.place a.events_are a.place_is text)
-      (going_is _ _ _ (placed_more es (events_of (records ls)) (option_to_list part) r.place a.events_are a.place_is) (sym d.1)) gives same p
+      gives_stands layout r new b es closed o e a.layout_is a.given_is a.place_is (ap (known_events layout b) (same.ending ∙ a.ending_is) ∙ all_end es (text_events layout b endings.Whole) (events_of (records ls)) (option_to_list closed) o r.place a.events_are a.place_is text)
+      (going_is _ _ _ (placed_more es (events_of (records ls)) (option_to_list closed) r.place a.events_are a.place_is) (sym d.1)) gives same p
 
   pub memory_last : (new : FileReader) (e : Placed) → step ≡ NoMemory → e ≡ ended r.place (outcomes.Fault (r.grammar.lines + 1) faults.Memory) → new.phase ≡ phases.Done (outcomes.Fault (r.grammar.lines + 1) faults.Memory) → SameText r new → new.place ≡ r.place + 1 → Stands layout new b (es ++ e ∷ [])
   memory_last new e s is d same p =

@@ -112,58 +112,58 @@ memory_stands_at layout r new told b es ls l number e la gi pl en lines good t e
       phase_is = subst (λ x. StandsAt layout x new b (es ++ e ∷ [])) (sym d) (inr (subst (λ x. IsCutOff (known_lines layout b x) (es ++ e ∷ [])) (sym (same.ending ∙ en)) cut), ends_next es r.place _ e is pl);
     }
 
-module _ (layout : LayoutTable) (r : FileReader) (number : ℕ) (step : Step) (b : List ℕ) (es : List Placed) (a : AtAnswer layout r number step b es) where
+module _ (layout : LayoutTable) (r : FileReader) (number : ℕ) (step : Step) (closed : Option EventPart) (b : List ℕ) (es : List Placed) (a : AtAnswer layout r number step closed b es) where
   lines_more : map (reading layout) (a.whole ++ a.line ∷ []) ≡ map (reading layout) a.whole ++ reading layout a.line ∷ []
   lines_more = map-append (reading layout) a.whole (a.line ∷ [])
 
   readings_now : readings layout b endings.Read ≡ map (reading layout) a.whole ++ reading layout a.line ∷ []
   readings_now = readings_short layout b [] (a.whole ++ a.line ∷ []) a.cuts.pieces_are (omega arith) ∙ lines_more
 
-  did : (s : Step) → step ≡ s → LineSteps (map (reading layout) a.whole) (reading layout a.line) s r.grammar
-  did s is = subst (λ x. LineSteps (map (reading layout) a.whole) (reading layout a.line) x r.grammar) is a.steps
+  did : (s : Step) → step ≡ s → LineSteps (map (reading layout) a.whole) (reading layout a.line) s closed r.grammar
+  did s is = subst (λ x. LineSteps (map (reading layout) a.whole) (reading layout a.line) x closed r.grammar) is a.steps
 
-  pub good_stands : (new : FileReader) (part : Option EventPart) (more : List Placed) → step ≡ Good part → more ≡ placed r.place (option_to_list part) → new.layout ≡ r.layout → new.given ≡ r.given → new.place ≡ r.place + length (option_to_list part) → new.ending ≡ r.ending → new.cutter ≡ r.cutter → new.grammar ≡ r.grammar → new.phase ≡ phases.Reading → Stands layout new b (es ++ more)
-  good_stands new part more s m la g p n cut gr ph =
-      let d = did (Good part) s in
+  pub good_stands : (new : FileReader) (more : List Placed) → step ≡ Good → more ≡ placed r.place (option_to_list closed) → new.layout ≡ r.layout → new.given ≡ r.given → new.place ≡ r.place + length (option_to_list closed) → new.ending ≡ r.ending → new.cutter ≡ r.cutter → new.grammar ≡ r.grammar → new.phase ≡ phases.Reading → Stands layout new b (es ++ more)
+  good_stands new more s m la g p n cut gr ph =
+      let d = did Good s in
       record {
         layout_is = la ∙ a.layout_is;
         given_is = g ∙ a.given_is;
-        place_is = p ∙ ap (λ x. x + length (option_to_list part)) a.place_is ∙ sym (length-append es more ∙ ap (λ x. length es + x) (ap length m ∙ length-placed r.place (option_to_list part)));
+        place_is = p ∙ ap (λ x. x + length (option_to_list closed)) a.place_is ∙ sym (length-append es more ∙ ap (λ x. length es + x) (ap length m ∙ length-placed r.place (option_to_list closed)));
         phase_is = subst (λ x. StandsAt layout x new b (es ++ more)) (sym ph) (
           a.whole ++ a.line ∷ [],
           subst (λ x. CutsTo x.bytes.items x.fresh b (a.whole ++ a.line ∷ [])) (sym cut) (rw (a.cleared, a.settled) a.cuts),
           subst (λ x. Keeps x (map (reading layout) (a.whole ++ a.line ∷ []))) (sym gr) (rw lines_more d.0),
-          ap (λ x. es ++ x) m ∙ placed_more es (events_of (records (map (reading layout) a.whole))) (option_to_list part) r.place a.events_are a.place_is ∙ ap (placed 0) (sym (ap (λ x. events_of (records x)) lines_more ∙ d.2)),
+          ap (λ x. es ++ x) m ∙ placed_more es (events_of (records (map (reading layout) a.whole))) (option_to_list closed) r.place a.events_are a.place_is ∙ ap (placed 0) (sym (ap (λ x. events_of (records x)) lines_more ∙ d.2)),
           n ∙ a.open_is,
         );
       }
 
   -- all that the bytes have
-  all_now : (part : Option EventPart) (f : FileFault) → step ≡ Faulty part f → so_far layout b ≡ (es ++ placed r.place (option_to_list part)) ++ ended (length (es ++ placed r.place (option_to_list part))) (outcomes.Fault number f) ∷ []
-  all_now part f s =
+  all_now : (f : FileFault) → step ≡ Faulty f → so_far layout b ≡ (es ++ placed r.place (option_to_list closed)) ++ ended (length (es ++ placed r.place (option_to_list closed))) (outcomes.Fault number f) ∷ []
+  all_now f s =
       let ls = map (reading layout) a.whole in
-      let d = did (Faulty part f) s in
-      let events = ap events_so_far readings_now ∙ fault_events ls (reading layout a.line) f a.good d.0 ∙ ap (λ x. x ++ Ended (outcomes.Fault (length ls + 1) f) ∷ []) d.1 ∙ ap (λ n. (events_of (records ls) ++ option_to_list part) ++ Ended (outcomes.Fault n f) ∷ []) (sym a.number_is) in
-      let so = placed_more es (events_of (records ls)) (option_to_list part) r.place a.events_are a.place_is in
-      ap (placed 0) events ∙ sym (placed_more (es ++ placed r.place (option_to_list part)) _ (Ended (outcomes.Fault number f) ∷ []) _ so refl)
+      let d = did (Faulty f) s in
+      let events = ap events_so_far readings_now ∙ fault_events ls (reading layout a.line) f a.good d.0 ∙ ap (λ x. x ++ Ended (outcomes.Fault (length ls + 1) f) ∷ []) d.1 ∙ ap (λ n. (events_of (records ls) ++ option_to_list closed) ++ Ended (outcomes.Fault n f) ∷ []) (sym a.number_is) in
+      let so = placed_more es (events_of (records ls)) (option_to_list closed) r.place a.events_are a.place_is in
+      ap (placed 0) events ∙ sym (placed_more (es ++ placed r.place (option_to_list closed)) _ (Ended (outcomes.Fault number f) ∷ []) _ so refl)
 
-  pub faulty_stands : (new : FileReader) (part : Option EventPart) (f : FileFault) (e : Placed) → step ≡ Faulty part f → FaultyGives r.place part (outcomes.Fault number f) e new → SameText r new → new.place ≡ r.place + 1 → Stands layout new b (es ++ e ∷ [])
-  faulty_stands new part f e s gives same p =
-      gives_stands layout r new b es part (outcomes.Fault number f) e a.layout_is a.given_is a.place_is (ap (known_events layout b) (same.ending ∙ a.open_is) ∙ all_now part f s)
-      (going_is _ _ _ (placed_more es (events_of (records (map (reading layout) a.whole))) (option_to_list part) r.place a.events_are a.place_is) (sym (did (Faulty part f) s).1)) gives same p
+  pub faulty_stands : (new : FileReader) (f : FileFault) (e : Placed) → step ≡ Faulty f → FaultyGives r.place closed (outcomes.Fault number f) e new → SameText r new → new.place ≡ r.place + 1 → Stands layout new b (es ++ e ∷ [])
+  faulty_stands new f e s gives same p =
+      gives_stands layout r new b es closed (outcomes.Fault number f) e a.layout_is a.given_is a.place_is (ap (known_events layout b) (same.ending ∙ a.open_is) ∙ all_now f s)
+      (going_is _ _ _ (placed_more es (events_of (records (map (reading layout) a.whole))) (option_to_list closed) r.place a.events_are a.place_is) (sym (did (Faulty f) s).1)) gives same p
 
   pub memory_stands : (new : FileReader) (e : Placed) → step ≡ NoMemory → e ≡ ended r.place (outcomes.Fault number faults.Memory) → new.phase ≡ phases.Done (outcomes.Fault number faults.Memory) → SameText r new → new.place ≡ r.place + 1 → Stands layout new b (es ++ e ∷ [])
   memory_stands new e s is d same p =
       memory_stands_at layout r new None b es (map (reading layout) a.whole) (reading layout a.line) number e a.layout_is a.given_is a.place_is a.open_is readings_now a.good (did NoMemory s) a.events_are a.number_is is d same p
 
 -- a line that is whole, once the grammar has taken it
-pub line_taken : (layout : LayoutTable) (old new : FileReader) (b : List ℕ) (es : List Placed) (line : List ℕ) (step : Step) → AtLine layout old line b es → ((ls : List Reading) → Keeps old.grammar ls → LineSteps ls (reading old.layout line) step new.grammar) → new.cutter.bytes.items ≡ [] → new.cutter.fresh ≡ false → new.layout ≡ old.layout → new.given ≡ old.given → new.place ≡ old.place → new.ending ≡ old.ending → AtAnswer layout new (old.grammar.lines + 1) step b es
-line_taken layout old new b es line step a steps cleared settled la g p n = record {
+pub line_taken : (layout : LayoutTable) (old new : FileReader) (b : List ℕ) (es : List Placed) (line : List ℕ) (step : Step) (closed : Option EventPart) → AtLine layout old line b es → ((ls : List Reading) → Keeps old.grammar ls → LineSteps ls (reading old.layout line) step closed new.grammar) → new.cutter.bytes.items ≡ [] → new.cutter.fresh ≡ false → new.layout ≡ old.layout → new.given ≡ old.given → new.place ≡ old.place → new.ending ≡ old.ending → AtAnswer layout new (old.grammar.lines + 1) step closed b es
+line_taken layout old new b es line step closed a steps cleared settled la g p n = record {
   whole = a.whole;
   line = line;
   cuts = a.cuts;
   good = a.keeps.good;
-  steps = subst (λ x. LineSteps (map (reading layout) a.whole) (reading x line) step new.grammar) a.layout_is (steps (map (reading layout) a.whole) a.keeps);
+  steps = subst (λ x. LineSteps (map (reading layout) a.whole) (reading x line) step closed new.grammar) a.layout_is (steps (map (reading layout) a.whole) a.keeps);
   cleared = cleared;
   settled = settled;
   number_is = ap (λ x. x + 1) a.keeps.lines_are;

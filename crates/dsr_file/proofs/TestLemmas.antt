@@ -7,7 +7,7 @@ use Rattle.std.proofs.lemmas.List.{append-nil}
 use Rattle.std.proofs.lemmas.Str.{IsUtf8-from_is_utf8}
 use Rattle.std.proofs.lemmas.Bool.Decides.{nat_tests}
 use Rattle.dsr_cells.specs.Lines.{line_limit, is_long, without_return}
-use Rattle.dsr_records.specs.Reads.{id_of_record, kind_of_record, has_texts}
+use Rattle.dsr_records.specs.Reads.{id_of_record, kind_of_record}
 use Rattle.dsr_records.specs.Records.{LayoutTable, or_else}
 use Rattle.dsr_records.specs.Values.{record_of}
 use Rattle.dsr_records.specs.declared.kinds.Kind.{Kind}
@@ -20,7 +20,7 @@ use Rattle.dsr_records.specs.declared.record.Record.TheVariants.{Head, Summary, 
 use Rattle.dsr_file.specs.declared.fault.FileFault.{FileFault}
 use Rattle.dsr_file.specs.declared.fault.FileFault.TheVariants as faults
 use Rattle.dsr_file.specs.declared.grammar.Grammar.{Grammar}
-use Rattle.dsr_file.specs.declared.grammar.Step.TheVariants.{Good, Faulty, NoMemory}
+use Rattle.dsr_file.specs.declared.grammar.Step.TheVariants.{Good, Faulty}
 use Rattle.dsr_file.specs.declared.stage.Before.{Before}
 use Rattle.dsr_file.specs.declared.stage.Before.TheVariants as columns
 use Rattle.dsr_file.specs.declared.stage.Stage.{Stage}
@@ -111,7 +111,7 @@ pub early_not_count : (rs : List Record) (r : Record) (f : FileFault) → early_
 early_not_count rs r f e = not_true _ (sym (ap no_count e) ∙ no_count_early rs r)
 
 -- a record with an early fault
-pub early_steps : (g h : Grammar) (ls : List Reading) (r : Record) (f : FileFault) → Keeps g ls → stage_fault g.stage (kind_of_record r) (id_of_record r) ≡ Some f → LineSteps ls (Holds r) (Faulty None f) h
+pub early_steps : (g h : Grammar) (ls : List Reading) (r : Record) (f : FileFault) → Keeps g ls → stage_fault g.stage (kind_of_record r) (id_of_record r) ≡ Some f → LineSteps ls (Holds r) (Faulty f) None h
 unfolding fault_of
 early_steps g h ls r f k e =
     let early : early_fault (records ls) r ≡ Some f = sym (fault_agrees g.stage (records ls) r k.stage_is) ∙ e in
@@ -121,12 +121,8 @@ early_steps g h ls r f k e =
 pub early_none : (g : Grammar) (ls : List Reading) (r : Record) → Keeps g ls → stage_fault g.stage (kind_of_record r) (id_of_record r) ≡ None → early_fault (records ls) r ≡ None
 early_none g ls r k e = sym (fault_agrees g.stage (records ls) r k.stage_is) ∙ e
 
--- memory was refused for a record without one
-pub memory_steps : (g : Grammar) (ls : List Reading) (r : Record) → early_fault (records ls) r ≡ None → has_texts r ≡ true → LineSteps ls (Holds r) NoMemory g
-memory_steps g ls r e t = record { item = r; held = refl; fits = e; takes = t }
-
 -- a line with a fault of its own
-pub faulty_steps : (h : Grammar) (ls : List Reading) (f : FileFault) → counts_fault f ≡ false → LineSteps ls (line.Faulty f) (Faulty None f) h
+pub faulty_steps : (h : Grammar) (ls : List Reading) (f : FileFault) → counts_fault f ≡ false → LineSteps ls (line.Faulty f) (Faulty f) None h
 unfolding fault_of
 faulty_steps h ls f e = (refl, rw e (sym (append-nil (events_of (records ls)))))
 
@@ -137,7 +133,7 @@ own_not_count (own.Missing c) = refl
 own_not_count (own.Bad c) = refl
 own_not_count own.Uneven = refl
 
-pub skip_line_steps : (g h : Grammar) (ls : List Reading) → Keeps g ls → h.stage ≡ g.stage → h.lines ≡ g.lines + 1 → h.skipped_lines ≡ g.skipped_lines + 1 → h.skipped_records ≡ g.skipped_records → h.records ≡ g.records → h.summaries ≡ g.summaries → h.blocks ≡ g.blocks → LineSteps ls SkippedLine (Good None) h
+pub skip_line_steps : (g h : Grammar) (ls : List Reading) → Keeps g ls → h.stage ≡ g.stage → h.lines ≡ g.lines + 1 → h.skipped_lines ≡ g.skipped_lines + 1 → h.skipped_records ≡ g.skipped_records → h.records ≡ g.records → h.summaries ≡ g.summaries → h.blocks ≡ g.blocks → LineSteps ls SkippedLine Good None h
 unfolding fault_of
 skip_line_steps g h ls k s l a b r m n =
     let same = records-same ls SkippedLine refl in (
@@ -155,7 +151,7 @@ skip_line_steps g h ls k s l a b r m n =
       ap events_of same ∙ sym (append-nil (events_of (records ls))),
     )
 
-pub skip_record_steps : (g h : Grammar) (ls : List Reading) → Keeps g ls → h.stage ≡ g.stage → h.lines ≡ g.lines + 1 → h.skipped_lines ≡ g.skipped_lines → h.skipped_records ≡ g.skipped_records + 1 → h.records ≡ g.records → h.summaries ≡ g.summaries → h.blocks ≡ g.blocks → LineSteps ls (Holds Skipped) (Good None) h
+pub skip_record_steps : (g h : Grammar) (ls : List Reading) → Keeps g ls → h.stage ≡ g.stage → h.lines ≡ g.lines + 1 → h.skipped_lines ≡ g.skipped_lines → h.skipped_records ≡ g.skipped_records + 1 → h.records ≡ g.records → h.summaries ≡ g.summaries → h.blocks ≡ g.blocks → LineSteps ls (Holds Skipped) Good None h
 unfolding fault_of
 skip_record_steps g h ls k s l a b r m n =
     let same = records-same ls (Holds Skipped) refl in (

@@ -8,6 +8,7 @@ use Rattle.dsr_records.specs.Reads.{has_texts}
 use Rattle.dsr_records.specs.Records.{or_else}
 use Rattle.dsr_file.specs.declared.fault.FileFault.{FileFault}
 use Rattle.dsr_file.specs.declared.fault.FileFault.TheVariants as faults
+use Rattle.dsr_file.specs.declared.event.EventPart.{EventPart}
 use Rattle.dsr_file.specs.declared.grammar.Grammar.{Grammar}
 use Rattle.dsr_file.specs.declared.grammar.Step.{Step}
 use Rattle.dsr_file.specs.declared.grammar.Step.TheVariants.{Good, Faulty, NoMemory}
@@ -43,13 +44,13 @@ pub record TakesMemory (ls : List Reading) (l : Reading) : Type 0 where
   pub fits : early_fault (records ls) item ≡ None
   pub takes : has_texts item ≡ true
 
--- what a line does behind these lines
-abbrev pub LineSteps : List Reading → Reading → Step → Grammar → Type 0
-LineSteps ls l (Good part) g =
-    Keeps g (ls ++ l ∷ []) × (fault_of ls l ≡ None) × (events_of (records (ls ++ l ∷ [])) ≡ events_of (records ls) ++ option_to_list part)
-LineSteps ls l (Faulty part f) g =
-    (fault_of ls l ≡ Some f) × (events_of (records (if counts_fault f then ls ++ l ∷ [] else ls)) ≡ events_of (records ls) ++ option_to_list part)
-LineSteps ls l NoMemory g = TakesMemory ls l
+-- what a line does behind these lines, and what it closes, if anything
+abbrev pub LineSteps : List Reading → Reading → Step → Option EventPart → Grammar → Type 0
+LineSteps ls l Good closed g =
+    Keeps g (ls ++ l ∷ []) × (fault_of ls l ≡ None) × (events_of (records (ls ++ l ∷ [])) ≡ events_of (records ls) ++ option_to_list closed)
+LineSteps ls l (Faulty f) closed g =
+    (fault_of ls l ≡ Some f) × (events_of (records (if counts_fault f then ls ++ l ∷ [] else ls)) ≡ events_of (records ls) ++ option_to_list closed)
+LineSteps ls l NoMemory closed g = TakesMemory ls l
 
 -- not one of a skipped type
 abbrev pub IsRecord : Record → Type 0
@@ -57,5 +58,5 @@ IsRecord Skipped = ⊥
 IsRecord _ = Unit {0}
 
 -- the same for a record that has no early fault
-abbrev pub RecordSteps : List Reading → Record → Step → Grammar → Type 0
-RecordSteps ls r step g = early_fault (records ls) r ≡ None → IsRecord r → LineSteps ls (Holds r) step g
+abbrev pub RecordSteps : List Reading → Record → Step → Option EventPart → Grammar → Type 0
+RecordSteps ls r step closed g = early_fault (records ls) r ≡ None → IsRecord r → LineSteps ls (Holds r) step closed g

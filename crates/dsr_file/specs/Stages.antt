@@ -49,6 +49,12 @@ abbrev pub IsNew : Stage → List ℕ → Type 0
 IsNew (Front o) summary_id = list_any (λ s. bytes_eq s.id summary_id) o.summaries ≡ false
 IsNew _ summary_id = Unit {0}
 
+-- a work or a usage
+abbrev pub IsMember : Record → Type 0
+IsMember (the.Work w) = Unit {0}
+IsMember (the.Usage u) = Unit {0}
+IsMember _ = ⊥
+
 -- there is room for the record
 abbrev pub IsFree : Stage → Record → Type 0
 IsFree stage (the.Work w) = HasRoom stage

@@ -78,13 +78,13 @@ pub record AtLine (layout : LayoutTable) (r : FileReader) (line : List ℕ) (byt
   pub place_is : r.place ≡ length es
   pub open_is : r.ending ≡ None
 
--- the last line has done this
-pub record AtAnswer (layout : LayoutTable) (r : FileReader) (number : ℕ) (step : Step) (bytes : List ℕ) (es : List Placed) : Type 0 where
+-- the last line has done this, and closed this
+pub record AtAnswer (layout : LayoutTable) (r : FileReader) (number : ℕ) (step : Step) (closed : Option EventPart) (bytes : List ℕ) (es : List Placed) : Type 0 where
   pub whole : List (List ℕ)
   pub line : List ℕ
   pub cuts : CutsTo [] false bytes (whole ++ line ∷ [])
   pub good : first_from [] (map (reading layout) whole) ≡ AllGood
-  pub steps : LineSteps (map (reading layout) whole) (reading layout line) step r.grammar
+  pub steps : LineSteps (map (reading layout) whole) (reading layout line) step closed r.grammar
   pub cleared : r.cutter.bytes.items ≡ []
   pub settled : r.cutter.fresh ≡ false
   pub number_is : number ≡ length (map (reading layout) whole) + 1

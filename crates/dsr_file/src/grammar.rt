@@ -12,12 +12,12 @@ use std::alloc::Global;
 use std::str;
 
 /// What a line does.
-#[derive(Drop)]
+#[derive(Clone, Copy)]
 pub(crate) enum Step {
-    /// It is good, and closes this event.
-    Good(Option<EventPart>),
-    /// It closes this event, and then ends the file by this fault.
-    Faulty(Option<EventPart>, FileFault),
+    /// It is good.
+    Good,
+    /// It ends the file by this fault.
+    Faulty(FileFault),
     /// Memory ran out.
     NoMemory,
 }
@@ -42,7 +42,7 @@ impl Grammar {
     ghost use Rattle.dsr_file.specs.Readings.{Reading, SkippedLine, Holds, reading, of_utf8};
     ghost use Rattle.dsr_records.specs.declared.record.Record.TheVariants as the;
     ghost use Rattle.dsr_file.specs.Grammars.{Keeps, LineSteps, RecordSteps, IsRecord, kept_count_fault};
-    ghost use Rattle.dsr_file.specs.Stages.{IsFree, column_at};
+    ghost use Rattle.dsr_file.specs.Stages.{IsFree, IsMember, column_at};
     ghost use Rattle.dsr_file.specs.Texts.{outcome_at};
 
     /// No line yet.
@@ -97,44 +97,89 @@ impl Grammar {
         self.blocks += blocks;
     }
 
-    /// Takes a record that has no early fault.
-    fn add(&mut self, alloc: Global, item: Record) -> Step
+    /// Takes the work or the usage of a line, which has no early fault.
+    fn add_member(&mut self, alloc: Global, line: &CheckedLine<'_>) -> Step
+        requires lines { self.old.lines < 2 ^ 40 - 1 }
+        requires free { IsFree self.old.stage line.now }
+        requires member { IsMember line.now }
+        ensures steps { (ls : List Reading) → Keeps self.old ls → RecordSteps ls line.now result None self.new }
+        ensures counts { self.new.lines ≤ self.old.lines + 1 }
+    {
+        match self.stage.add_member(alloc, line) {
+            Ok(()) => {
+                self.count(0, 0);
+                Step::Good
+            }
+            Err(_) => Step::NoMemory,
+        }
+    }
+
+    /// Takes a record that is no work or usage and has no early fault.
+    fn add(&mut self, alloc: Global, item: Record, closed: &mut Option<EventPart>) -> Step
         requires lines { self.old.lines < 2 ^ 40 - 1 }
         requires free { IsFree self.old.stage item }
-        ensures steps { (ls : List Reading) → Keeps self.old ls → RecordSteps ls item result self.new }
+        requires other { IsMember item → ⊥ }
+        requires none { closed.old ≡ None }
+        ensures steps { (ls : List Reading) → Keeps self.old ls → RecordSteps ls item result closed.new self.new }
         ensures counts { self.new.lines ≤ self.old.lines + 1 }
     {
         let foot = foot_in(&item);
         let summaries = summary_count(&item);
-        let Ok(part) = self.stage.add(alloc, item) else {
+        let Ok(()) = self.stage.add(alloc, item, closed) else {
             return Step::NoMemory;
         };
-        let blocks = block_count(&part);
+        let blocks = block_count(closed);
         self.count(summaries, blocks);
         match self.fault_at_foot(foot) {
-            Some(fault) => Step::Faulty(part, fault),
-            None => Step::Good(part),
+            Some(fault) => Step::Faulty(fault),
+            None => Step::Good,
         }
     }
 
     /// Tests a record, and takes it where it has no early fault.
-    fn record(&mut self, alloc: Global, line: &CheckedLine<'_>) -> Step
+    fn record(
+        &mut self,
+        alloc: Global,
+        line: &CheckedLine<'_>,
+        closed: &mut Option<EventPart>,
+    ) -> Step
         requires lines { self.old.lines < 2 ^ 40 - 1 }
-        ensures steps { (ls : List Reading) → Keeps self.old ls → IsRecord line.now → LineSteps ls (Holds line.now) result self.new }
+        requires none { closed.old ≡ None }
+        ensures steps { (ls : List Reading) → Keeps self.old ls → IsRecord line.now → LineSteps ls (Holds line.now) result closed.new self.new }
         ensures counts { self.new.lines ≤ self.old.lines + 1 }
     {
         if let Some(fault) = self.stage.fault(line.kind(), line.id()) {
-            return Step::Faulty(None, fault);
+            return Step::Faulty(fault);
         }
+        match line.kind() {
+            Kind::Work | Kind::Usage => self.add_member(alloc, line),
+            _ => self.other(alloc, line, closed),
+        }
+    }
+
+    /// Takes a record that is no work or usage and has no early fault, once it is copied.
+    fn other(
+        &mut self,
+        alloc: Global,
+        line: &CheckedLine<'_>,
+        closed: &mut Option<EventPart>,
+    ) -> Step
+        requires lines { self.old.lines < 2 ^ 40 - 1 }
+        requires free { IsFree self.old.stage line.now }
+        requires other { IsMember line.now → ⊥ }
+        requires none { closed.old ≡ None }
+        ensures steps { (ls : List Reading) → Keeps self.old ls → RecordSteps ls line.now result closed.new self.new }
+        ensures counts { self.new.lines ≤ self.old.lines + 1 }
+    {
         match line.read(alloc) {
-            Ok(item) => self.add(alloc, item),
+            Ok(item) => self.add(alloc, item, closed),
             Err(_) => Step::NoMemory,
         }
     }
 
     fn skip_line(&mut self)
         requires { self.old.lines < 2 ^ 40 - 1 }
-        ensures steps { (ls : List Reading) → Keeps self.old ls → LineSteps ls SkippedLine (Step.Good None) self.new }
+        ensures steps { (ls : List Reading) → Keeps self.old ls → LineSteps ls SkippedLine Step.Good None self.new }
         ensures lines { self.new.lines ≡ self.old.lines + 1 }
     {
         self.lines += 1;
@@ -143,7 +188,7 @@ impl Grammar {
 
     fn skip_record(&mut self)
         requires { self.old.lines < 2 ^ 40 - 1 }
-        ensures steps { (ls : List Reading) → Keeps self.old ls → LineSteps ls (Holds the.Skipped) (Step.Good None) self.new }
+        ensures steps { (ls : List Reading) → Keeps self.old ls → LineSteps ls (Holds the.Skipped) Step.Good None self.new }
         ensures lines { self.new.lines ≡ self.old.lines + 1 }
     {
         self.lines += 1;
@@ -151,46 +196,66 @@ impl Grammar {
     }
 
     /// Takes the text of the next line.
-    fn text(&mut self, alloc: Global, layout: &Layout, text: &str) -> Step
-        requires { self.old.lines < 2 ^ 40 - 1 }
-        ensures steps { (ls : List Reading) → Keeps self.old ls → LineSteps ls (of_utf8 layout.now text.now) result self.new }
+    fn text(
+        &mut self,
+        alloc: Global,
+        layout: &Layout,
+        text: &str,
+        closed: &mut Option<EventPart>,
+    ) -> Step
+        requires lines { self.old.lines < 2 ^ 40 - 1 }
+        requires none { closed.old ≡ None }
+        ensures steps { (ls : List Reading) → Keeps self.old ls → LineSteps ls (of_utf8 layout.now text.now) result closed.new self.new }
         ensures counts { self.new.lines ≤ self.old.lines + 1 }
     {
         if is_skipped(text) {
             self.skip_line();
-            return Step::Good(None);
+            return Step::Good;
         }
-        match check_line(layout, text) {
-            Err(fault) => Step::Faulty(None, file_fault(fault)),
-            Ok(line) => self.checked(alloc, &line),
+        match &check_line(layout, text) {
+            Err(fault) => Step::Faulty(file_fault(*fault)),
+            Ok(line) => self.checked(alloc, line, closed),
         }
     }
 
     /// Takes a line without a fault of its own.
-    fn checked(&mut self, alloc: Global, line: &CheckedLine<'_>) -> Step
-        requires { self.old.lines < 2 ^ 40 - 1 }
-        ensures steps { (ls : List Reading) → Keeps self.old ls → LineSteps ls (Holds line.now) result self.new }
+    fn checked(
+        &mut self,
+        alloc: Global,
+        line: &CheckedLine<'_>,
+        closed: &mut Option<EventPart>,
+    ) -> Step
+        requires lines { self.old.lines < 2 ^ 40 - 1 }
+        requires none { closed.old ≡ None }
+        ensures steps { (ls : List Reading) → Keeps self.old ls → LineSteps ls (Holds line.now) result closed.new self.new }
         ensures counts { self.new.lines ≤ self.old.lines + 1 }
     {
         match line.kind() {
             Kind::Skipped => {
                 self.skip_record();
-                Step::Good(None)
+                Step::Good
             }
-            _ => self.record(alloc, line),
+            _ => self.record(alloc, line, closed),
         }
     }
 
-    /// Takes the next line, which is not too long.
-    pub(crate) fn line(&mut self, alloc: Global, layout: &Layout, line: &[u8]) -> Step
+    /// Takes the next line, which is not too long, and gives the event that it closes.
+    pub(crate) fn line(
+        &mut self,
+        alloc: Global,
+        layout: &Layout,
+        line: &[u8],
+        closed: &mut Option<EventPart>,
+    ) -> Step
         requires lines { self.old.lines < 2 ^ 40 - 1 }
+        requires none { closed.old ≡ None }
         requires short { length line.now ≤ 8192 }
-        ensures steps { (ls : List Reading) → Keeps self.old ls → LineSteps ls (reading layout.now line.now) result self.new }
+        ensures steps { (ls : List Reading) → Keeps self.old ls → LineSteps ls (reading layout.now line.now) result closed.new self.new }
         ensures counts { self.new.lines ≤ self.old.lines + 1 }
     {
         match str::from_utf8(strip_return(line)) {
-            Ok(text) => self.text(alloc, layout, text),
-            Err(_) => Step::Faulty(None, FileFault::NotUtf8),
+            Ok(text) => self.text(alloc, layout, text, closed),
+            Err(_) => Step::Faulty(FileFault::NotUtf8),
         }
     }
 

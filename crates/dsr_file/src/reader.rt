@@ -142,18 +142,29 @@ impl FileReader {
         self.event(part)
     }
 
-    /// What a line has done.
-    fn answer(&mut self, line: u64, step: Step) -> Option<Event>
+    /// What a line has done, which closed this.
+    #[inline(always)]
+    fn answer(
+        &mut self,
+        line: u64,
+        step: Step,
+        closed: Option<EventPart>,
+        event: &mut Option<Event>,
+    )
         requires reading { self.old.phase ≡ phases.Reading }
         requires room { self.old.place + 1 ≤ self.old.given }
-        ensures stands { (layout : LayoutTable) (b : List ℕ) (es : List Placed) → AtAnswer layout self.old line step b es → Stands layout self.new b (es ++ option_to_list result) }
+        requires none { event.old ≡ None }
+        ensures stands { (layout : LayoutTable) (b : List ℕ) (es : List Placed) → AtAnswer layout self.old line step closed b es → Stands layout self.new b (es ++ option_to_list event.new) }
         ensures same { SameText self.old self.new }
-        ensures reading { IfNone result (self.new.phase ≡ phases.Reading) }
+        ensures reading { IfNone event.new (self.new.phase ≡ phases.Reading) }
     {
         match step {
-            Step::Good(part) => self.good(part),
-            Step::Faulty(part, fault) => Some(self.faulty(part, Outcome::Fault { line, fault })),
-            Step::NoMemory => Some(self.end(Outcome::Fault {
+            Step::Good => self.good(closed, event),
+            Step::Faulty(fault) => *event = Some(self.faulty(
+                closed,
+                Outcome::Fault { line, fault },
+            )),
+            Step::NoMemory => *event = Some(self.end(Outcome::Fault {
                 line,
                 fault: FileFault::Memory,
             })),
@@ -161,16 +172,17 @@ impl FileReader {
     }
 
     /// Gives the event of a good line, if there is one.
-    fn good(&mut self, part: Option<EventPart>) -> Option<Event>
+    #[inline(always)]
+    fn good(&mut self, closed: Option<EventPart>, event: &mut Option<Event>)
         requires reading { self.old.phase ≡ phases.Reading }
         requires room { self.old.place + 1 ≤ self.old.given }
-        ensures event { option_to_list result ≡ placed self.old.place (option_to_list part) }
-        ensures place { self.new.place ≡ self.old.place + length (option_to_list part) }
+        requires none { event.old ≡ None }
+        ensures event { option_to_list event.new ≡ placed self.old.place (option_to_list closed) }
+        ensures place { self.new.place ≡ self.old.place + length (option_to_list closed) }
         ensures rest { SameBut self.old self.new }
     {
-        match part {
-            Some(part) => Some(self.event(part)),
-            None => None,
+        if let Some(part) = closed {
+            *event = Some(self.event(part));
         }
     }
 
@@ -189,37 +201,43 @@ impl FileReader {
     }
 
     /// Takes the line that is kept.
-    fn kept_line(&mut self) -> Option<Event>
+    fn kept_line(&mut self, event: &mut Option<Event>)
         requires reading { self.old.phase ≡ phases.Reading }
+        requires none { event.old ≡ None }
         requires room { self.old.place + 1 ≤ self.old.given }
         requires lines { self.old.grammar.lines + 1 ≤ self.old.given }
-        ensures stands { (layout : LayoutTable) (b : List ℕ) (es : List Placed) → AtLine layout self.old self.old.cutter.bytes.items b es → Stands layout self.new b (es ++ option_to_list result) }
+        ensures stands { (layout : LayoutTable) (b : List ℕ) (es : List Placed) → AtLine layout self.old self.old.cutter.bytes.items b es → Stands layout self.new b (es ++ option_to_list event.new) }
         ensures same { SameText self.old self.new }
-        ensures reading { IfNone result (self.new.phase ≡ phases.Reading) }
+        ensures reading { IfNone event.new (self.new.phase ≡ phases.Reading) }
     {
         let number = self.grammar.lines + 1;
+        let mut closed = None;
         let step = self
             .grammar
-            .line(self.alloc, &self.layout, self.cutter.line());
+            .line(self.alloc, &self.layout, self.cutter.line(), &mut closed);
         self.cutter.clear();
-        self.answer(number, step)
+        self.answer(number, step, closed, event);
     }
 
     /// Takes a line that lies in the piece.
-    fn line(&mut self, line: &[u8]) -> Option<Event>
+    fn line(&mut self, line: &[u8], event: &mut Option<Event>)
         requires reading { self.old.phase ≡ phases.Reading }
+        requires none { event.old ≡ None }
         requires room { self.old.place + 1 ≤ self.old.given }
         requires lines { self.old.grammar.lines + 1 ≤ self.old.given }
         requires short { length line.now ≤ 8192 }
         requires cleared { self.old.cutter.bytes.items ≡ [] }
         requires settled { self.old.cutter.fresh ≡ false }
-        ensures stands { (layout : LayoutTable) (b : List ℕ) (es : List Placed) → AtLine layout self.old line.now b es → Stands layout self.new b (es ++ option_to_list result) }
+        ensures stands { (layout : LayoutTable) (b : List ℕ) (es : List Placed) → AtLine layout self.old line.now b es → Stands layout self.new b (es ++ option_to_list event.new) }
         ensures same { SameText self.old self.new }
-        ensures reading { IfNone result (self.new.phase ≡ phases.Reading) }
+        ensures reading { IfNone event.new (self.new.phase ≡ phases.Reading) }
     {
         let number = self.grammar.lines + 1;
-        let step = self.grammar.line(self.alloc, &self.layout, line);
-        self.answer(number, step)
+        let mut closed = None;
+        let step = self
+            .grammar
+            .line(self.alloc, &self.layout, line, &mut closed);
+        self.answer(number, step, closed, event);
     }
 
     /// Ends by a line that is too long.
@@ -239,42 +257,45 @@ impl FileReader {
     }
 
     /// Takes what the cutter has found in the bytes used.
-    fn cut(&mut self, cut: Cut, used: &[u8]) -> Option<Event>
+    fn cut(&mut self, cut: Cut, used: &[u8], event: &mut Option<Event>)
         requires reading { self.old.phase ≡ phases.Reading }
+        requires none { event.old ≡ None }
         requires some { 0 < length used.now }
         requires room { self.old.place + 1 ≤ self.old.given }
         requires lines { self.old.grammar.lines + 1 ≤ self.old.given }
         requires here { FitsCut cut used.now self.old.cutter }
-        ensures stands { (layout : LayoutTable) (b : List ℕ) (es : List Placed) → AtCut layout self.old cut b used.now es → Stands layout self.new (b ++ used.now) (es ++ option_to_list result) }
+        ensures stands { (layout : LayoutTable) (b : List ℕ) (es : List Placed) → AtCut layout self.old cut b used.now es → Stands layout self.new (b ++ used.now) (es ++ option_to_list event.new) }
         ensures same { SameText self.old self.new }
-        ensures reading { IfNone result (self.new.phase ≡ phases.Reading) }
+        ensures reading { IfNone event.new (self.new.phase ≡ phases.Reading) }
     {
         match cut {
-            Cut::More => None,
-            Cut::Kept => self.kept_line(),
-            Cut::Here => self.line(&used[..used.len() - 1]),
-            Cut::Long => Some(self.long_line()),
+            Cut::More => {}
+            Cut::Kept => self.kept_line(event),
+            Cut::Here => self.line(&used[..used.len() - 1], event),
+            Cut::Long => *event = Some(self.long_line()),
         }
     }
 
-    /// Uses bytes of a piece, up to the end of a line.
-    fn step(&mut self, piece: &[u8]) -> (usize, Option<Event>)
+    /// Uses bytes of a piece, up to the end of a line: how many.
+    fn step(&mut self, piece: &[u8], event: &mut Option<Event>) -> usize
         requires reading { self.old.phase ≡ phases.Reading }
         requires some { 0 < length piece.now }
         requires room { self.old.given + length piece.now ≤ 2 ^ 36 }
-        ensures some { 0 < result.0 }
-        ensures bound { result.0 ≤ length piece.now }
-        ensures stands { (layout : LayoutTable) (b : List ℕ) (es : List Placed) → Stands layout self.old b es → Stands layout self.new (b ++ take result.0 piece.now) (es ++ option_to_list result.1) }
-        ensures given { self.new.given ≡ self.old.given + result.0 }
+        requires none { event.old ≡ None }
+        ensures some { 0 < result }
+        ensures bound { result ≤ length piece.now }
+        ensures stands { (layout : LayoutTable) (b : List ℕ) (es : List Placed) → Stands layout self.old b es → Stands layout self.new (b ++ take result piece.now) (es ++ option_to_list event.new) }
+        ensures given { self.new.given ≡ self.old.given + result }
         ensures ending { self.new.ending ≡ self.old.ending }
-        ensures reading { IfNone result.1 (self.new.phase ≡ phases.Reading) }
+        ensures reading { IfNone event.new (self.new.phase ≡ phases.Reading) }
     {
         let (used, cut) = self.cutter.take(piece);
         self.given += used as u64;
-        (used, self.cut(cut, &piece[..used]))
+        self.cut(cut, &piece[..used], event);
+        used
     }
 
-    /// Uses a piece, up to the next event.
+    /// Uses a piece, up to the next event: how many bytes, and the event.
     fn read(&mut self, piece: &[u8]) -> (usize, Option<Event>)
         requires reading { self.old.phase ≡ phases.Reading }
         requires room { self.old.given + length piece.now ≤ 2 ^ 36 }
@@ -287,11 +308,11 @@ impl FileReader {
         ensures given { self.new.given ≡ self.old.given + result.0 }
     {
         let mut used = 0;
+        let mut event = None;
         while used < piece.len() {
-            let (more, event) = self.step(&piece[used..]);
-            used += more;
-            if let Some(event) = event {
-                return (used, Some(event));
+            used += self.step(&piece[used..], &mut event);
+            if event.is_some() {
+                return (used, event);
             }
         }
         (used, None)
@@ -402,15 +423,16 @@ impl FileReader {
     {
         let line = self.grammar.lines + 1;
         self.phase = Phase::Done(Outcome::Whole);
+        let mut closed = None;
         let step = self
             .grammar
-            .line(self.alloc, &self.layout, self.cutter.line());
+            .line(self.alloc, &self.layout, self.cutter.line(), &mut closed);
         match step {
-            Step::Good(part) => {
+            Step::Good => {
                 let outcome = self.grammar.outcome(Ending::Whole);
-                self.faulty(part, outcome)
+                self.faulty(closed, outcome)
             }
-            Step::Faulty(part, fault) => self.faulty(part, Outcome::Fault { line, fault }),
+            Step::Faulty(fault) => self.faulty(closed, Outcome::Fault { line, fault }),
             Step::NoMemory => self.end(Outcome::Fault {
                 line,
                 fault: FileFault::Memory,

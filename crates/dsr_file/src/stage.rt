@@ -5,12 +5,12 @@ ghost use Rattle.std.specs.Str.{bytes_eq};
 ghost use Rattle.std.specs.Option.{option_map};
 ghost use Rattle.dsr_records.specs.Reads.{has_texts};
 ghost use Rattle.dsr_file.specs.Faults.{place, member_fault, summary_fault};
-ghost use Rattle.dsr_file.specs.Stages.{column_at, stage_fault, stage_after, given_by, part_given, kept_fault, block_length, IsFree, HasRoom, IsNew};
+ghost use Rattle.dsr_file.specs.Stages.{column_at, stage_fault, stage_after, given_by, part_given, kept_fault, block_length, IsFree, IsMember, IsNew};
 
 use crate::event::{EventPart, Opening, Summaries};
 use crate::fault::FileFault;
 use dsr_cells::NoMemory;
-use dsr_records::{Block, Kind, Record, Summary, Usage, Work};
+use dsr_records::{Block, CheckedLine, Kind, Record, Summary};
 use std::alloc::Global;
 use std::mem;
 
@@ -138,22 +138,31 @@ impl Stage {
     }
 
     /// Goes on to the next stage, and gives what was open.
-    fn close(&mut self, next: Stage) -> Option<EventPart>
+    fn close(&mut self, next: Stage, closed: &mut Option<EventPart>)
+        requires { closed.old ≡ None }
         ensures next { self.new ≡ next }
-        ensures given { result ≡ part_given self.old }
+        ensures given { closed.new ≡ part_given self.old }
     {
         match mem::replace(self, next) {
-            Stage::Start | Stage::Closed => None,
-            Stage::Front(opening) => Some(EventPart::Opened(opening)),
-            Stage::Open(block) => Some(EventPart::Block(block)),
+            Stage::Start | Stage::Closed => {}
+            Stage::Front(opening) => *closed = Some(EventPart::Opened(opening)),
+            Stage::Open(block) => *closed = Some(EventPart::Block(block)),
         }
     }
 
-    /// Takes a record that has no fault, and gives the event that it closes. Want of memory changes nothing.
-    pub(crate) fn add(&mut self, alloc: Global, item: Record) -> Result<Option<EventPart>, NoMemory>
-        requires { IsFree self.old item }
+    /// Takes a record that is no work or usage and has no fault, and gives the event that it closes. Want of memory
+    /// changes nothing.
+    pub(crate) fn add(
+        &mut self,
+        alloc: Global,
+        item: Record,
+        closed: &mut Option<EventPart>,
+    ) -> Result<(), NoMemory>
+        requires free { IsFree self.old item }
+        requires other { IsMember item → ⊥ }
+        requires none { closed.old ≡ None }
         ensures next { OnOk result (self.new ≡ stage_after self.old item) }
-        ensures given { IfOk result (λ part. part ≡ given_by self.old item) }
+        ensures given { OnOk result (closed.new ≡ given_by self.old item) }
         ensures memory { OnErr result (has_texts item ≡ true) }
     {
         match item {
@@ -162,56 +171,48 @@ impl Stage {
                     head,
                     summaries: Summaries::new(alloc),
                 });
-                Ok(None)
+                Ok(())
             }
             Record::Summary(summary) => self.add_summary(summary),
             Record::Resource(resource) => {
                 let block = Block::open(alloc, resource)?;
-                Ok(self.close(Stage::Open(block)))
+                self.close(Stage::Open(block), closed);
+                Ok(())
             }
-            Record::Work(work) => self.add_work(work),
-            Record::Usage(usage) => self.add_usage(usage),
-            Record::Foot(_) => Ok(self.close(Stage::Closed)),
-            Record::Skipped => Ok(None),
+            Record::Foot(_) => {
+                self.close(Stage::Closed, closed);
+                Ok(())
+            }
+            _ => Ok(()),
         }
     }
 
-    fn add_summary(&mut self, summary: Summary) -> Result<Option<EventPart>, NoMemory>
+    fn add_summary(&mut self, summary: Summary) -> Result<(), NoMemory>
         requires { IsNew self.old summary.id }
         ensures next { OnOk result (self.new ≡ stage_after self.old (Record.Summary summary)) }
-        ensures given { IfOk result (λ part. part ≡ None) }
     {
         if let Stage::Front(opening) = self {
             if opening.summaries.push(summary).is_err() {
                 return Err(NoMemory);
             }
         }
-        Ok(None)
+        Ok(())
     }
 
-    fn add_work(&mut self, work: Work) -> Result<Option<EventPart>, NoMemory>
-        requires { HasRoom self.old }
-        ensures next { OnOk result (self.new ≡ stage_after self.old (Record.Work work)) }
-        ensures given { IfOk result (λ part. part ≡ None) }
+    /// Takes the work or the usage of a line, which has no fault. Want of memory changes nothing.
+    pub(crate) fn add_member(
+        &mut self,
+        alloc: Global,
+        line: &CheckedLine<'_>,
+    ) -> Result<(), NoMemory>
+        requires member { IsMember line.now }
+        requires free { IsFree self.old line.now }
+        ensures next { OnOk result (self.new ≡ stage_after self.old line.now) }
+        ensures memory { OnErr result (has_texts line.now ≡ true) }
     {
-        if let Stage::Open(block) = self {
-            if block.push_work(work).is_err() {
-                return Err(NoMemory);
-            }
+        match self {
+            Stage::Open(block) => line.append_to(alloc, block),
+            _ => Ok(()),
         }
-        Ok(None)
-    }
-
-    fn add_usage(&mut self, usage: Usage) -> Result<Option<EventPart>, NoMemory>
-        requires { HasRoom self.old }
-        ensures next { OnOk result (self.new ≡ stage_after self.old (Record.Usage usage)) }
-        ensures given { IfOk result (λ part. part ≡ None) }
-    {
-        if let Stage::Open(block) = self {
-            if block.push_usage(usage).is_err() {
-                return Err(NoMemory);
-            }
-        }
-        Ok(None)
     }
 }

@@ -1,20 +1,33 @@
 -- The first cell of a line.
-use Rattle.std.proofs.Common.{◌≡◌, ◌≢◌, ◌<◌, ℕ, List, [], ◌∷◌, ◌++◌, length, get_or, false, refl, eqb}
-use Rattle.std.specs.List.{All}
+use Rattle.std.proofs.Common.{◌≡◌, ◌<◌, ◌+◌, ℕ, List, [], ◌∷◌, length, take, drop, get_or, false, arith, Some, None, inl, inr, eqb}
+use Rattle.std.specs.List.{position, position_or_len}
 use Rattle.std.proofs.lemmas.List.Elements.{All-from_get_or}
-use Rattle.std.proofs.lemmas.Bool.{ne_eqb, eq-eqb}
-use Rattle.std.proofs.lemmas.List.Splits.{slice_split_none, slice_split_at}
+use Rattle.std.proofs.lemmas.List.Sums.{fails_before_first, passes_at_first}
+use Rattle.std.proofs.lemmas.Bool.{cases_lt, lt-ltb, le-ltb, eqb-true}
+use Rattle.std.proofs.lemmas.List.Splits.{slice_split_none, slice_split_first}
 use Rattle.dsr_cells.specs.Cells.{cells}
 
--- no TAB stands in the text
-abbrev pub LacksTab : List ℕ → Type 0
-LacksTab text = (i : ℕ) → i < length text → get_or text i 0 ≢ 9
+-- a TAB stands first at place i
+pub record TabAt (text : List ℕ) (i : ℕ) : Type 0 where
+  pub within : i < length text
+  pub tab : get_or text i 0 ≡ 9
+  pub cut : cells text ≡ take i text ∷ cells (drop (i + 1) text)
 
-All-from_lacks : (text : List ℕ) → LacksTab text → All (λ b. eqb b 9 ≡ false) text
-All-from_lacks text none = All-from_get_or (λ b. eqb b 9 ≡ false) text 0 (λ i h. ne_eqb _ _ (none i h))
+pub tab_at : (text : List ℕ) (i : ℕ) → position (λ b. eqb b 9) text ≡ Some i → TabAt text i
+tab_at text i e = elim (cases_lt (position_or_len (λ b. eqb b 9) text) (length text)) [
+  | inl some ↦
+      let there = rw (lt-ltb _ _ some) at e in
+      let same : position_or_len (λ b. eqb b 9) text ≡ i = cc in
+      rw (← same) (record {
+        within = some;
+        tab = eqb-true _ _ (passes_at_first (λ b. eqb b 9) text 0 some);
+        cut = slice_split_first (λ b. eqb b 9) text 0 some;
+      })
+  | inr none ↦ let there = rw (le-ltb _ _ none) at e in cc
+]
 
-pub only_cell : (text : List ℕ) → LacksTab text → cells text ≡ text ∷ []
-only_cell text none = slice_split_none (λ b. eqb b 9) text (All-from_lacks text none)
-
-pub first_of_cells : (text front back : List ℕ) → text ≡ front ++ (9 ∷ back) → LacksTab front → cells text ≡ front ∷ cells back
-first_of_cells text front back e none = rw e (slice_split_at (λ b. eqb b 9) front 9 back (All-from_lacks front none) (eq-eqb 9 9 refl))
+pub only_cell : (text : List ℕ) → position (λ b. eqb b 9) text ≡ None → cells text ≡ text ∷ []
+only_cell text e = elim (cases_lt (position_or_len (λ b. eqb b 9) text) (length text)) [
+  | inl some ↦ let there = rw (lt-ltb _ _ some) at e in cc
+  | inr none ↦ slice_split_none (λ b. eqb b 9) text (All-from_get_or (λ b. eqb b 9 ≡ false) text 0 (λ k h. fails_before_first (λ b. eqb b 9) text k 0 (omega arith)))
+]

@@ -1,12 +1,14 @@
 //! A line whose cells are those of a record, before anything of it is copied.
-ghost use Rattle.std.specs.Prelude.{◌≡◌, [], Ok, Err, IfOk, OnErr, MatchResult, true, length, map, nat_lt, slice_get};
+ghost use Rattle.std.specs.Prelude.{◌≡◌, ◌+◌, ◌<◌, [], Ok, Err, IfOk, OnOk, OnErr, MatchResult, true, length, map, nat_lt, slice_get};
 ghost use Rattle.std.specs.Option.{option_map, unwrap_or};
 ghost use Rattle.dsr_cells.specs.Cells.{cells};
+ghost use Rattle.dsr_records.specs.Blocks.{with_member};
 ghost use Rattle.dsr_records.specs.Checked.{record_seen};
 ghost use Rattle.dsr_records.specs.Records.{cell_in};
 ghost use Rattle.dsr_records.specs.Reads.{AnswersRecord, kind_of_record, id_of_record, has_texts};
 ghost use Rattle.dsr_records.specs.Values.{id_of, kind_of, record_by_row, record_of};
 
+use crate::block::Block;
 use crate::borrowed::BorrowedRecord;
 use crate::check::{
     check_foot, check_head, check_resource, check_summary, check_usage, check_work,
@@ -80,6 +82,23 @@ impl<'l> CheckedLine<'l> {
             BorrowedRecord::Skipped => Record::Skipped,
         })
     }
+
+    /// Appends the work or the usage of the line to a block of fewer than 64 records; another record appends
+    /// nothing. Want of memory changes nothing.
+    pub fn append_to(&self, alloc: Global, block: &mut Block) -> Result<(), NoMemory>
+        requires room { 1 + length block.old.works + length block.old.usages < 64 }
+        ensures added { OnOk result (block.new ≡ with_member block.old self.now) }
+        ensures refused { OnErr result (block.new ≡ block.old) }
+        ensures memory { OnErr result (has_texts self.now ≡ true) }
+    {
+        match &self.found {
+            BorrowedRecord::Work(work) => block.push_work(work.copy(alloc)?).map_err(|_| NoMemory),
+            BorrowedRecord::Usage(usage) => block
+                .push_usage(usage.copy(alloc)?)
+                .map_err(|_| NoMemory),
+            _ => Ok(()),
+        }
+    }
 }
 
 /// Whether a line has more than 64 cells.
@@ -97,11 +116,11 @@ fn record_type<'l>(cursor: &mut Cursor<'l>) -> &'l str
     cursor.cell(0).unwrap_or("")
 }
 
-/// Checks the cells of a kind's columns: the record, or the first fault.
-fn check_row<'l>(row: &Row<'l>, kind: Kind) -> Result<BorrowedRecord<'l>, RecordFault>
-    ensures { MatchResult result (λ found. record_by_row row.now kind ≡ Ok (record_seen found)) (λ fault. record_by_row row.now kind ≡ Err fault) }
+/// Checks the cells of a kind's columns: the line's record, not yet copied, or the first fault.
+fn check_row<'l>(row: &Row<'l>, kind: Kind) -> Result<CheckedLine<'l>, RecordFault>
+    ensures { result ≡ record_by_row row.now kind }
 {
-    Ok(match kind {
+    let found = match kind {
         Kind::Head => BorrowedRecord::Head(check_head(row)?),
         Kind::Summary => BorrowedRecord::Summary(check_summary(row)?),
         Kind::Resource => BorrowedRecord::Resource(check_resource(row)?),
@@ -109,18 +128,17 @@ fn check_row<'l>(row: &Row<'l>, kind: Kind) -> Result<BorrowedRecord<'l>, Record
         Kind::Usage => BorrowedRecord::Usage(check_usage(row)?),
         Kind::Foot => BorrowedRecord::Foot(check_foot(row)?),
         Kind::Skipped => BorrowedRecord::Skipped,
-    })
+    };
+    Ok(CheckedLine { found })
 }
 
 /// Checks the cells of a line by the layout line of its record type.
 fn check_role<'l>(cursor: Cursor<'l>, role: &RoleLine) -> Result<CheckedLine<'l>, RecordFault>
     ensures { result ≡ record_by_row (map (cell_in cursor.entry) role.now.positions) role.now.kind }
 {
-    let row = Row::of(cursor, role.positions.as_slice());
-    match check_row(&row, role.kind) {
-        Ok(found) => Ok(CheckedLine { found }),
-        Err(fault) => Err(fault),
-    }
+    let mut row = Row::new();
+    row.take(cursor, role.positions.as_slice());
+    check_row(&row, role.kind)
 }
 
 /// Checks a line by a layout: its record, not yet copied, or its first fault. It takes no memory.

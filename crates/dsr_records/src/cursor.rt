@@ -1,17 +1,25 @@
 //! Finding the cells of a line one after another.
-ghost use Rattle.std.specs.Prelude.{◌≡◌, ◌∷◌, slice_get, drop};
+ghost use Rattle.std.specs.Prelude.{◌≡◌, ◌==◌, ◌∷◌, slice_get, drop};
+ghost use Rattle.std.specs.List.{position};
 ghost use Rattle.std.specs.Option.{option_map};
 ghost use Rattle.dsr_cells.specs.Cells.{cells};
 ghost use Rattle.dsr_records.specs.Rows.{cells_left};
 
 use std::marker::Model;
 
+/// Where the first TAB stands.
+fn first_tab(bytes: &[u8]) -> Option<usize>
+    ensures { result ≡ position (λ b. b == 9) bytes.now }
+{
+    bytes.iter().position(|byte| *byte == b'\t')
+}
+
 /// The first cell of a text, and the text behind the TAB that ends it.
 fn first_cell(text: &str) -> (&str, Option<&str>)
     ensures { cells text.now ≡ result.0.now ∷ cells_left result.1 }
 {
-    match text.split_once('\t') {
-        Some((front, back)) => (front, Some(back)),
+    match first_tab(text.as_bytes()) {
+        Some(i) => (&text[..i], Some(&text[i + 1..])),
         None => (text, None),
     }
 }

@@ -13,4 +13,4 @@ returns-in-Ok-clause-steps c = λ ls k.
 
 pub returns-in-Err-clause-steps : goal.returns-in-Err-clause-steps
 returns-in-Err-clause-steps c = λ ls k.
-    rw (reading_garbled c.args.layout.now c.args.line.now c.requires.short (utf8_false _ (λ u. c.in-Err.ensures.cases.0 (subst IsUtf8 (sym c.strip_return.ensures) u)))) (faulty_steps c.args.self.now ls NotUtf8 refl)
+    rw (reading_garbled c.args.layout.now c.args.line.now c.requires.short (utf8_false _ (λ u. c.in-Err.ensures.cases.0 (subst IsUtf8 (sym c.strip_return.ensures) u))), c.requires.none) (faulty_steps c.args.self.now ls NotUtf8 refl)

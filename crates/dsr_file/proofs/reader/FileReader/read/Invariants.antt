@@ -1,4 +1,4 @@
-use Rattle.std.proofs.Common.{◌≡◌, ◌≤◌, ◌+◌, ◌-◌, ◌++◌, List, ℕ, length, take}
+use Rattle.std.proofs.Common.{◌≡◌, ◌≤◌, ◌+◌, ◌-◌, ◌++◌, List, ℕ, length, take, None}
 use Rattle.dsr_records.specs.Records.{LayoutTable}
 use Rattle.dsr_file.specs.Placed.{Placed}
 use Rattle.dsr_file.specs.declared.reader.Phase.TheVariants.{Reading}
@@ -9,6 +9,7 @@ abbrev pub invariant-loop-used : goal.invariant-loop-used
 invariant-loop-used l = record {
   bound : l.used ≤ length l.piece;
   reading : l.self.phase ≡ Reading;
+  none : l.event ≡ None;
   given : l.self.given ≡ l.fn.self.given + l.used;
   ending : l.self.ending ≡ l.fn.self.ending;
   stands : (layout : LayoutTable) (b : List ℕ) (es : List Placed) → Stands layout l.fn.self b es → Stands layout l.self (b ++ take l.used l.piece) es;
