@@ -18,6 +18,7 @@ pub mod LawLemmas
 pub mod SmallBookings
 pub mod FitLemmas
 pub mod JudgedLemmas
+pub mod IdsLemmas
 pub mod StandLemmas
 pub mod OpenLemmas
 pub mod PutLemmas

@@ -1,5 +1,5 @@
 -- What holds of a result.
-use Rattle.std.specs.Prelude.{Result, Ok, Err, IfOk, OnErr}
+use Rattle.std.specs.Prelude.{Result, Ok, Err, IfOk, OnOk, OnErr}
 
 pub ok_both : {A E : Type 0} (P Q R : A → Type 0) (r : Result A E) → ((x : A) → P x → Q x → R x) → IfOk r P → IfOk r Q → IfOk r R
 ok_both P Q R (Ok x) f p q = f x p q
@@ -8,3 +8,11 @@ ok_both P Q R (Err e) f p q = tt
 pub on_err : {A E : Type 0} (P Q : Type 0) (r : Result A E) → (P → Q) → OnErr r P → OnErr r Q
 on_err P Q (Ok x) f p = tt
 on_err P Q (Err e) f p = f p
+
+pub if_err : {A E : Type 0} (P : Type 0) (r : Result A E) → P → OnErr r P
+if_err P (Ok x) p = tt
+if_err P (Err e) p = p
+
+pub either_way : {A E : Type 0} (P Q R : Type 0) (r : Result A E) → (P → R) → (Q → R) → OnOk r P → OnErr r Q → R
+either_way P Q R (Ok x) f g p q = f p
+either_way P Q R (Err e) f g p q = g q

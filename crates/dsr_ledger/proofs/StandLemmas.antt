@@ -3,8 +3,6 @@ use Rattle.std.proofs.Common.{◌≡◌, ℕ, ◌+◌, List, [], ◌∷◌, ◌+
 use Rattle.std.specs.Prelude.{◌||◌, Option, None, Some, option_map, is_some, find}
 use Rattle.std.specs.List.{flat_map, list_any}
 use Rattle.std.specs.Str.{bytes_eq}
-use Rattle.std.specs.Ordering.{is_eq}
-use Rattle.std.specs.BTreeSet.{contains}
 use Rattle.std.proofs.lemmas.List.Concat.{flat_map-append}
 use Rattle.std.proofs.lemmas.List.Folds.{list_any-append}
 use Rattle.dsr_records.specs.declared.record.Summary.{Summary}
@@ -18,12 +16,11 @@ use Rattle.dsr_ledger.specs.Files.{Filed, summaries_of}
 use Rattle.dsr_ledger.specs.Verdicts.{has_id, is_summary, verdict_of, verdict_by}
 use Rattle.dsr_ledger.specs.Bookings.{place_of, place_named, block_bookings, verdict_bookings}
 use Rattle.dsr_ledger.specs.Findings.{usages_in, rejects_from}
-use Rattle.dsr_ledger.specs.Keys.{text_cmp}
+use Rattle.dsr_ledger.specs.IdSteps.{is_in}
 use Rattle.dsr_ledger.specs.Found.{shown_with, place_at, is_known, found_in, nothing_found}
 use Rattle.dsr_ledger.specs.Tallies.{tally_at, tally_plus, key_tally}
 use Rattle.dsr_ledger.specs.FileSteps.{IsSameFile, TakesBlock, bookings_by}
 use Rattle.dsr_ledger.specs.Stands.{FileStands, Took}
-use Rattle.dsr_ledger.proofs.TextLemmas.{text_ties, text_tie}
 use Rattle.dsr_ledger.proofs.FoundLemmas.{known_shown}
 use Rattle.dsr_ledger.proofs.ShownLemmas.{shown_with-append}
 use Rattle.dsr_ledger.proofs.JudgedLemmas.{rejects_more}
@@ -38,7 +35,7 @@ known_is f d h id =
     sym (known_shown f.founds id) ∙ ap is_some (h.founds id) ∙ is_some-map _ (find (λ s. bytes_eq id s.id) (summaries_of d.file.opening))
 
 -- so the verdict is that of the file
-verdict_is : (f : FileBooks) (d : Filed) (b : BlockParts) → FileStands f d → verdict_by f.standing (contains text_cmp f.ids b.id) (is_known f.founds) b ≡ verdict_of d b
+verdict_is : (f : FileBooks) (d : Filed) (b : BlockParts) → FileStands f d → verdict_by f.standing (is_in f.ids b.id) (is_known f.founds) b ≡ verdict_of d b
 verdict_is f d b h = λ i. verdict_by (h.standing i) (h.ids b.id i) (λ id. known_is f d h id i) b
 
 place-found : (id : List ℕ) (us : List Usage) (o : Option Summary) → option_map (λ s. s.place) (option_map (λ s. shown_with id us (nothing_found s)) o) ≡ option_map place_of o
@@ -73,7 +70,7 @@ same_bookings os b Booked = refl
 same_bookings os b (Rejected r) = refl
 
 -- a block was taken, and its identifier noted
-pub took : (d : Filed) (f g : FileBooks) (b : BlockParts) (v : Verdict) (seen : Bool) (old new : Lines) → FileStands f d → verdict_by f.standing seen (is_known f.founds) b ≡ v → seen ≡ contains text_cmp f.ids b.id → TakesBlock f g old new b v → ((id : List ℕ) → contains text_cmp g.ids id ≡ cond (is_eq (text_cmp b.id id)) true (contains text_cmp f.ids id)) → Took d b v g old new
+pub took : (d : Filed) (f g : FileBooks) (b : BlockParts) (v : Verdict) (seen : Bool) (old new : Lines) → FileStands f d → verdict_by f.standing seen (is_known f.founds) b ≡ v → seen ≡ is_in f.ids b.id → TakesBlock f g old new b v → ((id : List ℕ) → is_in g.ids id ≡ cond (bytes_eq b.id id) true (is_in f.ids id)) → Took d b v g old new
 took d f g b v seen old new h judged_so same t ids =
     let is = sym judged_so ∙ ap (λ s. verdict_by f.standing s (is_known f.founds) b) same ∙ verdict_is f d b h in
     let os = summaries_of d.file.opening in
@@ -86,7 +83,7 @@ took d f g b v seen old new h judged_so same t ids =
         standing = t.standing ∙ h.standing;
         blocks = t.blocks ∙ ap (λ n. n + 1) h.blocks ∙ sym (length-append d.file.blocks (b ∷ []));
         ids = λ id.
-            ids id ∙ (λ i. cond (text_ties b.id id i) true (h.ids id i)) ∙ or_last (bytes_eq b.id id) (list_any (has_id id) d.file.blocks)
+            ids id ∙ (λ i. cond (bytes_eq b.id id) true (h.ids id i)) ∙ or_last (bytes_eq b.id id) (list_any (has_id id) d.file.blocks)
             ∙ sym (list_any-append (has_id id) d.file.blocks (b ∷ []));
         founds = λ id.
             t.founds id ∙ ap (option_map (shown_with id b.usages)) (h.founds id) ∙ found_more os (usages_in d.file.blocks) b.usages id
@@ -110,12 +107,3 @@ stands_same f g d h t = record {
   rejects = t.rejects ∙ h.rejects;
   outcome = t.outcome ∙ h.outcome;
 }
-
--- an identifier that was noted and taken out again
-pub taken_out : (was noted out : List ℕ → Bool) (k : List ℕ) → ((q : List ℕ) → noted q ≡ cond (is_eq (text_cmp k q)) true (was q)) → ((q : List ℕ) → out q ≡ cond (is_eq (text_cmp k q)) false (noted q)) → was k ≡ false → (q : List ℕ) → out q ≡ was q
-taken_out was noted out k put took_out absent q =
-    took_out q ∙ ap (λ x. cond (is_eq (text_cmp k q)) false x) (put q)
-    ∙ elim (is_eq (text_cmp k q)) as (λ b. is_eq (text_cmp k q) ≡ b → cond b false (cond b true (was q)) ≡ was q) [
-      | true ↦ λ e. sym (ap was (sym ((text_tie k q).0 e)) ∙ absent)
-      | false ↦ λ _. refl
-    ] refl

@@ -1,12 +1,11 @@
 -- What a block changes in what is kept of its file.
 use Rattle.std.specs.Prelude.{◌≡◌, ℕ, ◌+◌, ◌≤◌, List, [], ◌∷◌, ◌++◌, length, Option, option_map}
 use Rattle.std.specs.List.{AllByRecursion}
-use Rattle.std.specs.BTreeSet.{contains}
 use Rattle.dsr_records.specs.Blocks.{BlockParts}
 use Rattle.dsr_ledger.specs.declared.file.FileBooks.{FileBooks}
 use Rattle.dsr_ledger.specs.declared.verdict.Verdict.{Verdict}
 use Rattle.dsr_ledger.specs.declared.verdict.Verdict.TheVariants.{Booked, Rejected}
-use Rattle.dsr_ledger.specs.Keys.{text_cmp}
+use Rattle.dsr_ledger.specs.IdSteps.{is_in}
 use Rattle.dsr_ledger.specs.Bookings.{Booking, Place, usage_bookings}
 use Rattle.dsr_ledger.specs.Findings.{rejects_from}
 use Rattle.dsr_ledger.specs.Ranges.{IsInRange}
@@ -21,7 +20,7 @@ pub record IsSameFile (f g : FileBooks) : Type 0 where
   pub opening : g.opening ≡ f.opening
   pub standing : g.standing ≡ f.standing
   pub blocks : g.blocks ≡ f.blocks
-  pub ids : (id : List ℕ) → contains text_cmp g.ids id ≡ contains text_cmp f.ids id
+  pub ids : (id : List ℕ) → is_in g.ids id ≡ is_in f.ids id
   pub founds : (id : List ℕ) → shown_at g.founds id ≡ shown_at f.founds id
   pub rejects : g.rejects.items ≡ f.rejects.items
   pub outcome : g.outcome ≡ f.outcome

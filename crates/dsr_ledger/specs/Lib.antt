@@ -17,6 +17,8 @@ pub mod Owed
 pub mod Tallies
 pub mod Found
 pub mod Drafts
+pub mod Ids
+pub mod IdSteps
 pub mod FileSteps
 pub mod Stands
 pub mod Openings

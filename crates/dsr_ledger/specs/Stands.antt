@@ -1,7 +1,6 @@
 -- What is kept stands for a list of files.
 use Rattle.std.specs.Prelude.{◌≡◌, ℕ, suc, Option, List, [], ◌∷◌, ◌++◌, ⊤, length}
 use Rattle.std.specs.List.{list_any}
-use Rattle.std.specs.BTreeSet.{contains}
 use Rattle.dsr_records.specs.Blocks.{BlockParts}
 use Rattle.dsr_file.specs.Openings.{OpeningParts}
 use Rattle.dsr_ledger.specs.declared.key.Key.{Key}
@@ -12,7 +11,7 @@ use Rattle.dsr_ledger.specs.Files.{File, Filed, standing, summaries_of, with_one
 use Rattle.dsr_ledger.specs.Verdicts.{has_id, verdict_of}
 use Rattle.dsr_ledger.specs.Bookings.{Booking, verdict_bookings}
 use Rattle.dsr_ledger.specs.Findings.{usages_in, rejects_in}
-use Rattle.dsr_ledger.specs.Keys.{text_cmp}
+use Rattle.dsr_ledger.specs.IdSteps.{is_in}
 use Rattle.dsr_ledger.specs.Found.{shown_at, found_in}
 use Rattle.dsr_ledger.specs.Tallies.{tally_at, tally_plus, key_tally}
 use Rattle.dsr_ledger.specs.FileSteps.{IsBlockInRange}
@@ -23,7 +22,7 @@ pub record FileStands (f : FileBooks) (d : Filed) : Type 0 where
   pub opening : f.opening ≡ d.file.opening
   pub standing : f.standing ≡ d.standing
   pub blocks : f.blocks ≡ length d.file.blocks
-  pub ids : (id : List ℕ) → contains text_cmp f.ids id ≡ list_any (has_id id) d.file.blocks
+  pub ids : (id : List ℕ) → is_in f.ids id ≡ list_any (has_id id) d.file.blocks
   pub founds : (id : List ℕ) → shown_at f.founds id ≡ found_in (summaries_of d.file.opening) (usages_in d.file.blocks) id
   pub rejects : f.rejects.items ≡ rejects_in d
   pub outcome : f.outcome ≡ d.file.outcome

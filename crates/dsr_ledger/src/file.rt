@@ -1,8 +1,6 @@
 //! What is kept of a file.
 ghost use Rattle.std.specs.Prelude.{◌≡◌, ◌+◌, ◌<◌, ◌^◌, ◌≤◌, ◌∷◌, ◌++◌, [], ℕ, List, OnOk, OnErr, IfOk, Some, map, if◌then◌else◌, true};
 ghost use Rattle.std.specs.Option.{ForSome};
-ghost use Rattle.std.specs.BTreeSet.{contains};
-ghost use Rattle.dsr_ledger.specs.Keys.{text_cmp};
 ghost use Rattle.dsr_ledger.specs.Verdicts.{share_total, verdict_by};
 ghost use Rattle.dsr_ledger.specs.Files.{Filed};
 ghost use Rattle.dsr_ledger.specs.Found.{shown_at, index_at, is_known, ShownFits};
@@ -14,16 +12,16 @@ use crate::adding::add_usages;
 use crate::counting::count_usages;
 use crate::draft::Draft;
 use crate::founds::Founds;
+use crate::ids::Ids;
 use crate::judge::judge;
 use crate::lines::Lines;
 use crate::noting::note_usages;
 use crate::report::Reject;
 use crate::verdict::{Reason, Standing, Verdict};
-use dsr_cells::{Isrc, NoMemory, Text};
+use dsr_cells::{Isrc, NoMemory};
 use dsr_file::{Opening, Outcome};
 use dsr_records::Block;
 use std::alloc::Global;
-use std::collections::BTreeSet;
 
 /// What is kept of a file.
 #[derive(Drop)]
@@ -35,7 +33,7 @@ pub struct FileBooks {
     /// How many blocks were taken.
     pub blocks: u64,
     /// The identifiers of all blocks, whatever their verdicts.
-    pub ids: BTreeSet<Text>,
+    pub ids: Ids,
     pub founds: Founds,
     pub rejects: Vec<Reject>,
     pub outcome: Option<Outcome>,
@@ -57,7 +55,7 @@ impl FileBooks {
         requires found { map (λ u. index_at self.old.founds u.summary_id) block.now.usages ≡ map Some draft.old.summaries.items }
         requires lines_fit { (q : _) → TallyFits 63 (tally_at lines.old q) }
         requires founds_fit { (id : List ℕ) → ForSome (shown_at self.old.founds id) (ShownFits 63) }
-        ensures ids { (id : List ℕ) → contains text_cmp self.new.ids id ≡ contains text_cmp self.old.ids id }
+        ensures ids { self.new.ids ≡ self.old.ids }
         ensures err { OnErr result (IsSameFile self.old self.new) }
         ensures same_lines { OnErr result ((q : _) → tally_at lines.new q ≡ tally_at lines.old q) }
         ensures ok { OnOk result (TakesBlock self.old self.new lines.old lines.new block.now Verdict.Booked) }
@@ -97,7 +95,7 @@ impl FileBooks {
     ) -> Result<(), NoMemory>
         requires blocks { self.old.blocks + 1 < 2 ^ 64 }
         requires founds_fit { (id : List ℕ) → ForSome (shown_at self.old.founds id) (ShownFits 63) }
-        ensures ids { (id : List ℕ) → contains text_cmp self.new.ids id ≡ contains text_cmp self.old.ids id }
+        ensures ids { self.new.ids ≡ self.old.ids }
         ensures err { OnErr result (IsSameFile self.old self.new) }
         ensures ok { OnOk result (TakesBlock self.old self.new lines.now lines.now block.now (Verdict.Rejected reason)) }
     {
@@ -125,7 +123,7 @@ impl FileBooks {
         requires blocks { self.old.blocks + 1 < 2 ^ 64 }
         requires lines_fit { (q : _) → TallyFits 63 (tally_at lines.old q) }
         requires founds_fit { (id : List ℕ) → ForSome (shown_at self.old.founds id) (ShownFits 63) }
-        ensures ids { (id : List ℕ) → contains text_cmp self.new.ids id ≡ contains text_cmp self.old.ids id }
+        ensures ids { self.new.ids ≡ self.old.ids }
         ensures err { OnErr result (IsSameFile self.old self.new) }
         ensures same_lines { OnErr result ((q : _) → tally_at lines.new q ≡ tally_at lines.old q) }
         ensures verdict { IfOk result (λ v. verdict_by self.old.standing seen (is_known self.old.founds) block.now ≡ v) }
@@ -165,10 +163,10 @@ impl FileBooks {
         ensures err { OnErr result (IsSameFile self.old self.new) }
         ensures same_lines { OnErr result ((q : _) → tally_at lines.new q ≡ tally_at lines.old q) }
     {
-        let is_new = self.ids.insert(block.id.copy(alloc)?)?;
-        let answer = self.take(lines, draft, alloc, block, !is_new);
-        if answer.is_err() && is_new {
-            self.ids.remove(&block.id);
+        let noted = self.ids.note(alloc, &block.id)?;
+        let answer = self.take(lines, draft, alloc, block, noted.was_before());
+        if answer.is_err() {
+            self.ids.forget(&block.id, noted);
         }
         answer
     }

@@ -12,6 +12,7 @@ mod file_lines;
 mod found;
 mod founds;
 mod guesses;
+mod ids;
 mod index;
 mod judge;
 mod kept;

@@ -9,6 +9,7 @@ ghost use Rattle.dsr_ledger.specs.Openings.{openings_of, first_of, named};
 use crate::file::FileBooks;
 use crate::found::Found;
 use crate::founds::Founds;
+use crate::ids::Ids;
 use crate::key::Key;
 use crate::mixing::salt_of;
 use crate::sums::Sums;
@@ -17,7 +18,6 @@ use dsr_cells::{Isrc, NoMemory};
 use dsr_file::Opening;
 use dsr_records::{Head, Summary};
 use std::alloc::Global;
-use std::collections::BTreeSet;
 
 /// Whether two files are of one report.
 fn same_report(a: &Head, b: &Head) -> bool
@@ -151,7 +151,7 @@ pub fn open_after(
         opening,
         standing,
         blocks: 0,
-        ids: BTreeSet::new(alloc),
+        ids: Ids::new(alloc),
         founds,
         rejects: Vec::new(alloc),
         outcome: None,

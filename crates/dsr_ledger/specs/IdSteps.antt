@@ -1,0 +1,29 @@
+-- What noting an identifier changes.
+use Rattle.std.specs.Prelude.{◌≡◌, ℕ, Bool, true, false, List, [], ◌∷◌, ◌++◌, if◌then◌else◌}
+use Rattle.std.specs.Str.{bytes_eq}
+use Rattle.std.specs.BTreeSet.{contains}
+use Rattle.dsr_ledger.specs.declared.ids.Ids.{Ids}
+use Rattle.dsr_ledger.specs.declared.ids.Noted.{Noted}
+use Rattle.dsr_ledger.specs.declared.ids.Noted.TheVariants.{Before, InRun, InRest}
+use Rattle.dsr_ledger.specs.Keys.{text_cmp}
+use Rattle.dsr_ledger.specs.Ids.{is_among}
+
+-- whether an identifier is there
+abbrev pub is_in : Ids → List ℕ → Bool
+is_in ids q = is_among ids.run.items ids.rest q
+
+-- the same identifiers are there
+abbrev pub HaveSame : Ids → Ids → Type 0
+HaveSame old new = (q : List ℕ) → is_in new q ≡ is_in old q
+
+-- whether an identifier that was noted so was there before
+abbrev pub was_before : Noted → Bool
+was_before Before = true
+was_before InRun = false
+was_before InRest = false
+
+-- what is there after an identifier was noted
+abbrev pub IsNoted : Noted → Ids → Ids → List ℕ → Type 0
+IsNoted Before old new id = (is_in old id ≡ true) × HaveSame old new
+IsNoted InRun old new id = (is_in old id ≡ false) × (new.run.items ≡ old.run.items ++ id ∷ []) × ((q : List ℕ) → contains text_cmp new.rest q ≡ contains text_cmp old.rest q)
+IsNoted InRest old new id = (is_in old id ≡ false) × (new.run.items ≡ []) × ((q : List ℕ) → contains text_cmp new.rest q ≡ (if bytes_eq id q then true else is_in old q))

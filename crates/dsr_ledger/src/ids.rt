@@ -1,0 +1,136 @@
+//! The identifiers of a file's blocks.
+ghost use Rattle.std.specs.Prelude.{◌≡◌, ◌≤◌, ℕ, List, true, OnOk, OnErr};
+ghost use Rattle.std.specs.List.{fold};
+ghost use Rattle.std.specs.BTreeSet.{contains};
+ghost use Rattle.dsr_ledger.specs.Keys.{text_cmp};
+ghost use Rattle.dsr_ledger.specs.Ids.{rank_of, with_byte, is_among};
+
+use dsr_cells::{NoMemory, Text};
+use std::alloc::Global;
+use std::collections::BTreeSet;
+
+/// How an identifier was noted.
+#[derive(Clone, Copy, PartialEq, Eq)]
+pub enum Noted {
+    /// It was there before.
+    Before,
+    /// It is above all others, and was put last in the run.
+    InRun,
+    /// It was put among the rest.
+    InRest,
+}
+
+/// The identifiers of a file's blocks. They mostly rise in a file; such as rise are noted without a search.
+#[derive(Drop)]
+pub struct Ids {
+    /// Those that came one above the other since the last that did not.
+    pub run: Vec<Text>,
+    /// All others.
+    pub rest: BTreeSet<Text>,
+    /// None has a greater rank.
+    pub top: u128,
+    ghost below: { (q : List ℕ) → is_among run.items rest q ≡ true → rank_of q ≤ top },
+}
+
+/// The number that these bytes are, the first of them most, as far as 64 bits hold it.
+fn number_of(bytes: &[u8]) -> u64
+    ensures { result ≡ fold with_byte 0 bytes.now }
+{
+    let mut number = 0u64;
+    for byte in bytes {
+        number = number.wrapping_mul(256).wrapping_add(u64::from(*byte));
+    }
+    number
+}
+
+#[tactic(auto, unfolding(crate::specs::Ids::rank_of))]
+/// An identifier's rank: by its length, then by its last bytes. Numbers rank as they rise.
+fn rank(id: &Text) -> u128
+    ensures { result ≡ rank_of id.now }
+{
+    let bytes = id.as_str().as_bytes();
+    let number = number_of(&bytes[bytes.len().saturating_sub(8)..]);
+    bytes.len() as u128 * (1 << 64) + u128::from(number)
+}
+
+/// Puts the identifiers of a run among the rest.
+fn gather(rest: &mut BTreeSet<Text>, alloc: Global, run: &[Text]) -> Result<(), NoMemory>
+    ensures same { OnErr result ((q : List ℕ) → is_among run.now rest.new q ≡ is_among run.now rest.old q) }
+    ensures all { OnOk result ((q : List ℕ) → contains text_cmp rest.new q ≡ is_among run.now rest.old q) }
+{
+    for id in run {
+        rest.insert(id.copy(alloc)?)?;
+    }
+    Ok(())
+}
+
+impl Noted {
+    ghost use Rattle.dsr_ledger.specs.IdSteps.{was_before};
+
+    /// Whether the identifier was there before.
+    pub fn was_before(self) -> bool
+        ensures { result ≡ was_before self }
+    {
+        match self {
+            Noted::Before => true,
+            Noted::InRun | Noted::InRest => false,
+        }
+    }
+}
+
+impl Ids {
+    ghost use Rattle.std.specs.Prelude.{false, IfOk};
+    ghost use Rattle.dsr_ledger.specs.IdSteps.{is_in, HaveSame, IsNoted};
+
+    /// No identifiers.
+    pub fn new(alloc: Global) -> Ids
+        ensures { (q : List ℕ) → is_in result q ≡ false }
+    {
+        Ids {
+            run: Vec::new(alloc),
+            rest: BTreeSet::new(alloc),
+            top: 0,
+        }
+    }
+
+    /// Puts an identifier among the rest, and before it the run.
+    fn put(&mut self, alloc: Global, id: &Text) -> Result<Noted, NoMemory>
+        requires { rank_of id.now ≤ self.old.top }
+        ensures same { OnErr result (HaveSame self.old self.new) }
+        ensures noted { IfOk result (λ n. IsNoted n self.old self.new id.now) }
+    {
+        gather(&mut self.rest, alloc, self.run.as_slice())?;
+        self.run.clear();
+        let is_new = self.rest.insert(id.copy(alloc)?)?;
+        Ok(if is_new { Noted::InRest } else { Noted::Before })
+    }
+
+    /// Notes an identifier, and answers how. After want of memory the same identifiers are there.
+    pub fn note(&mut self, alloc: Global, id: &Text) -> Result<Noted, NoMemory>
+        ensures same { OnErr result (HaveSame self.old self.new) }
+        ensures noted { IfOk result (λ n. IsNoted n self.old self.new id.now) }
+    {
+        let rank = rank(id);
+        if rank <= self.top {
+            return self.put(alloc, id);
+        }
+        self.run.push(id.copy(alloc)?)?;
+        self.top = rank;
+        Ok(Noted::InRun)
+    }
+
+    /// Takes an identifier out that was noted last. The same are there as before it was.
+    pub fn forget(&mut self, id: &Text, noted: Noted)
+        ensures { (was : Ids) → IsNoted noted was self.old id.now → HaveSame was self.new }
+    {
+        match noted {
+            Noted::Before => {}
+            Noted::InRun => {
+                self.run.pop();
+            }
+            Noted::InRest => {
+                self.rest.remove(id);
+            }
+        }
+    }
+}
