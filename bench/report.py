@@ -2,11 +2,12 @@
 """Writes a large valid report: FOLDER/1.tsv, FOLDER/2.tsv and so on. The same arguments give the same bytes.
 
   report.py FOLDER [--bytes N] [--files N] [--isrcs N] [--works N] [--parties N] [--usages N] [--summaries N]
-            [--recordings FILE]
+            [--recordings FILE] [--each-first]
 
 --bytes is the size of all files together (about), --isrcs how many recordings there are, --works the works of a
 block, --parties the parties of a work, --usages the usages of a block, --summaries the summaries of a file. With
---recordings the ISRCs are the lines of FILE, and --isrcs says nothing.
+--recordings the ISRCs are the lines of FILE, and --isrcs says nothing. With --each-first the first blocks of a file
+name each recording once, in turn.
 """
 import argparse
 import os
@@ -24,7 +25,7 @@ def blocks(asked, rng, file, room):
     number = 0
     while size < room:
         number += 1
-        song = rng.randrange(asked.isrcs)
+        song = number - 1 if asked.each_first and number <= asked.isrcs else rng.randrange(asked.isrcs)
         isrc = asked.recordings[song] if asked.recordings else isrc_of(song)
         lines = [f'AS01\t{number}\t{isrc}\tSong {number % 9973} of {file}\tThe {number % 401} Lanterns']
         for work in range(asked.works):
@@ -71,6 +72,7 @@ def main():
                            ('usages', 2), ('summaries', 8)):
         parser.add_argument(f'--{name}', type=int, default=standard)
     parser.add_argument('--recordings', type=argparse.FileType('r'))
+    parser.add_argument('--each-first', action='store_true')
     asked = parser.parse_args()
     if asked.recordings:
         asked.recordings = asked.recordings.read().split()
