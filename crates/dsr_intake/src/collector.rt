@@ -111,6 +111,7 @@ fn take_message<H: Wait>(
     ensures stopped { IfErr result (IsStoppedAt k tap.new) }
 {
     take_one(rt, books, k, tap)?;
+    books.look_ahead(k, tap.held_events());
     while tap.held() > 0 && !tap.ended() {
         take_one(rt, books, k, tap)?;
     }

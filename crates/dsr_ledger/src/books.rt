@@ -2,6 +2,7 @@
 ghost use Rattle.std.specs.Prelude.{◌≤◌, length};
 ghost use Rattle.dsr_ledger.specs.Books.{IsReached};
 
+use crate::ahead::look_ahead;
 use crate::assemble::assemble;
 use crate::draft::Draft;
 use crate::kept::Kept;
@@ -10,7 +11,7 @@ use crate::open::open_after;
 use crate::report::Report;
 use crate::verdict::{Standing, Verdict};
 use dsr_cells::NoMemory;
-use dsr_file::{Opening, Outcome};
+use dsr_file::{Event, Opening, Outcome};
 use dsr_records::Block;
 use std::alloc::Global;
 
@@ -114,6 +115,18 @@ impl Books {
         let standing = file.standing;
         self.kept.files.push(file)?;
         Ok(standing)
+    }
+
+    /// Looks at what coming events of file k will want, so that it is near when they are booked. It changes nothing, and
+    /// any events and any k will do.
+    pub fn look_ahead(&mut self, k: u32, events: &[Event])
+        ensures count { files_count self.new ≡ files_count self.old }
+        ensures stands { (files : List File) → Stands self.old files → Stands self.new files }
+    {
+        if let Some(file) = self.kept.files.get(k as usize) {
+            let ahead = &mut self.draft.ahead;
+            self.draft.seen = look_ahead(&self.kept.lines, &file.founds, events, ahead);
+        }
     }
 
     /// Takes a block of file k, and answers its verdict. After want of memory nothing has changed.

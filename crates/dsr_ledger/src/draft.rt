@@ -21,6 +21,10 @@ pub struct Draft {
     pub usages: Vec<UsageNote>,
     /// The parts of all usages in a row.
     pub parts: Vec<PartNote>,
+    /// The numbers that are guessed of the lines of coming usages.
+    pub ahead: Vec<usize>,
+    /// What the last look at coming blocks came to. It means nothing, and is kept so that the look is made.
+    pub seen: usize,
 }
 
 impl Draft {
@@ -30,6 +34,8 @@ impl Draft {
             summaries: Vec::new(alloc),
             usages: Vec::new(alloc),
             parts: Vec::new(alloc),
+            ahead: Vec::new(alloc),
+            seen: 0,
         }
     }
 }

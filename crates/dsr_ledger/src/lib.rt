@@ -2,6 +2,7 @@
 #![tactic(auto)]
 
 mod adding;
+mod ahead;
 mod assemble;
 mod books;
 mod counting;

@@ -38,6 +38,15 @@ impl Line {
         }
     }
 
+    /// Looks at the line and at its first party. Answers a number that depends on both.
+    pub fn look(&self) -> usize {
+        let party = match self.parties.entries.first() {
+            Some(entry) => entry.party.as_str().len(),
+            None => 0,
+        };
+        party.wrapping_add(usize::from(self.is_booked))
+    }
+
     /// Adds a usage and its parts.
     pub fn add(&mut self, usage: &Usage, notes: &[PartNote])
         requires fits { TallyFits 1 (line_tally self.old) }

@@ -104,6 +104,13 @@ impl Tap {
         self.ended
     }
 
+    /// The events of the last message that were not taken yet.
+    pub fn held_events(&self) -> &[Event]
+        ensures { result.now ≡ self.now.held }
+    {
+        self.held.as_slice()
+    }
+
     /// How many events of the last message were not taken yet.
     pub fn held(&self) -> u32
         ensures held { result ≡ length self.now.held }
