@@ -17,7 +17,11 @@ fn share_of(amount: i128, share: u32) -> i128
     requires { unsigned_abs amount < 10 ^ 22 }
     ensures { result ≡ int_div (amount *ℤ pos share) (pos 1000000) }
 {
-    amount * i128::from(share) / 1_000_000
+    let product = amount * i128::from(share);
+    match i64::try_from(product) {
+        Ok(product) => i128::from(product / 1_000_000),
+        Err(_) => product / 1_000_000,
+    }
 }
 
 /// Notes a part of a party. What each party is owed stays.
