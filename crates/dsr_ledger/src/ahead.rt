@@ -1,16 +1,29 @@
 //! A look at what coming blocks will want.
 //!
 //! What is looked at is fetched from memory, and fetches of which none waits for another go on at one time. So a look at
-//! many blocks in a row waits hardly longer than one at a single block, and finds near what their bookings then want.
+//! many blocks in a row waits hardly longer than one at a single block, and their bookings then find near what they want.
+//! Each pass looks at one thing of each block, and the next pass at what that one leads to.
 
 use crate::founds::Founds;
 use crate::lines::Lines;
-use dsr_cells::Isrc;
+use dsr_cells::{Isrc, Text};
 use dsr_file::{Event, EventPart};
-use dsr_records::{Block, Usage, Work};
+use dsr_records::{Block, Usage};
+use std::alloc::Global;
 
-/// How many lines a look takes in at most.
+/// At how many usages a look looks at most.
 const MOST: usize = 128;
+
+/// What was found by looking ahead.
+#[derive(Drop)]
+pub struct Ahead {
+    /// The mixed keys of coming usages.
+    mixed: Vec<u64>,
+    /// The numbers that are guessed of their lines.
+    numbers: Vec<usize>,
+    /// What the last look came to. It means nothing, and is kept so that the look is made.
+    seen: usize,
+}
 
 /// The block of an event that has one.
 fn block_of(event: &Event) -> Option<&Block> {
@@ -20,75 +33,138 @@ fn block_of(event: &Event) -> Option<&Block> {
     }
 }
 
-/// Looks at a work: its first party and its first share.
-fn look_at_work(work: &Work) -> usize {
-    let party = match work.parties.as_slice().first() {
-        Some(party) => party.as_str().len(),
+/// Looks at a text, if there is one.
+fn look_at(text: Option<&Text>) -> usize {
+    match text {
+        Some(text) => text.as_str().len(),
         None => 0,
-    };
-    let share = match work.shares.as_slice().first() {
-        Some(share) => share.parts() as usize,
-        None => 0,
-    };
-    party.wrapping_add(share)
+    }
 }
 
-/// Looks at the works of blocks.
+/// Looks at the first work of each block, and at the first and the last usage.
+fn look_at_blocks(events: &[Event]) -> usize {
+    let mut seen = 0usize;
+    for event in events {
+        if let Some(block) = block_of(event) {
+            let usages = block.usages.as_slice();
+            let parties = match block.works.as_slice().first() {
+                Some(work) => work.parties.as_slice().len(),
+                None => 0,
+            };
+            seen = seen
+                .wrapping_add(parties)
+                .wrapping_add(look_at(usages.first().map(|usage| &usage.summary_id)))
+                .wrapping_add(look_at(usages.last().map(|usage| &usage.summary_id)));
+        }
+    }
+    seen
+}
+
+/// Looks at the parties and the shares of the first work of each block.
 fn look_at_works(events: &[Event]) -> usize {
     let mut seen = 0usize;
     for event in events {
         if let Some(work) = block_of(event).and_then(|block| block.works.as_slice().first()) {
-            seen = seen.wrapping_add(look_at_work(work));
+            let share = match work.shares.as_slice().first() {
+                Some(share) => share.parts() as usize,
+                None => 0,
+            };
+            seen = seen
+                .wrapping_add(share)
+                .wrapping_add(look_at(work.parties.as_slice().first()))
+                .wrapping_add(look_at(work.parties.as_slice().last()));
         }
     }
     seen
 }
 
-/// The number that is guessed of the line under which a usage of a recording will count.
-fn guessed_line(lines: &Lines, founds: &Founds, isrc: &Isrc, usage: &Usage) -> Option<usize> {
+/// The mixed key of a usage of a recording.
+fn mixed_usage(founds: &Founds, isrc: &Isrc, usage: &Usage) -> Option<u64> {
     let summary = founds.index(&usage.summary_id)?;
-    lines.guess(isrc, founds.founds.get(summary)?.salt)
+    Some(founds.founds.get(summary)?.mixed(isrc))
 }
 
-/// Notes the numbers that are guessed of the lines of a block's usages.
-fn note_lines(lines: &Lines, founds: &Founds, block: &Block, numbers: &mut Vec<usize>) {
-    let Some(isrc) = Isrc::read(block.resource.isrc.as_str()) else {
-        return;
-    };
-    for usage in block.usages.as_slice() {
-        if numbers.len() == MOST {
+impl Ahead {
+    /// Nothing was looked at.
+    pub fn new(alloc: Global) -> Ahead {
+        Ahead {
+            mixed: Vec::new(alloc),
+            numbers: Vec::new(alloc),
+            seen: 0,
+        }
+    }
+
+    /// Mixes the keys of a block's usages.
+    fn mix(&mut self, founds: &Founds, block: &Block) {
+        let Some(isrc) = Isrc::read(block.resource.isrc.as_str()) else {
             return;
-        }
-        if let Some(number) = guessed_line(lines, founds, &isrc, usage) {
-            let _noted = numbers.push(number);
+        };
+        for usage in block.usages.as_slice() {
+            if self.mixed.len() == MOST {
+                return;
+            }
+            if let Some(mixed) = mixed_usage(founds, &isrc, usage) {
+                let _noted = self.mixed.push(mixed);
+            }
         }
     }
-}
 
-/// Looks at the lines with these numbers, and at their first parties.
-fn look_at_lines(lines: &Lines, numbers: &[usize]) -> usize {
-    let mut seen = 0usize;
-    for number in numbers {
-        if let Some(line) = lines.lines.get(*number) {
-            seen = seen.wrapping_add(line.look());
+    /// Mixes the keys of all usages.
+    fn mix_all(&mut self, founds: &Founds, events: &[Event]) {
+        self.mixed.clear();
+        for event in events {
+            if let Some(block) = block_of(event) {
+                self.mix(founds, block);
+            }
         }
     }
-    seen
-}
 
-/// Looks at what the blocks of these events will want. Answers a number that depends on all that was looked at.
-pub fn look_ahead(
-    lines: &Lines,
-    founds: &Founds,
-    events: &[Event],
-    numbers: &mut Vec<usize>,
-) -> usize {
-    let works = look_at_works(events);
-    numbers.clear();
-    for event in events {
-        if let Some(block) = block_of(event) {
-            note_lines(lines, founds, block, numbers);
+    /// Guesses the numbers of their lines.
+    fn guess_all(&mut self, lines: &Lines) {
+        self.numbers.clear();
+        for mixed in self.mixed.as_slice() {
+            if let Some(number) = lines.guesses.guess(*mixed) {
+                let _noted = self.numbers.push(number);
+            }
         }
     }
-    works.wrapping_add(look_at_lines(lines, numbers.as_slice()))
+
+    /// Looks at the lines with these numbers.
+    fn look_at_lines(&self, lines: &Lines) -> usize {
+        let mut seen = 0usize;
+        for number in self.numbers.as_slice() {
+            if let Some(line) = lines.lines.get(*number) {
+                seen = seen.wrapping_add(line.look());
+            }
+        }
+        seen
+    }
+
+    /// Looks at the parties of the lines with these numbers.
+    fn look_at_parties(&self, lines: &Lines) -> usize {
+        let mut seen = 0usize;
+        for number in self.numbers.as_slice() {
+            if let Some(line) = lines.lines.get(*number) {
+                let entries = line.parties.entries.as_slice();
+                seen = seen
+                    .wrapping_add(look_at(entries.first().map(|entry| &entry.party)))
+                    .wrapping_add(look_at(entries.last().map(|entry| &entry.party)));
+            }
+        }
+        seen
+    }
+
+    /// Looks at what the blocks of these events will want.
+    pub fn look(&mut self, lines: &Lines, founds: &Founds, events: &[Event]) {
+        let blocks = look_at_blocks(events);
+        let works = look_at_works(events);
+        self.mix_all(founds, events);
+        self.guess_all(lines);
+        let counted = self.look_at_lines(lines);
+        let parties = self.look_at_parties(lines);
+        self.seen = blocks
+            .wrapping_add(works)
+            .wrapping_add(counted)
+            .wrapping_add(parties);
+    }
 }

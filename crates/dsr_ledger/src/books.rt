@@ -2,7 +2,6 @@
 ghost use Rattle.std.specs.Prelude.{◌≤◌, length};
 ghost use Rattle.dsr_ledger.specs.Books.{IsReached};
 
-use crate::ahead::look_ahead;
 use crate::assemble::assemble;
 use crate::draft::Draft;
 use crate::kept::Kept;
@@ -125,7 +124,7 @@ impl Books {
     {
         if let Some(file) = self.kept.files.get(k as usize) {
             let ahead = &mut self.draft.ahead;
-            self.draft.seen = look_ahead(&self.kept.lines, &file.founds, events, ahead);
+            ahead.look(&self.kept.lines, &file.founds, events);
         }
     }
 

@@ -1,4 +1,5 @@
 //! What is noted of the block at hand: where its usages and its parts count.
+use crate::ahead::Ahead;
 use crate::owed::PartNote;
 use std::alloc::Global;
 
@@ -21,10 +22,7 @@ pub struct Draft {
     pub usages: Vec<UsageNote>,
     /// The parts of all usages in a row.
     pub parts: Vec<PartNote>,
-    /// The numbers that are guessed of the lines of coming usages.
-    pub ahead: Vec<usize>,
-    /// What the last look at coming blocks came to. It means nothing, and is kept so that the look is made.
-    pub seen: usize,
+    pub ahead: Ahead,
 }
 
 impl Draft {
@@ -34,8 +32,7 @@ impl Draft {
             summaries: Vec::new(alloc),
             usages: Vec::new(alloc),
             parts: Vec::new(alloc),
-            ahead: Vec::new(alloc),
-            seen: 0,
+            ahead: Ahead::new(alloc),
         }
     }
 }

@@ -4,8 +4,9 @@ ghost use Rattle.dsr_ledger.specs.Ranges.{IsInRange, SumsFit};
 ghost use Rattle.dsr_ledger.specs.Found.{shown, shown_plus};
 
 use crate::key::Key;
+use crate::mixing::mixed_key;
 use crate::sums::Sums;
-use dsr_cells::Text;
+use dsr_cells::{Isrc, Text};
 use dsr_records::Usage;
 
 /// What is kept of a summary: its identifier, the key of its bookings, with the recording of the block at hand, and the
@@ -20,6 +21,11 @@ pub struct Found {
 }
 
 impl Found {
+    /// The mixed key of a usage of a recording that names the summary.
+    pub fn mixed(&self, isrc: &Isrc) -> u64 {
+        mixed_key(isrc, self.salt)
+    }
+
     /// Adds a usage that names the summary.
     pub fn count(&mut self, usage: &Usage)
         requires { SumsFit 1 self.old.sums }

@@ -7,21 +7,41 @@ const LEAST: usize = 1024;
 /// How many guesses a table has at least, where it is known how many keys there are.
 const LEAST_KNOWN: usize = 64;
 
-/// How many guesses a table has for each key at least, so that few keys share one.
-const ROOM: usize = 4;
+/// How many guesses a table has for each key at least.
+const ROOM: usize = 2;
 
-/// The numbers that keys had last, each at a place that the key gives. Keys share places, so a number is a guess, and
-/// who takes it looks whether it is right.
+/// How many places a key has. They lie side by side.
+const NEAR: usize = 8;
+
+/// A number, and the mark of the key that had it; the mark is 0 where no key had the place.
+#[derive(Clone, Copy, Drop)]
+struct Guess {
+    mark: u32,
+    number: u32,
+}
+
+/// The numbers that keys had last, each at one of the places that the key gives, with a mark that the key gives too.
+/// Keys may share both, so a number is a guess, and who takes it looks whether it is right.
 #[derive(Drop)]
 pub struct Guesses {
-    numbers: Vec<u32>,
+    guesses: Vec<Guess>,
+}
+
+/// So many guesses of which no key had any; none where no memory is left.
+fn empty(alloc: Global, places: usize) -> Option<Vec<Guess>> {
+    Vec::from_elem(alloc, Guess { mark: 0, number: 0 }, places).ok()
+}
+
+/// The mark of a key that gives this number.
+fn mark_of(mixed: u64) -> u32 {
+    (mixed & 0xffff_ffff) as u32 | 1
 }
 
 impl Guesses {
     /// No guesses. This takes no memory.
     pub fn new(alloc: Global) -> Guesses {
         Guesses {
-            numbers: Vec::new(alloc),
+            guesses: Vec::new(alloc),
         }
     }
 
@@ -29,36 +49,60 @@ impl Guesses {
     pub fn with_room(alloc: Global, keys: usize) -> Guesses {
         let wanted = keys.saturating_mul(ROOM).max(LEAST_KNOWN);
         let places = wanted.checked_next_power_of_two().unwrap_or(0);
-        match Vec::from_elem(alloc, 0, places) {
-            Ok(numbers) => Guesses { numbers },
-            Err(_) => Guesses::new(alloc),
+        match empty(alloc, places) {
+            Some(guesses) => Guesses { guesses },
+            None => Guesses::new(alloc),
         }
     }
 
-    /// The place of a key that gives this number; past the end where there are no guesses.
+    /// The first place of a key that gives this number; past the end where there are no guesses.
     fn place(&self, mixed: u64) -> usize {
-        mixed as usize & self.numbers.len().wrapping_sub(1)
+        (mixed >> 32) as usize & self.guesses.len().wrapping_sub(1)
     }
 
     /// The number that is guessed of a key, if any.
     pub fn guess(&self, mixed: u64) -> Option<usize> {
-        match self.numbers.get(self.place(mixed)) {
-            Some(number) => Some(*number as usize),
-            None => None,
+        let mark = mark_of(mixed);
+        let first = self.place(mixed);
+        for step in 0..NEAR {
+            let guess = self.guesses.get(first ^ step)?;
+            if guess.mark == mark {
+                return Some(guess.number as usize);
+            }
+            if guess.mark == 0 {
+                return None;
+            }
         }
+        None
     }
 
-    /// Writes the number of a key, where there are guesses.
+    /// The place where the number of a key is noted: its own, an empty one, or else its first.
+    fn free_place(&self, mixed: u64) -> usize {
+        let mark = mark_of(mixed);
+        let first = self.place(mixed);
+        for step in 0..NEAR {
+            match self.guesses.get(first ^ step) {
+                Some(guess) if guess.mark != mark && guess.mark != 0 => {}
+                _ => return first ^ step,
+            }
+        }
+        first
+    }
+
+    /// Notes the number of a key, where there are guesses.
     pub fn note(&mut self, mixed: u64, number: usize) {
-        let place = self.place(mixed);
-        if let (Some(guess), Ok(number)) = (self.numbers.get_mut(place), u32::try_from(number)) {
-            *guess = number;
+        let place = self.free_place(mixed);
+        if let (Some(guess), Ok(number)) = (self.guesses.get_mut(place), u32::try_from(number)) {
+            *guess = Guess {
+                mark: mark_of(mixed),
+                number,
+            };
         }
     }
 
     /// Makes the table as large as that many keys want. Where no memory is left, it stays as it is.
     pub fn grow(&mut self, alloc: Global, keys: usize) {
-        let len = self.numbers.len();
+        let len = self.guesses.len();
         if keys < len / ROOM {
             return;
         }
@@ -67,8 +111,8 @@ impl Guesses {
         } else {
             len.wrapping_mul(2)
         };
-        if let Ok(numbers) = Vec::from_elem(alloc, 0, larger) {
-            self.numbers = numbers;
+        if let Some(guesses) = empty(alloc, larger) {
+            self.guesses = guesses;
         }
     }
 }

@@ -38,13 +38,15 @@ impl Line {
         }
     }
 
-    /// Looks at the line and at its first party. Answers a number that depends on both.
+    /// Looks at the line. Answers a number that depends on its parts.
     pub fn look(&self) -> usize {
-        let party = match self.parties.entries.first() {
-            Some(entry) => entry.party.as_str().len(),
+        let first = match self.key.isrc.as_bytes().last() {
+            Some(byte) => usize::from(*byte),
             None => 0,
         };
-        party.wrapping_add(usize::from(self.is_booked))
+        first
+            .wrapping_add(usize::from(self.is_booked))
+            .wrapping_add(self.parties.entries.len())
     }
 
     /// Adds a usage and its parts.

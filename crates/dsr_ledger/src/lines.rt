@@ -10,7 +10,7 @@ use crate::line::Line;
 use crate::mixing::mixed_key;
 use crate::owed::PartNote;
 use crate::parts::note_parts;
-use dsr_cells::{Amount, Isrc, NoMemory};
+use dsr_cells::{Amount, NoMemory};
 use dsr_records::{Usage, Work};
 use std::alloc::Global;
 use std::collections::BTreeMap;
@@ -54,11 +54,6 @@ impl Lines {
             return Some(number);
         }
         None
-    }
-
-    /// The number that is guessed of a key with this recording and this salt; nothing tells whether it is right.
-    pub fn guess(&self, isrc: &Isrc, salt: u64) -> Option<usize> {
-        self.guesses.guess(mixed_key(isrc, salt))
     }
 
     /// Makes the line of a key that has none, and answers its number. What is kept of each key stays.

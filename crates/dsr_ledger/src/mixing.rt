@@ -6,10 +6,10 @@ use dsr_cells::{Isrc, Text};
 /// are not above it.
 const SPREAD: u64 = 0x9e37_79b9_7f4a_7c15;
 
-/// Two numbers, mixed: the low bits depend on all bits of both.
+/// Two numbers, mixed: the upper half depends on all bits of both.
 fn mixed(first: u64, last: u64) -> u64 {
     let both = first.wrapping_mul(SPREAD) ^ last;
-    (both ^ (both >> 32)).wrapping_mul(SPREAD) >> 32
+    (both ^ (both >> 32)).wrapping_mul(SPREAD)
 }
 
 /// A number mixed with the bytes of a text.

@@ -116,7 +116,7 @@ impl Tap {
         ensures held { result ≡ length self.now.held }
         ensures few { result ≤ 31 }
     {
-        self.held.as_slice().len() as u32
+        self.held_events().len() as u32
     }
 
     /// Joins the two ends of one relay, and tells what was taken and what is left of what was sent. It waits for nobody.
