@@ -3,19 +3,18 @@ ghost use Rattle.std.specs.Prelude.{◌≡◌};
 ghost use Rattle.dsr_ledger.specs.Ranges.{IsInRange, SumsFit};
 ghost use Rattle.dsr_ledger.specs.Found.{shown, shown_plus};
 
-use crate::key::Key;
+use crate::place::Place;
 use crate::sums::Sums;
 use dsr_cells::Text;
 use dsr_records::Usage;
 
-/// What is kept of a summary: its identifier, the key of its bookings, with the recording of the block at hand, and the
-/// sums of the usages that name it.
+/// What is kept of a summary: its identifier, the place of its bookings, and the sums of the usages that name it.
 #[derive(Drop)]
 pub struct Found {
     pub id: Text,
-    pub key: Key,
-    /// What tells its keys apart from those of other summaries where guesses are kept.
-    pub salt: u64,
+    pub place: Place,
+    /// The number that its place had last, or any other.
+    pub guess: u32,
     pub sums: Sums,
 }
 
@@ -24,7 +23,7 @@ impl Found {
     pub fn count(&mut self, usage: &Usage)
         requires { SumsFit 1 self.old.sums }
         ensures id { self.new.id ≡ self.old.id }
-        ensures key { self.new.key ≡ self.old.key }
+        ensures place { self.new.place ≡ self.old.place }
         ensures shown { shown self.new ≡ shown_plus usage.now (shown self.old) }
         ensures range { IsInRange usage.now }
     {
