@@ -19,7 +19,7 @@ key_total =
     (then_total (on_total (λ (k : Key). k.territory) nat_list_cmp_total)
     (then_total (on_total (λ (k : Key). k.use_type) nat_list_cmp_total) (on_total (λ (k : Key). k.currency) nat_list_cmp_total)))
 
-both_Equal : (a b : Ordering) → ordering_then a b ≡ Equal → (a ≡ Equal) × (b ≡ Equal)
+pub both_Equal : (a b : Ordering) → ordering_then a b ≡ Equal → (a ≡ Equal) × (b ≡ Equal)
 both_Equal Less b e = absurd (cc)
 both_Equal Equal b e = (refl, e)
 both_Equal Greater b e = absurd (cc)

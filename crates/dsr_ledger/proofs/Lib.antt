@@ -5,6 +5,7 @@ pub mod NameLemmas
 pub mod OwedLemmas
 pub mod NoteLemmas
 pub mod KeyLemmas
+pub mod PlaceLemmas
 pub mod TallyLemmas
 pub mod FoundLemmas
 pub mod DraftLemmas

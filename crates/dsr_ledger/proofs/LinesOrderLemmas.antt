@@ -1,5 +1,5 @@
 -- The ledger's lines, in their order.
-use Rattle.std.proofs.Common.{◌≡◌, ℕ, zero, suc, ◌<◌, List, [], ◌∷◌, ◌++◌, ◌≤◌, length, set, get_or, Bool, true, false, cond, append_assoc, refl, sym, ◌∙◌, ap, arith}
+use Rattle.std.proofs.Common.{◌≡◌, ℕ, zero, suc, ◌<◌, List, [], ◌∷◌, ◌++◌, ◌≤◌, length, set, get_or, Bool, true, false, cond, append_assoc, refl, sym, ◌∙◌, ap, arith, BTreeMap}
 use Rattle.std.specs.Prelude.{Some, map, filter, nat_lt, slice_get, ◌||◌, All}
 use Rattle.std.specs.List.{list_any, AllByRecursion}
 use Rattle.std.specs.Option.{option_map_or}
@@ -9,7 +9,7 @@ use Rattle.std.specs.Cmp.{tied_itself, eq_by_cmp_equiv}
 use Rattle.std.specs.List.Sorted.{IsStrictlySortedBy}
 use Rattle.std.specs.Map.{keys_of}
 use Rattle.std.proofs.lemmas.List.Elements.{All-head, All-tail}
-use Rattle.std.specs.BTreeMap.{IsOrdered}
+use Rattle.std.specs.BTreeMap.{IsOrdered, get}
 use Rattle.std.proofs.lemmas.Bool.{lt-ltb}
 use Rattle.std.proofs.lemmas.Simd.{map-map}
 use Rattle.dsr_ledger.specs.declared.key.Key.{Key}
@@ -24,6 +24,7 @@ use Rattle.dsr_ledger.specs.Tallies.{no_tally, line_tally, tally_at, number_of}
 use Rattle.dsr_ledger.specs.Stands.{LinesStand}
 use Rattle.dsr_ledger.specs.Order.{IsSmall, AreSmall}
 use Rattle.dsr_ledger.proofs.KeyLemmas.{key_total, key_exact, key_ties}
+use Rattle.dsr_ledger.proofs.PlaceLemmas.{keys_are_numbered}
 use Rattle.dsr_ledger.proofs.OrderLemmas.{in_order_is, find-lookup}
 
 -- whether bookings have this key
@@ -68,21 +69,24 @@ pub left_step : (lines : Lines) (ls : List Line) (e : Key × ℕ) (es : List (Ke
 left_step lines ls e [] l at below h = h
 left_step lines ls e (x ∷ es) l at below h =
     let other : e.1 ≡ x.1 → ⊥ = λ same.
-    let one : e.0 ≡ x.0 = lines.numbered.apart e.0 x.0 e.1 at (h.0.0 ∙ ap Some (sym same)) in
+    let one : e.0 ≡ x.0 = (keys_are_numbered lines).apart e.0 x.0 e.1 at (h.0.0 ∙ ap Some (sym same)) in
     not_less (sym (tied_itself key_total e.0) ∙ ap (key_cmp e.0) one ∙ below.0) in
     ((h.0.0, left_set ls e.1 x.1 l other ∙ h.0.1), h.1, left_step lines ls e es l at below.1 h.2)
 
 -- before any line is taken
-pub left_init : (lines : Lines) (es : List (Key × ℕ)) → IsStrictlySortedBy key_cmp (keys_of es) → All (λ e. number_of lines e.0 ≡ Some e.1) es → AreLeft lines lines.lines.items es
+pub left_init : (lines : Lines) (keys : BTreeMap Key ℕ) → IsOrdered key_cmp keys → ((q : Key) → get key_cmp keys q ≡ number_of lines q) → All (λ e. get key_cmp keys e.0 ≡ Some e.1) keys.entries → AreLeft lines lines.lines.items keys.entries
 unfolding IsStrictlySortedBy
-left_init lines [] sorted found = tt
-left_init lines (e ∷ es) sorted found =
-    let P : Key × ℕ → Type 0 = λ x. number_of lines x.0 ≡ Some x.1 in
-    ((All-head P e es found, refl), over es sorted.0, left_init lines es sorted.1 (All-tail P e es found))
+left_init lines keys ordered is found = from keys.entries ordered found
   where
-    over : (xs : List (Key × ℕ)) → AllByRecursion (λ y. key_cmp e.0 y ≡ Less) (keys_of xs) → AllByRecursion (λ x. key_cmp e.0 x.0 ≡ Less) xs
-    over [] h = tt
-    over (x ∷ xs) h = (h.0, over xs h.1)
+    over : (e : Key × ℕ) (xs : List (Key × ℕ)) → AllByRecursion (λ y. key_cmp e.0 y ≡ Less) (keys_of xs) → AllByRecursion (λ x. key_cmp e.0 x.0 ≡ Less) xs
+    over e [] h = tt
+    over e (x ∷ xs) h = (h.0, over e xs h.1)
+
+    from : (es : List (Key × ℕ)) → IsStrictlySortedBy key_cmp (keys_of es) → All (λ e. get key_cmp keys e.0 ≡ Some e.1) es → AreLeft lines lines.lines.items es
+    from [] sorted found = tt
+    from (e ∷ es) sorted found =
+        let P : Key × ℕ → Type 0 = λ x. get key_cmp keys x.0 ≡ Some x.1 in
+        ((sym (is e.0) ∙ All-head P e es found, refl), over e es sorted.0, from es sorted.1 (All-tail P e es found))
 
 below_too : {X : Type 0} (xs ys : List X) (n : ℕ) → slice_get xs n ≡ slice_get ys n → n < length ys → n < length xs
 below_too xs [] n same h = absurd (omega arith)
@@ -93,7 +97,7 @@ below_too (x ∷ xs) (y ∷ ys) (suc n) same h = let b = below_too xs ys n same 
 
 -- the next line is there
 pub left_below : (lines : Lines) (ls : List Line) (e : Key × ℕ) (es : List (Key × ℕ)) → AreLeft lines ls (e ∷ es) → e.1 < length ls
-left_below lines ls e es h = below_too ls lines.lines.items e.1 h.0.1 (lines.numbered.below e.0 e.1 h.0.0)
+left_below lines ls e es h = below_too ls lines.lines.items e.1 h.0.1 ((keys_are_numbered lines).below e.0 e.1 h.0.0)
 
 pub got : {X : Type 0} (ls : List X) (i : ℕ) (l : X) → i < length ls → l ≡ get_or ls i l → slice_get ls i ≡ Some l
 got [] i l below is = absurd (omega arith)
@@ -105,10 +109,6 @@ pub left_tally : (lines : Lines) (ls : List Line) (e : Key × ℕ) (es : List (K
 left_tally lines ls e es l h is =
     ap (λ o. option_map_or line_tally o no_tally) (sym (got ls e.1 l (left_below lines ls e es h) is) ∙ h.0.1)
     ∙ ap (read_at line_tally no_tally lines.lines.items) (sym h.0.0)
-
--- the next line is its key's own
-pub left_key : (lines : Lines) (ls : List Line) (e : Key × ℕ) (es : List (Key × ℕ)) (l : Line) → AreLeft lines ls (e ∷ es) → l ≡ get_or ls e.1 l → l.key ≡ e.0
-left_key lines ls e es l h is = lines.numbered.apart l.key e.0 e.1 (lines.named e.1 l (sym h.0.1 ∙ got ls e.1 l (left_below lines ls e es h) is)) h.0.0
 
 fewer : {X : Type 0} (p : X → Bool) (xs : List X) → length (filter p xs) ≤ length xs
 fewer p [] = omega arith
@@ -137,13 +137,13 @@ some_at q (b ∷ bs) =
     ∙ ap (λ t. t || list_any (eq_by_cmp key_cmp q) (map (λ x. x.key) bs)) tie
 
 -- the lines of all keys that are kept are the ledger
-pub ledger_is : (lines : Lines) (bs : List Booking) → IsOrdered key_cmp lines.numbers → LinesStand lines bs → booked_lines bs lines.numbers.entries ≡ ledger bs
+pub ledger_is : (lines : Lines) (keys : BTreeMap Key ℕ) (bs : List Booking) → IsOrdered key_cmp keys → ((q : Key) → get key_cmp keys q ≡ number_of lines q) → LinesStand lines bs → booked_lines bs keys.entries ≡ ledger bs
 unfolding ledger
-ledger_is lines bs ordered stand =
-    let es = lines.numbers.entries in
+ledger_is lines keys bs ordered is stand =
+    let es = keys.entries in
     let f : Key → LedgerLine = λ key. line_of key (at_key key bs) in
     sym (map-map (λ (e : Key × LedgerLine). e.1) (λ (e : Key × ℕ). (e.0, f e.0)) (filter (has_booking bs) es))
     ∙ ap (map (λ e. e.1)) (
     in_order_is key_cmp key_total key_exact f (map (λ b. b.key) bs) (λ q. nat_lt 0 (length (at_key q bs))) es ordered
     (λ q. some_at q bs)
-    (λ q none. sym (ap (λ t. t.is_booked) (stand q)) ∙ ap (λ o. (read_at line_tally no_tally lines.lines.items o).is_booked) (sym (find-lookup key_cmp key_total key_exact q es) ∙ none)))
+    (λ q none. sym (ap (λ t. t.is_booked) (stand q)) ∙ ap (λ o. (read_at line_tally no_tally lines.lines.items o).is_booked) (sym (is q) ∙ sym (find-lookup key_cmp key_total key_exact q es) ∙ none)))

@@ -11,11 +11,11 @@ use Rattle.dsr_ledger.specs.Numbered.{IsNumbered, Grows, AreNamed, read_at}
 same_Some : {X : Type 0} (x y : X) → Some x ≡ Some y → x ≡ y
 same_Some x y e = ap (λ o. unwrap_or o x) e
 
-not_Some : {X : Type 0} (x : X) → None ≡ Some x → ⊥
+pub not_Some : {X : Type 0} (x : X) → None ≡ Some x → ⊥
 not_Some x e = absurd (cc)
 
 -- what a key has after one was added: the new number, or what it had
-either : {X : Type 0} (b : Bool) (x y : X) (o : Option X) → cond b (Some x) o ≡ Some y → ((b ≡ true) × (x ≡ y)) ⊎ ((b ≡ false) × (o ≡ Some y))
+pub either : {X : Type 0} (b : Bool) (x y : X) (o : Option X) → cond b (Some x) o ≡ Some y → ((b ≡ true) × (x ≡ y)) ⊎ ((b ≡ false) × (o ≡ Some y))
 either true x y o e = inl (refl, same_Some x y e)
 either false x y o e = inr (refl, e)
 
@@ -47,6 +47,11 @@ module _ {K : Type 0} (same : K → K → Bool) (decides : (a b : K) → Decides
         | true ↦ λ s. absurd (not_Some i (sym none ∙ ap old ((decides k q).0 s) ∙ e))
         | false ↦ λ _. e
       ] refl
+
+  -- a key more takes no number that another had
+  pub fresh_more : (old new : K → Option ℕ) (k : K) (n : ℕ) → ((q : K) → new q ≡ cond (same k q) (Some n) (old q)) → (q : K) (i : ℕ) → new q ≡ Some i → i < n → old q ≡ Some i
+  fresh_more old new k n is q i e below =
+      ⊎_elim (λ s. absurd (let m = s.1 in omega arith)) (λ s. s.1) (either (same k q) n i (old q) (sym (is q) ∙ e))
 
   module _ {V : Type 0} (name : V → K) where
     value_pushed : (vs : List V) (v w : V) (i : ℕ) → slice_get (vs ++ v ∷ []) i ≡ Some w → (slice_get vs i ≡ Some w) ⊎ ((i ≡ length vs) × (v ≡ w))

@@ -13,7 +13,8 @@ use Rattle.dsr_ledger.specs.declared.verdict.Verdict.{Verdict}
 use Rattle.dsr_ledger.specs.declared.verdict.Verdict.TheVariants.{Booked, Rejected}
 use Rattle.dsr_ledger.specs.Files.{File, Filed, standing, filed, filed_after, summaries_of}
 use Rattle.dsr_ledger.specs.Verdicts.{verdict, judged, judged_in}
-use Rattle.dsr_ledger.specs.Bookings.{Booking, Place, booked_under, usage_bookings, block_bookings, place_named, verdict_bookings, filed_bookings, bookings}
+use Rattle.dsr_ledger.specs.declared.place.Place.{Place}
+use Rattle.dsr_ledger.specs.Bookings.{Booking, booked_under, usage_bookings, block_bookings, place_named, verdict_bookings, filed_bookings, bookings}
 use Rattle.dsr_ledger.specs.Ranges.{IsInRange}
 use Rattle.dsr_ledger.specs.FileSteps.{IsBlockInRange}
 use Rattle.dsr_ledger.specs.Order.{IsSmall, AreSmall}

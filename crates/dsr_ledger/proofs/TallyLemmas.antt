@@ -3,7 +3,9 @@ use Rattle.std.proofs.Common.{◌≡◌, ℕ, zero, suc, ◌<◌, List, [], ◌�
 use Rattle.std.specs.Prelude.{Option, Some, slice_get}
 use Rattle.std.specs.Option.{option_and_then}
 use Rattle.dsr_ledger.specs.declared.line.Line.{Line}
+use Rattle.dsr_ledger.specs.declared.lines.Lines.{Lines}
 use Rattle.dsr_ledger.specs.Owed.{seat_of}
+use Rattle.dsr_ledger.specs.Tallies.{LinesGrow}
 
 abbrev pub seat_among : List Line → ℕ → List ℕ → Option ℕ
 seat_among ls i party = option_and_then (λ l. seat_of l.parties party) (slice_get ls i)
@@ -33,3 +35,10 @@ seats_set (x ∷ ls) zero l m is same zero q = same q ∙ ap (λ y. seat_of y.pa
 seats_set (x ∷ ls) zero l m is same (suc j) q = refl
 seats_set (x ∷ ls) (suc i) l m is same zero q = refl
 seats_set (x ∷ ls) (suc i) l m is same (suc j) q = seats_set ls i l m is same j q
+
+-- lines that grow twice
+pub grow_twice : (old mid new : Lines) → LinesGrow old mid → LinesGrow mid new → LinesGrow old new
+grow_twice old mid new g h = record {
+  numbers = λ q i e. h.numbers q i (g.numbers q i e);
+  seats = λ i q n e. h.seats i q n (g.seats i q n e);
+}

@@ -10,7 +10,8 @@ use Rattle.dsr_records.specs.Works.{WorkParts}
 use Rattle.dsr_ledger.specs.declared.key.Key.{Key}
 use Rattle.dsr_ledger.specs.Verdicts.{share_total}
 use Rattle.dsr_ledger.specs.Keys.{key_eq}
-use Rattle.dsr_ledger.specs.Bookings.{Booking, Place, key_under, booked_under, usage_bookings}
+use Rattle.dsr_ledger.specs.declared.place.Place.{Place}
+use Rattle.dsr_ledger.specs.Bookings.{Booking, key_under, booked_under, usage_bookings}
 use Rattle.dsr_ledger.specs.Parts.{Part, rounded, parts_of, all_parts, work_parts}
 use Rattle.dsr_ledger.specs.Ledger.{is_at_key, at_key}
 use Rattle.dsr_ledger.specs.Owed.{owed_for, owed_plus}

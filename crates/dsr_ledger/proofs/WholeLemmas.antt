@@ -16,7 +16,8 @@ use Rattle.dsr_ledger.specs.declared.verdict.Verdict.{Verdict}
 use Rattle.dsr_ledger.specs.declared.verdict.Verdict.TheVariants.{Booked, Rejected}
 use Rattle.dsr_ledger.specs.Files.{File, Filed, filed, summaries_of}
 use Rattle.dsr_ledger.specs.Verdicts.{is_foreign, is_doubled, names_unknown, first_reason, verdict_by, judged, judged_in, share_total}
-use Rattle.dsr_ledger.specs.Bookings.{Booking, Place, booked_under, block_bookings, place_named, verdict_bookings, filed_bookings, bookings}
+use Rattle.dsr_ledger.specs.declared.place.Place.{Place}
+use Rattle.dsr_ledger.specs.Bookings.{Booking, booked_under, block_bookings, place_named, verdict_bookings, filed_bookings, bookings}
 
 abbrev pub IsWhole : Booking → Type 0
 IsWhole b = share_total b.works ≤ 1000000

@@ -7,17 +7,13 @@ use Rattle.dsr_records.specs.declared.record.Usage.{Usage}
 use Rattle.dsr_records.specs.Works.{WorkParts}
 use Rattle.dsr_records.specs.Blocks.{BlockParts}
 use Rattle.dsr_ledger.specs.declared.key.Key.{Key}
+use Rattle.dsr_ledger.specs.declared.place.Place.{Place}
 use Rattle.dsr_ledger.specs.declared.verdict.Verdict.{Verdict}
 use Rattle.dsr_ledger.specs.declared.verdict.Verdict.TheVariants.{Booked, Rejected}
 use Rattle.dsr_ledger.specs.Files.{File, Filed, filed, summaries_of}
 use Rattle.dsr_ledger.specs.Verdicts.{judged_in}
 
 -- the three parts of a key that a summary gives
-pub record Place : Type 0 where
-  pub territory : List ℕ
-  pub use_type : List ℕ
-  pub currency : List ℕ
-
 abbrev pub place_of : Summary → Place
 place_of s = record { territory = s.territory; use_type = s.use_type; currency = s.currency }
 

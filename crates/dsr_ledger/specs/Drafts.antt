@@ -8,7 +8,8 @@ use Rattle.dsr_ledger.specs.declared.owed.PartNote.{PartNote}
 use Rattle.dsr_ledger.specs.declared.draft.UsageNote.{UsageNote}
 use Rattle.dsr_ledger.specs.declared.founds.Founds.{Founds}
 use Rattle.dsr_ledger.specs.declared.lines.Lines.{Lines}
-use Rattle.dsr_ledger.specs.Bookings.{Place, key_under}
+use Rattle.dsr_ledger.specs.declared.place.Place.{Place}
+use Rattle.dsr_ledger.specs.Bookings.{key_under}
 use Rattle.dsr_ledger.specs.Parts.{work_parts}
 use Rattle.dsr_ledger.specs.Owed.{AreNoted}
 use Rattle.dsr_ledger.specs.Tallies.{number_of, seat_in}

@@ -8,22 +8,20 @@ use Rattle.dsr_ledger.specs.declared.sums.Sums.{Sums}
 use Rattle.dsr_ledger.specs.declared.found.Found.{Found}
 use Rattle.dsr_ledger.specs.declared.founds.Founds.{Founds}
 use Rattle.dsr_ledger.specs.Sums.{int_sum_by}
-use Rattle.dsr_ledger.specs.Bookings.{Place, place_of}
+use Rattle.dsr_ledger.specs.declared.place.Place.{Place}
+use Rattle.dsr_ledger.specs.Bookings.{place_of}
 use Rattle.dsr_ledger.specs.Findings.{naming}
 use Rattle.dsr_ledger.specs.Ranges.{SumsFit}
 use Rattle.dsr_ledger.specs.Keys.{text_cmp}
 use Rattle.dsr_ledger.specs.Numbered.{read_at}
 
--- all but the identifier, the recording of the block at hand and the salt
+-- all but the identifier and the guess
 pub record Shown : Type 0 where
   pub place : Place
   pub sums : Sums
 
 abbrev pub shown : Found → Shown
-shown f = record {
-  place = record { territory = f.key.territory; use_type = f.key.use_type; currency = f.key.currency };
-  sums = f.sums;
-}
+shown f = record { place = f.place; sums = f.sums }
 
 -- with one more usage
 abbrev pub shown_plus : Usage → Shown → Shown

@@ -11,6 +11,8 @@ pub mod Reports
 pub mod Laws
 -- Words that relate what is kept to them.
 pub mod Numbered
+pub mod LineKeys
+pub mod Places
 pub mod Ranges
 pub mod Names
 pub mod Owed

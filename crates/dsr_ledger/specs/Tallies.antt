@@ -7,7 +7,9 @@ use Rattle.dsr_ledger.specs.declared.key.Key.{Key}
 use Rattle.dsr_ledger.specs.declared.owed.Owed.{Owed}
 use Rattle.dsr_ledger.specs.declared.line.Line.{Line}
 use Rattle.dsr_ledger.specs.declared.lines.Lines.{Lines}
-use Rattle.dsr_ledger.specs.Keys.{key_cmp}
+use Rattle.dsr_ledger.specs.LineKeys.{line_key_cmp}
+use Rattle.dsr_ledger.specs.Places.{number_among}
+use Rattle.dsr_ledger.specs.declared.line_key.LineKey.{LineKey}
 use Rattle.dsr_ledger.specs.Bookings.{Booking}
 use Rattle.dsr_ledger.specs.Parts.{Part, all_parts}
 use Rattle.dsr_ledger.specs.Ledger.{at_key, usages_sum, amount_sum}
@@ -56,9 +58,13 @@ tally_with u parts t = record {
 abbrev pub line_tally : Line → Tally
 line_tally l = record { is_booked = l.is_booked; usages = l.sums.usages; amount = l.sums.amount; owed = owed_at l.parties }
 
+-- the number of the line that is kept by this key
+abbrev pub line_number : Lines → LineKey → Option ℕ
+line_number lines key = get line_key_cmp lines.numbers key
+
 -- the number of a key's line
 abbrev pub number_of : Lines → Key → Option ℕ
-number_of lines key = get key_cmp lines.numbers key
+number_of lines key = number_among lines.places lines.numbers key
 
 -- what is kept of a key
 abbrev pub tally_at : Lines → Key → Tally

@@ -100,19 +100,22 @@ impl Guesses {
         }
     }
 
-    /// Makes the table as large as that many keys want. Where no memory is left, it stays as it is.
-    pub fn grow(&mut self, alloc: Global, keys: usize) {
+    /// Makes the table larger where one more key than these wants it. Answers whether it did, and so forgot all guesses.
+    /// Where no memory is left, the table stays as it is.
+    pub fn grow(&mut self, alloc: Global, keys: usize) -> bool {
         let len = self.guesses.len();
         if keys < len / ROOM {
-            return;
+            return false;
         }
         let larger = if len < LEAST {
             LEAST
         } else {
             len.wrapping_mul(2)
         };
-        if let Some(guesses) = empty(alloc, larger) {
-            self.guesses = guesses;
-        }
+        let Some(guesses) = empty(alloc, larger) else {
+            return false;
+        };
+        self.guesses = guesses;
+        true
     }
 }

@@ -20,6 +20,7 @@ mod kept;
 mod key;
 pub mod laws;
 mod line;
+mod line_key;
 mod lines;
 mod missing;
 mod mixing;
@@ -30,12 +31,15 @@ mod owed;
 mod parties;
 mod parts;
 mod party_entry;
+mod place;
+mod places;
 mod rejects;
 mod report;
 mod sums;
 #[cfg(test)]
 mod tests;
 mod verdict;
+mod whole_keys;
 
 pub use books::Books;
 pub use report::{

@@ -5,7 +5,7 @@ ghost use Rattle.dsr_ledger.specs.Owed.{seat_of, AreNoted, notes_size};
 ghost use Rattle.dsr_ledger.specs.Ranges.{IsInRange};
 ghost use Rattle.dsr_ledger.specs.Tallies.{no_tally, line_tally, tally_with, TallyFits};
 
-use crate::key::Key;
+use crate::line_key::LineKey;
 use crate::owed::PartNote;
 use crate::parties::Parties;
 use crate::sums::Sums;
@@ -15,7 +15,7 @@ use std::alloc::Global;
 /// A ledger line: what it is of, whether a booked usage counts under it, the sums of these, and their parties.
 #[derive(Drop)]
 pub struct Line {
-    pub key: Key,
+    pub key: LineKey,
     pub is_booked: bool,
     pub sums: Sums,
     pub parties: Parties,
@@ -23,7 +23,7 @@ pub struct Line {
 
 impl Line {
     /// A line under which nothing counts.
-    pub fn new(alloc: Global, key: Key) -> Line
+    pub fn new(alloc: Global, key: LineKey) -> Line
         ensures key { result.key ≡ key }
         ensures tally { line_tally result ≡ no_tally }
     {

@@ -1,6 +1,6 @@
 //! Numbers that give keys and names their places where guesses are kept.
-use crate::key::Key;
-use dsr_cells::{Isrc, Text};
+use crate::line_key::LineKey;
+use dsr_cells::Text;
 
 /// An odd number whose bits are spread: each bit of a product with it depends on all bits of the other number that
 /// are not above it.
@@ -12,31 +12,16 @@ fn mixed(first: u64, last: u64) -> u64 {
     (both ^ (both >> 32)).wrapping_mul(SPREAD)
 }
 
-/// A number mixed with the bytes of a text.
-fn with_text(salt: u64, text: &Text) -> u64 {
-    let mut salt = salt ^ text.as_str().len() as u64;
-    for byte in text.as_str().as_bytes() {
-        salt = (salt ^ u64::from(*byte)).wrapping_mul(SPREAD);
-    }
-    salt
-}
-
-/// What the parts of a key beside its recording give.
-pub fn salt_of(key: &Key) -> u64 {
-    let salt = with_text(0, &key.territory);
-    let salt = with_text(salt, &key.use_type);
-    with_text(salt, &key.currency)
-}
-
-/// A recording's code and a salt, mixed.
-pub fn mixed_key(isrc: &Isrc, salt: u64) -> u64 {
-    let Ok(bytes) = <[u8; 12]>::try_from(isrc.as_bytes()) else {
-        return salt;
+/// The key of a line, mixed.
+pub fn mixed_key(key: &LineKey) -> u64 {
+    let place = u64::from(key.place) << 32;
+    let Ok(bytes) = <[u8; 12]>::try_from(key.isrc.as_bytes()) else {
+        return place;
     };
     let [a, b, c, d, e, f, g, h, i, j, k, l] = bytes;
     let first = u64::from_le_bytes([a, b, c, d, e, f, g, h]);
     let last = u32::from_le_bytes([i, j, k, l]);
-    mixed(first, u64::from(last) ^ salt)
+    mixed(first, u64::from(last) | place)
 }
 
 /// The first and the last eight bytes, which may share some; of less than eight bytes the first and the last four, and

@@ -1,5 +1,6 @@
 //! Where the usages of a block count: every growth that adding them will want.
 ghost use Rattle.std.specs.Prelude.{◌≡◌, ℕ, List, [], OnOk, Some, map};
+ghost use Rattle.dsr_ledger.specs.Bookings.{key_under};
 ghost use Rattle.dsr_ledger.specs.Ranges.{IsInRange};
 ghost use Rattle.dsr_ledger.specs.Tallies.{tally_at, LinesGrow};
 ghost use Rattle.dsr_ledger.specs.Found.{shown_at, index_at};
@@ -7,19 +8,20 @@ ghost use Rattle.dsr_ledger.specs.Drafts.{numbers_in, NotedUnder, DraftedMore, A
 
 use crate::draft::UsageNote;
 use crate::founds::Founds;
-use crate::key::Key;
 use crate::lines::Lines;
 use crate::owed::PartNote;
+use crate::place::Place;
 use dsr_cells::{Isrc, NoMemory};
 use dsr_records::{Usage, Work};
 use std::alloc::Global;
 
-/// Notes that a usage counts under a key. Nothing is added.
+/// Notes that a usage counts under a recording and a place. Nothing is added.
 fn note_under(
     lines: &mut Lines,
     alloc: Global,
-    key: &Key,
-    salt: u64,
+    isrc: Isrc,
+    place: &Place,
+    guess: &mut u32,
     works: &[Work],
     usage: &Usage,
     summary: usize,
@@ -28,9 +30,9 @@ fn note_under(
 ) -> Result<(), NoMemory>
     ensures same { (q : _) → tally_at lines.new q ≡ tally_at lines.old q }
     ensures grows { LinesGrow lines.old lines.new }
-    ensures noted { OnOk result (NotedUnder lines.new key.now works.now usage.now summary notes.old.items notes.new.items parts.old.items parts.new.items) }
+    ensures noted { OnOk result (NotedUnder lines.new (key_under isrc place.now) works.now usage.now summary notes.old.items notes.new.items parts.old.items parts.new.items) }
 {
-    let line = lines.number(alloc, key, salt)?;
+    let line = lines.number(alloc, isrc, place, guess)?;
     let before = parts.len();
     lines.note(alloc, line, usage.amount, works, parts)?;
     let parts = parts.len() - before;
@@ -62,9 +64,17 @@ fn note_usage(
     ensures noted { OnOk result (DraftedMore (numbers_in lines.new founds.new) isrc works.now usage.now notes.old.items notes.new.items parts.old.items parts.new.items) }
 {
     let found = &mut founds.founds[summary];
-    found.key.isrc = isrc;
     note_under(
-        lines, alloc, &found.key, found.salt, works, usage, summary, notes, parts,
+        lines,
+        alloc,
+        isrc,
+        &found.place,
+        &mut found.guess,
+        works,
+        usage,
+        summary,
+        notes,
+        parts,
     )
 }
 

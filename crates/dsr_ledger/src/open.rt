@@ -10,11 +10,10 @@ use crate::file::FileBooks;
 use crate::found::Found;
 use crate::founds::Founds;
 use crate::ids::Ids;
-use crate::key::Key;
-use crate::mixing::salt_of;
+use crate::place::Place;
 use crate::sums::Sums;
 use crate::verdict::Standing;
-use dsr_cells::{Isrc, NoMemory};
+use dsr_cells::NoMemory;
 use dsr_file::Opening;
 use dsr_records::{Head, Summary};
 use std::alloc::Global;
@@ -84,28 +83,19 @@ fn standing_after(files: &[FileBooks], opening: &Option<Opening>) -> Standing
     }
 }
 
-/// A recording that stands in keys until a block gives one.
-fn no_recording() -> Isrc {
-    let Some(isrc) = Isrc::read("AA0000000000") else {
-        unreachable!()
-    };
-    isrc
-}
-
 /// Adds a summary that no usage names so far, unless its name is there.
 fn add_summary(founds: &mut Founds, alloc: Global, summary: &Summary) -> Result<(), NoMemory>
     ensures { OnOk result ((id : List ℕ) → shown_at founds.new id ≡ first_of (shown_at founds.old id) (option_map nothing_found (named id summary.now))) }
 {
-    let key = Key {
-        isrc: no_recording(),
+    let place = Place {
         territory: summary.territory.copy(alloc)?,
         use_type: summary.use_type.copy(alloc)?,
         currency: summary.currency.copy(alloc)?,
     };
     let found = Found {
         id: summary.id.copy(alloc)?,
-        salt: salt_of(&key),
-        key,
+        place,
+        guess: 0,
         sums: Sums {
             usages: 0,
             amount: 0,

@@ -11,12 +11,14 @@ ghost use Rattle.dsr_ledger.specs.Tallies.{line_tally, tally_of};
 ghost use Rattle.dsr_ledger.specs.Stands.{LinesStand};
 ghost use Rattle.dsr_ledger.specs.Order.{IsOfSmall, AreOfSmall};
 
+use crate::key::Key;
 use crate::line::Line;
 use crate::lines::Lines;
 use crate::owed::Owed;
 use crate::parties::Parties;
 use crate::party_entry::PartyEntry;
 use crate::report::{LedgerLine, LedgerLines, PartyLine};
+use crate::whole_keys::whole_keys;
 use dsr_cells::{Items, NoMemory, Text};
 use std::alloc::Global;
 use std::collections::BTreeMap;
@@ -65,22 +67,30 @@ fn unclaimed(amount: i128, parties: &[PartyLine]) -> i128
 }
 
 /// The line of a key, with its parties in their order.
-fn ledger_line(alloc: Global, line: Line) -> Result<LedgerLine, NoMemory>
+fn ledger_line(alloc: Global, key: Key, line: Line) -> Result<LedgerLine, NoMemory>
     requires { ∥ IsOfSmall line ∥₁ }
-    ensures { (bs : List Booking) → line_tally line ≡ tally_of bs → IfOk result (λ l. l ≡ line_of line.key bs) }
+    ensures { (bs : List Booking) → line_tally line ≡ tally_of bs → IfOk result (λ l. l ≡ line_of key bs) }
 {
     let parties = party_lines(alloc, line.parties)?;
     let amount = line.sums.amount;
     Ok(LedgerLine {
-        isrc: line.key.isrc,
-        territory: line.key.territory,
-        use_type: line.key.use_type,
-        currency: line.key.currency,
+        isrc: key.isrc,
+        territory: key.territory,
+        use_type: key.use_type,
+        currency: key.currency,
         usages: line.sums.usages,
         amount,
         unclaimed: unclaimed(amount, parties.as_slice()),
         parties,
     })
+}
+
+/// A line that is taken out; one under which nothing counts is left of it.
+fn take_line(alloc: Global, line: &mut Line) -> Line
+    ensures { result ≡ line.old }
+{
+    let empty = Line::new(alloc, line.key);
+    mem::replace(line, empty)
 }
 
 /// The lines of all keys that have a booking, in the order of the keys.
@@ -89,16 +99,18 @@ pub fn ledger_lines(alloc: Global, lines: Lines) -> Result<LedgerLines, NoMemory
     ensures { (bs : List Booking) → LinesStand lines bs → IfOk result (λ l. l ≡ ledger bs) }
 {
     let Lines {
+        places,
         numbers,
         mut lines,
         ..
     } = lines;
+    let keys = whole_keys(alloc, numbers, &places)?;
     let mut ledger = Items::new(alloc);
-    for (key, number) in numbers {
-        let line = mem::replace(&mut lines[number], Line::new(alloc, key));
+    for (key, number) in keys {
+        let line = take_line(alloc, &mut lines[number]);
         if line.is_booked {
             ledger
-                .push(ledger_line(alloc, line)?)
+                .push(ledger_line(alloc, key, line)?)
                 .map_err(|_line| NoMemory)?;
         }
     }

@@ -11,6 +11,12 @@ use Rattle.dsr_ledger.proofs.adding.add_usage.Goals as goal
 pub count-requires-clause-fits : goal.count-requires-clause-fits
 count-requires-clause-fits c = c.requires.founds_fit c.args.usage.now.summary_id
 
+pub add-requires-clause-there : goal.add-requires-clause-there
+add-requires-clause-there c =
+    let noted = c.requires.noted.2 in
+    let key = key_under c.requires.noted.0 noted.place in
+    (key, noted.line, c.requires.lines_fit key)
+
 pub add-requires-clause-small : goal.add-requires-clause-small
 add-requires-clause-small c =
     let a = c.args.usage.now.amount in

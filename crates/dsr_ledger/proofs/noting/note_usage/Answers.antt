@@ -14,7 +14,7 @@ returns-clause-noted c =
     let m = c.args.founds.now in
     let id = c.args.usage.now.summary_id in
     let old = c.index_mut-found.result.now in
-    let new : Found = record { id = old.id; key = record old.key { isrc = c.args.isrc }; salt = old.salt; sums = old.sums } in
+    let new : Found = record { id = old.id; place = old.place; guess = c.note_under.new.guess; sums = old.sums } in
     let here = read_set bytes_eq bytes_eq-Decides (λ (f : Found). Some (shown f)) None (index_at m) id m.founds.items c.args.summary new m.numbered c.requires id ∙ ap (λ b. cond b (Some (shown new)) (shown_at m id)) (text_itself id) in
     on_ok_weaker c.note_under.result (λ h. record {
       note = h.note;

@@ -27,10 +27,10 @@ returns c = λ bs is.
     let lines : c.in_ok-parties.parties ≡ party_lines bs = c.in_ok-parties.ensures bs (λ q. ap (λ t. t.owed q) is) in
     let total = amount ∙ ap (λ t. t.amount) is in
     λ i. record {
-      isrc = c.args.line.key.isrc;
-      territory = c.args.line.key.territory;
-      use_type = c.args.line.key.use_type;
-      currency = c.args.line.key.currency;
+      isrc = c.args.key.isrc;
+      territory = c.args.key.territory;
+      use_type = c.args.key.use_type;
+      currency = c.args.key.currency;
       usages = (usages ∙ ap (λ t. t.usages) is) i;
       amount = total i;
       parties = lines i;

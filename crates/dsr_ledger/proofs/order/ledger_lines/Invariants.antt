@@ -7,5 +7,5 @@ use Rattle.dsr_ledger.proofs.order.ledger_lines.Given as goal
 abbrev pub invariant-loop-key : goal.invariant-loop-key
 invariant-loop-key l = record {
   left : AreLeft l.fn.lines l.lines.items l.key-iterator;
-  booked : (bs : List Booking) → LinesStand l.fn.lines bs → l.ledger ++ booked_lines bs l.key-iterator ≡ booked_lines bs l.fn.lines.numbers.entries;
+  booked : (bs : List Booking) → LinesStand l.fn.lines bs → l.ledger ++ booked_lines bs l.key-iterator ≡ booked_lines bs l.initial.key-iterator;
 }
