@@ -106,7 +106,8 @@ impl Tap {
 
     /// The events of the last message that were not taken yet.
     pub fn held_events(&self) -> &[Event]
-        ensures { result.now ≡ self.now.held }
+        ensures held { result.now ≡ self.now.held }
+        ensures few { length result.now ≤ 31 }
     {
         self.held.as_slice()
     }
