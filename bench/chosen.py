@@ -3,9 +3,9 @@
 
   chosen.py COUNT BITS
 
-The guesses stand in a table, at one of eight places that a line's key gives (crates/dsr_ledger/src/guesses.rt and
-mixing.rt). The low BITS bits of the first places of all COUNT recordings are nought, for the lines of the first place
-that a report names: in a table of 2^BITS places they share all eight. For report.py's --recordings, with --summaries 1.
+The guesses stand in a table, in one of eight slots that a line's key gives (crates/dsr_ledger/src/guesses.rt and
+mixing.rt). The low BITS bits of the first slots of all COUNT recordings are nought, for the lines of the first summary:
+in a table of 2^BITS slots they share all eight. For report.py's --recordings, with --summaries 1.
 """
 import sys
 

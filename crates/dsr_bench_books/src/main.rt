@@ -35,7 +35,7 @@ fn feed<C: Clock>(
         let Some(event) = event else {
             break;
         };
-        measured.put(clock, event.part)?;
+        measured.put(clock, event)?;
     }
     Ok(())
 }
@@ -69,7 +69,7 @@ fn end<C: Clock>(clock: &C, file: &mut FileReader, measured: &mut Measured) -> i
         let Some(event) = file.finish(Ending::Whole) else {
             break;
         };
-        measured.put(clock, event.part)?;
+        measured.put(clock, event)?;
     }
     Ok(())
 }

@@ -1,7 +1,7 @@
 //! The books under measure.
 
 use dsr_cells::NoMemory;
-use dsr_file::{EventPart, Opening, Outcome};
+use dsr_file::{Event, EventPart, Opening, Outcome};
 use dsr_ledger::{Books, Report};
 use dsr_records::Block;
 use std::alloc::Global;
@@ -13,6 +13,9 @@ const MOST_BLOCKS: u64 = 1 << 37;
 
 /// How many blocks wait, so that the clock is asked once for all of them.
 const WAITING: usize = 4096;
+
+/// How many blocks are looked at before the first of them is booked, as many as a message of a relay has.
+const AHEAD: usize = 32;
 
 /// What was measured.
 #[derive(Clone, Copy, Drop)]
@@ -31,7 +34,7 @@ pub struct Figures {
 #[derive(Drop)]
 pub struct Measured {
     books: Books,
-    waiting: Vec<Block>,
+    waiting: Vec<Event>,
     blocks: u64,
     nanos: u128,
 }
@@ -50,13 +53,23 @@ fn book(books: &mut Books, block: &Block) -> Result<bool, NoMemory> {
     Ok(true)
 }
 
-/// Books all blocks: how many the books took.
-fn book_all(books: &mut Books, blocks: &[Block]) -> Result<u64, NoMemory> {
+/// Books blocks after a look at all of them, as a collector does with a message: how many the books took.
+fn book_message(books: &mut Books, events: &[Event]) -> Result<u64, NoMemory> {
+    books.look_ahead(0, events);
     let mut booked = 0u64;
-    for block in blocks {
-        if book(books, block)? {
-            booked = booked.wrapping_add(1);
+    for event in events {
+        if let EventPart::Block(block) = &event.part {
+            booked = booked.wrapping_add(u64::from(book(books, block)?));
         }
+    }
+    Ok(booked)
+}
+
+/// Books all blocks: how many the books took.
+fn book_all(books: &mut Books, events: &[Event]) -> Result<u64, NoMemory> {
+    let mut booked = 0u64;
+    for message in events.chunks(AHEAD) {
+        booked = booked.wrapping_add(book_message(books, message)?);
     }
     Ok(booked)
 }
@@ -107,19 +120,25 @@ impl Measured {
         Ok(())
     }
 
-    /// Takes a part of the file.
-    pub fn put<C: Clock>(&mut self, clock: &C, part: EventPart) -> io::Result<()> {
-        match part {
+    /// Lets a block wait, and books all that wait where they are many.
+    fn wait<C: Clock>(&mut self, clock: &C, event: Event) -> io::Result<()> {
+        self.waiting
+            .push(event)
+            .map_err(|_| io::ErrorKind::OutOfMemory)?;
+        if self.waiting.len() >= WAITING {
+            self.book_waiting(clock)?;
+        }
+        Ok(())
+    }
+
+    /// Takes an event of the file.
+    pub fn put<C: Clock>(&mut self, clock: &C, event: Event) -> io::Result<()> {
+        if matches!(event.part, EventPart::Block(_)) {
+            return self.wait(clock, event);
+        }
+        match event.part {
             EventPart::Opened(opening) => self.open(opening).map_err(no_memory),
-            EventPart::Block(block) => {
-                self.waiting
-                    .push(block)
-                    .map_err(|_| io::ErrorKind::OutOfMemory)?;
-                if self.waiting.len() >= WAITING {
-                    self.book_waiting(clock)?;
-                }
-                Ok(())
-            }
+            EventPart::Block(_) => Ok(()),
             EventPart::Ended(outcome) => {
                 self.book_waiting(clock)?;
                 self.end(outcome).map_err(no_memory)

@@ -1,4 +1,4 @@
-//! Numbers that give keys and names their places where guesses are kept.
+//! Numbers that give keys and names their slots and marks where guesses are kept.
 use crate::line_key::LineKey;
 use dsr_cells::Text;
 
