@@ -1,6 +1,5 @@
 //! Texts that are short enough to lie in the value itself.
 ghost use Rattle.std.specs.Prelude.{◌≡◌, ◌≤◌, length};
-ghost use Rattle.std.specs.Str.{bytes_eq};
 
 use std::marker::Model;
 use std::str;
@@ -8,8 +7,7 @@ use std::str;
 /// How many bytes a short text has at most.
 pub(crate) const SHORT: usize = 30;
 
-/// A text of at most 30 bytes, which takes no memory of its own. The bytes after it are zero, so
-/// that two texts are compared without a look at how long they are.
+/// A text of at most 30 bytes, which takes no memory of its own.
 #[derive(Drop)]
 pub(crate) struct ShortText {
     bytes: [u8; SHORT],
@@ -17,13 +15,13 @@ pub(crate) struct ShortText {
 }
 
 impl Model for ShortText {
-    ghost use Rattle.std.specs.Prelude.{◌≡◌, ◌≤◌, ◌-◌, List, ℕ, take, drop, replicate, IsUtf8};
+    ghost use Rattle.std.specs.Prelude.{◌≤◌, List, ℕ, take, IsUtf8};
 
     ghost Value = { List ℕ };
 
     ghost view = { λ s. take s.size s.bytes };
 
-    ghost invariant = { λ s. (s.size ≤ 30) × (drop s.size s.bytes ≡ replicate (30 - s.size) 0) × ∥ IsUtf8 (take s.size s.bytes) ∥₁ };
+    ghost invariant = { λ s. (s.size ≤ 30) × ∥ IsUtf8 (take s.size s.bytes) ∥₁ };
 }
 
 impl ShortText {
@@ -45,13 +43,5 @@ impl ShortText {
         ensures { result.now ≡ self.now }
     {
         unsafe { str::from_utf8_unchecked(&self.bytes[..self.size as usize]) }
-    }
-
-    /// Whether both have the same bytes. The whole arrays are compared, whose length is known when
-    /// compiling: no call is made.
-    pub(crate) fn same(&self, other: &ShortText) -> bool
-        ensures { result ≡ bytes_eq self.now other.now }
-    {
-        self.size == other.size && self.bytes == other.bytes
     }
 }

@@ -199,36 +199,6 @@ fn texts_are_kept_and_ordered(rt: HostRuntime) -> Result<(), Fail> {
 }
 
 #[test]
-fn texts_are_equal_byte_for_byte(rt: HostRuntime) -> Result<(), Fail> {
-    let most = "a title of thirty bytes, whole";
-    let one_more = "a title of thirty bytes, whole!";
-    assert_eq!(rt; most.len(), 30);
-    for (first, second, want) in [
-        ("", "", true),
-        ("a", "a", true),
-        ("a", "a\0", false),
-        ("", "\0", false),
-        ("a", "b", false),
-        ("ab", "ba", false),
-        (most, most, true),
-        (most, "a title of thirty bytes, whold", false),
-        (most, "A title of thirty bytes, whole", false),
-        (most, one_more, false),
-        (one_more, one_more, true),
-    ] {
-        let first = Text::copy_of(rt.alloc(), first)?;
-        let second = Text::copy_of(rt.alloc(), second)?;
-        assert_eq!(rt; first == second, want);
-        assert_eq!(rt; second == first, want);
-    }
-    let kept_apart = unescape(rt.alloc(), "a\\|b")?;
-    let in_place = Text::copy_of(rt.alloc(), "a|b")?;
-    assert!(rt; kept_apart == in_place);
-    assert!(rt; in_place == kept_apart);
-    Ok(())
-}
-
-#[test]
 fn lists_of_texts_and_shares(rt: HostRuntime) -> Result<(), Fail> {
     let mut texts: Texts = Items::new(rt.alloc());
     for part in values("P1|P2|P3") {
