@@ -208,7 +208,8 @@ fn lists_of_texts_and_shares(rt: HostRuntime) -> Result<(), Fail> {
     assert_eq!(rt; texts.len(), 3);
     assert!(rt; texts.get(1).is_some_and(|text| text.as_str() == "P2"));
     assert!(rt; texts.get(3).is_none());
-    let mut shares: Shares = Items::new(rt.alloc());
+    let mut shares: Shares = Items::with_room(rt.alloc(), 1)?;
+    assert_eq!(rt; shares.len(), 0);
     for part in values("50|25") {
         if let Some(share) = Share::read(part) {
             assert!(rt; shares.push(share).is_ok());

@@ -65,7 +65,7 @@ impl Model for Event {
     ghost invariant = { λ e. e.place < 2 ^ 37 };
 }
 
-/// An event that fills the unused places of a list of fixed size.
+/// An event that stands in the place of one that was taken out of a list.
 impl Default for Event {
     ghost use Rattle.std.specs.Prelude.{◌≡◌};
     ghost use Rattle.dsr_file.specs.declared.event.EventPart.TheVariants as part;

@@ -1,20 +1,22 @@
 -- The file that a list of events tells of, event by event.
-use Rattle.std.proofs.Common.{◌≡◌, ℕ, zero, suc, ◌<◌, ◌≤◌, ◌^◌, ◌||◌, true, false, List, [], ◌∷◌, ◌++◌, length, Some, IsSome, refl, sym, ap, subst, ◌∙◌, arith, length-append, set, slice_get}
+use Rattle.std.proofs.Common.{◌≡◌, ℕ, zero, suc, ◌+◌, ◌<◌, ◌≤◌, ◌^◌, ◌||◌, true, false, List, [], ◌∷◌, ◌++◌, length, take, drop, get_or, Some, IsSome, refl, sym, ap, subst, ◌∙◌, arith, add-one, append_assoc, length-append, set, slice_get}
 use Rattle.std.specs.List.{filter_map}
-use Rattle.std.proofs.lemmas.List.{append-nil, set-set, set-get_or}
+use Rattle.std.proofs.lemmas.List.{append-nil, set-set, set-get_or, take-append-drop}
+use Rattle.std.proofs.Math.Seq.{take-suc}
 use Rattle.std.proofs.lemmas.Option.{get_or_from_slice_get}
 use Rattle.std.proofs.lemmas.List.Elements.{filter_map-append}
 use Rattle.dsr_file.specs.declared.event.EventPart.{EventPart}
 use Rattle.dsr_file.specs.declared.event.EventPart.TheVariants as part
 use Rattle.dsr_file.specs.Placed.{Placed}
 use Rattle.dsr_file.specs.Orderly.{is_ended, has_ended, MayStandAt, IsOrderly}
-use Rattle.dsr_relay.specs.Views.{TapView}
+use Rattle.dsr_file.specs.OrderlyLaws.{orderly_front}
+use Rattle.dsr_relay.proofs.Taking.{going_on}
 use Rattle.dsr_ledger.specs.declared.books.Books.{Books}
 use Rattle.dsr_ledger.specs.Files.{File}
 use Rattle.dsr_ledger.specs.BooksWords.{Stands}
 use Rattle.dsr_intake.specs.Ends.{ends_clean, is_clean_end}
 use Rattle.dsr_intake.specs.Texts.{opening_in, block_in, outcome_in, first, file_of}
-use Rattle.dsr_intake.specs.Collecting.{with_part, is_opening, IsGoing, Knows, Changes, IsTapped}
+use Rattle.dsr_intake.specs.Collecting.{with_part, is_opening, IsGoing, Knows, Changes, IsFollowed, TakesAll}
 use Rattle.dsr_intake.proofs.EndLemmas.{ends_clean_push, has_ended_push}
 
 abbrev event : ℕ → EventPart → Placed
@@ -83,15 +85,6 @@ pub going : (es : List Placed) → IsOrderly es → 0 < length es → has_ended 
 going es o some h short =
     record { running = ap first (no_outcome es h); opened = opened_first es o some h; short = omega (arith, blocks_le es) }
 
--- the tap goes on
-pub tapped_more : (t u : TapView) (e : Placed) → IsTapped t → u.taken ≡ t.taken ++ e ∷ [] → IsOrderly u.taken → (is_ended e.part ≡ true → is_clean_end e.part ≡ true) → has_ended t.taken ≡ false → IsTapped u
-tapped_more t u e h same o clean none =
-    record {
-      orderly = o;
-      some = omega (arith, ap length same, length-append t.taken (e ∷ []));
-      clean = λ ended. ap ends_clean same ∙ ends_clean_push t.taken e ∙ clean (sym (has_ended_push t.taken e ∙ ap (λ b. b || is_ended e.part) none) ∙ ap has_ended (sym same) ∙ ended);
-    }
-
 pub get_set_same : {A : Type 0} (xs : List A) (k : ℕ) (x y : A) → slice_get xs k ≡ Some x → slice_get (set xs k y) k ≡ Some y
 get_set_same [] k x y h = cc
 get_set_same (z ∷ xs) zero x y h = refl
@@ -106,3 +99,43 @@ knows_more a b k f g w p = (set w.0 k g, p w.0 w.1 w.2, get_set_same w.0 k f g w
 
 pub changes_none : (a : Books) (k : ℕ) (f : File) → Changes a a k f f
 changes_none a k f files stands at = subst (Stands a) (sym (ap (set files k) (sym (get_or_from_slice_get files k f f at)) ∙ set-get_or files k f)) stands
+
+-- event i of those that follow, after the others before it
+pub record FollowsNext (taken events : List Placed) (i : ℕ) (e : Placed) : Type 0 where
+  pub orderly : IsOrderly ((taken ++ take i events) ++ e ∷ [])
+  pub running : has_ended (taken ++ take i events) ≡ false
+  pub some : 0 < length (taken ++ take i events)
+  pub more : taken ++ take (i + 1) events ≡ (taken ++ take i events) ++ e ∷ []
+
+next_at : (taken events : List Placed) (i : ℕ) (d : Placed) → IsFollowed taken events → i < length events → FollowsNext taken events i (get_or events i d)
+next_at taken events i d f low =
+    let e = get_or events i d in
+    let xs = taken ++ take i events in
+    let rest = drop (suc i) events in
+    let split : events ≡ take i events ++ e ∷ rest =
+    sym (take-append-drop (suc i) events) ∙ ap (λ l. l ++ rest) (take-suc events i d low) ∙ append_assoc (take i events) (e ∷ []) rest in
+    let whole : taken ++ events ≡ (xs ++ e ∷ []) ++ rest =
+    ap (λ l. taken ++ l) split ∙ sym (append_assoc taken (take i events) (e ∷ rest)) ∙ sym (append_assoc xs (e ∷ []) rest) in
+    let orderly = orderly_front (xs ++ e ∷ []) rest (subst IsOrderly whole f.orderly) in
+    record {
+      orderly = orderly;
+      running = going_on xs e orderly;
+      some = omega (arith, f.some, length-append taken (take i events));
+      more = ap (λ l. taken ++ l) (rw add-one (take-suc events i d low)) ∙ sym (append_assoc taken (take i events) (e ∷ []));
+    }
+
+pub follows_next : (taken events : List Placed) (i : ℕ) (e : Placed) → IsFollowed taken events → i < length events → e ≡ get_or events i e → FollowsNext taken events i e
+follows_next taken events i e f low is = subst (FollowsNext taken events i) (sym is) (next_at taken events i e f low)
+
+pub takes_none : (a : Books) (k : ℕ) (taken : List Placed) → has_ended taken ≡ false → TakesAll a a k taken []
+takes_none a k taken running = rw append-nil (changes_none a k (file_of taken), λ ended. absurd (cc))
+
+-- the books take the next of the events that follow
+pub takes_more : (a b c : Books) (k : ℕ) (taken events : List Placed) (i : ℕ) (e : Placed) → FollowsNext taken events i e → TakesAll a b k taken (take i events)
+    → ((f : File) → Changes b c k f (with_part f e.part)) → (is_ended e.part ≡ true → is_clean_end e.part ≡ true) → TakesAll a c k taken (take (i + 1) events)
+takes_more a b c k taken events i e n was step clean =
+    let xs = taken ++ take i events in
+    let same : with_part (file_of xs) e.part ≡ file_of (taken ++ take (i + 1) events) = sym (ap file_of n.more ∙ file_more xs e n.orderly n.some n.running) in (
+      λ files stands at. subst (λ f. Stands c (set files k f)) same (changes_more a b c k (file_of taken) (file_of xs) (with_part (file_of xs) e.part) was.0 (step (file_of xs)) files stands at),
+      λ ended. ap ends_clean n.more ∙ ends_clean_push xs e ∙ clean (sym (has_ended_push xs e ∙ ap (λ b. b || is_ended e.part) n.running) ∙ ap has_ended (sym n.more) ∙ ended),
+    )

@@ -3,6 +3,7 @@ use Rattle.std.specs.Prelude.{◌≡◌, ℕ, ◌+◌, ◌<◌, ◌^◌, Bool, t
 use Rattle.dsr_file.specs.declared.event.EventPart.{EventPart}
 use Rattle.dsr_file.specs.declared.event.EventPart.TheVariants as part
 use Rattle.dsr_file.specs.Orderly.{IsOrderly, has_ended}
+use Rattle.dsr_file.specs.Placed.{Placed}
 use Rattle.dsr_relay.specs.Views.{TapView}
 use Rattle.dsr_ledger.specs.declared.books.Books.{Books}
 use Rattle.dsr_ledger.specs.Files.{File, opened, add_block, end_with}
@@ -10,6 +11,7 @@ use Rattle.dsr_ledger.specs.BooksWords.{Stands, files_count}
 use Rattle.dsr_intake.specs.declared.collector.CollectError.{CollectError}
 use Rattle.dsr_intake.specs.declared.collector.CollectError.TheVariants.{Memory, Closed}
 use Rattle.dsr_intake.specs.Ends.{ends_clean}
+use Rattle.dsr_intake.specs.Texts.{file_of}
 
 -- a later part told of the file
 abbrev pub with_part : File → EventPart → File
@@ -59,6 +61,17 @@ pub record IsTapped (t : TapView) : Type 0 where
   pub orderly : IsOrderly t.taken
   pub some : 0 < length t.taken
   pub clean : has_ended t.taken ≡ true → ends_clean t.taken ≡ true
+
+-- these events follow those that were taken before, which did not end their file
+pub record IsFollowed (taken events : List Placed) : Type 0 where
+  pub some : 0 < length taken
+  pub running : has_ended taken ≡ false
+  pub orderly : IsOrderly (taken ++ events)
+
+-- the new books stand for the list with file k told of the further events too, which do not end it with Memory
+abbrev pub TakesAll : Books → Books → ℕ → List Placed → List Placed → Type 0
+TakesAll old new k taken events =
+    Changes old new k (file_of taken) (file_of (taken ++ events)) × (has_ended (taken ++ events) ≡ true → ends_clean (taken ++ events) ≡ true)
 
 -- tap i, from 0, is why the collector stops
 abbrev pub IsStoppedAt : ℕ → TapView → CollectError → Type 0

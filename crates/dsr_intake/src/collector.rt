@@ -1,5 +1,6 @@
 //! The collector: it takes the events of all files, books them, and reports.
-ghost use Rattle.std.specs.Prelude.{◌≡◌, ℕ, ◌+◌, ◌<◌, ◌≤◌, suc, true, false, [], map, All, OnOk, IfOk, IfErr, length, ◌⊎◌, vec_len};
+ghost use Rattle.std.specs.Prelude.{◌≡◌, ◌+◌, ◌<◌, ◌≤◌, true, false, List, [], map, All, OnOk, IfOk, IfErr, vec_len};
+ghost use Rattle.dsr_file.specs.Placed.{Placed};
 ghost use Rattle.dsr_file.specs.Orderly.{IsOrderly, is_ended, has_ended, MayStandAt};
 ghost use Rattle.dsr_ledger.specs.BooksWords.{Stands, files_count};
 ghost use Rattle.dsr_ledger.specs.Reports.{report_of};
@@ -7,10 +8,10 @@ ghost use Rattle.dsr_ledger.specs.Files.{File};
 ghost use Rattle.dsr_intake.specs.Ends.{ends_clean, is_clean_end, is_memory};
 ghost use Rattle.dsr_intake.specs.Texts.{file_of};
 ghost use Rattle.dsr_intake.specs.Stops.{IsStopped};
-ghost use Rattle.dsr_intake.specs.Collecting.{with_part, is_opening, first_file, IsFileAt, IsGoing, Knows, Changes, IsNext, Opens, IsTapped, IsStoppedAt};
+ghost use Rattle.dsr_intake.specs.Collecting.{with_part, is_opening, first_file, IsFileAt, IsGoing, Knows, Changes, IsNext, Opens, IsTapped, IsFollowed, TakesAll, IsStoppedAt};
 
 use dsr_cells::NoMemory;
-use dsr_file::{EventPart, FileFault, Outcome};
+use dsr_file::{Event, EventPart, FileFault, Outcome};
 use dsr_ledger::{Books, Report};
 use dsr_relay::Tap;
 use std::alloc::Global;
@@ -69,31 +70,19 @@ fn book_part(books: &mut Books, k: u32, part: &EventPart) -> Result<(), NoMemory
     }
 }
 
-/// Takes one later event of file k, and books it.
-fn take_one<H: Wait>(rt: &H, books: &mut Books, k: u32, tap: &mut Tap) -> Result<(), CollectError>
-    requires tapped { IsTapped tap.old }
-    requires running { has_ended tap.old.taken ≡ false }
-    requires number { k < 64 }
-    requires file { Knows books.old k (file_of tap.old.taken) }
-    ensures name { tap.new.name ≡ tap.old.name }
+/// Books further events of file k.
+fn book_events(books: &mut Books, k: u32, events: &[Event]) -> Result<(), NoMemory>
+    requires followed { (taken : List Placed) × IsFollowed taken events.now × Knows books.old k (file_of taken) }
+    ensures booked { OnOk result ((taken : List Placed) → IsFollowed taken events.now → TakesAll books.old books.new k taken events.now) }
     ensures files { files_count books.new ≡ files_count books.old }
-    ensures tapped { OnOk result (IsTapped tap.new) }
-    ensures booked { OnOk result (Changes books.old books.new k (file_of tap.old.taken) (file_of tap.new.taken)) }
-    ensures held { OnOk result (0 < length tap.old.held → length tap.old.held ≡ suc (length tap.new.held)) }
-    ensures stopped { IfErr result (IsStoppedAt k tap.new) }
 {
-    let Ok(event) = tap.take(rt) else {
-        return Err(closed(k));
-    };
-    let answer = book_part(books, k, &event.part);
-    tap.give_back(rt, event);
-    match answer {
-        Ok(()) => Ok(()),
-        Err(NoMemory) => Err(CollectError::Memory),
+    for event in events {
+        book_part(books, k, &event.part)?;
     }
+    Ok(())
 }
 
-/// Takes a message of file k, or what is held of one.
+/// Takes a message of file k, or what is held of one, and books it.
 fn take_message<H: Wait>(
     rt: &H,
     books: &mut Books,
@@ -110,12 +99,16 @@ fn take_message<H: Wait>(
     ensures booked { OnOk result (Changes books.old books.new k (file_of tap.old.taken) (file_of tap.new.taken)) }
     ensures stopped { IfErr result (IsStoppedAt k tap.new) }
 {
-    take_one(rt, books, k, tap)?;
-    books.look_ahead(k, tap.held_events());
-    while tap.held() > 0 && !tap.ended() {
-        take_one(rt, books, k, tap)?;
+    let Ok(lot) = tap.take_lot(rt) else {
+        return Err(closed(k));
+    };
+    books.look_ahead(k, lot.events());
+    let answer = book_events(books, k, lot.events());
+    tap.give_back(rt, lot);
+    match answer {
+        Ok(()) => Ok(()),
+        Err(NoMemory) => Err(CollectError::Memory),
     }
-    Ok(())
 }
 
 /// Takes a message of file k where it has not ended.

@@ -117,13 +117,20 @@ fn put_usages(out: &mut Vec<u8>, stated: i64, found: i128) -> Result<(), NoMemor
     put_signed(out, found)
 }
 
-/// Puts the lines of a key of the ledger: its sums, its parties, and what is unclaimed.
-pub(crate) fn put_ledger(out: &mut Vec<u8>, line: &LedgerLine) -> Result<(), NoMemory>
+/// Puts the lines of a key of the ledger: its sums, its parties, and what is unclaimed. The cells
+/// that each of them begins with are put into `key` once, in place of what it has.
+pub(crate) fn put_ledger(
+    out: &mut Vec<u8>,
+    key: &mut Vec<u8>,
+    line: &LedgerLine,
+) -> Result<(), NoMemory>
     ensures { OnOk result (out.new.items ≡ out.old.items ++ ledger_lines line.now) }
 {
-    put_sums(out, line)?;
-    put_parties(out, line)?;
-    put_unclaimed(out, line)
+    key.clear();
+    put_key(key, line)?;
+    put_sums(out, key.as_slice(), line)?;
+    put_parties(out, key.as_slice(), line)?;
+    put_unclaimed(out, key.as_slice(), line)
 }
 
 /// Puts the cells that tell what a line of the ledger is of.
@@ -136,44 +143,53 @@ fn put_key(out: &mut Vec<u8>, line: &LedgerLine) -> Result<(), NoMemory>
     put_text(out, line.currency.as_str().as_bytes())
 }
 
-/// Puts the line of a key's sums.
-fn put_sums(out: &mut Vec<u8>, line: &LedgerLine) -> Result<(), NoMemory>
+/// Puts the line of a key's sums. `key` has the key's cells.
+fn put_sums(out: &mut Vec<u8>, key: &[u8], line: &LedgerLine) -> Result<(), NoMemory>
+    requires { key.now ≡ tabbed (key_cells line.now) }
     ensures { OnOk result (out.new.items ≡ out.old.items ++ sums_line line.now) }
 {
     out.extend_from_slice(b"LEDGER")?;
-    put_key(out, line)?;
+    out.extend_from_slice(key)?;
     put_signed(out, line.usages)?;
     put_amount(out, line.amount)?;
     put_end(out)
 }
 
-/// Puts the lines of a key's parties.
-fn put_parties(out: &mut Vec<u8>, line: &LedgerLine) -> Result<(), NoMemory>
+/// Puts the lines of a key's parties. `key` has the key's cells.
+fn put_parties(out: &mut Vec<u8>, key: &[u8], line: &LedgerLine) -> Result<(), NoMemory>
+    requires { key.now ≡ tabbed (key_cells line.now) }
     ensures { OnOk result (out.new.items ≡ out.old.items ++ flat_map (party_line line.now) line.now.parties) }
 {
     for party in line.parties.as_slice() {
-        put_party(out, line, party)?;
+        put_party(out, key, line, party)?;
     }
     Ok(())
 }
 
-/// Puts the line of a party.
-fn put_party(out: &mut Vec<u8>, line: &LedgerLine, party: &PartyLine) -> Result<(), NoMemory>
+/// Puts the line of a party. `key` has the key's cells.
+fn put_party(
+    out: &mut Vec<u8>,
+    key: &[u8],
+    line: &LedgerLine,
+    party: &PartyLine,
+) -> Result<(), NoMemory>
+    requires { key.now ≡ tabbed (key_cells line.now) }
     ensures { OnOk result (out.new.items ≡ out.old.items ++ party_line line.now party.now) }
 {
     out.extend_from_slice(b"PARTY")?;
-    put_key(out, line)?;
+    out.extend_from_slice(key)?;
     put_text(out, party.party.as_str().as_bytes())?;
     put_amount(out, party.amount)?;
     put_end(out)
 }
 
-/// Puts the line of what is unclaimed under a key.
-fn put_unclaimed(out: &mut Vec<u8>, line: &LedgerLine) -> Result<(), NoMemory>
+/// Puts the line of what is unclaimed under a key. `key` has the key's cells.
+fn put_unclaimed(out: &mut Vec<u8>, key: &[u8], line: &LedgerLine) -> Result<(), NoMemory>
+    requires { key.now ≡ tabbed (key_cells line.now) }
     ensures { OnOk result (out.new.items ≡ out.old.items ++ unclaimed_line line.now) }
 {
     out.extend_from_slice(b"UNCLAIMED")?;
-    put_key(out, line)?;
+    out.extend_from_slice(key)?;
     put_amount(out, line.unclaimed)?;
     put_end(out)
 }

@@ -6,6 +6,7 @@ pub mod OwedLemmas
 pub mod NoteLemmas
 pub mod KeyLemmas
 pub mod PlaceLemmas
+pub mod RankLemmas
 pub mod TallyLemmas
 pub mod FoundLemmas
 pub mod DraftLemmas

@@ -1,6 +1,6 @@
 -- The ledger's lines, in their order.
-use Rattle.std.proofs.Common.{◌≡◌, ℕ, zero, suc, ◌<◌, List, [], ◌∷◌, ◌++◌, ◌≤◌, length, set, get_or, Bool, true, false, cond, append_assoc, refl, sym, ◌∙◌, ap, arith, BTreeMap}
-use Rattle.std.specs.Prelude.{Some, map, filter, nat_lt, slice_get, ◌||◌, All}
+use Rattle.std.proofs.Common.{◌≡◌, ℕ, zero, suc, ◌<◌, List, [], ◌∷◌, ◌++◌, ◌≤◌, length, set, get_or, Bool, true, false, cond, append_assoc, refl, sym, ◌∙◌, ap, arith}
+use Rattle.std.specs.Prelude.{None, Some, map, filter, nat_lt, slice_get, ◌||◌}
 use Rattle.std.specs.List.{list_any, AllByRecursion}
 use Rattle.std.specs.Option.{option_map_or}
 use Rattle.std.specs.Ordering.{eq_by_cmp}
@@ -8,8 +8,7 @@ use Rattle.std.specs.declared.cmp.Ordering.TheVariants.{Less, Equal}
 use Rattle.std.specs.Cmp.{tied_itself, eq_by_cmp_equiv}
 use Rattle.std.specs.List.Sorted.{IsStrictlySortedBy}
 use Rattle.std.specs.Map.{keys_of}
-use Rattle.std.proofs.lemmas.List.Elements.{All-head, All-tail}
-use Rattle.std.specs.BTreeMap.{IsOrdered, get}
+use Rattle.std.specs.FinMap.Entries.{find}
 use Rattle.std.proofs.lemmas.Bool.{lt-ltb}
 use Rattle.std.proofs.lemmas.Simd.{map-map}
 use Rattle.dsr_ledger.specs.declared.key.Key.{Key}
@@ -23,9 +22,10 @@ use Rattle.dsr_ledger.specs.Ledger.{is_at_key, at_key, line_of, ledger}
 use Rattle.dsr_ledger.specs.Tallies.{no_tally, line_tally, tally_at, number_of}
 use Rattle.dsr_ledger.specs.Stands.{LinesStand}
 use Rattle.dsr_ledger.specs.Order.{IsSmall, AreSmall}
+use Rattle.dsr_ledger.proofs.NumberedLemmas.{left_set}
 use Rattle.dsr_ledger.proofs.KeyLemmas.{key_total, key_exact, key_ties}
 use Rattle.dsr_ledger.proofs.PlaceLemmas.{keys_are_numbered}
-use Rattle.dsr_ledger.proofs.OrderLemmas.{in_order_is, find-lookup}
+use Rattle.dsr_ledger.proofs.OrderLemmas.{in_order_is}
 
 -- whether bookings have this key
 abbrev has_booking : List Booking → Key × ℕ → Bool
@@ -54,13 +54,6 @@ AreLeft lines ls (e ∷ es) =
     ((number_of lines e.0 ≡ Some e.1) × (slice_get ls e.1 ≡ slice_get lines.lines.items e.1))
     × AllByRecursion (λ x. key_cmp e.0 x.0 ≡ Less) es × AreLeft lines ls es
 
-left_set : {X : Type 0} (ls : List X) (i j : ℕ) (l : X) → (i ≡ j → ⊥) → slice_get (set ls i l) j ≡ slice_get ls j
-left_set [] i j l h = refl
-left_set (x ∷ ls) zero zero l h = absurd (h refl)
-left_set (x ∷ ls) zero (suc j) l h = refl
-left_set (x ∷ ls) (suc i) zero l h = refl
-left_set (x ∷ ls) (suc i) (suc j) l h = left_set ls i j l (λ e. h (ap suc e))
-
 not_less : Equal ≡ Less → ⊥
 not_less e = absurd (cc)
 
@@ -74,19 +67,14 @@ left_step lines ls e (x ∷ es) l at below h =
     ((h.0.0, left_set ls e.1 x.1 l other ∙ h.0.1), h.1, left_step lines ls e es l at below.1 h.2)
 
 -- before any line is taken
-pub left_init : (lines : Lines) (keys : BTreeMap Key ℕ) → IsOrdered key_cmp keys → ((q : Key) → get key_cmp keys q ≡ number_of lines q) → All (λ e. get key_cmp keys e.0 ≡ Some e.1) keys.entries → AreLeft lines lines.lines.items keys.entries
+pub left_init : (lines : Lines) (es : List (Key × ℕ)) → IsStrictlySortedBy key_cmp (keys_of es) → AllByRecursion (λ e. number_of lines e.0 ≡ Some e.1) es → AreLeft lines lines.lines.items es
 unfolding IsStrictlySortedBy
-left_init lines keys ordered is found = from keys.entries ordered found
+left_init lines [] sorted numbered = tt
+left_init lines (e ∷ es) sorted numbered = ((numbered.0, refl), over es sorted.0, left_init lines es sorted.1 numbered.1)
   where
-    over : (e : Key × ℕ) (xs : List (Key × ℕ)) → AllByRecursion (λ y. key_cmp e.0 y ≡ Less) (keys_of xs) → AllByRecursion (λ x. key_cmp e.0 x.0 ≡ Less) xs
-    over e [] h = tt
-    over e (x ∷ xs) h = (h.0, over e xs h.1)
-
-    from : (es : List (Key × ℕ)) → IsStrictlySortedBy key_cmp (keys_of es) → All (λ e. get key_cmp keys e.0 ≡ Some e.1) es → AreLeft lines lines.lines.items es
-    from [] sorted found = tt
-    from (e ∷ es) sorted found =
-        let P : Key × ℕ → Type 0 = λ x. get key_cmp keys x.0 ≡ Some x.1 in
-        ((sym (is e.0) ∙ All-head P e es found, refl), over e es sorted.0, from es sorted.1 (All-tail P e es found))
+    over : (xs : List (Key × ℕ)) → AllByRecursion (λ y. key_cmp e.0 y ≡ Less) (keys_of xs) → AllByRecursion (λ x. key_cmp e.0 x.0 ≡ Less) xs
+    over [] h = tt
+    over (x ∷ xs) h = (h.0, over xs h.1)
 
 below_too : {X : Type 0} (xs ys : List X) (n : ℕ) → slice_get xs n ≡ slice_get ys n → n < length ys → n < length xs
 below_too xs [] n same h = absurd (omega arith)
@@ -137,13 +125,12 @@ some_at q (b ∷ bs) =
     ∙ ap (λ t. t || list_any (eq_by_cmp key_cmp q) (map (λ x. x.key) bs)) tie
 
 -- the lines of all keys that are kept are the ledger
-pub ledger_is : (lines : Lines) (keys : BTreeMap Key ℕ) (bs : List Booking) → IsOrdered key_cmp keys → ((q : Key) → get key_cmp keys q ≡ number_of lines q) → LinesStand lines bs → booked_lines bs keys.entries ≡ ledger bs
+pub ledger_is : (lines : Lines) (es : List (Key × ℕ)) (bs : List Booking) → IsStrictlySortedBy key_cmp (keys_of es) → ((q : Key) → find key_cmp q es ≡ None → number_of lines q ≡ None) → LinesStand lines bs → booked_lines bs es ≡ ledger bs
 unfolding ledger
-ledger_is lines keys bs ordered is stand =
-    let es = keys.entries in
+ledger_is lines es bs ordered absent stand =
     let f : Key → LedgerLine = λ key. line_of key (at_key key bs) in
     sym (map-map (λ (e : Key × LedgerLine). e.1) (λ (e : Key × ℕ). (e.0, f e.0)) (filter (has_booking bs) es))
     ∙ ap (map (λ e. e.1)) (
     in_order_is key_cmp key_total key_exact f (map (λ b. b.key) bs) (λ q. nat_lt 0 (length (at_key q bs))) es ordered
     (λ q. some_at q bs)
-    (λ q none. sym (ap (λ t. t.is_booked) (stand q)) ∙ ap (λ o. (read_at line_tally no_tally lines.lines.items o).is_booked) (sym (is q) ∙ sym (find-lookup key_cmp key_total key_exact q es) ∙ none)))
+    (λ q none. sym (ap (λ t. t.is_booked) (stand q)) ∙ ap (λ o. (read_at line_tally no_tally lines.lines.items o).is_booked) (absent q none)))

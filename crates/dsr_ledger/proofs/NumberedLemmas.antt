@@ -8,11 +8,19 @@ use Rattle.std.proofs.lemmas.Iterator.Adapters.{position_from-zero}
 use Rattle.std.proofs.lemmas.List.Quantifiers.{position-Some}
 use Rattle.dsr_ledger.specs.Numbered.{IsNumbered, Grows, AreNamed, read_at}
 
-same_Some : {X : Type 0} (x y : X) → Some x ≡ Some y → x ≡ y
+pub same_Some : {X : Type 0} (x y : X) → Some x ≡ Some y → x ≡ y
 same_Some x y e = ap (λ o. unwrap_or o x) e
 
 pub not_Some : {X : Type 0} (x : X) → None ≡ Some x → ⊥
 not_Some x e = absurd (cc)
+
+-- what stands elsewhere than at a place that is written
+pub left_set : {X : Type 0} (ls : List X) (i j : ℕ) (l : X) → (i ≡ j → ⊥) → slice_get (set ls i l) j ≡ slice_get ls j
+left_set [] i j l h = refl
+left_set (x ∷ ls) zero zero l h = absurd (h refl)
+left_set (x ∷ ls) zero (suc j) l h = refl
+left_set (x ∷ ls) (suc i) zero l h = refl
+left_set (x ∷ ls) (suc i) (suc j) l h = left_set ls i j l (λ e. h (ap suc e))
 
 -- what a key has after one was added: the new number, or what it had
 pub either : {X : Type 0} (b : Bool) (x y : X) (o : Option X) → cond b (Some x) o ≡ Some y → ((b ≡ true) × (x ≡ y)) ⊎ ((b ≡ false) × (o ≡ Some y))

@@ -134,7 +134,3 @@ module _ {K : Type 0} (R : K → K → Ordering) (total : IsTotalOrder R) (exact
   -- each key in order is one of the list
   pub keys_among : {X : Type 0} (f : K → X) (ks : List K) → AllByRecursion (λ k. list_any (eq_by_cmp R k) ks ≡ true) (keys_of (in_order R f ks))
   keys_among f ks = subst (AllByRecursion (λ k. passes ks k ≡ true)) (sym (kept_keys f ks)) (each_passes (passes ks) (in_order R f ks))
-
-  pub find-lookup : {V : Type 0} (q : K) (es : List (K × V)) → find R q es ≡ lookup (λ k. is_eq (R q k)) es
-  find-lookup q [] = refl
-  find-lookup q (e ∷ es) = ap (cond (eq_by_cmp R q e.0) (Some e.1)) (find-lookup q es)

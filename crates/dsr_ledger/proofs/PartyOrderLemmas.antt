@@ -1,15 +1,23 @@
 -- The lines of a ledger line's parties, in their order.
-use Rattle.std.proofs.Common.{◌≡◌, ℕ, suc, List, [], ◌∷◌, ◌++◌, length, true, false, cond, append_assoc, refl, sym, ◌∙◌, ap, arith, BTreeMap}
-use Rattle.std.specs.Prelude.{All, Option, None, Some, map, filter, nat_lt, unwrap_or, ◌||◌}
-use Rattle.std.specs.Option.{option_map}
+use Rattle.std.proofs.Common.{◌≡◌, ℕ, zero, suc, List, [], ◌∷◌, length, Bool, true, false, not, ◌&&◌, cond, refl, sym, ◌∙◌, ap, subst, arith}
+use Rattle.std.specs.Prelude.{All, Option, None, Some, map, filter, nat_lt, unwrap_or, slice_get, ◌||◌}
+use Rattle.std.specs.Option.{option_map, option_map_or}
 use Rattle.std.specs.Str.{bytes_eq}
-use Rattle.std.specs.List.{list_any}
-use Rattle.std.specs.Ordering.{eq_by_cmp}
-use Rattle.std.specs.BTreeMap.{IsOrdered, get}
+use Rattle.std.specs.List.{list_any, AllByRecursion, AllPairs, IsDistinct}
+use Rattle.std.specs.List.Sorted.{IsPermutation, IsSortedBy, IsStableBy, IsStrictlySortedBy, ties}
+use Rattle.std.specs.Map.{keys_of}
+use Rattle.std.specs.Ordering.{eq_by_cmp, is_eq, is_lt, ordering_reverse}
+use Rattle.std.specs.declared.cmp.Ordering.{Ordering}
+use Rattle.std.specs.declared.cmp.Ordering.TheVariants.{Less, Equal, Greater}
+use Rattle.std.specs.Cmp.{IsStrictWeakOrder}
 use Rattle.std.specs.Cmp.Lexicographic.{nat_list_cmp_total, nat_list_eq_equiv}
+use Rattle.std.specs.FinMap.Entries.{find}
 use Rattle.std.proofs.lemmas.Bool.{lt-ltb}
-use Rattle.std.proofs.lemmas.List.Elements.{All-head, All-rest}
-use Rattle.std.proofs.lemmas.Map.Views.{All-found}
+use Rattle.std.proofs.lemmas.List.Elements.{All-head, All-tail}
+use Rattle.std.proofs.lemmas.List.MinMax.{ranks_by}
+use Rattle.std.proofs.lemmas.List.Sorted.{sorted_far}
+use Rattle.std.proofs.lemmas.Map.Keys.{IsDistinct-IsPermutation}
+use Rattle.std.proofs.lemmas.Option.{slice_get-map}
 use Rattle.std.proofs.lemmas.Simd.{map-map}
 use Rattle.std.proofs.lemmas.Map.Lookups.{exact_bytes}
 use Rattle.dsr_ledger.specs.declared.owed.Owed.{Owed}
@@ -20,25 +28,21 @@ use Rattle.dsr_ledger.specs.Numbered.{read_at}
 use Rattle.dsr_ledger.specs.Bookings.{Booking}
 use Rattle.dsr_ledger.specs.Parts.{Part, is_for, all_parts, party_amount}
 use Rattle.dsr_ledger.specs.Ledger.{party_lines}
-use Rattle.dsr_ledger.specs.Names.{names_of, place_of}
+use Rattle.dsr_ledger.specs.Names.{names_of, place_of, AreApart}
 use Rattle.dsr_ledger.specs.Owed.{owed_among, owed_for, nothing_owed}
-use Rattle.dsr_ledger.proofs.TextLemmas.{text_ties}
+use Rattle.dsr_ledger.proofs.TextLemmas.{text_itself, text_ties}
 use Rattle.dsr_ledger.proofs.NameLemmas.{no_place, place_cons}
-use Rattle.dsr_ledger.proofs.OrderLemmas.{in_order_is, find-lookup}
+use Rattle.dsr_ledger.proofs.OrderLemmas.{in_order_is}
 
--- what the first of these entries with this name has, or else o
-abbrev pub first_owed : List PartyEntry → List ℕ → Option Owed → Option Owed
-first_owed [] q o = o
-first_owed (e ∷ es) q o = cond (bytes_eq q e.party) (Some e.owed) (first_owed es q o)
+-- what the first of these entries with this name has
+abbrev pub first_owed : List PartyEntry → List ℕ → Option Owed
+first_owed [] q = None
+first_owed (e ∷ es) q = cond (bytes_eq q e.party) (Some e.owed) (first_owed es q)
 
-pub first_owed-push : (es : List PartyEntry) (e : PartyEntry) (q : List ℕ) (o : Option Owed) → first_owed (es ++ e ∷ []) q o ≡ first_owed es q (cond (bytes_eq q e.party) (Some e.owed) o)
-first_owed-push [] e q o = refl
-first_owed-push (x ∷ es) e q o = ap (cond (bytes_eq q x.party) (Some x.owed)) (first_owed-push es e q o)
-
-pub first_owed-is : (es : List PartyEntry) (q : List ℕ) → unwrap_or (first_owed es q None) nothing_owed ≡ owed_among es q
+pub first_owed-is : (es : List PartyEntry) (q : List ℕ) → unwrap_or (first_owed es q) nothing_owed ≡ owed_among es q
 first_owed-is [] q = sym (ap (read_at (λ (x : PartyEntry). x.owed) nothing_owed []) (no_place q))
 first_owed-is (e ∷ es) q =
-    elim (bytes_eq q e.party) as (λ b. unwrap_or (cond b (Some e.owed) (first_owed es q None)) nothing_owed ≡ read_at (λ x. x.owed) nothing_owed (e ∷ es) (cond b (Some 0) (option_map suc (place_of (names_of es) q)))) [
+    elim (bytes_eq q e.party) as (λ b. unwrap_or (cond b (Some e.owed) (first_owed es q)) nothing_owed ≡ read_at (λ x. x.owed) nothing_owed (e ∷ es) (cond b (Some 0) (option_map suc (place_of (names_of es) q)))) [
       | true ↦ refl
       | false ↦ first_owed-is es q ∙ later (place_of (names_of es) q)
     ]
@@ -48,38 +52,139 @@ first_owed-is (e ∷ es) q =
     later None = refl
     later (Some i) = refl
 
--- what a party is owed by this map
-abbrev pub owed_in : BTreeMap (List ℕ) Owed → List ℕ → Owed
-owed_in owed party = unwrap_or (get text_cmp owed party) nothing_owed
+-- an entry comes before another where its name does
+abbrev pub before : PartyEntry → PartyEntry → Bool
+before a b = is_lt (text_cmp a.party b.party)
+
+-- the entries with this name
+abbrev named : List ℕ → List PartyEntry → List PartyEntry
+named q es = filter (λ e. bytes_eq q e.party) es
+
+first_named : (es : List PartyEntry) (q : List ℕ) → first_owed (named q es) q ≡ first_owed es q
+first_named [] q = refl
+first_named (e ∷ es) q =
+    elim (bytes_eq q e.party) as (λ b. bytes_eq q e.party ≡ b → first_owed (cond b (e ∷ named q es) (named q es)) q ≡ cond b (Some e.owed) (first_owed es q)) [
+      | true ↦ λ t. ap (λ b. cond b (Some e.owed) (first_owed (named q es) q)) t
+      | false ↦ λ _. first_named es q
+    ] refl
+
+neither_less : (a : Ordering) → (not (is_lt a) && not (is_lt (ordering_reverse a))) ≡ is_eq a
+neither_less Less = refl
+neither_less Equal = refl
+neither_less Greater = refl
+
+-- entries tie where they have one name
+tie_is : (a b : PartyEntry) → ties before a b ≡ bytes_eq a.party b.party
+tie_is a b =
+    (λ i. not (before a b) && not (is_lt (nat_list_cmp_total.antisymm b.party a.party i)))
+    ∙ neither_less (text_cmp a.party b.party)
+    ∙ text_ties a.party b.party
+
+-- where those with one name keep their order, each party is owed the same
+pub owed_kept : (xs ys : List PartyEntry) (q : List ℕ) → IsStableBy before xs ys → owed_among ys q ≡ owed_among xs q
+owed_kept xs ys q stable =
+    let of : PartyEntry = record { party = q; owed = nothing_owed } in
+    let same : named q ys ≡ named q xs = (λ i. filter (λ e. sym (tie_is of e) i) ys) ∙ stable of ∙ (λ i. filter (λ e. tie_is of e i) xs) in
+    sym (first_owed-is ys q)
+    ∙ ap (λ o. unwrap_or o nothing_owed) (sym (first_named ys q) ∙ ap (λ es. first_owed es q) same ∙ first_named xs q)
+    ∙ first_owed-is xs q
+
+abbrev named_alike : PartyEntry → PartyEntry → Bool
+named_alike a b = bytes_eq a.party b.party
+
+later_apart : (first : List ℕ) (names : List (List ℕ)) → AreApart (first ∷ names) → (i : ℕ) (name : List ℕ) → slice_get names i ≡ Some name → (bytes_eq first name ≡ false) × (place_of names name ≡ Some i)
+later_apart first names apart i name at = by (bytes_eq name first) refl (place_of names name) (sym (place_cons first names name) ∙ apart (suc i) name at)
+  where
+    down : ℕ → Option ℕ
+    down zero = None
+    down (suc n) = Some n
+
+    by : (b : Bool) → bytes_eq name first ≡ b → (o : Option ℕ) → cond b (Some 0) (option_map suc o) ≡ Some (suc i) → (bytes_eq first name ≡ false) × (o ≡ Some i)
+    by true is o e = absurd (cc)
+    by false is None e = absurd (cc)
+    by false is (Some j) e = (nat_list_eq_equiv.symm first name ∙ is, ap (λ o. option_map_or down o None) e)
+
+-- where no name stands twice, no two entries have one
+names_differ : (es : List PartyEntry) → AreApart (names_of es) → IsDistinct named_alike es
+unfolding IsDistinct
+names_differ [] apart = tt
+names_differ (e ∷ es) apart =
+    let later = later_apart e.party (names_of es) apart in
+    (each es (λ i x at. (later i x.party (slice_get-map (λ (x : PartyEntry). x.party) es i ∙ ap (option_map (λ (x : PartyEntry). x.party)) at)).0), names_differ es (λ i name at. (later i name at).1))
+  where
+    each : (xs : List PartyEntry) → ((i : ℕ) (x : PartyEntry) → slice_get xs i ≡ Some x → bytes_eq e.party x.party ≡ false) → AllByRecursion (λ x. named_alike e x ≡ false) xs
+    each [] h = tt
+    each (x ∷ xs) h = (h 0 x refl, each xs (λ i y at. h (suc i) y at))
+
+less_than : (a : Ordering) → is_lt (ordering_reverse a) ≡ false → is_eq a ≡ false → a ≡ Less
+less_than Less h k = refl
+less_than Equal h k = absurd (cc)
+less_than Greater h k = absurd (cc)
+
+-- entries in order whose names differ are strictly in order
+strictly : (es : List PartyEntry) → AllPairs (λ a b. before b a ≡ false) es → IsDistinct named_alike es → IsStrictlySortedBy text_cmp (names_of es)
+unfolding IsDistinct IsStrictlySortedBy
+strictly [] far apart = tt
+strictly (e ∷ es) far apart =
+    (above es (λ k d within. far 0 (suc k) d (omega arith) (omega arith)) apart.0, strictly es (λ i j d below within. far (suc i) (suc j) d (omega arith) (omega arith)) apart.1)
+  where
+    above : (xs : List PartyEntry) → All (λ x. before x e ≡ false) xs → AllByRecursion (λ x. named_alike e x ≡ false) xs → AllByRecursion (λ n. text_cmp e.party n ≡ Less) (names_of xs)
+    above [] h k = tt
+    above (x ∷ xs) h k =
+        let P : PartyEntry → Type 0 = λ x. before x e ≡ false in (
+          less_than (text_cmp e.party x.party) (ap is_lt (sym (nat_list_cmp_total.antisymm x.party e.party)) ∙ All-head P x xs h) (text_ties e.party x.party ∙ k.0),
+          above xs (All-tail P x xs h) k.1,
+        )
+
+pub before_ranks : IsStrictWeakOrder before
+before_ranks = ranks_by nat_list_cmp_total (λ (e : PartyEntry). e.party)
+
+-- entries that were put in order
+pub names_in_order : (xs ys : List PartyEntry) → AreApart (names_of xs) → IsPermutation xs ys → IsSortedBy before ys → IsStrictlySortedBy text_cmp (names_of ys)
+names_in_order xs ys apart moved sorted =
+    strictly ys (λ i j d below within. sorted_far before before_ranks ys sorted i j d (omega arith) within)
+    (IsDistinct-IsPermutation named_alike (λ a b. nat_list_eq_equiv.symm a.party b.party) xs ys moved (names_differ xs apart))
 
 abbrev line : List ℕ → Owed → PartyLine
 line party o = record { party = party; amount = o.amount }
 
 -- the lines of these parties
-abbrev pub kept_lines : List (List ℕ × Owed) → List PartyLine
-kept_lines es = map (λ e. line e.0 e.1) (filter (λ e. e.1.has_part) es)
+abbrev pub kept_lines : List PartyEntry → List PartyLine
+kept_lines es = map (λ e. line e.party e.owed) (filter (λ e. e.owed.has_part) es)
 
--- a party that has a part
-pub line_kept : (done : List PartyLine) (party : List ℕ) (o : Owed) (es : List (List ℕ × Owed)) → o.has_part ≡ true → (done ++ record { party = party; amount = o.amount } ∷ []) ++ kept_lines es ≡ done ++ kept_lines ((party, o) ∷ es)
-line_kept done party o es has =
-    append_assoc done _ _
-    ∙ ap (λ b. done ++ map (λ e. line e.0 e.1) (cond b ((party, o) ∷ filter (λ e. e.1.has_part) es) (filter (λ e. e.1.has_part) es))) (sym has)
+-- an entry's name, and what its party is owed
+abbrev pair_of : PartyEntry → List ℕ × Owed
+pair_of e = (e.party, e.owed)
 
--- a party that has none
-pub line_left : (done : List PartyLine) (party : List ℕ) (o : Owed) (es : List (List ℕ × Owed)) → o.has_part ≡ false → done ++ kept_lines es ≡ done ++ kept_lines ((party, o) ∷ es)
-line_left done party o es has =
-    ap (λ b. done ++ map (λ e. line e.0 e.1) (cond b ((party, o) ∷ filter (λ e. e.1.has_part) es) (filter (λ e. e.1.has_part) es))) (sym has)
+names_of_pairs : (es : List PartyEntry) → keys_of (map pair_of es) ≡ names_of es
+names_of_pairs [] = refl
+names_of_pairs (e ∷ es) = ap (λ ns. e.party ∷ ns) (names_of_pairs es)
 
--- the lines by the keys alone
-lines_by_name : (owed : BTreeMap (List ℕ) Owed) (es : List (List ℕ × Owed)) → All (λ e. get text_cmp owed e.0 ≡ Some e.1) es → kept_lines es ≡ map (λ e. line e.0 (owed_in owed e.0)) (filter (λ e. (owed_in owed e.0).has_part) es)
+find-pair : (es : List PartyEntry) (q : List ℕ) → find text_cmp q (map pair_of es) ≡ first_owed es q
+find-pair [] q = refl
+find-pair (e ∷ es) q = λ i. cond (text_ties q e.party i) (Some e.owed) (find-pair es q i)
+
+-- each entry in order is the first with its name
+each_first : (es : List PartyEntry) → IsStrictlySortedBy text_cmp (names_of es) → AllByRecursion (λ e. first_owed es e.party ≡ Some e.owed) es
+unfolding IsStrictlySortedBy
+each_first [] sorted = tt
+each_first (e ∷ es) sorted =
+    (ap (λ b. cond b (Some e.owed) (first_owed es e.party)) (text_itself e.party), later es sorted.0 (each_first es sorted.1))
+  where
+    later : (xs : List PartyEntry) → AllByRecursion (λ n. text_cmp e.party n ≡ Less) (names_of xs) → AllByRecursion (λ x. first_owed es x.party ≡ Some x.owed) xs → AllByRecursion (λ x. first_owed (e ∷ es) x.party ≡ Some x.owed) xs
+    later [] h k = tt
+    later (x ∷ xs) h k =
+        let other : bytes_eq x.party e.party ≡ false = sym (text_ties x.party e.party) ∙ ap is_eq (nat_list_cmp_total.antisymm x.party e.party ∙ ap ordering_reverse h.0) in
+        (ap (λ b. cond b (Some e.owed) (first_owed es x.party)) other ∙ k.0, later xs h.1 k.1)
+
+-- the lines by the names alone
+lines_by_name : (owed : List ℕ → Owed) (es : List PartyEntry) → AllByRecursion (λ e. e.owed ≡ owed e.party) es → kept_lines es ≡ map (λ e. line e.0 (owed e.0)) (filter (λ e. (owed e.0).has_part) (map pair_of es))
 lines_by_name owed [] h = refl
 lines_by_name owed (e ∷ es) h =
-    let P : List ℕ × Owed → Type 0 = λ x. get text_cmp owed x.0 ≡ Some x.1 in
-    let here : e.1 ≡ owed_in owed e.0 = sym (ap (λ o. unwrap_or o nothing_owed) (All-head P e es h)) in
-    let rest = lines_by_name owed es (All-rest P _ _ _ refl h) in
-    ap (λ o. kept_lines ((e.0, o) ∷ es)) here
-    ∙ elim ((owed_in owed e.0).has_part) as (λ b. map (λ x. line x.0 x.1) (cond b ((e.0, owed_in owed e.0) ∷ filter (λ x. x.1.has_part) es) (filter (λ x. x.1.has_part) es)) ≡ map (λ x. line x.0 (owed_in owed x.0)) (cond b (e ∷ filter (λ x. (owed_in owed x.0).has_part) es) (filter (λ x. (owed_in owed x.0).has_part) es))) [
-      | true ↦ ap (λ l. line e.0 (owed_in owed e.0) ∷ l) rest
+    let rest = lines_by_name owed es h.1 in
+    ap (λ o. kept_lines (record { party = e.party; owed = o } ∷ es)) h.0
+    ∙ elim ((owed e.party).has_part) as (λ b. map (λ x. line x.party x.owed) (cond b (record { party = e.party; owed = owed e.party } ∷ filter (λ x. x.owed.has_part) es) (filter (λ x. x.owed.has_part) es)) ≡ map (λ x. line x.0 (owed x.0)) (cond b (pair_of e ∷ filter (λ x. (owed x.0).has_part) (map pair_of es)) (filter (λ x. (owed x.0).has_part) (map pair_of es)))) [
+      | true ↦ ap (λ l. line e.party (owed e.party) ∷ l) rest
       | false ↦ rest
     ]
 
@@ -94,15 +199,21 @@ some_for q (p ∷ ps) =
     ]
     ∙ ap (λ b. b || list_any (eq_by_cmp text_cmp q) (map (λ p. p.party) ps)) tie
 
-pub party_lines_are : (owed : BTreeMap (List ℕ) Owed) (bs : List Booking) → IsOrdered text_cmp owed → ((q : List ℕ) → owed_in owed q ≡ owed_for q (all_parts bs)) → kept_lines owed.entries ≡ party_lines bs
+pub party_lines_are : (es : List PartyEntry) (bs : List Booking) → IsStrictlySortedBy text_cmp (names_of es) → ((q : List ℕ) → owed_among es q ≡ owed_for q (all_parts bs)) → kept_lines es ≡ party_lines bs
 unfolding party_lines
-party_lines_are owed bs ordered is =
-    let es = owed.entries in
-    let kept = filter (λ e. (owed_in owed e.0).has_part) es in
-    lines_by_name owed es (All-found nat_list_cmp_total owed ordered)
+party_lines_are es bs sorted is =
+    let owed = owed_among es in
+    let pairs = map pair_of es in
+    let kept = filter (λ e. (owed e.0).has_part) pairs in
+    lines_by_name owed es (each es (each_first es sorted))
     ∙ (λ i. map (λ e. record { party = e.0; amount = (is e.0 i).amount }) kept)
     ∙ sym (map-map (λ (e : List ℕ × _). record { party = e.0; amount = e.1 }) (λ (e : List ℕ × Owed). (e.0, party_amount bs e.0)) kept)
     ∙ ap (map (λ e. record { party = e.0; amount = e.1 })) (
-    in_order_is text_cmp nat_list_cmp_total exact_bytes (party_amount bs) (map (λ p. p.party) (all_parts bs)) (λ q. (owed_in owed q).has_part) es ordered
+    in_order_is text_cmp nat_list_cmp_total exact_bytes (party_amount bs) (map (λ p. p.party) (all_parts bs)) (λ q. (owed q).has_part) pairs
+    (subst (IsStrictlySortedBy text_cmp) (sym (names_of_pairs es)) sorted)
     (λ q. ap (λ o. o.has_part) (is q) ∙ some_for q (all_parts bs))
-    (λ q none. ap (λ o. (unwrap_or o nothing_owed).has_part) (sym (find-lookup text_cmp nat_list_cmp_total exact_bytes q es) ∙ none)))
+    (λ q none. ap (λ o. o.has_part) (sym (first_owed-is es q) ∙ ap (λ o. unwrap_or o nothing_owed) (sym (find-pair es q) ∙ none))))
+  where
+    each : (xs : List PartyEntry) → AllByRecursion (λ e. first_owed es e.party ≡ Some e.owed) xs → AllByRecursion (λ e. e.owed ≡ owed_among es e.party) xs
+    each [] h = tt
+    each (x ∷ xs) h = (sym (ap (λ o. unwrap_or o nothing_owed) h.0) ∙ first_owed-is es x.party, each xs h.1)

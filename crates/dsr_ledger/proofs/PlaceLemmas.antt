@@ -1,5 +1,5 @@
 -- The lines' numbers by the numbers of their places.
-use Rattle.std.proofs.Common.{◌≡◌, ℕ, ◌<◌, List, [], ◌∷◌, true, false, cond, true≢false, length, refl, sym, ap, ◌∙◌, subst, ⊎_elim, BTreeMap}
+use Rattle.std.proofs.Common.{◌≡◌, ℕ, ◌<◌, List, true, cond, length, refl, sym, ap, ◌∙◌, subst, ⊎_elim, BTreeMap}
 use Rattle.std.specs.Prelude.{Option, None, Some}
 use Rattle.std.specs.Option.{option_and_then}
 use Rattle.std.specs.Bool.{Decides}
@@ -7,7 +7,6 @@ use Rattle.std.specs.Ordering.{is_eq}
 use Rattle.std.specs.declared.cmp.Ordering.{Ordering}
 use Rattle.std.specs.declared.cmp.Ordering.TheVariants.{Equal}
 use Rattle.std.specs.BTreeMap.{get}
-use Rattle.std.specs.Map.{lookup}
 use Rattle.std.specs.Cmp.{IsTotalOrder, Equal-is, on_total, then_total, tied_itself, nat_cmp_total, unsigned_Decides, unsigned_ties}
 use Rattle.std.specs.Cmp.Lexicographic.{nat_list_cmp_total}
 use Rattle.std.proofs.lemmas.Slice.Eq.{bytes_eq-Decides}
@@ -18,14 +17,12 @@ use Rattle.dsr_ledger.specs.declared.place.Place.{Place}
 use Rattle.dsr_ledger.specs.declared.places.Places.{Places}
 use Rattle.dsr_ledger.specs.declared.line_key.LineKey.{LineKey}
 use Rattle.dsr_ledger.specs.declared.lines.Lines.{Lines}
-use Rattle.dsr_ledger.specs.Keys.{key_cmp}
 use Rattle.dsr_ledger.specs.LineKeys.{place_eq, place_cmp, line_key_eq, line_key_cmp, ArePlaced}
 use Rattle.dsr_ledger.specs.Places.{place_number, place_in, number_among, PlacesGrow}
 use Rattle.dsr_ledger.specs.Numbered.{IsNumbered, Grows, read_at}
-use Rattle.dsr_ledger.specs.Openings.{first_of}
 use Rattle.dsr_ledger.specs.Tallies.{number_of}
 use Rattle.dsr_ledger.proofs.NumberedLemmas.{not_Some, either}
-use Rattle.dsr_ledger.proofs.KeyLemmas.{both_Equal, key_tie}
+use Rattle.dsr_ledger.proofs.KeyLemmas.{both_Equal}
 
 -- an order decides which are one, where those that compare alike are one
 tie_of : {K : Type 0} (cmp : K → K → Ordering) → IsTotalOrder cmp → ((a b : K) → cmp a b ≡ Equal → a ≡ b) → (a b : K) → Decides (is_eq (cmp a b)) (a ≡ b)
@@ -34,7 +31,7 @@ tie_of cmp total exact a b = (
   λ e. subst (λ k. is_eq (cmp a k) ≡ true) e (ap is_eq (tied_itself total a)),
 )
 
-place_total : IsTotalOrder place_cmp
+pub place_total : IsTotalOrder place_cmp
 place_total =
     then_total (on_total (λ (p : Place). p.territory) nat_list_cmp_total)
     (then_total (on_total (λ (p : Place). p.use_type) nat_list_cmp_total) (on_total (λ (p : Place). p.currency) nat_list_cmp_total))
@@ -83,7 +80,7 @@ one_line_key a b h =
 
 -- numbers that are found through those of something else
 module _ {N : Type 0} where
-  through : (o : Option N) (f : N → Option ℕ) (i : ℕ) → option_and_then f o ≡ Some i → (p : N) × (o ≡ Some p) × (f p ≡ Some i)
+  pub through : (o : Option N) (f : N → Option ℕ) (i : ℕ) → option_and_then f o ≡ Some i → (p : N) × (o ≡ Some p) × (f p ≡ Some i)
   through None f i e = absurd (not_Some i e)
   through (Some p) f i e = (p, refl, e)
 
@@ -148,43 +145,3 @@ one_coded places q r p o at of same =
 pub keys_are_numbered : (lines : Lines) → IsNumbered (number_of lines) (length lines.lines.items)
 keys_are_numbered lines =
     numbered_through (λ q. place_number lines.places (place_in q)) coded (get line_key_cmp lines.numbers) (length lines.lines.items) lines.numbered (one_coded lines.places)
-
--- the number of a key's line among entries of lines that are left
-abbrev pub number_left : Places → List (LineKey × ℕ) → Key → Option ℕ
-number_left places es q = option_and_then (λ p. lookup (λ k. is_eq (line_key_cmp (record { isrc = q.isrc; place = p }) k)) es) (place_number places (place_in q))
-
-left_later : (places : Places) (k : LineKey) (n : ℕ) (es : List (LineKey × ℕ)) (key q : Key) → key.isrc ≡ k.isrc → place_number places (place_in key) ≡ Some k.place → is_eq (key_cmp key q) ≡ false → number_left places es q ≡ number_left places ((k, n) ∷ es) q
-left_later places k n es key q isrc at other = by (place_number places (place_in q)) refl
-  where
-    look : ℕ → List (LineKey × ℕ) → Option ℕ
-    look p l = lookup (λ k. is_eq (line_key_cmp (record { isrc = q.isrc; place = p }) k)) l
-
-    by : (o : Option ℕ) → place_number places (place_in q) ≡ o → option_and_then (λ p. look p es) o ≡ option_and_then (λ p. look p ((k, n) ∷ es)) o
-    by None of = refl
-    by (Some p) of =
-        let code : LineKey = record { isrc = q.isrc; place = p } in
-        elim (is_eq (line_key_cmp code k)) as (λ b. is_eq (line_key_cmp code k) ≡ b → look p es ≡ cond b (Some n) (look p es)) [
-          | true ↦ λ t.
-              let same : code ≡ k = (line_key_tie code k).0 t in
-              let one : q ≡ key = one_coded places q key p k.place of at (same ∙ (λ i. record { isrc = sym isrc i; place = k.place })) in
-              absurd (true≢false (sym ((key_tie key q).1 (sym one)) ∙ other))
-          | false ↦ λ _. refl
-        ] refl
-
--- the next line's whole key has got its number
-pub left_made : (places : Places) (k : LineKey) (n : ℕ) (es : List (LineKey × ℕ)) (key : Key) (was is number : Key → Option ℕ) → key.isrc ≡ k.isrc → place_number places (place_in key) ≡ Some k.place → number key ≡ Some n → ((q : Key) → is q ≡ cond (is_eq (key_cmp key q)) (Some n) (was q)) → ((q : Key) → first_of (was q) (number_left places ((k, n) ∷ es) q) ≡ number q) → (q : Key) → first_of (is q) (number_left places es q) ≡ number q
-left_made places k n es key was is number isrc at numbered put made q =
-    ap (λ o. first_of o (number_left places es q)) (put q)
-    ∙ elim (is_eq (key_cmp key q)) as (λ b. is_eq (key_cmp key q) ≡ b → first_of (cond b (Some n) (was q)) (number_left places es q) ≡ number q) [
-      | true ↦ λ e. sym numbered ∙ ap number ((key_tie key q).0 e)
-      | false ↦ λ e. ap (first_of (was q)) (left_later places k n es key q isrc at e) ∙ made q
-    ] refl
-
--- none are left
-pub none_left : (places : Places) (o : Option ℕ) (q : Key) → first_of o (number_left places [] q) ≡ o
-none_left places (Some i) q = refl
-none_left places None q = by (place_number places (place_in q))
-  where
-    by : (o : Option ℕ) → option_and_then {U = ℕ} (λ (p : ℕ). None) o ≡ None
-    by None = refl
-    by (Some p) = refl

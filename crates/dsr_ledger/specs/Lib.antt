@@ -13,6 +13,7 @@ pub mod Laws
 pub mod Numbered
 pub mod LineKeys
 pub mod Places
+pub mod Ranks
 pub mod Ranges
 pub mod Names
 pub mod Owed

@@ -6,6 +6,7 @@
 
 use crate::founds::Founds;
 use crate::lines::Lines;
+use crate::party_entry::PartyEntry;
 use dsr_cells::{Isrc, Text};
 use dsr_file::{Event, EventPart};
 use dsr_records::{Block, Usage};
@@ -14,13 +15,20 @@ use std::alloc::Global;
 /// At how many usages a look looks at most.
 const MOST: usize = 128;
 
+/// The number of no line.
+pub const NONE: usize = usize::MAX;
+
 /// What was found by looking ahead.
 #[derive(Drop)]
 pub struct Ahead {
     /// The mixed keys of coming usages.
     mixed: Vec<u64>,
-    /// The numbers that are guessed of their lines.
+    /// The numbers that are guessed of their lines, or `NONE`.
     numbers: Vec<usize>,
+    /// Where the usages of each coming block begin among these.
+    starts: Vec<usize>,
+    /// The block at hand, counted from 0, of those that were looked at.
+    block: usize,
     /// What the last look came to. It means nothing, and is kept so that the look is made.
     seen: usize,
 }
@@ -41,20 +49,35 @@ fn look_at(text: Option<&Text>) -> usize {
     }
 }
 
-/// Looks at the first work of each block, and at the first and the last usage.
+/// Looks at what the party of an entry is owed, if there is one.
+fn look_at_owed(entry: Option<&PartyEntry>) -> usize {
+    match entry {
+        Some(entry) => usize::from(entry.owed.amount < 0),
+        None => 0,
+    }
+}
+
+/// Looks at usages.
+fn look_at_usages(usages: &[Usage]) -> usize {
+    let mut seen = 0usize;
+    for usage in usages {
+        seen = seen.wrapping_add(look_at(Some(&usage.summary_id)));
+    }
+    seen
+}
+
+/// Looks at the first work of each block, and at its usages.
 fn look_at_blocks(events: &[Event]) -> usize {
     let mut seen = 0usize;
     for event in events {
         if let Some(block) = block_of(event) {
-            let usages = block.usages.as_slice();
             let parties = match block.works.as_slice().first() {
                 Some(work) => work.parties.as_slice().len(),
                 None => 0,
             };
             seen = seen
                 .wrapping_add(parties)
-                .wrapping_add(look_at(usages.first().map(|usage| &usage.summary_id)))
-                .wrapping_add(look_at(usages.last().map(|usage| &usage.summary_id)));
+                .wrapping_add(look_at_usages(block.usages.as_slice()));
         }
     }
     seen
@@ -90,12 +113,15 @@ impl Ahead {
         Ahead {
             mixed: Vec::new(alloc),
             numbers: Vec::new(alloc),
+            starts: Vec::new(alloc),
+            block: NONE,
             seen: 0,
         }
     }
 
     /// Mixes the keys of a block's usages.
     fn mix(&mut self, founds: &Founds, block: &Block) {
+        let _noted = self.starts.push(self.mixed.len());
         let Some(isrc) = Isrc::read(block.resource.isrc.as_str()) else {
             return;
         };
@@ -112,6 +138,8 @@ impl Ahead {
     /// Mixes the keys of all usages.
     fn mix_all(&mut self, founds: &Founds, events: &[Event]) {
         self.mixed.clear();
+        self.starts.clear();
+        self.block = NONE;
         for event in events {
             if let Some(block) = block_of(event) {
                 self.mix(founds, block);
@@ -123,9 +151,8 @@ impl Ahead {
     fn guess_all(&mut self, lines: &Lines) {
         self.numbers.clear();
         for mixed in self.mixed.as_slice() {
-            if let Some(number) = lines.guesses.guess(*mixed) {
-                let _noted = self.numbers.push(number);
-            }
+            let number = lines.guesses.guess(*mixed).unwrap_or(NONE);
+            let _noted = self.numbers.push(number);
         }
     }
 
@@ -140,7 +167,7 @@ impl Ahead {
         seen
     }
 
-    /// Looks at the parties of the lines with these numbers.
+    /// Looks at the parties of the lines with these numbers, and at what the last one is owed.
     fn look_at_parties(&self, lines: &Lines) -> usize {
         let mut seen = 0usize;
         for number in self.numbers.as_slice() {
@@ -148,10 +175,25 @@ impl Ahead {
                 let entries = line.parties.entries.as_slice();
                 seen = seen
                     .wrapping_add(look_at(entries.first().map(|entry| &entry.party)))
-                    .wrapping_add(look_at(entries.last().map(|entry| &entry.party)));
+                    .wrapping_add(look_at(entries.last().map(|entry| &entry.party)))
+                    .wrapping_add(look_at_owed(entries.last()));
             }
         }
         seen
+    }
+
+    /// Goes on to the next block.
+    pub fn next_block(&mut self) {
+        self.block = self.block.wrapping_add(1);
+    }
+
+    /// The numbers that were guessed of the lines of the usages of the block at hand, and of those after it. They are
+    /// guesses, and there may be none.
+    pub fn guessed(&self) -> &[usize] {
+        match self.starts.get(self.block) {
+            Some(start) if *start <= self.numbers.len() => &self.numbers.as_slice()[*start..],
+            _ => &[],
+        }
     }
 
     /// Looks at what the blocks of these events will want.

@@ -71,6 +71,7 @@ impl FileBooks {
             block.works.as_slice(),
             usages,
             draft.summaries.as_slice(),
+            draft.ahead.guessed(),
             &mut draft.usages,
             &mut draft.parts,
         )?;
@@ -163,6 +164,7 @@ impl FileBooks {
         ensures err { OnErr result (IsSameFile self.old self.new) }
         ensures same_lines { OnErr result ((q : _) → tally_at lines.new q ≡ tally_at lines.old q) }
     {
+        draft.ahead.next_block();
         let noted = self.ids.note(alloc, &block.id)?;
         let answer = self.take(lines, draft, alloc, block, noted.was_before());
         if answer.is_err() {

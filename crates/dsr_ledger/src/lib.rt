@@ -33,6 +33,7 @@ mod parts;
 mod party_entry;
 mod place;
 mod places;
+mod ranks;
 mod rejects;
 mod report;
 mod sums;

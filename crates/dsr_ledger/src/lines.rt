@@ -61,15 +61,21 @@ impl Lines {
         }
     }
 
-    /// The number that is guessed of a key, where it is this key's. The key is mixed to find the guess.
-    fn guessed(&self, mixed: u64, key: &LineKey) -> Option<usize>
+    /// A number, where it is this key's.
+    fn guessed(&self, number: usize, key: &LineKey) -> Option<usize>
         ensures { IfSome result (λ number. line_number self.now key.now ≡ Some number) }
     {
-        let number = self.guesses.guess(mixed)?;
         if self.lines.get(number)?.key == *key {
             return Some(number);
         }
         None
+    }
+
+    /// The number that is guessed of a key, where it is this key's. The key is mixed to find the guess.
+    fn found(&self, mixed: u64, key: &LineKey) -> Option<usize>
+        ensures { IfSome result (λ number. line_number self.now key.now ≡ Some number) }
+    {
+        self.guessed(self.guesses.guess(mixed)?, key)
     }
 
     /// Makes the line of a key that has none, and answers its number. What is kept of each key stays.
@@ -104,16 +110,19 @@ impl Lines {
         self.make(alloc, key)
     }
 
-    /// The same, where a guess is tried before.
-    fn line(&mut self, alloc: Global, key: &LineKey) -> Result<usize, NoMemory>
+    /// The same, where guesses are tried before: `guess`, and then that of the table.
+    fn line(&mut self, alloc: Global, key: &LineKey, guess: usize) -> Result<usize, NoMemory>
         requires { key.now.place < length self.old.places.places.items }
         ensures same { (q : Key) → tally_at self.new q ≡ tally_at self.old q }
         ensures grows { LinesGrow self.old self.new }
         ensures places { self.new.places ≡ self.old.places }
         ensures there { IfOk result (λ number. line_number self.new key.now ≡ Some number) }
     {
+        if let Some(number) = self.guessed(guess, key) {
+            return Ok(number);
+        }
         let mixed = mixed_key(key);
-        if let Some(number) = self.guessed(mixed, key) {
+        if let Some(number) = self.found(mixed, key) {
             return Ok(number);
         }
         let number = self.searched(alloc, key)?;
@@ -122,13 +131,15 @@ impl Lines {
     }
 
     /// The number of the line of a recording and a place, which is made where there is none. What is kept of each key
-    /// stays. Any `guess` of the place's number will do; the number that it is given is found soonest.
+    /// stays. Any `guess` of the place's number will do; the number that it is given is found soonest. So will any guess of
+    /// the `line`'s.
     pub fn number(
         &mut self,
         alloc: Global,
         isrc: Isrc,
         place: &Place,
         guess: &mut u32,
+        line: usize,
     ) -> Result<usize, NoMemory>
         ensures same { (q : Key) → tally_at self.new q ≡ tally_at self.old q }
         ensures grows { LinesGrow self.old self.new }
@@ -140,7 +151,7 @@ impl Lines {
             isrc,
             place: number,
         };
-        self.line(alloc, &key)
+        self.line(alloc, &key, line)
     }
 
     /// Notes the parts of a usage that counts under a line. What is kept of each key stays.

@@ -6,6 +6,7 @@ ghost use Rattle.dsr_ledger.specs.Tallies.{tally_at, LinesGrow};
 ghost use Rattle.dsr_ledger.specs.Found.{shown_at, index_at};
 ghost use Rattle.dsr_ledger.specs.Drafts.{numbers_in, NotedUnder, DraftedMore, AreDrafted};
 
+use crate::ahead::NONE;
 use crate::draft::UsageNote;
 use crate::founds::Founds;
 use crate::lines::Lines;
@@ -22,6 +23,7 @@ fn note_under(
     isrc: Isrc,
     place: &Place,
     guess: &mut u32,
+    guessed: usize,
     works: &[Work],
     usage: &Usage,
     summary: usize,
@@ -32,7 +34,7 @@ fn note_under(
     ensures grows { LinesGrow lines.old lines.new }
     ensures noted { OnOk result (NotedUnder lines.new (key_under isrc place.now) works.now usage.now summary notes.old.items notes.new.items parts.old.items parts.new.items) }
 {
-    let line = lines.number(alloc, isrc, place, guess)?;
+    let line = lines.number(alloc, isrc, place, guess, guessed)?;
     let before = parts.len();
     lines.note(alloc, line, usage.amount, works, parts)?;
     let parts = parts.len() - before;
@@ -53,6 +55,7 @@ fn note_usage(
     works: &[Work],
     usage: &Usage,
     summary: usize,
+    guessed: usize,
     notes: &mut Vec<UsageNote>,
     parts: &mut Vec<PartNote>,
 ) -> Result<(), NoMemory>
@@ -70,6 +73,7 @@ fn note_usage(
         isrc,
         &found.place,
         &mut found.guess,
+        guessed,
         works,
         usage,
         summary,
@@ -78,7 +82,7 @@ fn note_usage(
     )
 }
 
-/// Notes where the usages of a recording count. Nothing is added.
+/// Notes where the usages of a recording count. Nothing is added. Any guesses of the numbers of their lines will do.
 pub fn note_usages(
     lines: &mut Lines,
     alloc: Global,
@@ -87,6 +91,7 @@ pub fn note_usages(
     works: &[Work],
     usages: &[Usage],
     summaries: &[usize],
+    guessed: &[usize],
     notes: &mut Vec<UsageNote>,
     parts: &mut Vec<PartNote>,
 ) -> Result<(), NoMemory>
@@ -107,6 +112,7 @@ pub fn note_usages(
             works,
             usage,
             summaries[i],
+            guessed.get(i).copied().unwrap_or(NONE),
             notes,
             parts,
         )?;

@@ -1,12 +1,13 @@
 //! The ledger's lines in their order.
-ghost use Rattle.std.specs.Prelude.{◌≡◌, ◌+◌, ◌<◌, ◌^◌, ◌-ℤ◌, ℕ, List, IfOk, sum_by, unsigned_abs, unwrap_or};
-ghost use Rattle.std.specs.BTreeMap.{get};
+ghost use Rattle.std.specs.Prelude.{◌≡◌, ◌+◌, ◌<◌, ◌^◌, ◌-ℤ◌, ℕ, List, IfOk, sum_by, unsigned_abs};
+ghost use Rattle.std.specs.List.Sorted.{IsStrictlySortedBy};
 ghost use Rattle.dsr_ledger.specs.Sums.{int_sum_by};
 ghost use Rattle.dsr_ledger.specs.Bookings.{Booking};
 ghost use Rattle.dsr_ledger.specs.Parts.{all_parts};
 ghost use Rattle.dsr_ledger.specs.Ledger.{party_lines, line_of, ledger};
-ghost use Rattle.dsr_ledger.specs.Owed.{nothing_owed, owed_among, owed_at, owed_for};
+ghost use Rattle.dsr_ledger.specs.Owed.{owed_among, owed_at, owed_for};
 ghost use Rattle.dsr_ledger.specs.Keys.{text_cmp};
+ghost use Rattle.dsr_ledger.specs.Names.{names_of};
 ghost use Rattle.dsr_ledger.specs.Tallies.{line_tally, tally_of};
 ghost use Rattle.dsr_ledger.specs.Stands.{LinesStand};
 ghost use Rattle.dsr_ledger.specs.Order.{IsOfSmall, AreOfSmall};
@@ -14,36 +15,41 @@ ghost use Rattle.dsr_ledger.specs.Order.{IsOfSmall, AreOfSmall};
 use crate::key::Key;
 use crate::line::Line;
 use crate::lines::Lines;
-use crate::owed::Owed;
 use crate::parties::Parties;
 use crate::party_entry::PartyEntry;
+use crate::ranks::{Ranked, in_place_order};
 use crate::report::{LedgerLine, LedgerLines, PartyLine};
-use crate::whole_keys::whole_keys;
+use crate::whole_keys::{by_rank, whole_key};
 use dsr_cells::{Items, NoMemory, Text};
 use std::alloc::Global;
-use std::collections::BTreeMap;
+use std::cmp::Ordering;
 use std::mem;
 
-/// What each of these parties is owed, by the bytes of their names.
-fn owed_by_name(
-    alloc: Global,
-    mut entries: Vec<PartyEntry>,
-) -> Result<BTreeMap<Text, Owed>, NoMemory>
-    ensures { IfOk result (λ owed. (q : List ℕ) → unwrap_or (get text_cmp owed q) nothing_owed ≡ owed_among entries.items q) }
+/// The order of two parties: that of the bytes of their names.
+fn by_name(one: &PartyEntry, other: &PartyEntry) -> Ordering
+    ensures { result ≡ text_cmp one.now.party other.now.party }
 {
-    let mut owed = BTreeMap::new(alloc);
-    while let Some(entry) = entries.pop() {
-        owed.insert(entry.party, entry.owed)?;
-    }
-    Ok(owed)
+    one.party.cmp(&other.party)
+}
+
+/// The parties by the bytes of their names.
+fn in_name_order(parties: Parties) -> Result<Vec<PartyEntry>, NoMemory>
+    ensures order { IfOk result (λ entries. IsStrictlySortedBy text_cmp (names_of entries.items)) }
+    ensures owed { IfOk result (λ entries. (q : List ℕ) → owed_among entries.items q ≡ owed_at parties q) }
+{
+    let mut entries = parties.entries;
+    entries.sort_by(by_name)?;
+    Ok(entries)
 }
 
 /// The lines of the parties that have a part, by the bytes of their names.
 fn party_lines(alloc: Global, parties: Parties) -> Result<Items<PartyLine>, NoMemory>
     ensures { (bs : List Booking) → ((q : List ℕ) → owed_at parties q ≡ owed_for q (all_parts bs)) → IfOk result (λ lines. lines ≡ party_lines bs) }
 {
-    let mut lines = Items::new(alloc);
-    for (party, owed) in owed_by_name(alloc, parties.entries)? {
+    let entries = in_name_order(parties)?;
+    let mut lines = Items::with_room(alloc, entries.len())?;
+    for entry in entries {
+        let PartyEntry { party, owed } = entry;
         if owed.has_part {
             let amount = owed.amount;
             lines
@@ -104,11 +110,13 @@ pub fn ledger_lines(alloc: Global, lines: Lines) -> Result<LedgerLines, NoMemory
         mut lines,
         ..
     } = lines;
-    let keys = whole_keys(alloc, numbers, &places)?;
-    let mut ledger = Items::new(alloc);
+    let Ranked { places, ranks } = in_place_order(alloc, places)?;
+    let keys = by_rank(alloc, numbers, ranks.as_slice())?;
+    let mut ledger = Items::with_room(alloc, lines.len())?;
     for (key, number) in keys {
         let line = take_line(alloc, &mut lines[number]);
         if line.is_booked {
+            let key = whole_key(alloc, places.as_slice(), &key)?;
             ledger
                 .push(ledger_line(alloc, key, line)?)
                 .map_err(|_line| NoMemory)?;

@@ -1,36 +1,47 @@
-//! The ledger's keys, each with what its place says.
-ghost use Rattle.std.specs.Prelude.{◌≡◌, IfOk, length};
+//! The ledger's keys in the order of what their places say.
+ghost use Rattle.std.specs.Prelude.{◌≡◌, ◌<◌, IfOk, length};
 ghost use Rattle.std.specs.BTreeMap.{get};
-ghost use Rattle.dsr_ledger.specs.Keys.{key_cmp};
 ghost use Rattle.dsr_ledger.specs.LineKeys.{line_key_cmp, ArePlaced};
-ghost use Rattle.dsr_ledger.specs.Places.{number_among};
+ghost use Rattle.dsr_ledger.specs.Ranks.{AreApartRanks, AreRenamed, whole};
 
 use crate::key::Key;
 use crate::line_key::LineKey;
-use crate::places::Places;
+use crate::place::Place;
 use dsr_cells::NoMemory;
 use std::alloc::Global;
 use std::collections::BTreeMap;
 
-/// The numbers of lines by their whole keys, from those by the keys that are kept.
-pub fn whole_keys(
+/// The numbers of lines by the ranks of their places, from those by the places' numbers.
+pub fn by_rank(
     alloc: Global,
     numbers: BTreeMap<LineKey, usize>,
-    places: &Places,
-) -> Result<BTreeMap<Key, usize>, NoMemory>
-    requires { ArePlaced (get line_key_cmp numbers) (length places.now.places.items) }
-    ensures { IfOk result (λ keys. (q : Key) → get key_cmp keys q ≡ number_among places.now numbers q) }
+    ranks: &[u32],
+) -> Result<BTreeMap<LineKey, usize>, NoMemory>
+    requires placed { ArePlaced (get line_key_cmp numbers) (length ranks.now) }
+    requires apart { AreApartRanks ranks.now }
+    ensures { IfOk result (λ keys. AreRenamed ranks.now numbers keys) }
 {
     let mut keys = BTreeMap::new(alloc);
     for (key, number) in numbers {
-        let place = places.places[key.place as usize].copy(alloc)?;
-        let key = Key {
+        let ranked = LineKey {
             isrc: key.isrc,
-            territory: place.territory,
-            use_type: place.use_type,
-            currency: place.currency,
+            place: ranks[key.place as usize],
         };
-        keys.insert(key, number)?;
+        keys.insert(ranked, number)?;
     }
     Ok(keys)
+}
+
+/// The whole key of a line, whose place is that of this rank.
+pub fn whole_key(alloc: Global, places: &[Place], key: &LineKey) -> Result<Key, NoMemory>
+    requires { key.now.place < length places.now }
+    ensures { IfOk result (λ k. k ≡ whole places.now key.now) }
+{
+    let place = places[key.place as usize].copy(alloc)?;
+    Ok(Key {
+        isrc: key.isrc,
+        territory: place.territory,
+        use_type: place.use_type,
+        currency: place.currency,
+    })
 }

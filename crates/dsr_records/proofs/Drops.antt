@@ -1,5 +1,5 @@
 -- Lemmas on the elements of a list and what stands from them on.
-use Rattle.std.proofs.Common.{◌≡◌, ◌+◌, ◌-◌, ◌≤◌, arith, ℕ, zero, suc, List, [], ◌∷◌, drop, refl, ap, sym, ◌∙◌, Some, None, add-one}
+use Rattle.std.proofs.Common.{◌≡◌, ◌+◌, ℕ, zero, suc, List, [], ◌∷◌, drop, refl, Some, None, add-one}
 use Rattle.std.specs.List.{slice_get}
 
 -- nothing stands from a place on: the list has no element there

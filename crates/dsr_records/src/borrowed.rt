@@ -1,5 +1,5 @@
 //! Records whose texts still stand in their line.
-ghost use Rattle.std.specs.Prelude.{◌≡◌, IfOk, true};
+ghost use Rattle.std.specs.Prelude.{◌≡◌, ◌&&◌, ◌==◌, [], ◌∷◌, IfOk, not, true};
 ghost use Rattle.std.specs.List.{list_all};
 ghost use Rattle.dsr_cells.specs.Values.{raw_parts};
 ghost use Rattle.dsr_records.specs.Tables.{is_share};
@@ -10,15 +10,61 @@ use dsr_cells::{Amount, Day, NoMemory, Share, Shares, Text, Texts, unescape, val
 use std::alloc::Global;
 use std::marker::Model;
 
-/// The values of a list cell.
-fn read_texts(alloc: Global, cell: &str) -> Result<Texts, NoMemory>
+/// Room for the values of a list cell: as many as there can be.
+fn room_for(cell: &str) -> usize {
+    if cell.is_empty() {
+        return 0;
+    }
+    let pipes = cell.as_bytes().iter().filter(|byte| **byte == b'|').count();
+    pipes.saturating_add(1)
+}
+
+/// Whether every byte is another one than the pipe and the backslash.
+fn all_plain(bytes: &[u8]) -> bool
+    ensures { result ≡ list_all (λ b. not (b == 124) && not (b == 92)) bytes.now }
+{
+    bytes.iter().all(|byte| *byte != b'|' && *byte != b'\\')
+}
+
+/// Whether a list cell is its one value: it has bytes, and none of them is a pipe or a backslash.
+#[tactic(auto, using(crate::proofs::Plain::plain_cell))]
+fn is_one_value(cell: &str) -> bool
+    ensures { result ≡ true → values_of cell.now ≡ cell.now ∷ [] }
+{
+    !cell.is_empty() && all_plain(cell.as_bytes())
+}
+
+/// The list of one text.
+fn one_text(alloc: Global, text: &str) -> Result<Texts, NoMemory>
+    ensures { IfOk result (λ t. t ≡ text.now ∷ []) }
+{
+    let mut texts = Texts::with_room(alloc, 1)?;
+    texts
+        .push(Text::copy_of(alloc, text)?)
+        .map_err(|_| NoMemory)?;
+    Ok(texts)
+}
+
+/// The values of a list cell, part by part.
+fn read_parts(alloc: Global, cell: &str) -> Result<Texts, NoMemory>
     ensures { IfOk result (λ t. t ≡ values_of cell.now) }
 {
-    let mut texts = Texts::new(alloc);
+    let mut texts = Texts::with_room(alloc, room_for(cell))?;
     for part in values(cell) {
         texts.push(unescape(alloc, part)?).map_err(|_| NoMemory)?;
     }
     Ok(texts)
+}
+
+/// The values of a list cell.
+fn read_texts(alloc: Global, cell: &str) -> Result<Texts, NoMemory>
+    ensures { IfOk result (λ t. t ≡ values_of cell.now) }
+{
+    if is_one_value(cell) {
+        one_text(alloc, cell)
+    } else {
+        read_parts(alloc, cell)
+    }
 }
 
 /// The shares of a list cell.

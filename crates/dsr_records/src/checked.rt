@@ -1,5 +1,5 @@
 //! A line whose cells are those of a record, before anything of it is copied.
-ghost use Rattle.std.specs.Prelude.{◌≡◌, ◌+◌, ◌<◌, [], Ok, Err, IfOk, OnOk, OnErr, MatchResult, true, length, map, nat_lt, slice_get};
+ghost use Rattle.std.specs.Prelude.{◌≡◌, ◌==◌, not, count_by, ◌+◌, ◌<◌, [], Ok, Err, IfOk, OnOk, OnErr, MatchResult, true, length, map, nat_lt, slice_get};
 ghost use Rattle.std.specs.Option.{option_map, unwrap_or};
 ghost use Rattle.dsr_cells.specs.Cells.{cells};
 ghost use Rattle.dsr_records.specs.Blocks.{with_member};
@@ -19,7 +19,7 @@ use crate::layout::Layout;
 use crate::layout_line::RoleLine;
 use crate::record::Record;
 use crate::row::Row;
-use dsr_cells::{NoMemory, count_cells};
+use dsr_cells::NoMemory;
 use std::alloc::Global;
 use std::marker::Model;
 
@@ -101,11 +101,24 @@ impl<'l> CheckedLine<'l> {
     }
 }
 
-/// Whether a line has more than 64 cells.
+/// Whether more than so many of the bytes are other ones than TABs.
+fn has_others(bytes: &[u8], count: usize) -> bool
+    ensures { result ≡ nat_lt count (count_by (λ b. not (b == 9)) bytes.now) }
+{
+    bytes
+        .iter()
+        .filter(|byte| **byte != b'\t')
+        .nth(count)
+        .is_some()
+}
+
+/// Whether a line has more than 64 cells. It has not where more than all but 64 of its bytes are other ones than TABs, which
+/// the first few bytes of a line mostly tell.
+#[tactic(auto, using(crate::proofs::Tabs::many_cells))]
 fn has_many_cells(line: &str) -> bool
     ensures { result ≡ nat_lt 64 (length (cells line.now)) }
 {
-    line.len() >= 64 && count_cells(line) > 64
+    line.len() >= 64 && !has_others(line.as_bytes(), line.len() - 64)
 }
 
 /// The record type of a line: its first cell.

@@ -3,7 +3,7 @@ use Rattle.std.proofs.Common.{◌≡◌, ℕ, ◌+◌, Bool, true, false, ◌||�
 use Rattle.std.proofs.Math.Seq.{take-append_seam}
 use Rattle.dsr_file.specs.Placed.{Placed}
 use Rattle.dsr_file.specs.Orderly.{IsOrderly, is_ended, has_ended}
-use Rattle.dsr_file.specs.OrderlyLaws.{orderly_next, orderly_front}
+use Rattle.dsr_file.specs.OrderlyLaws.{orderly_next, orderly_front, ended_whole}
 use Rattle.dsr_relay.specs.declared.rule.Log.{Log}
 use Rattle.dsr_relay.specs.declared.rule.Log.TheVariants.{Takes}
 use Rattle.dsr_relay.specs.Messages.{Message, events_of, IsMessage, AreMessages}
@@ -56,6 +56,34 @@ next arrived taken held e is orderly =
 pub takes_next : (arrived taken held : List Placed) (e seen : Placed) → seen ≡ e → taken ++ e ∷ held ≡ arrived → IsOrderly arrived → TakesNext arrived taken held e seen
 takes_next arrived taken held e seen same is orderly = subst (λ (f : Placed). TakesNext arrived taken held e f) (sym same) (next arrived taken held e is orderly)
 
+-- after all of `lot` was taken, whose last event the code reads as `seen`
+pub record TakesLot (arrived taken lot : List Placed) (seen : Placed) : Type 0 where
+  pub front : take (seen.place + 1) arrived ≡ taken ++ lot
+  pub whole : take (seen.place + 1) arrived ++ [] ≡ arrived
+  pub count : length (take (seen.place + 1) arrived) ≡ seen.place + 1
+  pub ended : is_ended seen.part ≡ has_ended (take (seen.place + 1) arrived)
+  pub orderly : IsOrderly (take (seen.place + 1) arrived)
+
+not_true : (b : Bool) → (b ≡ true → ⊥) → b ≡ false
+not_true true h = absurd (h refl)
+not_true false h = refl
+
+-- nothing that has an event behind it has ended
+pub going_on : (xs : List Placed) (e : Placed) → IsOrderly (xs ++ e ∷ []) → has_ended xs ≡ false
+going_on xs e orderly = not_true (has_ended xs) (λ ended. let none : e ∷ [] ≡ [] = ended_whole xs (e ∷ []) orderly ended in cc)
+
+pub takes_lot : (arrived taken lot rest : List Placed) (e seen : Placed) → seen ≡ e → taken ++ lot ≡ arrived → lot ≡ rest ++ e ∷ [] → IsOrderly arrived → TakesLot arrived taken lot seen
+takes_lot arrived taken lot rest e seen same is last orderly =
+    let as_lot : (taken ++ rest) ++ e ∷ [] ≡ taken ++ lot = append_assoc taken rest (e ∷ []) ∙ ap (λ l. taken ++ l) (sym last) in
+    let next = takes_next arrived (taken ++ rest) [] e seen same (as_lot ∙ is) orderly in
+    record {
+      front = next.front ∙ as_lot;
+      whole = next.whole;
+      count = next.count;
+      ended = next.ended (going_on (taken ++ rest) e (subst IsOrderly (sym (as_lot ∙ is)) orderly));
+      orderly = next.orderly;
+    }
+
 pub takes_again : (v : Log) (ms : List Message) → v ≡ Takes ms → v ≡ Takes (received_of v)
 takes_again v ms e = e ∙ ap (λ u. Takes (received_of u)) (sym e)
 
@@ -73,3 +101,10 @@ pub first_next : (v w : Log) (m : Message) (n : ℕ) (held came : List Placed) (
 first_next v w m n held came e seen rest same is whole none gives first orderly =
     let taken = take n (events_of (received_of v)) in
     takes_next (events_of (received_of w)) taken rest e seen same (ap (λ l. taken ++ l) (sym first ∙ gives) ∙ come_in v w m taken is (ap (λ l. taken ++ l) (sym none) ∙ whole)) orderly
+
+-- all events of a message that came
+pub lot_next : (v w : Log) (m : Message) (n : ℕ) (held rest : List Placed) (e seen : Placed) → seen ≡ e → w ≡ Takes (received_of v ++ m ∷ []) → take n (events_of (received_of v)) ++ held ≡ events_of (received_of v)
+    → held ≡ [] → m.items ≡ rest ++ e ∷ [] → IsOrderly (events_of (received_of w)) → TakesLot (events_of (received_of w)) (take n (events_of (received_of v))) m.items seen
+lot_next v w m n held rest e seen same is whole none last orderly =
+    let taken = take n (events_of (received_of v)) in
+    takes_lot (events_of (received_of w)) taken m.items rest e seen same (come_in v w m taken is (ap (λ l. taken ++ l) (sym none) ∙ whole)) last orderly

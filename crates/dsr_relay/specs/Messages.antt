@@ -1,10 +1,11 @@
 -- The events of messages.
 use Rattle.std.specs.Prelude.{◌<◌, ◌≤◌, List, [], ◌∷◌, ◌++◌, length}
 use Rattle.dsr_file.specs.Placed.{Placed}
-use Rattle.arrayvec.specs.ArrayVec.{ArrayVec}
+use Rattle.std.specs.declared.alloc.Global.{Global}
+use Rattle.std.specs.declared.vec.Vec.{Vec}
 
 abbrev pub Message : Type 0
-Message = ArrayVec Placed
+Message = Vec Placed Global
 
 -- the events of the messages, one message after another
 abbrev pub events_of : List Message → List Placed

@@ -9,19 +9,22 @@ ghost use Rattle.dsr_relay.specs.declared.rule.Log.TheVariants.{Sends, Takes};
 
 use crate::rule::{InOrder, Log, Message, Received, Sent};
 use crossbeam_channel::{Pass, RuledReceiver, RuledSender};
+use std::mem;
 use std::sync::Wait;
 
 /// The other end of the relay is gone.
 #[derive(Clone, Copy, PartialEq, Eq)]
 pub struct Closed;
 
-/// Puts the batch as a message at the back of the channel, or leaves everything as it was.
+/// Puts the batch as a message at the back of the channel, and begins the next one, or leaves everything as it was.
 pub fn send_out<R: Wait>(
     rt: &R,
     sender: &RuledSender<Message, Log, InOrder>,
     pass: &mut Pass<Message, Log>,
     batch: &mut Message,
+    next: Message,
 ) -> Result<(), Closed>
+    requires next { next.items ≡ [] }
     requires seat { IsSeatAt (sends_on sender.now) pass.old }
     requires knows { view pass.old ≡ Sends (out_of (view pass.old)) (ruled_capacity (sends_on sender.now)) }
     requires size { IsMessage batch.old.items }
@@ -30,7 +33,7 @@ pub fn send_out<R: Wait>(
     ensures sent { OnOk result ((view pass.new ≡ Sends (out_of (view pass.old) ++ batch.old ∷ []) (ruled_capacity (sends_on sender.now))) × (batch.new.items ≡ [])) }
     ensures closed { OnErr result ((view pass.new ≡ view pass.old) × (batch.new ≡ batch.old)) }
 {
-    let message = batch.take();
+    let message = mem::replace(batch, next);
     match sender.send_as::<Sent, R>(rt, pass, message) {
         Ok(()) => Ok(()),
         Err(refused) => {

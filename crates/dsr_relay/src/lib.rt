@@ -1,7 +1,8 @@
 //! One relay for each file: a bounded channel that hands the file's events from its reader's thread to the collector.
 //!
 //! [`open_relay`] makes the two ends. The [`Feed`] gathers the events that it is given into messages of up to 32 and puts each into
-//! the channel; where the channel is full, it waits. The [`Tap`] takes the events one after another; where there is none, it waits.
+//! the channel; where the channel is full, it waits. The [`Tap`] takes the events one after another, or those of a message at once;
+//! where there is none, it waits.
 //! [`Tap::take_in`] joins the two ends and tells what was taken and what is left.
 //!
 //! The promise: whatever the schedule of the threads, the events come out once each and in their order, and what was taken followed
@@ -16,15 +17,17 @@
 mod channel;
 mod feed;
 pub mod laws;
+mod lot;
+mod memory;
 mod name;
 mod open;
 mod rule;
 mod settled;
 mod tap;
-mod used;
 
 pub use channel::Closed;
 pub use feed::Feed;
+pub use lot::Lot;
 pub use name::Name;
 pub use open::{RelayError, open_relay};
 pub use settled::Settled;

@@ -1,14 +1,13 @@
 //! What the two ends know of a relay, and the rule that ties it to what the channel holds.
 ghost use Rattle.std.specs.Prelude.{ℕ};
 
-use arrayvec::ArrayVec;
 use crossbeam_channel::protocol::{Join, Lesson, Outcome, Protocol, Split};
 use dsr_file::Event;
 use std::collections::LinkedList;
 use std::marker::{Brand, PhantomData};
 
-/// The events that go through the channel at once, 32 at most.
-pub type Message = ArrayVec<Event, 32>;
+/// The events that go through the channel at once, 32 at most. A message is moved without its events.
+pub type Message = Vec<Event>;
 
 /// What an end knows by its pass. No value of it is made.
 pub enum Log {

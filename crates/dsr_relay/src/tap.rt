@@ -4,13 +4,14 @@ ghost use Rattle.dsr_file.specs.Orderly.{IsOrderly, has_ended};
 
 use crate::channel::{Closed, take_next};
 use crate::feed::Feed;
+use crate::lot::Lot;
+use crate::memory::Returns;
 use crate::rule::{InOrder, Log, Meet, Message, Rest};
 use crate::settled::Settled;
-use crate::used::Returns;
-use arrayvec::IntoIter;
 use crossbeam_channel::{Pass, RuledReceiver};
 use dsr_file::Event;
 use std::marker::Model;
+use std::mem;
 use std::snapshot::Snapshot;
 use std::sync::Wait;
 
@@ -19,7 +20,7 @@ use std::sync::Wait;
 pub struct Tap {
     pub(crate) receiver: RuledReceiver<Message, Log, InOrder>,
     pub(crate) pass: Pass<Message, Log>,
-    pub(crate) held: IntoIter<Event, 32>,
+    pub(crate) held: Lot,
     pub(crate) count: u64,
     pub(crate) ended: bool,
     pub(crate) returns: Returns,
@@ -49,7 +50,10 @@ impl Tap {
     {
         match self.take_held() {
             Some(event) => Ok(event),
-            None => self.take_first(rt),
+            None => {
+                self.let_go(rt);
+                self.take_first(rt)
+            }
         }
     }
 
@@ -62,7 +66,7 @@ impl Tap {
         ensures none { IfNone result ((self.new ≡ self.old) × (self.old.held ≡ [])) }
         ensures orderly { IsOrderly self.new.taken }
     {
-        let event = self.held.next()?;
+        let event = self.held.take_first()?;
         self.count = event.place + 1;
         self.ended = event.part.is_ended();
         Some(event)
@@ -80,8 +84,8 @@ impl Tap {
         let Some(message) = take_next(rt, &self.receiver, &mut self.pass) else {
             return Err(Closed);
         };
-        self.held = message.into_iter();
-        let Some(event) = self.held.next() else {
+        self.held = Lot::of(message);
+        let Some(event) = self.held.take_first() else {
             unreachable!()
         };
         self.count = event.place + 1;
@@ -89,12 +93,80 @@ impl Tap {
         Ok(event)
     }
 
-    /// Gives an event back that was taken and is no longer wanted, so that the thread of the feed frees its memory. The
-    /// call waits for no room, and what contracts see of the tap stays as it is.
-    pub fn give_back<R: Wait>(&mut self, rt: &R, event: Event)
+    /// Gives back the memory of the last message, of which no event is held.
+    fn let_go<R: Wait>(&mut self, rt: &R)
+        requires { self.old.held ≡ [] }
         ensures { self.new ≡ self.old }
     {
-        self.returns.add(rt, event);
+        let none = Lot::of(self.returns.none());
+        let used = mem::replace(&mut self.held, none);
+        self.returns.give(rt, used.into_memory());
+    }
+
+    /// Takes what is held of the last message, or else the next message. Where there is none yet, the call waits; where the
+    /// feed is gone and nothing is left it may answer `Closed`, and then nothing has changed.
+    pub fn take_lot<R: Wait>(&mut self, rt: &R) -> Result<Lot, Closed>
+        requires { has_ended self.old.taken ≡ false }
+        ensures taken { IfOk result (λ lot. self.new ≡ record self.old { taken = self.old.taken ++ lot; held = [] }) }
+        ensures held { IfOk result (λ lot. 0 < length self.old.held → lot ≡ self.old.held) }
+        ensures some { IfOk result (λ lot. 0 < length lot) }
+        ensures few { IfOk result (λ lot. length lot ≤ 32) }
+        ensures closed { OnErr result ((self.new ≡ self.old) × (self.old.held ≡ [])) }
+        ensures orderly { IsOrderly self.new.taken }
+    {
+        if self.held.events().is_empty() {
+            self.let_go(rt);
+            self.take_message(rt)
+        } else {
+            Ok(self.take_rest())
+        }
+    }
+
+    /// Takes what is held of the last message.
+    fn take_rest(&mut self) -> Lot
+        requires going { has_ended self.old.taken ≡ false }
+        requires some { 0 < length self.old.held }
+        ensures taken { self.new ≡ record self.old { taken = self.old.taken ++ result; held = [] } }
+        ensures held { result ≡ self.old.held }
+        ensures orderly { IsOrderly self.new.taken }
+    {
+        let none = Lot::of(self.returns.none());
+        let lot = mem::replace(&mut self.held, none);
+        let Some((last, _)) = lot.events().split_last() else {
+            unreachable!()
+        };
+        self.count = last.place + 1;
+        self.ended = last.part.is_ended();
+        lot
+    }
+
+    /// Receives a message and takes it.
+    fn take_message<R: Wait>(&mut self, rt: &R) -> Result<Lot, Closed>
+        requires going { has_ended self.old.taken ≡ false }
+        requires none_held { self.old.held ≡ [] }
+        ensures taken { IfOk result (λ lot. self.new ≡ record self.old { taken = self.old.taken ++ lot; held = [] }) }
+        ensures some { IfOk result (λ lot. 0 < length lot) }
+        ensures few { IfOk result (λ lot. length lot ≤ 32) }
+        ensures closed { OnErr result (self.new ≡ self.old) }
+        ensures orderly { IsOrderly self.new.taken }
+    {
+        let Some(message) = take_next(rt, &self.receiver, &mut self.pass) else {
+            return Err(Closed);
+        };
+        let Some((last, _)) = message.as_slice().split_last() else {
+            unreachable!()
+        };
+        self.count = last.place + 1;
+        self.ended = last.part.is_ended();
+        Ok(Lot::of(message))
+    }
+
+    /// Gives a lot back that was taken and is no longer wanted: the thread of the feed frees its events and fills its
+    /// memory again. The call waits for no room, and what contracts see of the tap stays as it is.
+    pub fn give_back<R: Wait>(&mut self, rt: &R, lot: Lot)
+        ensures { self.new ≡ self.old }
+    {
+        self.returns.give(rt, lot.into_memory());
     }
 
     /// Whether Ended was taken.
@@ -104,20 +176,12 @@ impl Tap {
         self.ended
     }
 
-    /// The events of the last message that were not taken yet.
-    pub fn held_events(&self) -> &[Event]
-        ensures held { result.now ≡ self.now.held }
-        ensures few { length result.now ≤ 31 }
-    {
-        self.held.as_slice()
-    }
-
     /// How many events of the last message were not taken yet.
     pub fn held(&self) -> u32
         ensures held { result ≡ length self.now.held }
         ensures few { result ≤ 31 }
     {
-        self.held_events().len() as u32
+        self.held.events().len() as u32
     }
 
     /// Joins the two ends of one relay, and tells what was taken and what is left of what was sent. It waits for nobody.
@@ -144,7 +208,7 @@ impl Tap {
             mut pass,
             batch: _,
             count,
-            used: _,
+            spare: _,
         } = feed;
         sender.absorb::<Meet>(&mut pass, theirs);
         sender.learn_as::<Rest>(&mut pass);

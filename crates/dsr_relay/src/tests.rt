@@ -318,6 +318,34 @@ fn one_of_forty_is_taken(rt: HostRuntime) -> Result<(), Fail> {
     Ok(())
 }
 
+/// Takes a lot and gives it back, and answers how many events it has, or none where the feed is gone.
+fn takes_lot<R: Wait>(rt: &R, tap: &mut Tap) -> Option<usize>
+    requires { has_ended tap.old.taken ≡ false }
+    ensures { tap.new.name ≡ tap.old.name }
+{
+    let Ok(lot) = tap.take_lot(rt) else {
+        return None;
+    };
+    let count = lot.events().len();
+    tap.give_back(rt, lot);
+    Some(count)
+}
+
+#[test]
+fn lots_of_forty(rt: HostRuntime) -> Result<(), Fail> {
+    let (mut feed, mut tap) = relay(rt.alloc(), 2)?;
+    assert!(rt; send_blocks(&rt, rt.alloc(), &mut feed, 39));
+    assert!(rt; flushes(&rt, &mut feed));
+    assert!(rt; takes_opened(&rt, &mut tap));
+    assert!(rt; !tap.ended());
+    assert_eq!(rt; takes_lot(&rt, &mut tap), Some(31));
+    assert!(rt; !tap.ended());
+    assert_eq!(rt; takes_lot(&rt, &mut tap), Some(8));
+    let settled = tap.take_in(feed);
+    assert_eq!(rt; (settled.taken, settled.left), (40, 0));
+    Ok(())
+}
+
 #[test]
 fn a_closed_tap_hands_back(rt: HostRuntime) -> Result<(), Fail> {
     let (mut feed, mut tap) = relay(rt.alloc(), 2)?;
@@ -415,5 +443,51 @@ fn many_blocks_through_one_place(rt: HostRuntime) -> Result<(), Fail> {
     assert!(rt; tap.ended());
     let settled = tap.take_in(sender.join(&rt));
     assert_eq!(rt; (settled.taken, settled.left), (20_002, 0));
+    Ok(())
+}
+
+/// Whether these are the events of a file of blocks from a place on.
+fn are_right(events: &[Event], first: u64) -> bool {
+    for (i, event) in events.iter().enumerate() {
+        let place = first.wrapping_add(i as u64);
+        if !(is_opened(event) || is_block(event, place) || is_end(event, place)) {
+            return false;
+        }
+    }
+    true
+}
+
+/// Takes the events of a file of blocks by lots, and answers how many were the right ones, up to the first lot that was
+/// not.
+fn take_lots<R: Wait>(rt: &R, tap: &mut Tap) -> u64
+    ensures { tap.new.name ≡ tap.old.name }
+{
+    let mut taken = 0u64;
+    for _ in 0..u64::MAX {
+        if tap.ended() {
+            return taken;
+        }
+        let Ok(lot) = tap.take_lot(rt) else {
+            return taken;
+        };
+        if !are_right(lot.events(), taken) {
+            return taken;
+        }
+        taken = taken.wrapping_add(lot.events().len() as u64);
+        tap.give_back(rt, lot);
+    }
+    taken
+}
+
+#[test]
+fn lots_through_one_place(rt: HostRuntime) -> Result<(), Fail> {
+    let alloc: Global = rt.alloc();
+    let (feed, mut tap) = relay(alloc, 1)?;
+    let promise = SameRelay(Snapshot::of(&feed));
+    let sender = thread::spawn_with(&rt, promise, move || send_file(&rt, alloc, feed, 2000))?;
+    assert_eq!(rt; take_lots(&rt, &mut tap), 2002);
+    assert!(rt; tap.ended());
+    let settled = tap.take_in(sender.join(&rt));
+    assert_eq!(rt; (settled.taken, settled.left), (2002, 0));
     Ok(())
 }

@@ -3,5 +3,5 @@ use Rattle.std.specs.List.{flat_map}
 use Rattle.dsr_intake.specs.Statement.{ledger_lines}
 use Rattle.dsr_intake.proofs.statements.put_ledgers.Given as goal
 
-abbrev pub invariant-loop-line : goal.invariant-loop-line
-invariant-loop-line l = l.out.items ≡ l.fn.out.items ++ flat_map ledger_lines (take l.line-index l.lines)
+abbrev pub invariant-loop-k : goal.invariant-loop-k
+invariant-loop-k l = l.out.items ≡ l.fn.out.items ++ flat_map ledger_lines (take l.k l.lines)

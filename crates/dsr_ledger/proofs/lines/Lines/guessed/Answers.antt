@@ -10,7 +10,7 @@ use Rattle.dsr_ledger.proofs.lines.Lines.guessed.Goals as goal
 pub returns-then-eq : goal.returns-then-eq
 returns-then-eq c =
     let line = c.in_ok-get.field-0.now in
-    let i = c.in_ok-number.number in
+    let i = c.args.number in
     let alike : line_key_eq line.key c.args.key.now ≡ true = search rules in
     let found = c.in_ok-get.ensures.lookup in
     let at : slice_get c.args.self.now.lines.items i ≡ Some line =

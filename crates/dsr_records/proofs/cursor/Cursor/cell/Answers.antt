@@ -1,6 +1,4 @@
-use Rattle.std.proofs.Common.{◌≡◌, ◌∷◌, ◌+◌, sym, ◌∙◌, ap, drop, Some, None, slice_get}
-use Rattle.dsr_cells.specs.Cells.{cells}
-use Rattle.dsr_records.specs.Rows.{cells_left}
+use Rattle.std.proofs.Common.{◌+◌, sym, ◌∙◌, ap, drop, slice_get}
 use Rattle.dsr_records.proofs.Drops.{slice_get_none, slice_get_first, drop_next}
 use Rattle.dsr_records.proofs.cursor.Cursor.cell.Goals as goal
 

@@ -10,17 +10,17 @@ use Rattle.dsr_relay.specs.Feeds.{feed_view, sent_of}
 use Rattle.dsr_relay.proofs.Sending.{sends_again, sent_out, has_room, batch_goes}
 use Rattle.dsr_relay.proofs.feed.Feed.send.Goals as goal
 
-pub invariant_of-self : goal.invariant_of-self
-invariant_of-self g c =
+pub invariant_of-self-then-not-goes_out : goal.invariant_of-self-then-not-goes_out
+invariant_of-self-then-not-goes_out g c =
     let f = c.self.inside in
     let e = c.args.event in
     let out = events_of (out_of (view f.pass)) in
     let asked : IsOrderly (sent_of f ++ e ∷ []) = subst (λ (v : FeedView). IsOrderly (v.sent ++ e ∷ [])) (sym c.self.view_is) c.requires in
-    let same : out ++ c.push.new.self.items ≡ sent_of f ++ e ∷ [] = ap (λ l. out ++ l) c.push.ensures.items ∙ sym (append_assoc out f.batch.items (e ∷ [])) in
+    let same : out ++ c.put.new.batch.items ≡ sent_of f ++ e ∷ [] = ap (λ l. out ++ l) c.in_ok-put.ensures ∙ sym (append_assoc out f.batch.items (e ∷ [])) in
     record {
       seat = c.self.invariant.seat;
       knows = c.self.invariant.knows;
-      waits = omega (arith, c.push.ensures.len, has_room f.batch.items e (sym c.goes_out-goes_out.ensures ∙ c.if-not-goes_out.true) c.self.invariant.waits);
+      waits = omega (arith, ap length c.in_ok-put.ensures, length-append f.batch.items (e ∷ []), has_room f.batch.items e (sym c.goes_out-goes_out.ensures ∙ c.if-not-goes_out.true) c.self.invariant.waits);
       orderly = subst IsOrderly (sym same) asked;
       count = omega (arith, ap (λ (v : Placed). v.place) c.event.view_is, orderly_next (sent_of f) e [] asked, ap length same, length-append (sent_of f) (e ∷ []));
     }
@@ -33,7 +33,7 @@ invariant_of-self-in_default g c =
     let went = c.in_default.ensures.sent in
     let asked : IsOrderly (sent_of f ++ e ∷ []) = subst (λ (v : FeedView). IsOrderly (v.sent ++ e ∷ [])) (sym c.self.view_is) c.requires in
     let same =
-    sent_out (view f.pass) (view c.send_out.new.pass) _ _ (f.batch.items ++ e ∷ []) c.send_out.new.batch.items went.0 c.push.ensures.items went.1
+    sent_out (view f.pass) (view c.send_out.new.pass) _ _ (f.batch.items ++ e ∷ []) c.send_out.new.batch.items went.0 c.in_ok-put.ensures went.1
     ∙ sym (append_assoc out f.batch.items (e ∷ [])) in
     record {
       seat = c.send_out.ensures.seat;
@@ -50,7 +50,7 @@ returns-in_default-clause-sent g c =
     let out = events_of (out_of (view f.pass)) in
     let went = c.in_default.ensures.sent in
     let same =
-    sent_out (view f.pass) (view c.send_out.new.pass) _ _ (f.batch.items ++ e ∷ []) c.send_out.new.batch.items went.0 c.push.ensures.items went.1
+    sent_out (view f.pass) (view c.send_out.new.pass) _ _ (f.batch.items ++ e ∷ []) c.send_out.new.batch.items went.0 c.in_ok-put.ensures went.1
     ∙ sym (append_assoc out f.batch.items (e ∷ [])) in
     let seat = c.send_out.ensures.seat in
     let was = c.self.invariant.seat in

@@ -9,15 +9,15 @@ use Rattle.dsr_relay.proofs.tap.Tap.take_first.Goals as goal
 pub unreachable-requires : goal.unreachable-requires
 unreachable-requires g c =
     let size = has_size (view c.self.inside.pass) (view c.take_next.new.pass) c.in-Some.message c.in-Some.ensures.taken c.in-Some.ensures.orderly.1 in
-    omega (arith, size.0, ap length (sym c.into_iter.ensures.into_iter_gives.0 ∙ c.in_default-next.ensures.steps.0))
+    omega (arith, size.0, ap length (sym c.of.ensures ∙ c.in_default-take_first.ensures.0))
 
 pub invariant_of-self-2 : goal.invariant_of-self-2
 invariant_of-self-2 g c =
     let t = c.self.inside in
     let none = ap (λ (v : TapView). v.held) c.self.view_is ∙ c.requires.none_held in
-    let gives = c.into_iter.ensures.into_iter_gives.0 in
-    let first = c.in-Some-next.ensures.steps in
-    let next = first_next (view t.pass) (view c.take_next.new.pass) c.in-Some.message t.count t.held c.into_iter.result c.in-Some-next.event _ c.next.new.self c.event.view_is c.in-Some.ensures.taken c.self.invariant.whole none gives first c.in-Some.ensures.orderly.0 in
+    let gives = c.of.ensures in
+    let first = c.in-Some-take_first.ensures in
+    let next = first_next (view t.pass) (view c.take_next.new.pass) c.in-Some.message t.count t.held c.of.result c.in-Some-take_first.event _ c.take_first.new.self c.event.view_is c.in-Some.ensures.taken c.self.invariant.whole none gives first c.in-Some.ensures.orderly.0 in
     let size = has_size (view t.pass) (view c.take_next.new.pass) c.in-Some.message c.in-Some.ensures.taken c.in-Some.ensures.orderly.1 in
     record {
       seat = c.in-Some.ensures.seat;
@@ -32,25 +32,25 @@ invariant_of-self-2 g c =
 pub returns-clause-taken : goal.returns-clause-taken
 returns-clause-taken g c =
     let t = c.self.inside in
-    let e = c.in-Some-next.event in
+    let e = c.in-Some-take_first.event in
     let none = ap (λ (v : TapView). v.held) c.self.view_is ∙ c.requires.none_held in
-    let next = first_next (view t.pass) (view c.take_next.new.pass) c.in-Some.message t.count t.held c.into_iter.result e _ c.next.new.self c.event.view_is c.in-Some.ensures.taken c.self.invariant.whole none c.into_iter.ensures.into_iter_gives.0 c.in-Some-next.ensures.steps c.in-Some.ensures.orderly.0 in
+    let next = first_next (view t.pass) (view c.take_next.new.pass) c.in-Some.message t.count t.held c.of.result e _ c.take_first.new.self c.event.view_is c.in-Some.ensures.taken c.self.invariant.whole none c.of.ensures c.in-Some-take_first.ensures c.in-Some.ensures.orderly.0 in
     let seat = c.in-Some.ensures.seat in
     let was = c.self.invariant.seat in
-    let after : tap_view (record t { pass = c.take_next.new.pass; held = c.next.new.self; count = c.event.inside.place + 1; ended = c.is_ended-self-inside.result }) ≡ record (tap_view t) { taken = take t.count (arrived t) ++ e ∷ []; held = c.next.new.self } =
-    λ i. record { name = record { of = record {}; table = (seat.0 ∙ sym was.0) i; key = (seat.1 ∙ sym was.1) i; capacity = (tap_view t).name.capacity }; taken = next.front i; held = c.next.new.self } in
-    after ∙ ap (λ (v : TapView). record v { taken = v.taken ++ e ∷ []; held = c.next.new.self }) c.self.view_is
+    let after : tap_view (record t { pass = c.take_next.new.pass; held = c.take_first.new.self; count = c.event.inside.place + 1; ended = c.is_ended-self-inside.result }) ≡ record (tap_view t) { taken = take t.count (arrived t) ++ e ∷ []; held = c.take_first.new.self } =
+    λ i. record { name = record { of = record {}; table = (seat.0 ∙ sym was.0) i; key = (seat.1 ∙ sym was.1) i; capacity = (tap_view t).name.capacity }; taken = next.front i; held = c.take_first.new.self } in
+    after ∙ ap (λ (v : TapView). record v { taken = v.taken ++ e ∷ []; held = c.take_first.new.self }) c.self.view_is
 
 pub returns-clause-place : goal.returns-clause-place
 returns-clause-place g c =
     let t = c.self.inside in
     let none = ap (λ (v : TapView). v.held) c.self.view_is ∙ c.requires.none_held in
-    let next = first_next (view t.pass) (view c.take_next.new.pass) c.in-Some.message t.count t.held c.into_iter.result c.in-Some-next.event _ c.next.new.self c.event.view_is c.in-Some.ensures.taken c.self.invariant.whole none c.into_iter.ensures.into_iter_gives.0 c.in-Some-next.ensures.steps c.in-Some.ensures.orderly.0 in
+    let next = first_next (view t.pass) (view c.take_next.new.pass) c.in-Some.message t.count t.held c.of.result c.in-Some-take_first.event _ c.take_first.new.self c.event.view_is c.in-Some.ensures.taken c.self.invariant.whole none c.of.ensures c.in-Some-take_first.ensures c.in-Some.ensures.orderly.0 in
     next.place ∙ ap (λ (v : TapView). length v.taken) c.self.view_is
 
 pub returns-clause-orderly : goal.returns-clause-orderly
 returns-clause-orderly g c =
     let t = c.self.inside in
     let none = ap (λ (v : TapView). v.held) c.self.view_is ∙ c.requires.none_held in
-    let next = first_next (view t.pass) (view c.take_next.new.pass) c.in-Some.message t.count t.held c.into_iter.result c.in-Some-next.event _ c.next.new.self c.event.view_is c.in-Some.ensures.taken c.self.invariant.whole none c.into_iter.ensures.into_iter_gives.0 c.in-Some-next.ensures.steps c.in-Some.ensures.orderly.0 in
+    let next = first_next (view t.pass) (view c.take_next.new.pass) c.in-Some.message t.count t.held c.of.result c.in-Some-take_first.event _ c.take_first.new.self c.event.view_is c.in-Some.ensures.taken c.self.invariant.whole none c.of.ensures c.in-Some-take_first.ensures c.in-Some.ensures.orderly.0 in
     next.orderly

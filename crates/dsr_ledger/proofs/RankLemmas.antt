@@ -1,0 +1,226 @@
+-- The keys of lines by the ranks of their places.
+use Rattle.std.proofs.Common.{◌≡◌, ℕ, zero, suc, ◌<◌, ◌++◌, length, set, get_or, arith, ◌⊎◌, inl, inr, List, [], ◌∷◌, Bool, true, false, true≢false, cond, refl, sym, ap, ◌∙◌, subst, ⊎_elim, BTreeMap}
+use Rattle.std.specs.Prelude.{Option, None, Some, nat_lt, slice_get, unwrap_or, ◌==◌}
+use Rattle.std.specs.Option.{option_and_then}
+use Rattle.std.specs.List.{AllByRecursion}
+use Rattle.std.specs.List.Sorted.{IsStrictlySortedBy}
+use Rattle.std.specs.Ordering.{is_eq, nat_cmp, ordering_then}
+use Rattle.std.specs.declared.cmp.Ordering.{Ordering}
+use Rattle.std.specs.declared.cmp.Ordering.TheVariants.{Less, Equal, Greater}
+use Rattle.std.specs.Map.{keys_of, lookup}
+use Rattle.std.specs.BTreeMap.{get}
+use Rattle.std.specs.FinMap.Entries.{find}
+use Rattle.std.proofs.lemmas.Bool.{cases_Bool, ltb-true}
+use Rattle.std.proofs.lemmas.Option.{slice_get-get_or, slice_get_within}
+use Rattle.dsr_ledger.specs.declared.key.Key.{Key}
+use Rattle.dsr_ledger.specs.declared.place.Place.{Place}
+use Rattle.dsr_ledger.specs.declared.places.Places.{Places}
+use Rattle.dsr_ledger.specs.declared.line_key.LineKey.{LineKey}
+use Rattle.dsr_ledger.specs.declared.lines.Lines.{Lines}
+use Rattle.dsr_ledger.specs.Keys.{key_cmp, text_cmp}
+use Rattle.dsr_ledger.specs.LineKeys.{place_cmp, line_key_cmp}
+use Rattle.dsr_ledger.specs.Places.{place_number, place_in}
+use Rattle.dsr_ledger.specs.Openings.{first_of}
+use Rattle.dsr_ledger.specs.Ranks.{AreApartRanks, AreRanked, AreRenamed, no_place, whole, whole_entries}
+use Rattle.dsr_ledger.specs.Tallies.{number_of}
+use Rattle.dsr_ledger.proofs.NumberedLemmas.{either, not_Some, same_Some, left_set}
+use Rattle.dsr_ledger.proofs.KeyLemmas.{key_tie}
+use Rattle.dsr_ledger.proofs.PlaceLemmas.{line_key_tie, place_tie, through}
+
+-- the number of a key among entries
+abbrev pub found_in : List (LineKey × ℕ) → LineKey → Option ℕ
+found_in es q = lookup (λ k. is_eq (line_key_cmp q k)) es
+
+abbrev pub at : List ℕ → ℕ → LineKey
+at isrc place = record { isrc = isrc; place = place }
+
+-- one more key is put by the rank of its place
+module _ (ranks : List ℕ) (apart : AreApartRanks ranks) (numbers was is : LineKey → Option ℕ) (k : LineKey) (n rank : ℕ)
+    (ranked : slice_get ranks k.place ≡ Some rank) (found : numbers k ≡ Some n)
+    (put : (q : LineKey) → is q ≡ cond (is_eq (line_key_cmp (at k.isrc rank) q)) (Some n) (was q)) where
+  pub there_put : (es : List (LineKey × ℕ)) → ((isrc : List ℕ) (i r : ℕ) → slice_get ranks i ≡ Some r → first_of (was (at isrc r)) (found_in ((k, n) ∷ es) (at isrc i)) ≡ numbers (at isrc i)) → (isrc : List ℕ) (i r : ℕ) → slice_get ranks i ≡ Some r → first_of (is (at isrc r)) (found_in es (at isrc i)) ≡ numbers (at isrc i)
+  there_put es made isrc i r of =
+      ap (λ o. first_of o (found_in es (at isrc i))) (put (at isrc r))
+      ∙ elim (is_eq (line_key_cmp (at k.isrc rank) (at isrc r))) as (λ b. is_eq (line_key_cmp (at k.isrc rank) (at isrc r)) ≡ b → first_of (cond b (Some n) (was (at isrc r))) (found_in es (at isrc i)) ≡ numbers (at isrc i)) [
+        | true ↦ λ t.
+            let same : at k.isrc rank ≡ at isrc r = (line_key_tie (at k.isrc rank) (at isrc r)).0 t in
+            let place : k.place ≡ i = apart k.place i r (ranked ∙ ap (λ (x : LineKey). Some x.place) same) of in
+            sym found ∙ (λ j. numbers (at ((same j).isrc) (place j)))
+        | false ↦ λ f. other f (is_eq (line_key_cmp (at isrc i) k)) refl ∙ made isrc i r of
+      ] refl
+    where
+      other : is_eq (line_key_cmp (at k.isrc rank) (at isrc r)) ≡ false → (b : Bool) → is_eq (line_key_cmp (at isrc i) k) ≡ b → first_of (was (at isrc r)) (found_in es (at isrc i)) ≡ first_of (was (at isrc r)) (cond (is_eq (line_key_cmp (at isrc i) k)) (Some n) (found_in es (at isrc i)))
+      other f true t =
+          let same : at isrc i ≡ k = (line_key_tie (at isrc i) k).0 t in
+          let one : at k.isrc rank ≡ at isrc r = (λ j. at ((sym same j).isrc) (same_Some rank r (sym ranked ∙ ap (λ (x : LineKey). slice_get ranks x.place) (sym same) ∙ of) j)) in
+          absurd (true≢false (sym ((line_key_tie (at k.isrc rank) (at isrc r)).1 one) ∙ f))
+      other f false t = ap (λ b. first_of (was (at isrc r)) (cond b (Some n) (found_in es (at isrc i)))) (sym t)
+
+  pub came_put : ((q : LineKey) (m : ℕ) → was q ≡ Some m → (i : ℕ) × (slice_get ranks i ≡ Some q.place) × (numbers (at q.isrc i) ≡ Some m)) → (q : LineKey) (m : ℕ) → is q ≡ Some m → (i : ℕ) × (slice_get ranks i ≡ Some q.place) × (numbers (at q.isrc i) ≡ Some m)
+  came_put came q m e =
+      ⊎_elim
+      (λ s.
+      let same : at k.isrc rank ≡ q = (line_key_tie (at k.isrc rank) q).0 s.0 in
+      (k.place, ranked ∙ ap (λ (x : LineKey). Some x.place) same, (λ j. numbers (at ((sym same j).isrc) k.place)) ∙ found ∙ ap Some s.1))
+      (λ s. came q m s.1)
+      (either (is_eq (line_key_cmp (at k.isrc rank) q)) n m (was q) (sym (put q) ∙ e))
+
+-- none are left
+pub none_left : (o : Option ℕ) → first_of o None ≡ o
+none_left (Some i) = refl
+none_left None = refl
+
+-- the number of a place among entries
+abbrev pub place_in_entries : List (Place × ℕ) → Place → Option ℕ
+place_in_entries es p = lookup (λ q. is_eq (place_cmp p q)) es
+
+-- the place stands at the rank of its number
+abbrev pub IsAtRank : List Place → List ℕ → ℕ → Place → Type 0
+IsAtRank places ranks i p = (r : ℕ) × (slice_get ranks i ≡ Some r) × (slice_get places r ≡ Some p)
+
+stays : {X : Type 0} (xs : List X) (x y : X) (i : ℕ) → slice_get xs i ≡ Some y → slice_get (xs ++ x ∷ []) i ≡ Some y
+stays [] x y i e = absurd (not_Some y e)
+stays (z ∷ xs) x y zero e = e
+stays (z ∷ xs) x y (suc i) e = stays xs x y i e
+
+last_is : {X : Type 0} (xs : List X) (x : X) → slice_get (xs ++ x ∷ []) (length xs) ≡ Some x
+last_is [] x = refl
+last_is (z ∷ xs) x = last_is xs x
+
+set_here : {X : Type 0} (xs : List X) (i : ℕ) (x : X) → i < length xs → slice_get (set xs i x) i ≡ Some x
+set_here [] i x below = absurd (omega arith)
+set_here (z ∷ xs) zero x below = refl
+set_here (z ∷ xs) (suc i) x below = set_here xs i x (omega arith)
+
+-- one more place is put at the end
+pub rank_put : (numbered : Places) (e : Place × ℕ) (es : List (Place × ℕ)) (places : List Place) (ranks : List ℕ) → place_number numbered e.0 ≡ Some e.1 → e.1 < length ranks → (i : ℕ) (p : Place) → slice_get numbered.places.items i ≡ Some p → (place_in_entries (e ∷ es) p ≡ Some i) ⊎ IsAtRank places ranks i p → (place_in_entries es p ≡ Some i) ⊎ IsAtRank (places ++ e.0 ∷ []) (set ranks e.1 (length places)) i p
+rank_put numbered e es places ranks found below i p at was =
+    ⊎_elim
+    (λ same. inr (here (same_Some i e.1 (sym (numbered.named i p at) ∙ ap (place_number numbered) ((place_tie p e.0).0 same) ∙ found)) ((place_tie p e.0).0 same)))
+    (λ other. ⊎_elim (λ l. inl (ap (λ b. cond b (Some e.1) (place_in_entries es p)) (sym other) ∙ l)) (λ r. inr (there other r)) was)
+    (cases_Bool (is_eq (place_cmp p e.0)))
+  where
+    here : i ≡ e.1 → p ≡ e.0 → IsAtRank (places ++ e.0 ∷ []) (set ranks e.1 (length places)) i p
+    here number place = (length places, ap (slice_get (set ranks e.1 (length places))) number ∙ set_here ranks e.1 (length places) below, last_is places e.0 ∙ ap Some (sym place))
+
+    there : is_eq (place_cmp p e.0) ≡ false → IsAtRank places ranks i p → IsAtRank (places ++ e.0 ∷ []) (set ranks e.1 (length places)) i p
+    there other r =
+        let apart : e.1 ≡ i → ⊥ = λ same.
+        let one : p ≡ e.0 = numbered.numbered.apart p e.0 i (numbered.named i p at) (found ∙ ap Some same) in
+        true≢false (sym ((place_tie p e.0).1 one) ∙ other) in
+        (r.0, left_set ranks e.1 i (length places) apart ∙ r.1, stays places e.0 p r.0 r.2)
+
+then_less : (a b c : Ordering) → (b ≡ Less → c ≡ Less) → ordering_then a b ≡ Less → ordering_then a c ≡ Less
+then_less Less b c h e = refl
+then_less Equal b c h e = h e
+then_less Greater b c h e = absurd (cc)
+
+-- of things that are strictly in order, the earlier is less
+sorted_at : {K : Type 0} (cmp : K → K → Ordering) (ks : List K) (i j : ℕ) (d : K) → IsStrictlySortedBy cmp ks → i < j → j < length ks → cmp (unwrap_or (slice_get ks i) d) (unwrap_or (slice_get ks j) d) ≡ Less
+unfolding IsStrictlySortedBy
+sorted_at cmp [] i j d sorted less below = absurd (omega arith)
+sorted_at cmp (k ∷ ks) i zero d sorted less below = absurd (omega arith)
+sorted_at {K} cmp (k ∷ ks) zero (suc j) d sorted less below = each ks j sorted.0 (omega arith)
+  where
+    each : (xs : List K) (j : ℕ) → AllByRecursion (λ y. cmp k y ≡ Less) xs → j < length xs → cmp k (unwrap_or (slice_get xs j) d) ≡ Less
+    each [] j h b = absurd (omega arith)
+    each (x ∷ xs) zero h b = h.0
+    each (x ∷ xs) (suc j) h b = each xs j h.1 (omega arith)
+sorted_at cmp (k ∷ ks) (suc i) (suc j) d sorted less below = sorted_at cmp ks i j d sorted.1 (omega arith) (omega arith)
+
+not_Less : (b : Bool) → cond b Equal Greater ≡ Less → ⊥
+not_Less true e = absurd (cc)
+not_Less false e = absurd (cc)
+
+nat_cmp-Less : (i j : ℕ) → nat_cmp i j ≡ Less → i < j
+nat_cmp-Less i j e = ⊎_elim (λ t. ltb-true i j t) (λ f. absurd (not_Less (i == j) (sym (ap (λ b. cond b Less (cond (i == j) Equal Greater)) f) ∙ e))) (cases_Bool (nat_lt i j))
+
+-- the keys by ranks are in the order of the whole keys
+whole_less : (places : List Place) (a b : LineKey) → IsStrictlySortedBy place_cmp places → b.place < length places → line_key_cmp a b ≡ Less → key_cmp (whole places a) (whole places b) ≡ Less
+whole_less places a b sorted below =
+    then_less (text_cmp a.isrc b.isrc) (nat_cmp a.place b.place) (place_cmp (place_in (whole places a)) (place_in (whole places b))) (λ less. sorted_at place_cmp places a.place b.place no_place sorted (nat_cmp-Less a.place b.place less) below)
+
+abbrev pub ArePlacedIn : List Place → List (LineKey × ℕ) → Type 0
+ArePlacedIn places es = AllByRecursion (λ e. e.0.place < length places) es
+
+pub whole_sorted : (places : List Place) (es : List (LineKey × ℕ)) → IsStrictlySortedBy place_cmp places → ArePlacedIn places es → IsStrictlySortedBy line_key_cmp (keys_of es) → IsStrictlySortedBy key_cmp (keys_of (whole_entries places es))
+unfolding IsStrictlySortedBy
+whole_sorted places [] order placed sorted = tt
+whole_sorted places (e ∷ es) order placed sorted = (above es placed.1 sorted.0, whole_sorted places es order placed.1 sorted.1)
+  where
+    above : (xs : List (LineKey × ℕ)) → ArePlacedIn places xs → AllByRecursion (λ y. line_key_cmp e.0 y ≡ Less) (keys_of xs) → AllByRecursion (λ y. key_cmp (whole places e.0) y ≡ Less) (keys_of (whole_entries places xs))
+    above [] p h = tt
+    above (x ∷ xs) p h = (whole_less places e.0 x.0 order p.0 h.0, above xs p.1 h.1)
+
+-- a key that is found by its rank is found whole
+whole_found : (places : List Place) (es : List (LineKey × ℕ)) (k : LineKey) (n : ℕ) → found_in es k ≡ Some n → find key_cmp (whole places k) (whole_entries places es) ≡ None → ⊥
+whole_found places [] k n e none = not_Some n e
+whole_found places (x ∷ es) k n e none =
+    ⊎_elim
+    (λ t. not_Some x.1 (sym none ∙ ap (λ b. cond b (Some x.1) (find key_cmp (whole places k) (whole_entries places es))) t))
+    (λ f.
+    let other : is_eq (line_key_cmp k x.0) ≡ false = ⊎_elim (λ t. absurd (true≢false (sym ((key_tie (whole places k) (whole places x.0)).1 (ap (whole places) ((line_key_tie k x.0).0 t))) ∙ f))) (λ f. f) (cases_Bool (is_eq (line_key_cmp k x.0))) in
+    whole_found places es k n
+    (sym (ap (λ b. cond b (Some x.1) (found_in es k)) other) ∙ e)
+    (sym (ap (λ b. cond b (Some x.1) (find key_cmp (whole places k) (whole_entries places es))) f) ∙ none))
+    (cases_Bool (is_eq (key_cmp (whole places k) (whole places x.0))))
+
+-- of lines whose places were put in order
+module _ (lines : Lines) (places : List Place) (ranks : List ℕ) (ranked : AreRanked lines.places.places.items places ranks) where
+  -- the place of a rank
+  place_there : (i r : ℕ) → i < length lines.places.places.items → slice_get ranks i ≡ Some r → (p : Place) × (slice_get places r ≡ Some p) × (place_number lines.places p ≡ Some i)
+  place_there i r below at =
+      let old = lines.places.places.items in
+      let p = get_or old i no_place in
+      let is : slice_get old i ≡ Some p = slice_get-get_or old i no_place below in
+      let rank = ranked.rank i p is in
+      (p, ap (slice_get places) (same_Some r rank.0 (sym at ∙ rank.1)) ∙ rank.2, lines.places.named i p is)
+
+  pub ranks_apart : AreApartRanks ranks
+  ranks_apart i j r at of =
+      let here = place_there i r (subst (λ n. i < n) ranked.long (slice_get_within ranks i r at)) at in
+      let there = place_there j r (subst (λ n. j < n) ranked.long (slice_get_within ranks j r of)) of in
+      let same : here.0 ≡ there.0 = same_Some here.0 there.0 (sym here.1 ∙ there.1) in
+      same_Some i j (sym here.2 ∙ ap (place_number lines.places) same ∙ there.2)
+
+  -- the place of a number
+  place_is : (p : Place) (i : ℕ) → place_number lines.places p ≡ Some i → slice_get lines.places.places.items i ≡ Some p
+  place_is p i e =
+      let old = lines.places.places.items in
+      let is = slice_get-get_or old i no_place (lines.places.numbered.below p i e) in
+      is ∙ ap Some (lines.places.numbered.apart (get_or old i no_place) p i (lines.places.named i (get_or old i no_place) is) e)
+
+  -- of keys that were put by the ranks of their places
+  module _ (keys : BTreeMap LineKey ℕ) (renamed : AreRenamed ranks lines.numbers keys) where
+    each_whole : (k : LineKey) (n : ℕ) → get line_key_cmp keys k ≡ Some n → (k.place < length places) × (number_of lines (whole places k) ≡ Some n)
+    each_whole k n e =
+        let came = renamed.came k n e in
+        let there = place_there came.0 k.place (lines.placed (at k.isrc came.0) n came.2) came.1 in (
+          slice_get_within places k.place there.0 there.1,
+          ap (λ p. option_and_then (λ i. get line_key_cmp lines.numbers (at k.isrc i)) (place_number lines.places (unwrap_or p no_place))) there.1
+              ∙ ap (option_and_then (λ i. get line_key_cmp lines.numbers (at k.isrc i))) there.2
+              ∙ came.2,
+        )
+
+    abbrev AreFound : List (LineKey × ℕ) → Type 0
+    AreFound es = AllByRecursion (λ e. get line_key_cmp keys e.0 ≡ Some e.1) es
+
+    pub all_placed : (es : List (LineKey × ℕ)) → AreFound es → ArePlacedIn places es
+    all_placed [] h = tt
+    all_placed (e ∷ es) h = ((each_whole e.0 e.1 h.0).0, all_placed es h.1)
+
+    pub all_numbered : (es : List (LineKey × ℕ)) → AreFound es → AllByRecursion (λ e. number_of lines e.0 ≡ Some e.1) (whole_entries places es)
+    all_numbered [] h = tt
+    all_numbered (e ∷ es) h = ((each_whole e.0 e.1 h.0).1, all_numbered es h.1)
+
+    -- a whole key that is not found has no number
+    pub none_whole : (q : Key) → find key_cmp q (whole_entries places keys.entries) ≡ None → number_of lines q ≡ None
+    none_whole q none = by (number_of lines q) refl
+      where
+        by : (o : Option ℕ) → number_of lines q ≡ o → number_of lines q ≡ None
+        by None e = e
+        by (Some n) e =
+            let t = through (place_number lines.places (place_in q)) (λ i. get line_key_cmp lines.numbers (at q.isrc i)) n e in
+            let rank = ranked.rank t.0 (place_in q) (place_is (place_in q) t.0 t.1) in
+            let is : whole places (at q.isrc rank.0) ≡ q = ap (λ p. let x = unwrap_or p no_place in record { isrc = q.isrc; territory = x.territory; use_type = x.use_type; currency = x.currency }) rank.2 in
+            absurd (whole_found places keys.entries (at q.isrc rank.0) n (renamed.there q.isrc t.0 rank.0 rank.1 ∙ t.2) (ap (λ k. find key_cmp k (whole_entries places keys.entries)) is ∙ none))

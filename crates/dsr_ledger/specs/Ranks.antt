@@ -1,0 +1,36 @@
+-- Places in their order, and the keys of lines by the ranks of their places.
+use Rattle.std.specs.Prelude.{◌≡◌, ℕ, List, [], Some, length, map, slice_get, unwrap_or}
+use Rattle.std.specs.List.Sorted.{IsStrictlySortedBy}
+use Rattle.std.specs.BTreeMap.{BTreeMap, get}
+use Rattle.dsr_ledger.specs.declared.key.Key.{Key}
+use Rattle.dsr_ledger.specs.declared.place.Place.{Place}
+use Rattle.dsr_ledger.specs.declared.line_key.LineKey.{LineKey}
+use Rattle.dsr_ledger.specs.LineKeys.{place_cmp, line_key_cmp}
+
+-- the places are in order, and each has its rank under the number that it had
+pub record AreRanked (numbered places : List Place) (ranks : List ℕ) : Type 0 where
+  pub order : IsStrictlySortedBy place_cmp places
+  pub long : length ranks ≡ length numbered
+  pub rank : (i : ℕ) (p : Place) → slice_get numbered i ≡ Some p → (r : ℕ) × (slice_get ranks i ≡ Some r) × (slice_get places r ≡ Some p)
+
+-- no rank stands twice
+abbrev pub AreApartRanks : List ℕ → Type 0
+AreApartRanks ranks = (i j r : ℕ) → slice_get ranks i ≡ Some r → slice_get ranks j ≡ Some r → i ≡ j
+
+-- each key has its number by the rank of its place, and no other key has one
+pub record AreRenamed (ranks : List ℕ) (numbers keys : BTreeMap LineKey ℕ) : Type 0 where
+  pub there : (isrc : List ℕ) (i r : ℕ) → slice_get ranks i ≡ Some r → get line_key_cmp keys (record { isrc = isrc; place = r }) ≡ get line_key_cmp numbers (record { isrc = isrc; place = i })
+  pub came : (k : LineKey) (n : ℕ) → get line_key_cmp keys k ≡ Some n → (i : ℕ) × (slice_get ranks i ≡ Some k.place) × (get line_key_cmp numbers (record { isrc = k.isrc; place = i }) ≡ Some n)
+
+abbrev pub no_place : Place
+no_place = record { territory = []; use_type = []; currency = [] }
+
+-- the whole key, whose place is that of this rank
+abbrev pub whole : List Place → LineKey → Key
+whole places k =
+    let p = unwrap_or (slice_get places k.place) no_place in
+    record { isrc = k.isrc; territory = p.territory; use_type = p.use_type; currency = p.currency }
+
+-- the numbers of lines by whole keys
+abbrev pub whole_entries : List Place → List (LineKey × ℕ) → List (Key × ℕ)
+whole_entries places es = map (λ e. (whole places e.0, e.1)) es
