@@ -1,5 +1,5 @@
 //! Relays at work: refusals, handed back events, closed ends, full channels, and threads.
-ghost use Rattle.std.specs.Prelude.{◌≡◌, ℕ, ◌+◌, ◌<◌, true, false, [], length, IfSome, IfOk, OnOk, OnErr};
+ghost use Rattle.std.specs.Prelude.{◌≡◌, ℕ, ◌+◌, ◌<◌, ◌≤◌, true, false, [], length, IfSome, IfOk, OnOk, OnErr};
 ghost use Rattle.dsr_file.specs.Orderly.{has_ended, is_ended, MayStandAt};
 
 use crate::{Feed, RelayError, Tap, open_relay};
@@ -128,7 +128,9 @@ fn send_part<R: Wait>(rt: &R, feed: &mut Feed, part: EventPart) -> Result<(), Ev
 fn send_opened<R: Wait>(rt: &R, alloc: Global, feed: &mut Feed) -> bool
     requires { feed.old.sent ≡ [] }
     ensures name { feed.new.name ≡ feed.old.name }
-    ensures sent { result ≡ true → (length feed.new.sent ≡ 1) × (has_ended feed.new.sent ≡ false) }
+    ensures going { has_ended feed.new.sent ≡ false }
+    ensures few { length feed.new.sent ≤ 1 }
+    ensures sent { result ≡ true → length feed.new.sent ≡ 1 }
 {
     let Some(part) = opened(alloc) else {
         return false;
@@ -144,7 +146,9 @@ fn send_block<R: Wait>(rt: &R, alloc: Global, feed: &mut Feed) -> bool
     requires going { has_ended feed.old.sent ≡ false }
     requires few { (0 < length feed.old.sent) × (length feed.old.sent < 100000) }
     ensures name { feed.new.name ≡ feed.old.name }
-    ensures sent { result ≡ true → (length feed.new.sent ≡ length feed.old.sent + 1) × (has_ended feed.new.sent ≡ false) }
+    ensures going { has_ended feed.new.sent ≡ false }
+    ensures few { length feed.new.sent ≤ length feed.old.sent + 1 }
+    ensures sent { result ≡ true → length feed.new.sent ≡ length feed.old.sent + 1 }
 {
     let Some(part) = block(alloc, feed.sent_count()) else {
         return false;
@@ -170,7 +174,9 @@ fn send_blocks<R: Wait>(rt: &R, alloc: Global, feed: &mut Feed, blocks: u64) -> 
     requires empty { feed.old.sent ≡ [] }
     requires few { blocks < 50000 }
     ensures name { feed.new.name ≡ feed.old.name }
-    ensures sent { result ≡ true → (length feed.new.sent ≡ blocks + 1) × (has_ended feed.new.sent ≡ false) }
+    ensures going { has_ended feed.new.sent ≡ false }
+    ensures few { length feed.new.sent ≤ blocks + 1 }
+    ensures sent { result ≡ true → length feed.new.sent ≡ blocks + 1 }
 {
     if !send_opened(rt, alloc, feed) {
         return false;
@@ -368,15 +374,14 @@ impl Promise<Feed> for SameRelay {
     ghost kept_by = { λ p feed. feed.name ≡ p.0.value.name };
 }
 
-/// Sends a file of so many blocks whole, and gives the feed back.
+/// Sends a file of so many blocks whole, and gives the feed back. Where memory is refused the file has fewer, and ends all the same, so that
+/// nobody waits for more.
 fn send_file<R: Wait>(rt: &R, alloc: Global, mut feed: Feed, blocks: u64) -> Feed
     requires empty { feed.sent ≡ [] }
     requires few { blocks < 50000 }
     ensures { result.name ≡ feed.name }
 {
-    if !send_blocks(rt, alloc, &mut feed, blocks) {
-        return feed;
-    }
+    let _sent = send_blocks(rt, alloc, &mut feed, blocks);
     let Ok(()) = send_ended(rt, &mut feed) else {
         return feed;
     };
