@@ -1,14 +1,12 @@
 -- Numbers of bytes, highest first, stand in the order of the bytes.
-use Rattle.std.proofs.Common.{◌≡◌, refl, ℕ, suc, ◌+◌, ◌*◌, ◌^◌, ◌<◌, List, [], ◌∷◌, length, get_or, nat_cmp, Ordering, Less, Equal, Greater, arith}
+use Rattle.std.proofs.Common.{◌≡◌, ◌∙◌, refl, sym, ap, ℕ, zero, suc, ◌+◌, ◌*◌, ◌^◌, ◌<◌, List, [], ◌∷◌, length, take, drop, slice_index, nat_cmp, Ordering, Less, Equal, Greater, arith}
 use Rattle.std.specs.Cmp.{nat_cmp_is, ranks}
 use Rattle.std.specs.Cmp.Lexicographic.{slice_cmp}
+use Rattle.std.specs.Int.{w32, w64, from_be_bytes}
 use Rattle.std.specs.Ordering.{MatchOrdering, ordering_then}
 use Rattle.std.proofs.lemmas.Nat.{mul-add-lt}
 use Rattle.std.proofs.Math.Nat.{pow-suc}
-use Rattle.dsr_cells.specs.Order.{number_of_bytes}
-
-abbrev AreBytes : List ℕ → Type 0
-AreBytes bytes = (i : ℕ) → get_or bytes i 0 < 256
+use Rattle.dsr_cells.specs.Order.{number_of_bytes, AreBytes}
 
 below : (bytes : List ℕ) → AreBytes bytes → number_of_bytes bytes < 256 ^ length bytes
 below [] small = omega arith
@@ -44,3 +42,82 @@ ranked (x ∷ xs) (y ∷ ys) l small small' =
 
 pub by_number : (xs ys : List ℕ) → length xs ≡ length ys → AreBytes xs → AreBytes ys → slice_cmp nat_cmp xs ys ≡ nat_cmp (number_of_bytes xs) (number_of_bytes ys)
 by_number xs ys l small small' = nat_cmp_is _ _ _ (ranked xs ys l small small')
+
+then_assoc : (a b c : Ordering) → ordering_then a (ordering_then b c) ≡ ordering_then (ordering_then a b) c
+then_assoc Less b c = refl
+then_assoc Equal b c = refl
+then_assoc Greater b c = refl
+
+cut : (n : ℕ) (xs ys : List ℕ) → length xs ≡ length ys → slice_cmp nat_cmp xs ys ≡ ordering_then (slice_cmp nat_cmp (take n xs) (take n ys)) (slice_cmp nat_cmp (drop n xs) (drop n ys))
+cut zero xs ys l = refl
+cut (suc n) [] [] l = refl
+cut (suc n) [] (y ∷ ys) l = absurd (omega arith)
+cut (suc n) (x ∷ xs) [] l = absurd (omega arith)
+cut (suc n) (x ∷ xs) (y ∷ ys) l = ap (ordering_then (nat_cmp x y)) (cut n xs ys (omega arith)) ∙ then_assoc (nat_cmp x y) _ _
+
+small_front : (n : ℕ) (xs : List ℕ) → AreBytes xs → AreBytes (take n xs)
+small_front zero xs small i = omega arith
+small_front (suc n) [] small i = small i
+small_front (suc n) (x ∷ xs) small zero = small 0
+small_front (suc n) (x ∷ xs) small (suc i) = small_front n xs (λ j. small (suc j)) i
+
+small_back : (n : ℕ) (xs : List ℕ) → AreBytes xs → AreBytes (drop n xs)
+small_back zero xs small = small
+small_back (suc n) [] small = small
+small_back (suc n) (x ∷ xs) small = small_back n xs (λ j. small (suc j))
+
+same_fronts : (n : ℕ) (xs ys : List ℕ) → length xs ≡ length ys → length (take n xs) ≡ length (take n ys)
+same_fronts zero xs ys l = refl
+same_fronts (suc n) [] [] l = refl
+same_fronts (suc n) [] (y ∷ ys) l = absurd (omega arith)
+same_fronts (suc n) (x ∷ xs) [] l = absurd (omega arith)
+same_fronts (suc n) (x ∷ xs) (y ∷ ys) l = ap suc (same_fronts n xs ys (omega arith))
+
+same_backs : (n : ℕ) (xs ys : List ℕ) → length xs ≡ length ys → length (drop n xs) ≡ length (drop n ys)
+same_backs zero xs ys l = l
+same_backs (suc n) [] [] l = refl
+same_backs (suc n) [] (y ∷ ys) l = absurd (omega arith)
+same_backs (suc n) (x ∷ xs) [] l = absurd (omega arith)
+same_backs (suc n) (x ∷ xs) (y ∷ ys) l = same_backs n xs ys (omega arith)
+
+-- bytes stand in the order of the numbers of their first n and, where these are equal, of the others
+pub by_numbers : (n : ℕ) (xs ys : List ℕ) → length xs ≡ length ys → AreBytes xs → AreBytes ys
+    → ordering_then (nat_cmp (number_of_bytes (take n xs)) (number_of_bytes (take n ys))) (nat_cmp (number_of_bytes (drop n xs)) (number_of_bytes (drop n ys))) ≡ slice_cmp nat_cmp xs ys
+by_numbers n xs ys l small small' =
+    let fronts = by_number (take n xs) (take n ys) (same_fronts n xs ys l) (small_front n xs small) (small_front n ys small') in
+    let backs = by_number (drop n xs) (drop n ys) (same_backs n xs ys l) (small_back n xs small) (small_back n ys small') in
+    rw (← fronts, ← backs) (sym (cut n xs ys l))
+
+pub front_number : (bs : List ℕ) → length bs ≡ 12
+    → from_be_bytes w64 (slice_index bs 0 ∷ slice_index bs 1 ∷ slice_index bs 2 ∷ slice_index bs 3 ∷ slice_index bs 4 ∷ slice_index bs 5 ∷ slice_index bs 6 ∷ slice_index bs 7 ∷ []) ≡ number_of_bytes (take 8 bs)
+front_number (a ∷ b ∷ c ∷ d ∷ e ∷ f ∷ g ∷ h ∷ i ∷ j ∷ k ∷ l ∷ []) long = omega arith
+front_number (a ∷ b ∷ c ∷ d ∷ e ∷ f ∷ g ∷ h ∷ i ∷ j ∷ k ∷ l ∷ m ∷ bs) long = absurd (omega arith)
+front_number [] long = absurd (omega arith)
+front_number (a ∷ []) long = absurd (omega arith)
+front_number (a ∷ b ∷ []) long = absurd (omega arith)
+front_number (a ∷ b ∷ c ∷ []) long = absurd (omega arith)
+front_number (a ∷ b ∷ c ∷ d ∷ []) long = absurd (omega arith)
+front_number (a ∷ b ∷ c ∷ d ∷ e ∷ []) long = absurd (omega arith)
+front_number (a ∷ b ∷ c ∷ d ∷ e ∷ f ∷ []) long = absurd (omega arith)
+front_number (a ∷ b ∷ c ∷ d ∷ e ∷ f ∷ g ∷ []) long = absurd (omega arith)
+front_number (a ∷ b ∷ c ∷ d ∷ e ∷ f ∷ g ∷ h ∷ []) long = absurd (omega arith)
+front_number (a ∷ b ∷ c ∷ d ∷ e ∷ f ∷ g ∷ h ∷ i ∷ []) long = absurd (omega arith)
+front_number (a ∷ b ∷ c ∷ d ∷ e ∷ f ∷ g ∷ h ∷ i ∷ j ∷ []) long = absurd (omega arith)
+front_number (a ∷ b ∷ c ∷ d ∷ e ∷ f ∷ g ∷ h ∷ i ∷ j ∷ k ∷ []) long = absurd (omega arith)
+
+pub back_number : (bs : List ℕ) → length bs ≡ 12
+    → from_be_bytes w32 (slice_index bs 8 ∷ slice_index bs 9 ∷ slice_index bs 10 ∷ slice_index bs 11 ∷ []) ≡ number_of_bytes (drop 8 bs)
+back_number (a ∷ b ∷ c ∷ d ∷ e ∷ f ∷ g ∷ h ∷ i ∷ j ∷ k ∷ l ∷ []) long = omega arith
+back_number (a ∷ b ∷ c ∷ d ∷ e ∷ f ∷ g ∷ h ∷ i ∷ j ∷ k ∷ l ∷ m ∷ bs) long = absurd (omega arith)
+back_number [] long = absurd (omega arith)
+back_number (a ∷ []) long = absurd (omega arith)
+back_number (a ∷ b ∷ []) long = absurd (omega arith)
+back_number (a ∷ b ∷ c ∷ []) long = absurd (omega arith)
+back_number (a ∷ b ∷ c ∷ d ∷ []) long = absurd (omega arith)
+back_number (a ∷ b ∷ c ∷ d ∷ e ∷ []) long = absurd (omega arith)
+back_number (a ∷ b ∷ c ∷ d ∷ e ∷ f ∷ []) long = absurd (omega arith)
+back_number (a ∷ b ∷ c ∷ d ∷ e ∷ f ∷ g ∷ []) long = absurd (omega arith)
+back_number (a ∷ b ∷ c ∷ d ∷ e ∷ f ∷ g ∷ h ∷ []) long = absurd (omega arith)
+back_number (a ∷ b ∷ c ∷ d ∷ e ∷ f ∷ g ∷ h ∷ i ∷ []) long = absurd (omega arith)
+back_number (a ∷ b ∷ c ∷ d ∷ e ∷ f ∷ g ∷ h ∷ i ∷ j ∷ []) long = absurd (omega arith)
+back_number (a ∷ b ∷ c ∷ d ∷ e ∷ f ∷ g ∷ h ∷ i ∷ j ∷ k ∷ []) long = absurd (omega arith)

@@ -1,7 +1,10 @@
 -- Bytes as numbers that stand in the order of the bytes.
-use Rattle.std.specs.Prelude.{ℕ, ◌+◌, ◌*◌, ◌^◌, List, [], ◌∷◌, length}
+use Rattle.std.specs.Prelude.{ℕ, ◌+◌, ◌*◌, ◌^◌, ◌<◌, List, [], ◌∷◌, get_or, length}
 
 -- the number whose digits to the base of 256 are these, the highest first
 abbrev pub number_of_bytes : List ℕ → ℕ
 number_of_bytes [] = 0
 number_of_bytes (b ∷ bytes) = b * 256 ^ length bytes + number_of_bytes bytes
+
+abbrev pub AreBytes : List ℕ → Type 0
+AreBytes bytes = (i : ℕ) → get_or bytes i 0 < 256

@@ -1,15 +1,21 @@
 //! The International Standard Recording Code.
-ghost use Rattle.std.specs.Prelude.{◌≡◌, if◌then◌else◌, Some, None, true, length};
+ghost use Rattle.std.specs.Prelude.{◌≡◌, if◌then◌else◌, Some, None, true, length, take, drop, refl};
+ghost use Rattle.std.specs.Cmp.{partial_equiv_from_equiv};
+ghost use Rattle.std.specs.Cmp.Lexicographic.{slice_cmp, nat_list_eq_equiv, nat_list_cmp_total, texts_po, texts_ties};
+ghost use Rattle.std.specs.Ordering.{nat_cmp};
+ghost use Rattle.std.specs.Str.{bytes_eq};
+ghost use Rattle.dsr_cells.specs.Order.{number_of_bytes, AreBytes};
 ghost use Rattle.dsr_cells.specs.Texts.{is_isrc_text};
 
 use crate::bytes::{all_capitals, all_capitals_or_digits, all_digits};
+use std::cmp::Ordering;
 use std::marker::Model;
 
 /// An International Standard Recording Code (ISO 3901): two capitals, three capitals or digits, two
 /// digits of the year and five of the designation, with no hyphens.
 ///
 /// Contracts see it as its twelve bytes, and ISRCs stand in the order of their bytes.
-#[derive(Clone, Copy, PartialEq, Eq, PartialOrd, Ord)]
+#[derive(Clone, Copy, PartialEq, Eq)]
 pub struct Isrc {
     bytes: [u8; 12],
 }
@@ -53,5 +59,48 @@ impl Isrc {
         ensures spelled { is_isrc_text result.now ≡ true }
     {
         &self.bytes
+    }
+
+    /// The first eight bytes, as a number. Such numbers stand in the order of the bytes.
+    fn front(&self) -> u64
+        ensures value { result ≡ number_of_bytes (take 8 self.now) }
+        ensures twelve { length self.now ≡ 12 }
+        ensures bytes { AreBytes self.now }
+    {
+        let b = &self.bytes;
+        u64::from_be_bytes([b[0], b[1], b[2], b[3], b[4], b[5], b[6], b[7]])
+    }
+
+    /// The last four bytes, as a number.
+    fn back(&self) -> u32
+        ensures { result ≡ number_of_bytes (drop 8 self.now) }
+    {
+        let b = &self.bytes;
+        u32::from_be_bytes([b[8], b[9], b[10], b[11]])
+    }
+}
+
+impl PartialOrd for Isrc {
+    ghost partial_cmp = { λ x y. Some (slice_cmp nat_cmp x y) };
+
+    ghost laws = { texts_po };
+
+    fn partial_cmp(&self, other: &Isrc) -> Option<Ordering> {
+        Some(self.cmp(other))
+    }
+}
+
+impl Ord for Isrc {
+    ghost cmp = { slice_cmp nat_cmp };
+
+    ghost total = { nat_list_cmp_total };
+
+    ghost matches_partial_cmp = { λ x y. refl };
+
+    ghost matches_eq = { texts_ties };
+
+    fn cmp(&self, other: &Isrc) -> Ordering {
+        let fronts = self.front().cmp(&other.front());
+        fronts.then(self.back().cmp(&other.back()))
     }
 }
