@@ -57,6 +57,7 @@ fn copy_short(bytes: &mut [u8; SHORT], text: &[u8])
 
 impl ShortText {
     /// The same bytes, in place.
+    #[inline(always)]
     pub(crate) fn copy_of(text: &str) -> ShortText
         requires { length text.now ≤ 30 }
         ensures { result ≡ text.now }
