@@ -1,5 +1,5 @@
 //! Texts that are short enough to lie in the value itself.
-ghost use Rattle.std.specs.Prelude.{◌≡◌, ◌≤◌, length};
+ghost use Rattle.std.specs.Prelude.{◌≡◌, ◌≤◌, ◌+◌, length, take};
 
 use std::marker::Model;
 use std::str;
@@ -24,14 +24,46 @@ impl Model for ShortText {
     ghost invariant = { λ s. (s.size ≤ 30) × ∥ IsUtf8 (take s.size s.bytes) ∥₁ };
 }
 
+/// Copies a text of `HALF` to twice as many bytes to the front: its first and its last `HALF`, which may overlap. Copies
+/// of a fixed length are a few instructions each, and one of any length is a call.
+fn copy_ends<const HALF: usize>(bytes: &mut [u8; SHORT], text: &[u8])
+    requires long { HALF ≤ length text.now }
+    requires short { length text.now ≤ HALF + HALF }
+    requires room { length text.now ≤ 30 }
+    ensures { take (length text.now) bytes.new ≡ text.now }
+{
+    let tail = text.len() - HALF;
+    bytes[..HALF].copy_from_slice(&text[..HALF]);
+    bytes[tail..tail + HALF].copy_from_slice(&text[tail..]);
+}
+
+/// Copies a text to the front.
+fn copy_short(bytes: &mut [u8; SHORT], text: &[u8])
+    requires { length text.now ≤ 30 }
+    ensures { take (length text.now) bytes.new ≡ text.now }
+{
+    if text.len() >= 16 {
+        copy_ends::<16>(bytes, text);
+    } else if text.len() >= 8 {
+        copy_ends::<8>(bytes, text);
+    } else if text.len() >= 4 {
+        copy_ends::<4>(bytes, text);
+    } else if text.len() >= 2 {
+        copy_ends::<2>(bytes, text);
+    } else if let Some(byte) = text.first() {
+        bytes[0] = *byte;
+    }
+}
+
 impl ShortText {
     /// The same bytes, in place.
+    #[inline(always)]
     pub(crate) fn copy_of(text: &str) -> ShortText
         requires { length text.now ≤ 30 }
         ensures { result ≡ text.now }
     {
         let mut bytes = [0; SHORT];
-        bytes[..text.len()].copy_from_slice(text.as_bytes());
+        copy_short(&mut bytes, text.as_bytes());
         ShortText {
             bytes,
             size: text.len() as u8,

@@ -1,9 +1,9 @@
 //! Worked examples of each call: the values are those of the format's description.
 
 use crate::{
-    Amount, Day, Isrc, Items, Share, Shares, Text, Texts, cell, count_cells, is_currency,
-    is_identifier, is_territory, is_use_type, read_number, read_usages, unescape, values,
-    write_amount, write_day,
+    Amount, Day, Isrc, Items, Share, Shares, Text, Texts, cell, count_cells, count_values,
+    is_currency, is_identifier, is_territory, is_use_type, read_number, read_texts,
+    read_texts_with_room, read_usages, unescape, values, write_amount, write_day,
 };
 use std::cmp::Ordering;
 use std::test::Fail;
@@ -41,6 +41,17 @@ fn values_of_a_cell(rt: HostRuntime) -> Result<(), Fail> {
             shown.push('>')?;
         }
         assert_eq!(rt; shown.as_str(), want, "at {text}");
+        let texts = read_texts(rt.alloc(), text)?;
+        assert_eq!(rt; count_values(text), texts.len(), "at {text}");
+        let roomy = read_texts_with_room(rt.alloc(), text, 1)?;
+        assert!(rt; roomy.as_slice() == texts.as_slice(), "at {text}");
+        let mut read = String::new(rt.alloc());
+        for value in texts.as_slice() {
+            read.push('<')?;
+            read.push_str(value.as_str())?;
+            read.push('>')?;
+        }
+        assert_eq!(rt; read.as_str(), want, "at {text}");
     }
     Ok(())
 }
@@ -254,6 +265,9 @@ fn nothing_changes_where_memory_is_refused(rt: HostRuntime) {
     }
     if let Ok(value) = unescape(rt.alloc(), "\\|") {
         assert_eq!(rt; value.as_str(), "|");
+    }
+    if let Ok(texts) = read_texts(rt.alloc(), "a|b\\|") {
+        assert_eq!(rt; texts.len(), 2);
     }
     if let Ok(text) = Text::copy_of(rt.alloc(), "a title of more than thirty bytes") {
         assert_eq!(rt; text.as_str(), "a title of more than thirty bytes");

@@ -1,11 +1,13 @@
 -- What contracts see of the cells of a line, and of the answer that reads one of them.
-use Rattle.std.specs.Prelude.{◌≡◌, ℕ, List, [], Option, Some, None, Result, Ok, Err}
+use Rattle.std.specs.Prelude.{◌≡◌, ℕ, List, [], length, if◌then◌else◌, Option, Some, None, Result, Ok, Err}
 use Rattle.std.specs.Borrow.{Bor}
+use Rattle.std.specs.List.{list_all}
 use Rattle.dsr_cells.specs.Cells.{cells}
+use Rattle.dsr_cells.specs.Values.{raw_parts}
 use Rattle.dsr_records.specs.declared.kinds.Column.{Column}
 use Rattle.dsr_records.specs.declared.kinds.RecordFault.{RecordFault}
 use Rattle.dsr_records.specs.Records.{column_fault}
-use Rattle.dsr_records.specs.Tables.{cell_of, text_of}
+use Rattle.dsr_records.specs.Tables.{cell_of, is_share, text_of}
 
 -- the cells of what is left of a line, where anything is
 abbrev pub cells_left : Option (Bor (List ℕ)) → List (List ℕ)
@@ -30,3 +32,7 @@ ReadsValue spelled row column i (Err fault) = fault_at row column i ≡ Some fau
 abbrev pub ReadsText : List (Option (List ℕ)) → Column → ℕ → Result (Bor (List ℕ)) RecordFault → Type 0
 ReadsText row column i (Ok text) = (fault_at row column i ≡ None) × (text.now ≡ text_of row i)
 ReadsText row column i (Err fault) = fault_at row column i ≡ Some fault
+
+-- how many shares a list cell has, where each of its raw parts is one
+abbrev pub share_count : List ℕ → Option ℕ
+share_count cell = if list_all is_share (raw_parts cell) then Some (length (raw_parts cell)) else None

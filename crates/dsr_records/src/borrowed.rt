@@ -1,78 +1,23 @@
 //! Records whose texts still stand in their line.
-ghost use Rattle.std.specs.Prelude.{◌≡◌, ◌&&◌, ◌==◌, [], ◌∷◌, IfOk, not, true};
+ghost use Rattle.std.specs.Prelude.{◌≡◌, IfOk, true};
 ghost use Rattle.std.specs.List.{list_all};
 ghost use Rattle.dsr_cells.specs.Values.{raw_parts};
 ghost use Rattle.dsr_records.specs.Tables.{is_share};
-ghost use Rattle.dsr_records.specs.Values.{values_of, shares_of};
+ghost use Rattle.dsr_records.specs.Values.{shares_of};
 
 use crate::record::{Foot, Head, Resource, Summary, Usage, Work};
-use dsr_cells::{Amount, Day, NoMemory, Share, Shares, Text, Texts, unescape, values};
+use dsr_cells::{
+    Amount, Day, NoMemory, Share, Shares, Text, read_texts, read_texts_with_room, values,
+};
 use std::alloc::Global;
 use std::marker::Model;
 
-/// Room for the values of a list cell: as many as there can be.
-fn room_for(cell: &str) -> usize {
-    if cell.is_empty() {
-        return 0;
-    }
-    let pipes = cell.as_bytes().iter().filter(|byte| **byte == b'|').count();
-    pipes.saturating_add(1)
-}
-
-/// Whether every byte is another one than the pipe and the backslash.
-fn all_plain(bytes: &[u8]) -> bool
-    ensures { result ≡ list_all (λ b. not (b == 124) && not (b == 92)) bytes.now }
-{
-    bytes.iter().all(|byte| *byte != b'|' && *byte != b'\\')
-}
-
-/// Whether a list cell is its one value: it has bytes, and none of them is a pipe or a backslash.
-#[tactic(auto, using(crate::proofs::Plain::plain_cell))]
-fn is_one_value(cell: &str) -> bool
-    ensures { result ≡ true → values_of cell.now ≡ cell.now ∷ [] }
-{
-    !cell.is_empty() && all_plain(cell.as_bytes())
-}
-
-/// The list of one text.
-fn one_text(alloc: Global, text: &str) -> Result<Texts, NoMemory>
-    ensures { IfOk result (λ t. t ≡ text.now ∷ []) }
-{
-    let mut texts = Texts::with_room(alloc, 1)?;
-    texts
-        .push(Text::copy_of(alloc, text)?)
-        .map_err(|_| NoMemory)?;
-    Ok(texts)
-}
-
-/// The values of a list cell, part by part.
-fn read_parts(alloc: Global, cell: &str) -> Result<Texts, NoMemory>
-    ensures { IfOk result (λ t. t ≡ values_of cell.now) }
-{
-    let mut texts = Texts::with_room(alloc, room_for(cell))?;
-    for part in values(cell) {
-        texts.push(unescape(alloc, part)?).map_err(|_| NoMemory)?;
-    }
-    Ok(texts)
-}
-
-/// The values of a list cell.
-fn read_texts(alloc: Global, cell: &str) -> Result<Texts, NoMemory>
-    ensures { IfOk result (λ t. t ≡ values_of cell.now) }
-{
-    if is_one_value(cell) {
-        one_text(alloc, cell)
-    } else {
-        read_parts(alloc, cell)
-    }
-}
-
-/// The shares of a list cell.
-fn read_shares(alloc: Global, cell: &str) -> Result<Shares, NoMemory>
+/// The shares of a list cell, in a list that is made with room for so many.
+fn read_shares(alloc: Global, cell: &str, room: usize) -> Result<Shares, NoMemory>
     requires { list_all is_share (raw_parts cell.now) ≡ true }
     ensures { IfOk result (λ s. s ≡ shares_of cell.now) }
 {
-    let mut shares = Shares::new(alloc);
+    let mut shares = Shares::with_room(alloc, room)?;
     for part in values(cell) {
         shares
             .push(Share::read(part).unwrap())
@@ -193,6 +138,8 @@ pub(crate) struct BorrowedWork<'l> {
     pub(crate) title: &'l str,
     pub(crate) parties: &'l str,
     pub(crate) shares: &'l str,
+    /// How many parties it has, and how many shares.
+    pub(crate) count: usize,
 }
 
 impl<'l> Model for BorrowedWork<'l> {
@@ -207,7 +154,7 @@ impl<'l> Model for BorrowedWork<'l> {
 
     ghost view = { λ w. record { block_id = w.block_id.now; work_id = w.work_id.now; title = w.title.now; parties = values_of w.parties.now; shares = shares_of w.shares.now } };
 
-    ghost invariant = { λ w. (list_all is_share (raw_parts w.shares.now) ≡ true) × (length (raw_parts w.parties.now) ≡ length (raw_parts w.shares.now)) };
+    ghost invariant = { λ w. (list_all is_share (raw_parts w.shares.now) ≡ true) × (length (raw_parts w.parties.now) ≡ w.count) × (length (raw_parts w.shares.now) ≡ w.count) };
 }
 
 impl<'l> BorrowedWork<'l> {
@@ -219,8 +166,8 @@ impl<'l> BorrowedWork<'l> {
             block_id: Text::copy_of(alloc, self.block_id)?,
             work_id: Text::copy_of(alloc, self.work_id)?,
             title: Text::copy_of(alloc, self.title)?,
-            parties: read_texts(alloc, self.parties)?,
-            shares: read_shares(alloc, self.shares)?,
+            parties: read_texts_with_room(alloc, self.parties, self.count)?,
+            shares: read_shares(alloc, self.shares, self.count)?,
         })
     }
 }

@@ -1,19 +1,17 @@
 //! Reading the cells of a row: each call answers what the column's text spells, or what is wrong with it.
-ghost use Rattle.std.specs.Prelude.{◌≡◌, ◌==◌, ℕ, List, Some, None, IfOk, MatchResult, is_some, true, false, length};
-ghost use Rattle.std.specs.List.{list_all};
+ghost use Rattle.std.specs.Prelude.{◌≡◌, ℕ, List, Some, None, MatchResult, is_some, false};
 ghost use Rattle.dsr_cells.specs.Days.{day_of};
 ghost use Rattle.dsr_cells.specs.Numbers.{amount_of, number_of, usages_of};
 ghost use Rattle.dsr_cells.specs.Texts.{is_identifier_text};
-ghost use Rattle.dsr_cells.specs.Values.{raw_parts};
 ghost use Rattle.dsr_records.specs.declared.kinds.Column.TheVariants as columns;
 ghost use Rattle.dsr_records.specs.declared.kinds.RecordFault.TheVariants as faults;
-ghost use Rattle.dsr_records.specs.Rows.{ReadsText, ReadsValue};
-ghost use Rattle.dsr_records.specs.Tables.{cell_of, file_number_of, is_share, is_spelled, may_be_empty, text_of};
+ghost use Rattle.dsr_records.specs.Rows.{ReadsText, ReadsValue, share_count};
+ghost use Rattle.dsr_records.specs.Tables.{cell_of, file_number_of, is_spelled, may_be_empty, text_of};
 
 use crate::kinds::{Column, RecordFault};
 use crate::row::Row;
 use dsr_cells::{
-    Amount, Day, Share, Values, is_currency, is_identifier, is_territory, is_use_type, read_number,
+    Amount, Day, Share, is_currency, is_identifier, is_territory, is_use_type, read_number,
     read_usages, values,
 };
 
@@ -170,33 +168,24 @@ pub(crate) fn read_amount(row: &Row<'_>, i: usize) -> Result<Amount, RecordFault
     }
 }
 
-/// Whether each raw part of a cell is a share.
-fn all_shares(text: &str) -> bool
-    ensures { result ≡ list_all is_share (raw_parts text.now) }
+/// How many shares a list cell has, where each of its raw parts is one.
+fn count_shares(cell: &str) -> Option<usize>
+    ensures { result ≡ share_count cell.now }
 {
-    values(text).all(|part| Share::read(part).is_some())
+    let mut count = 0;
+    for part in values(cell) {
+        Share::read(part)?;
+        count += 1;
+    }
+    Some(count)
 }
 
-/// A list cell of shares, which may be missing.
-pub(crate) fn check_shares<'l>(row: &Row<'l>, i: usize) -> Result<&'l str, RecordFault>
-    ensures value { ReadsText row.now columns.Shares i result }
-    ensures shares { IfOk result (λ text. list_all is_share (raw_parts text.now) ≡ true) }
+/// How many shares a list cell of shares has, which may be missing.
+pub(crate) fn read_share_count(row: &Row<'_>, i: usize) -> Result<usize, RecordFault>
+    ensures { ReadsValue share_count row.now columns.Shares i result }
 {
-    let text = row.text(i);
-    if !all_shares(text) {
-        return Err(RecordFault::Bad(Column::Shares));
+    match count_shares(row.text(i)) {
+        Some(count) => Ok(count),
+        None => Err(RecordFault::Bad(Column::Shares)),
     }
-    Ok(text)
-}
-
-/// Whether two cells have the same number of values.
-pub(crate) fn have_same_count(mut first: Values<'_>, mut second: Values<'_>) -> bool
-    ensures { result ≡ (length first.entry == length second.entry) }
-{
-    while first.next().is_some() {
-        if second.next().is_none() {
-            return false;
-        }
-    }
-    second.next().is_none()
 }
