@@ -4,7 +4,7 @@ use Rattle.std.specs.Int.{bit_at, from_bool}
 use Rattle.std.specs.List.{position_or_len}
 use Rattle.std.specs.Simd.Lanes.{chunk}
 use Rattle.std.proofs.lemmas.Bool.{cases_lt}
-use Rattle.std.proofs.lemmas.List.{get_or_past, get_or-take, length-take, length-map, drop-drop, drop-take, drop_more, take_min, take_all}
+use Rattle.std.proofs.lemmas.List.{get_or_past, get_or-take, length-take, length-map, length-drop, drop-drop, drop-take, drop_more, take_min, take_all}
 use Rattle.std.proofs.lemmas.List.Sums.{position_or_len_is}
 use Rattle.std.proofs.lemmas.Nat.{pow-add, pow_pos}
 use Rattle.std.proofs.lemmas.Nat.Bits.{bit_at-trailing_zeros, bit_at_or, bit_at_cat_low, bit_at_cat_high, same_from_bits}
@@ -156,28 +156,46 @@ module _ (text : List ℕ) (seen i : ℕ) (within : seen ≤ length text) (set :
 pub tab_bits-fits : (bytes : List ℕ) → length bytes ≤ 64 → tab_bits bytes < 2 ^ 64
 tab_bits-fits bytes few = omega (arith, mask_l-lt (map is_tab bytes), pow_mono {i = length (map is_tab bytes)} {j = 64} (omega (arith, length-map bytes is_tab)))
 
--- the lowest bit known is the first TAB of all
-pub first_known : (text : List ℕ) (seen tabs : ℕ) → (seen ≤ 64) × (seen ≤ length text) × (tabs ≡ tab_bits (take seen text)) → 0 < tabs
-    → (count_trailing_zeros 64 tabs < seen) × TabAt text (count_trailing_zeros 64 tabs)
-first_known text seen tabs known some =
-    let within = known.1 in
-    let fits : tabs < 2 ^ 64 = omega (arith, known.0, known.2, tab_bits-fits (take seen text) (omega (arith, known.0, length-take seen text))) in
-    let lowest = bit_at-trailing_zeros w64 tabs some fits in
-    let i = count_trailing_zeros 64 tabs in
-    let set : bit_at (tab_bits (take seen text)) i ≡ 1 = ap (λ n. bit_at n i) (sym known.2) ∙ lowest.1 in
-    let below = λ (k : ℕ) (low : k < i). ap (λ n. bit_at n k) (sym known.2) ∙ lowest.2 k low in
-    let inside : i < seen = seen_within text seen i within set below in
-    let first : position_or_len is_tab text ≡ i = first_seen text seen i within set below in
-    (inside, subst (TabAt text) first (first_tab text (omega arith)))
-
 -- no more bytes than there are
 pub take_first : (bytes : List ℕ) (most n : ℕ) → n ≡ min most (length bytes) → take n bytes ≡ take most bytes
 take_first bytes most n e = ap (λ k. take k bytes) e ∙ take_min most bytes
 
+-- some of the last bytes of a text are unseen; of those before them, of which there are few, the TABs are known
+abbrev pub KnownTabs : List ℕ → ℕ → ℕ → Type 0
+KnownTabs text unseen tabs = (length text - unseen ≤ 64) × (tabs ≡ tab_bits (take (length text - unseen) text))
+
+-- the lowest bit known is the first TAB of all
+pub first_known : (text : List ℕ) (unseen tabs : ℕ) → KnownTabs text unseen tabs → 0 < tabs → (count_trailing_zeros 64 tabs < length text - unseen) × TabAt text (count_trailing_zeros 64 tabs)
+first_known text unseen tabs known some =
+    let seen = length text - unseen in
+    let within : seen ≤ length text = omega arith in
+    let fits : tabs < 2 ^ 64 = omega (arith, known.0, known.1, tab_bits-fits (take seen text) (omega (arith, known.0, length-take seen text))) in
+    let lowest = bit_at-trailing_zeros w64 tabs some fits in
+    let i = count_trailing_zeros 64 tabs in
+    let set : bit_at (tab_bits (take seen text)) i ≡ 1 = ap (λ n. bit_at n i) (sym known.1) ∙ lowest.1 in
+    let below = λ (k : ℕ) (low : k < i). ap (λ n. bit_at n k) (sym known.1) ∙ lowest.2 k low in
+    let inside : i < seen = seen_within text seen i within set below in
+    let first : position_or_len is_tab text ≡ i = first_seen text seen i within set below in
+    (inside, subst (TabAt text) first (first_tab text (omega arith)))
+
+-- what is known behind that TAB
+pub known_behind : (text rest : List ℕ) (unseen tabs place : ℕ) → KnownTabs text unseen tabs → place < length text - unseen → rest ≡ drop (place + 1) text → KnownTabs rest unseen (tabs / 2 ^ place / 2)
+known_behind text rest unseen tabs place known inside behind =
+    let seen = length text - unseen in
+    let left : length rest - unseen ≡ seen - (place + 1) = omega (arith, ap length behind, length-drop (place + 1) text) in
+    (
+      omega (arith, left, known.0),
+      ap (λ n. n / 2 ^ place / 2) known.1 ∙ tab_bits-behind text seen place inside ∙ (λ i. tab_bits (take (sym left i) (sym behind i))),
+    )
+
+-- the TABs of the first 64 bytes
+pub known_first : (text : List ℕ) (unseen tabs : ℕ) → tabs ≡ tab_bits (take 64 text) → unseen ≡ length text - 64 → KnownTabs text unseen tabs
+known_first text unseen tabs known some = (omega arith, known ∙ ap tab_bits (sym (take_first text 64 (length text - unseen) (omega arith))))
+
 -- where no TAB is known, and all bytes are seen, the text is one cell
-pub only_cell_known : (text : List ℕ) (seen tabs : ℕ) → (seen ≤ 64) × (seen ≤ length text) × (tabs ≡ tab_bits (take seen text)) → tabs ≡ 0 → seen ≡ length text → cells text ≡ text ∷ []
-only_cell_known text seen tabs known none all =
-    let whole : tab_bits text ≡ 0 = ap tab_bits (sym (take_all seen text (omega arith))) ∙ sym known.2 ∙ none in
+pub only_cell_known : (text : List ℕ) (unseen tabs : ℕ) → KnownTabs text unseen tabs → tabs ≡ 0 → unseen ≡ 0 → cells text ≡ text ∷ []
+only_cell_known text unseen tabs known none all =
+    let whole : tab_bits text ≡ 0 = ap tab_bits (sym (take_all (length text - unseen) text (omega arith))) ∙ sym known.1 ∙ none in
     no_tab text (omega (arith, no_tab_seen text whole))
 
 -- 0 or 1

@@ -8,6 +8,7 @@ use crate::rest::Rest;
 use std::marker::Model;
 
 /// What is left behind this many cells, where there are more.
+#[inline(never)]
 fn behind_cells(from: Option<Rest<'_>>, count: usize) -> Option<Rest<'_>>
     ensures { cells_left result ≡ drop count (cells_left from.entry) }
 {
@@ -54,18 +55,8 @@ impl<'l> Cursor<'l> {
         }
     }
 
-    /// What is left from the cell at a place on, where the line has it.
-    fn rest_from(&self, place: usize) -> Option<Rest<'l>>
-        ensures { cells_left result ≡ drop place self.now }
-    {
-        if place < self.next {
-            behind_cells(Some(Rest::of(self.line)), place)
-        } else {
-            behind_cells(self.rest, place - self.next)
-        }
-    }
-
     /// The cell at a place, from 0, where the line has it.
+    #[inline(always)]
     pub(crate) fn cell(&mut self, place: u8) -> Option<&'l str>
         ensures value { option_map (λ c. c.now) result ≡ slice_get self.old place }
         ensures same { self.new ≡ self.old }
@@ -75,5 +66,19 @@ impl<'l> Cursor<'l> {
         self.rest = after;
         self.next = place + 1;
         Some(cell)
+    }
+
+    /// What is left from the cell at a place on, where the line has it.
+    #[inline(always)]
+    fn rest_from(&self, place: usize) -> Option<Rest<'l>>
+        ensures { cells_left result ≡ drop place self.now }
+    {
+        if place == self.next {
+            self.rest
+        } else if place < self.next {
+            behind_cells(Some(Rest::of(self.line)), place)
+        } else {
+            behind_cells(self.rest, place - self.next)
+        }
     }
 }

@@ -1,10 +1,10 @@
 //! What is left of a line, and the first cell of it.
-ghost use Rattle.std.specs.Prelude.{◌≡◌, ◌≢◌, ◌+◌, ◌<◌, ◌≤◌, ◌==◌, ◌∷◌, length, take, drop, slice_index};
+ghost use Rattle.std.specs.Prelude.{◌≡◌, ◌≢◌, ◌+◌, ◌-◌, ◌<◌, ◌≤◌, ◌==◌, ◌∷◌, length, take, drop, slice_index};
 ghost use Rattle.std.specs.List.{position};
 ghost use Rattle.dsr_cells.specs.Cells.{cells};
 ghost use Rattle.dsr_records.specs.Marks.{tab_bits};
 
-use crate::tab_bits::tabs_of;
+use crate::tab_bits::{more_tabs_of, tabs_of};
 
 /// Where the first TAB stands.
 fn first_tab(bytes: &[u8]) -> Option<usize>
@@ -28,11 +28,11 @@ fn around_tab(text: &str, place: usize) -> (&str, &str)
 #[derive(Clone, Copy)]
 pub(crate) struct Rest<'l> {
     text: &'l str,
-    /// Of how many bytes the TABs are known: no more than 64.
-    seen: usize,
+    /// How many of the last bytes are not looked at yet. Of those before them, at most 64, the TABs are known.
+    unseen: usize,
     /// Bit k is set where byte k, of the bytes seen, is a TAB.
     tabs: u64,
-    ghost known: { (seen ≤ 64) × (seen ≤ length text.now) × (tabs ≡ tab_bits (take seen text.now)) },
+    ghost known: { (length text.now - unseen ≤ 64) × (tabs ≡ tab_bits (take (length text.now - unseen) text.now)) },
 }
 
 impl<'l> Rest<'l> {
@@ -43,20 +43,29 @@ impl<'l> Rest<'l> {
     pub(crate) fn of(text: &'l str) -> Rest<'l>
         ensures { result.text ≡ text.entry }
     {
+        Rest::with(text, tabs_of(text.as_bytes()))
+    }
+
+    /// The whole of a text of whose first 64 bytes these are the TABs.
+    #[inline(always)]
+    fn with(text: &'l str, tabs: u64) -> Rest<'l>
+        requires { tabs ≡ tab_bits (take 64 text.now) }
+        ensures { result.text ≡ text.entry }
+    {
         Rest {
             text,
-            seen: text.len().min(64),
-            tabs: tabs_of(text.as_bytes()),
+            unseen: text.len().saturating_sub(64),
+            tabs,
         }
     }
 
-    /// The same text: where no TAB is known and not all bytes are seen, with the TABs of its first 64 bytes.
+    /// The same text. Where no TAB is known and bytes are left to look at, the TABs are those of its first 64 bytes.
     #[inline(always)]
-    fn with_tabs(self) -> Rest<'l>
+    fn looked_at(self) -> Rest<'l>
         ensures { result.text ≡ self.entry.text }
     {
-        if self.tabs == 0 && self.seen < self.text.len() {
-            Rest::of(self.text)
+        if self.tabs == 0 && self.unseen > 0 {
+            Rest::with(self.text, more_tabs_of(self.text.as_bytes()))
         } else {
             self
         }
@@ -67,17 +76,17 @@ impl<'l> Rest<'l> {
     pub(crate) fn first_cell(self) -> (&'l str, Option<Rest<'l>>)
         ensures { cells self.entry.text.now ≡ result.0.now ∷ cells_left result.1 }
     {
-        let rest = self.with_tabs();
+        let rest = self.looked_at();
         if rest.tabs != 0 {
             rest.known_cell()
-        } else if rest.seen == rest.text.len() {
+        } else if rest.unseen == 0 {
             (rest.text, None)
         } else {
-            rest.long_cell()
+            Rest::long_cell(rest.text)
         }
     }
 
-    /// The first cell where a TAB is known, and what stands behind it.
+    /// The first cell where a TAB is known, and what stands behind that TAB.
     #[inline(always)]
     fn known_cell(self) -> (&'l str, Option<Rest<'l>>)
         requires { self.tabs ≢ 0 }
@@ -87,23 +96,24 @@ impl<'l> Rest<'l> {
         let (cell, text) = around_tab(self.text, place);
         let rest = Rest {
             text,
-            seen: self.seen - (place + 1),
+            unseen: self.unseen,
             tabs: (self.tabs >> place) >> 1,
         };
         (cell, Some(rest))
     }
 
-    /// The first cell, and what stands behind the TAB that ends it, byte by byte.
+    /// The first cell of a text, and what stands behind the TAB that ends it, byte by byte.
     #[cold]
-    fn long_cell(self) -> (&'l str, Option<Rest<'l>>)
-        ensures { cells self.entry.text.now ≡ result.0.now ∷ cells_left result.1 }
+    #[inline(never)]
+    fn long_cell(text: &'l str) -> (&'l str, Option<Rest<'l>>)
+        ensures { cells text.now ≡ result.0.now ∷ cells_left result.1 }
     {
-        match first_tab(self.text.as_bytes()) {
+        match first_tab(text.as_bytes()) {
             Some(place) => {
-                let (cell, text) = around_tab(self.text, place);
-                (cell, Some(Rest::of(text)))
+                let (cell, rest) = around_tab(text, place);
+                (cell, Some(Rest::of(rest)))
             }
-            None => (self.text, None),
+            None => (text, None),
         }
     }
 }

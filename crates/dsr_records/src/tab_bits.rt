@@ -56,3 +56,11 @@ pub(crate) fn tabs_of(bytes: &[u8]) -> u64
     let third = with_16_more(second, bytes, last.min(32));
     with_16_more(third, bytes, last.min(48))
 }
+
+/// The same, where it is seldom wanted.
+#[inline(never)]
+pub(crate) fn more_tabs_of(bytes: &[u8]) -> u64
+    ensures { result ≡ tab_bits (take 64 bytes.now) }
+{
+    tabs_of(bytes)
+}
