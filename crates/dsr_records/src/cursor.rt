@@ -8,7 +8,6 @@ use crate::rest::Rest;
 use std::marker::Model;
 
 /// What is left behind this many cells, where there are more.
-#[inline(never)]
 fn behind_cells(from: Option<Rest<'_>>, count: usize) -> Option<Rest<'_>>
     ensures { cells_left result ≡ drop count (cells_left from.entry) }
 {
@@ -20,6 +19,21 @@ fn behind_cells(from: Option<Rest<'_>>, count: usize) -> Option<Rest<'_>>
         left -= 1;
     }
     rest
+}
+
+/// What is left from the cell at a place on, found from what is left from another cell on or, where that one stands behind it,
+/// from the line's beginning.
+#[cold]
+#[inline(never)]
+fn rest_elsewhere<'l>(line: &'l str, rest: Option<Rest<'l>>, next: usize, place: usize) -> Option<Rest<'l>>
+    requires { cells_left rest ≡ drop next (cells line.now) }
+    ensures { cells_left result ≡ drop place (cells line.now) }
+{
+    if place < next {
+        behind_cells(Some(Rest::of(line)), place)
+    } else {
+        behind_cells(rest, place - next)
+    }
 }
 
 /// Finds the cells of a line from where the last one was found, which contracts see as the cells of the line.
@@ -75,10 +89,8 @@ impl<'l> Cursor<'l> {
     {
         if place == self.next {
             self.rest
-        } else if place < self.next {
-            behind_cells(Some(Rest::of(self.line)), place)
         } else {
-            behind_cells(self.rest, place - self.next)
+            rest_elsewhere(self.line, self.rest, self.next, place)
         }
     }
 }

@@ -1,16 +1,28 @@
 //! What is left of a line, and the first cell of it.
 ghost use Rattle.std.specs.Prelude.{◌≡◌, ◌≢◌, ◌+◌, ◌-◌, ◌<◌, ◌≤◌, ◌==◌, ◌∷◌, length, take, drop, slice_index};
-ghost use Rattle.std.specs.List.{position};
+ghost use Rattle.std.specs.List.{position, position_or_len};
 ghost use Rattle.dsr_cells.specs.Cells.{cells};
 ghost use Rattle.dsr_records.specs.Marks.{tab_bits};
 
 use crate::tab_bits::{more_tabs_of, tabs_of};
 
 /// Where the first TAB stands.
-fn first_tab(bytes: &[u8]) -> Option<usize>
+fn find_tab(bytes: &[u8]) -> Option<usize>
     ensures { result ≡ position (λ b. b == 9) bytes.now }
 {
     bytes.iter().position(|byte| *byte == b'\t')
+}
+
+/// The same, or behind the last byte where there is no TAB.
+#[cold]
+#[inline(never)]
+fn first_tab(bytes: &[u8]) -> usize
+    ensures { result ≡ position_or_len (λ b. b == 9) bytes.now }
+{
+    match find_tab(bytes) {
+        Some(place) => place,
+        None => bytes.len(),
+    }
 }
 
 /// What stands before and behind the TAB at a place.
@@ -46,6 +58,14 @@ impl<'l> Rest<'l> {
         Rest::with(text, tabs_of(text.as_bytes()))
     }
 
+    /// The same, where it is seldom wanted.
+    #[inline(always)]
+    fn again(text: &'l str) -> Rest<'l>
+        ensures { result.text ≡ text.entry }
+    {
+        Rest::with(text, more_tabs_of(text.as_bytes()))
+    }
+
     /// The whole of a text of whose first 64 bytes these are the TABs.
     #[inline(always)]
     fn with(text: &'l str, tabs: u64) -> Rest<'l>
@@ -65,7 +85,7 @@ impl<'l> Rest<'l> {
         ensures { result.text ≡ self.entry.text }
     {
         if self.tabs == 0 && self.unseen > 0 {
-            Rest::with(self.text, more_tabs_of(self.text.as_bytes()))
+            Rest::again(self.text)
         } else {
             self
         }
@@ -102,18 +122,17 @@ impl<'l> Rest<'l> {
         (cell, Some(rest))
     }
 
-    /// The first cell of a text, and what stands behind the TAB that ends it, byte by byte.
-    #[cold]
-    #[inline(never)]
+    /// The first cell of a text that has no TAB among its first 64 bytes, and what stands behind the TAB that ends it.
+    #[inline(always)]
     fn long_cell(text: &'l str) -> (&'l str, Option<Rest<'l>>)
         ensures { cells text.now ≡ result.0.now ∷ cells_left result.1 }
     {
-        match first_tab(text.as_bytes()) {
-            Some(place) => {
-                let (cell, rest) = around_tab(text, place);
-                (cell, Some(Rest::of(rest)))
-            }
-            None => (text, None),
+        let place = first_tab(text.as_bytes());
+        if place < text.len() {
+            let (cell, rest) = around_tab(text, place);
+            (cell, Some(Rest::again(rest)))
+        } else {
+            (text, None)
         }
     }
 }
