@@ -6,13 +6,14 @@ use Rattle.dsr_cells.specs.Cells.{cells}
 use Rattle.dsr_cells.specs.Values.{raw_parts}
 use Rattle.dsr_records.specs.declared.kinds.Column.{Column}
 use Rattle.dsr_records.specs.declared.kinds.RecordFault.{RecordFault}
+use Rattle.dsr_records.specs.declared.rest.Rest.{Rest}
 use Rattle.dsr_records.specs.Records.{column_fault}
 use Rattle.dsr_records.specs.Tables.{cell_of, is_share, text_of}
 
 -- the cells of what is left of a line, where anything is
-abbrev pub cells_left : Option (Bor (List ℕ)) → List (List ℕ)
+abbrev pub cells_left : Option Rest → List (List ℕ)
 cells_left None = []
-cells_left (Some rest) = cells rest.now
+cells_left (Some rest) = cells rest.text.now
 
 -- the bytes behind a reference, where there is one
 abbrev pub behind : Option (Bor (List ℕ)) → Option (List ℕ)

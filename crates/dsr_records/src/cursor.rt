@@ -1,49 +1,47 @@
 //! Finding the cells of a line one after another.
-ghost use Rattle.std.specs.Prelude.{◌≡◌, ◌==◌, ◌∷◌, slice_get, drop};
-ghost use Rattle.std.specs.List.{position};
+ghost use Rattle.std.specs.Prelude.{◌≡◌, slice_get, drop};
 ghost use Rattle.std.specs.Option.{option_map};
 ghost use Rattle.dsr_cells.specs.Cells.{cells};
 ghost use Rattle.dsr_records.specs.Rows.{cells_left};
 
+use crate::rest::Rest;
 use std::marker::Model;
 
-/// Where the first TAB stands.
-fn first_tab(bytes: &[u8]) -> Option<usize>
-    ensures { result ≡ position (λ b. b == 9) bytes.now }
+/// What is left behind this many cells, where there are more.
+fn behind_cells(from: Option<Rest<'_>>, count: usize) -> Option<Rest<'_>>
+    ensures { cells_left result ≡ drop count (cells_left from.entry) }
 {
-    bytes.iter().position(|byte| *byte == b'\t')
-}
-
-/// The first cell of a text, and the text behind the TAB that ends it.
-fn first_cell(text: &str) -> (&str, Option<&str>)
-    ensures { cells text.now ≡ result.0.now ∷ cells_left result.1 }
-{
-    match first_tab(text.as_bytes()) {
-        Some(i) => (&text[..i], Some(&text[i + 1..])),
-        None => (text, None),
-    }
-}
-
-/// The text behind this many cells, where there are more.
-fn behind_cells(text: Option<&str>, count: usize) -> Option<&str>
-    ensures { cells_left result ≡ drop count (cells_left text.entry) }
-{
-    let mut rest = text;
+    let mut rest = from;
     let mut left = count;
     while left > 0 {
-        let (_, after) = first_cell(rest?);
+        let (_, after) = rest?.first_cell();
         rest = after;
         left -= 1;
     }
     rest
 }
 
+/// What is left from the cell at a place on, found from what is left from another cell on or, where that one stands behind it,
+/// from the line's beginning.
+#[cold]
+#[inline(never)]
+fn rest_elsewhere<'l>(line: &'l str, rest: Option<Rest<'l>>, next: usize, place: usize) -> Option<Rest<'l>>
+    requires { cells_left rest ≡ drop next (cells line.now) }
+    ensures { cells_left result ≡ drop place (cells line.now) }
+{
+    if place < next {
+        behind_cells(Some(Rest::of(line)), place)
+    } else {
+        behind_cells(rest, place - next)
+    }
+}
+
 /// Finds the cells of a line from where the last one was found, which contracts see as the cells of the line.
 #[derive(Drop)]
 pub(crate) struct Cursor<'l> {
     line: &'l str,
-    /// The text from the cell at place `next` on, where the line has it.
-    rest: Option<&'l str>,
+    /// What is left from the cell at place `next` on, where the line has it.
+    rest: Option<Rest<'l>>,
     next: usize,
 }
 
@@ -66,31 +64,33 @@ impl<'l> Cursor<'l> {
     {
         Cursor {
             line,
-            rest: Some(line),
+            rest: Some(Rest::of(line)),
             next: 0,
         }
     }
 
-    /// The text from the cell at a place on, where the line has it.
-    fn text_from(&self, place: usize) -> Option<&'l str>
-        ensures { cells_left result ≡ drop place self.now }
-    {
-        if place < self.next {
-            behind_cells(Some(self.line), place)
-        } else {
-            behind_cells(self.rest, place - self.next)
-        }
-    }
-
     /// The cell at a place, from 0, where the line has it.
+    #[inline(always)]
     pub(crate) fn cell(&mut self, place: u8) -> Option<&'l str>
         ensures value { option_map (λ c. c.now) result ≡ slice_get self.old place }
         ensures same { self.new ≡ self.old }
     {
         let place = usize::from(place);
-        let (cell, after) = first_cell(self.text_from(place)?);
+        let (cell, after) = self.rest_from(place)?.first_cell();
         self.rest = after;
         self.next = place + 1;
         Some(cell)
+    }
+
+    /// What is left from the cell at a place on, where the line has it.
+    #[inline(always)]
+    fn rest_from(&self, place: usize) -> Option<Rest<'l>>
+        ensures { cells_left result ≡ drop place self.now }
+    {
+        if place == self.next {
+            self.rest
+        } else {
+            rest_elsewhere(self.line, self.rest, self.next, place)
+        }
     }
 }
