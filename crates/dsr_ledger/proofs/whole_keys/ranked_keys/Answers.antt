@@ -6,7 +6,7 @@ use Rattle.std.proofs.lemmas.Map.Views.{All-found}
 use Rattle.std.proofs.lemmas.Option.{slice_get-get_or}
 use Rattle.dsr_ledger.specs.declared.line_key.LineKey.{LineKey}
 use Rattle.dsr_ledger.specs.LineKeys.{line_key_cmp}
-use Rattle.dsr_ledger.specs.Ranks.{ranked_entry, ranked_entries}
+use Rattle.dsr_ledger.specs.Ranks.{ranked_entries}
 use Rattle.dsr_ledger.proofs.PlaceLemmas.{line_key_total}
 use Rattle.dsr_ledger.proofs.RankLemmas.{at}
 use Rattle.dsr_ledger.proofs.whole_keys.ranked_keys.Goals as goal
