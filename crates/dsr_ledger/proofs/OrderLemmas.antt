@@ -1,16 +1,19 @@
 -- What is kept by keys, in the order of the keys.
-use Rattle.std.proofs.Common.{◌≡◌, List, [], ◌∷◌, Bool, true, false, cond, T, refl, sym, ◌∙◌, ap, subst}
-use Rattle.std.specs.Prelude.{Option, None, Some, map, filter, is_some, ◌&&◌, ◌||◌}
-use Rattle.std.specs.List.{list_any, AllByRecursion}
-use Rattle.std.specs.List.Sorted.{IsStrictlySortedBy}
-use Rattle.std.specs.Ordering.{is_eq, is_lt, eq_by_cmp}
+use Rattle.std.proofs.Common.{◌≡◌, List, [], ◌∷◌, Bool, true, false, cond, T, suc, refl, sym, ◌∙◌, ap, subst, arith}
+use Rattle.std.specs.Prelude.{All, Option, None, Some, map, filter, is_some, ◌&&◌, ◌||◌}
+use Rattle.std.specs.List.{list_any, AllByRecursion, AllPairs, IsDistinct}
+use Rattle.std.specs.List.Sorted.{IsSortedBy, IsStrictlySortedBy}
+use Rattle.std.specs.Ordering.{is_eq, is_lt, eq_by_cmp, ordering_reverse}
 use Rattle.std.specs.declared.cmp.Ordering.{Ordering}
-use Rattle.std.specs.declared.cmp.Ordering.TheVariants.{Less, Equal}
+use Rattle.std.specs.declared.cmp.Ordering.TheVariants.{Less, Equal, Greater}
 use Rattle.std.specs.Cmp.{IsTotalOrder, Equal-is}
-use Rattle.std.specs.Map.{keys_of, lookup}
+use Rattle.std.specs.Map.{keys_of}
 use Rattle.std.specs.FinMap as finite
 use Rattle.std.specs.FinMap.Entries.{below_all, is_sorted, find, is_some-find, is_sorted-where_key}
 use Rattle.std.proofs.lemmas.Bool.{and_from}
+use Rattle.std.proofs.lemmas.List.Elements.{All-head, All-tail}
+use Rattle.std.proofs.lemmas.List.MinMax.{ranks_by}
+use Rattle.std.proofs.lemmas.List.Sorted.{sorted_far}
 use Rattle.std.proofs.lemmas.Simd.{map-map}
 use Rattle.dsr_ledger.specs.Keys.{in_order}
 
@@ -134,3 +137,30 @@ module _ {K : Type 0} (R : K → K → Ordering) (total : IsTotalOrder R) (exact
   -- each key in order is one of the list
   pub keys_among : {X : Type 0} (f : K → X) (ks : List K) → AllByRecursion (λ k. list_any (eq_by_cmp R k) ks ≡ true) (keys_of (in_order R f ks))
   keys_among f ks = subst (AllByRecursion (λ k. passes ks k ≡ true)) (sym (kept_keys f ks)) (each_passes (passes ks) (in_order R f ks))
+
+less_than : (a : Ordering) → is_lt (ordering_reverse a) ≡ false → is_eq a ≡ false → a ≡ Less
+less_than Less h k = refl
+less_than Equal h k = absurd (cc)
+less_than Greater h k = absurd (cc)
+
+-- things in the order of their keys, of which no two are alike, are strictly in order
+module _ {X K : Type 0} (key : X → K) {R : K → K → Ordering} (total : IsTotalOrder R) (alike : X → X → Bool) (ties : (a b : X) → is_eq (R (key a) (key b)) ≡ alike a b) where
+  abbrev comes_before : X → X → Bool
+  comes_before a b = is_lt (R (key a) (key b))
+
+  strictly : (xs : List X) → AllPairs (λ a b. comes_before b a ≡ false) xs → IsDistinct alike xs → IsStrictlySortedBy R (map key xs)
+  unfolding IsDistinct IsStrictlySortedBy
+  strictly [] far apart = tt
+  strictly (x ∷ xs) far apart =
+      (above xs (λ k d within. far 0 (suc k) d (omega arith) (omega arith)) apart.0, strictly xs (λ i j d below within. far (suc i) (suc j) d (omega arith) (omega arith)) apart.1)
+    where
+      above : (ys : List X) → All (λ y. comes_before y x ≡ false) ys → AllByRecursion (λ y. alike x y ≡ false) ys → AllByRecursion (λ k. R (key x) k ≡ Less) (map key ys)
+      above [] h k = tt
+      above (y ∷ ys) h k =
+          let P : X → Type 0 = λ y. comes_before y x ≡ false in (
+            less_than (R (key x) (key y)) (ap is_lt (sym (total.antisymm (key y) (key x))) ∙ All-head P y ys h) (ties x y ∙ k.0),
+            above ys (All-tail P y ys h) k.1,
+          )
+
+  pub strictly_sorted : (xs : List X) → IsSortedBy comes_before xs → IsDistinct alike xs → IsStrictlySortedBy R (map key xs)
+  strictly_sorted xs sorted = strictly xs (λ i j d below within. sorted_far comes_before (ranks_by total key) xs sorted i j d (omega arith) within)

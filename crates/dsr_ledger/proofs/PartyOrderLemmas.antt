@@ -1,9 +1,9 @@
 -- The lines of a ledger line's parties, in their order.
 use Rattle.std.proofs.Common.{◌≡◌, ℕ, zero, suc, List, [], ◌∷◌, length, Bool, true, false, not, ◌&&◌, cond, refl, sym, ◌∙◌, ap, subst, arith}
-use Rattle.std.specs.Prelude.{All, Option, None, Some, map, filter, nat_lt, unwrap_or, slice_get, ◌||◌}
+use Rattle.std.specs.Prelude.{Option, None, Some, map, filter, nat_lt, unwrap_or, slice_get, ◌||◌}
 use Rattle.std.specs.Option.{option_map, option_map_or}
 use Rattle.std.specs.Str.{bytes_eq}
-use Rattle.std.specs.List.{list_any, AllByRecursion, AllPairs, IsDistinct}
+use Rattle.std.specs.List.{list_any, AllByRecursion, IsDistinct}
 use Rattle.std.specs.List.Sorted.{IsPermutation, IsSortedBy, IsStableBy, IsStrictlySortedBy, ties}
 use Rattle.std.specs.Map.{keys_of}
 use Rattle.std.specs.Ordering.{eq_by_cmp, is_eq, is_lt, ordering_reverse}
@@ -13,9 +13,7 @@ use Rattle.std.specs.Cmp.{IsStrictWeakOrder}
 use Rattle.std.specs.Cmp.Lexicographic.{nat_list_cmp_total, nat_list_eq_equiv}
 use Rattle.std.specs.FinMap.Entries.{find}
 use Rattle.std.proofs.lemmas.Bool.{lt-ltb}
-use Rattle.std.proofs.lemmas.List.Elements.{All-head, All-tail}
 use Rattle.std.proofs.lemmas.List.MinMax.{ranks_by}
-use Rattle.std.proofs.lemmas.List.Sorted.{sorted_far}
 use Rattle.std.proofs.lemmas.Map.Keys.{IsDistinct-IsPermutation}
 use Rattle.std.proofs.lemmas.Option.{slice_get-map}
 use Rattle.std.proofs.lemmas.Simd.{map-map}
@@ -32,7 +30,7 @@ use Rattle.dsr_ledger.specs.Names.{names_of, place_of, AreApart}
 use Rattle.dsr_ledger.specs.Owed.{owed_among, owed_for, nothing_owed}
 use Rattle.dsr_ledger.proofs.TextLemmas.{text_itself, text_ties}
 use Rattle.dsr_ledger.proofs.NameLemmas.{no_place, place_cons}
-use Rattle.dsr_ledger.proofs.OrderLemmas.{in_order_is}
+use Rattle.dsr_ledger.proofs.OrderLemmas.{in_order_is, strictly_sorted}
 
 -- what the first of these entries with this name has
 abbrev pub first_owed : List PartyEntry → List ℕ → Option Owed
@@ -116,33 +114,13 @@ names_differ (e ∷ es) apart =
     each [] h = tt
     each (x ∷ xs) h = (h 0 x refl, each xs (λ i y at. h (suc i) y at))
 
-less_than : (a : Ordering) → is_lt (ordering_reverse a) ≡ false → is_eq a ≡ false → a ≡ Less
-less_than Less h k = refl
-less_than Equal h k = absurd (cc)
-less_than Greater h k = absurd (cc)
-
--- entries in order whose names differ are strictly in order
-strictly : (es : List PartyEntry) → AllPairs (λ a b. before b a ≡ false) es → IsDistinct named_alike es → IsStrictlySortedBy text_cmp (names_of es)
-unfolding IsDistinct IsStrictlySortedBy
-strictly [] far apart = tt
-strictly (e ∷ es) far apart =
-    (above es (λ k d within. far 0 (suc k) d (omega arith) (omega arith)) apart.0, strictly es (λ i j d below within. far (suc i) (suc j) d (omega arith) (omega arith)) apart.1)
-  where
-    above : (xs : List PartyEntry) → All (λ x. before x e ≡ false) xs → AllByRecursion (λ x. named_alike e x ≡ false) xs → AllByRecursion (λ n. text_cmp e.party n ≡ Less) (names_of xs)
-    above [] h k = tt
-    above (x ∷ xs) h k =
-        let P : PartyEntry → Type 0 = λ x. before x e ≡ false in (
-          less_than (text_cmp e.party x.party) (ap is_lt (sym (nat_list_cmp_total.antisymm x.party e.party)) ∙ All-head P x xs h) (text_ties e.party x.party ∙ k.0),
-          above xs (All-tail P x xs h) k.1,
-        )
-
 pub before_ranks : IsStrictWeakOrder before
 before_ranks = ranks_by nat_list_cmp_total (λ (e : PartyEntry). e.party)
 
 -- entries that were put in order
 pub names_in_order : (xs ys : List PartyEntry) → AreApart (names_of xs) → IsPermutation xs ys → IsSortedBy before ys → IsStrictlySortedBy text_cmp (names_of ys)
 names_in_order xs ys apart moved sorted =
-    strictly ys (λ i j d below within. sorted_far before before_ranks ys sorted i j d (omega arith) within)
+    strictly_sorted (λ (e : PartyEntry). e.party) nat_list_cmp_total named_alike (λ a b. text_ties a.party b.party) ys sorted
     (IsDistinct-IsPermutation named_alike (λ a b. nat_list_eq_equiv.symm a.party b.party) xs ys moved (names_differ xs apart))
 
 abbrev line : List ℕ → Owed → PartyLine

@@ -1,16 +1,19 @@
 -- The keys of lines by the ranks of their places.
 use Rattle.std.proofs.Common.{◌≡◌, ℕ, zero, suc, ◌<◌, ◌++◌, length, set, get_or, arith, ◌⊎◌, inl, inr, List, [], ◌∷◌, Bool, true, false, true≢false, cond, refl, sym, ap, ◌∙◌, subst, ⊎_elim, BTreeMap}
-use Rattle.std.specs.Prelude.{Option, None, Some, nat_lt, slice_get, unwrap_or, ◌==◌}
+use Rattle.std.specs.Prelude.{Option, None, Some, map, nat_lt, slice_get, unwrap_or, ◌==◌}
 use Rattle.std.specs.Option.{option_and_then}
-use Rattle.std.specs.List.{AllByRecursion}
+use Rattle.std.specs.List.{AllByRecursion, Contains, IsDistinct}
 use Rattle.std.specs.List.Sorted.{IsStrictlySortedBy}
-use Rattle.std.specs.Ordering.{is_eq, nat_cmp, ordering_then}
+use Rattle.std.specs.Ordering.{is_eq, eq_by_cmp, nat_cmp, ordering_then}
 use Rattle.std.specs.declared.cmp.Ordering.{Ordering}
 use Rattle.std.specs.declared.cmp.Ordering.TheVariants.{Less, Equal, Greater}
 use Rattle.std.specs.Map.{keys_of, lookup}
 use Rattle.std.specs.BTreeMap.{get}
 use Rattle.std.specs.FinMap.Entries.{find}
 use Rattle.std.proofs.lemmas.Bool.{cases_Bool, ltb-true}
+use Rattle.std.proofs.lemmas.List.Elements.{recursion_from_All, All-from_recursion}
+use Rattle.std.proofs.lemmas.List.Sorted.{All-permutation, Contains-permutation}
+use Rattle.std.proofs.lemmas.Map.Views.{All-found, Contains-from_lookup}
 use Rattle.std.proofs.lemmas.Option.{slice_get-get_or, slice_get_within}
 use Rattle.dsr_ledger.specs.declared.key.Key.{Key}
 use Rattle.dsr_ledger.specs.declared.place.Place.{Place}
@@ -18,57 +21,66 @@ use Rattle.dsr_ledger.specs.declared.places.Places.{Places}
 use Rattle.dsr_ledger.specs.declared.line_key.LineKey.{LineKey}
 use Rattle.dsr_ledger.specs.declared.lines.Lines.{Lines}
 use Rattle.dsr_ledger.specs.Keys.{key_cmp, text_cmp}
-use Rattle.dsr_ledger.specs.LineKeys.{place_cmp, line_key_cmp}
+use Rattle.dsr_ledger.specs.LineKeys.{place_cmp, line_key_cmp, ArePlaced}
 use Rattle.dsr_ledger.specs.Places.{place_number, place_in}
-use Rattle.dsr_ledger.specs.Openings.{first_of}
-use Rattle.dsr_ledger.specs.Ranks.{AreApartRanks, AreRanked, AreRenamed, no_place, whole, whole_entries}
+use Rattle.dsr_ledger.specs.Ranks.{AreApartRanks, AreRanked, AreRenamed, ranked_entry, ranked_entries, no_place, whole, whole_entries}
 use Rattle.dsr_ledger.specs.Tallies.{number_of}
-use Rattle.dsr_ledger.proofs.NumberedLemmas.{either, not_Some, same_Some, left_set}
+use Rattle.dsr_ledger.proofs.NumberedLemmas.{not_Some, same_Some, left_set}
 use Rattle.dsr_ledger.proofs.KeyLemmas.{key_tie}
-use Rattle.dsr_ledger.proofs.PlaceLemmas.{line_key_tie, place_tie, through}
-
--- the number of a key among entries
-abbrev pub found_in : List (LineKey × ℕ) → LineKey → Option ℕ
-found_in es q = lookup (λ k. is_eq (line_key_cmp q k)) es
+use Rattle.dsr_ledger.proofs.PlaceLemmas.{line_key_tie, line_key_total, place_tie, through}
 
 abbrev pub at : List ℕ → ℕ → LineKey
 at isrc place = record { isrc = isrc; place = place }
 
--- one more key is put by the rank of its place
-module _ (ranks : List ℕ) (apart : AreApartRanks ranks) (numbers was is : LineKey → Option ℕ) (k : LineKey) (n rank : ℕ)
-    (ranked : slice_get ranks k.place ≡ Some rank) (found : numbers k ≡ Some n)
-    (put : (q : LineKey) → is q ≡ cond (is_eq (line_key_cmp (at k.isrc rank) q)) (Some n) (was q)) where
-  pub there_put : (es : List (LineKey × ℕ)) → ((isrc : List ℕ) (i r : ℕ) → slice_get ranks i ≡ Some r → first_of (was (at isrc r)) (found_in ((k, n) ∷ es) (at isrc i)) ≡ numbers (at isrc i)) → (isrc : List ℕ) (i r : ℕ) → slice_get ranks i ≡ Some r → first_of (is (at isrc r)) (found_in es (at isrc i)) ≡ numbers (at isrc i)
-  there_put es made isrc i r of =
-      ap (λ o. first_of o (found_in es (at isrc i))) (put (at isrc r))
-      ∙ elim (is_eq (line_key_cmp (at k.isrc rank) (at isrc r))) as (λ b. is_eq (line_key_cmp (at k.isrc rank) (at isrc r)) ≡ b → first_of (cond b (Some n) (was (at isrc r))) (found_in es (at isrc i)) ≡ numbers (at isrc i)) [
-        | true ↦ λ t.
-            let same : at k.isrc rank ≡ at isrc r = (line_key_tie (at k.isrc rank) (at isrc r)).0 t in
-            let place : k.place ≡ i = apart k.place i r (ranked ∙ ap (λ (x : LineKey). Some x.place) same) of in
-            sym found ∙ (λ j. numbers (at ((same j).isrc) (place j)))
-        | false ↦ λ f. other f (is_eq (line_key_cmp (at isrc i) k)) refl ∙ made isrc i r of
-      ] refl
-    where
-      other : is_eq (line_key_cmp (at k.isrc rank) (at isrc r)) ≡ false → (b : Bool) → is_eq (line_key_cmp (at isrc i) k) ≡ b → first_of (was (at isrc r)) (found_in es (at isrc i)) ≡ first_of (was (at isrc r)) (cond (is_eq (line_key_cmp (at isrc i) k)) (Some n) (found_in es (at isrc i)))
-      other f true t =
-          let same : at isrc i ≡ k = (line_key_tie (at isrc i) k).0 t in
-          let one : at k.isrc rank ≡ at isrc r = (λ j. at ((sym same j).isrc) (same_Some rank r (sym ranked ∙ ap (λ (x : LineKey). slice_get ranks x.place) (sym same) ∙ of) j)) in
-          absurd (true≢false (sym ((line_key_tie (at k.isrc rank) (at isrc r)).1 one) ∙ f))
-      other f false t = ap (λ b. first_of (was (at isrc r)) (cond b (Some n) (found_in es (at isrc i)))) (sym t)
+-- the entries of a tree whose keys are in order are found
+pub found_each : (numbers : BTreeMap LineKey ℕ) → IsStrictlySortedBy line_key_cmp (keys_of numbers.entries) → AllByRecursion (λ e. get line_key_cmp numbers e.0 ≡ Some e.1) numbers.entries
+found_each numbers order = recursion_from_All _ numbers.entries (All-found line_key_total numbers order)
 
-  pub came_put : ((q : LineKey) (m : ℕ) → was q ≡ Some m → (i : ℕ) × (slice_get ranks i ≡ Some q.place) × (numbers (at q.isrc i) ≡ Some m)) → (q : LineKey) (m : ℕ) → is q ≡ Some m → (i : ℕ) × (slice_get ranks i ≡ Some q.place) × (numbers (at q.isrc i) ≡ Some m)
-  came_put came q m e =
+-- the key is that of a key that has this number, by its place's rank
+abbrev pub IsRanked : List ℕ → (LineKey → Option ℕ) → LineKey × ℕ → Type 0
+IsRanked ranks number e = (i : ℕ) × (slice_get ranks i ≡ Some e.0.place) × (number (at e.0.isrc i) ≡ Some e.1)
+
+-- two entries have one key
+abbrev pub alike : LineKey × ℕ → LineKey × ℕ → Bool
+alike a b = is_eq (line_key_cmp a.0 b.0)
+
+-- keys of places that have ranks
+module _ (ranks : List ℕ) (number : LineKey → Option ℕ) (placed : ArePlaced number (length ranks)) where
+  rank_there : (k : LineKey) (n : ℕ) → number k ≡ Some n → slice_get ranks k.place ≡ Some (unwrap_or (slice_get ranks k.place) 0)
+  rank_there k n e =
+      let is = slice_get-get_or ranks k.place 0 (placed k n e) in
+      is ∙ ap Some (sym (ap (λ o. unwrap_or o 0) is))
+
+  pub all_ranked : (es : List (LineKey × ℕ)) → AllByRecursion (λ e. number e.0 ≡ Some e.1) es → AllByRecursion (IsRanked ranks number) (ranked_entries ranks es)
+  all_ranked [] h = tt
+  all_ranked (e ∷ es) h = ((e.0.place, rank_there e.0 e.1 h.0, h.0), all_ranked es h.1)
+
+  -- different keys are different by their ranks
+  ranked_apart : AreApartRanks ranks → (a b : LineKey × ℕ) → number a.0 ≡ Some a.1 → number b.0 ≡ Some b.1 → is_eq (line_key_cmp a.0 b.0) ≡ false → alike (ranked_entry ranks a) (ranked_entry ranks b) ≡ false
+  ranked_apart apart a b found also other =
       ⊎_elim
-      (λ s.
-      let same : at k.isrc rank ≡ q = (line_key_tie (at k.isrc rank) q).0 s.0 in
-      (k.place, ranked ∙ ap (λ (x : LineKey). Some x.place) same, (λ j. numbers (at ((sym same j).isrc) k.place)) ∙ found ∙ ap Some s.1))
-      (λ s. came q m s.1)
-      (either (is_eq (line_key_cmp (at k.isrc rank) q)) n m (was q) (sym (put q) ∙ e))
+      (λ t.
+      let same : (ranked_entry ranks a).0 ≡ (ranked_entry ranks b).0 = (line_key_tie (ranked_entry ranks a).0 (ranked_entry ranks b).0).0 t in
+      let place = apart a.0.place b.0.place (ranked_entry ranks b).0.place (rank_there a.0 a.1 found ∙ ap (λ (k : LineKey). Some k.place) same) (rank_there b.0 b.1 also) in
+      let one : a.0 ≡ b.0 = λ i. at ((same i).isrc) (place i) in
+      absurd (true≢false (sym ((line_key_tie a.0 b.0).1 one) ∙ other)))
+      (λ f. f)
+      (cases_Bool (alike (ranked_entry ranks a) (ranked_entry ranks b)))
 
--- none are left
-pub none_left : (o : Option ℕ) → first_of o None ≡ o
-none_left (Some i) = refl
-none_left None = refl
+  pub ranked_differ : AreApartRanks ranks → (es : List (LineKey × ℕ)) → AllByRecursion (λ e. number e.0 ≡ Some e.1) es → IsDistinct (eq_by_cmp line_key_cmp) (keys_of es) → IsDistinct alike (ranked_entries ranks es)
+  unfolding IsDistinct
+  ranked_differ apart [] h distinct = tt
+  ranked_differ apart (e ∷ es) h distinct = (each es h.1 distinct.0, ranked_differ apart es h.1 distinct.1)
+    where
+      each : (xs : List (LineKey × ℕ)) → AllByRecursion (λ x. number x.0 ≡ Some x.1) xs → AllByRecursion (λ k. eq_by_cmp line_key_cmp e.0 k ≡ false) (keys_of xs) → AllByRecursion (λ x. alike (ranked_entry ranks e) x ≡ false) (ranked_entries ranks xs)
+      each [] k d = tt
+      each (x ∷ xs) k d = (ranked_apart apart e x h.0 k.0 d.0, each xs k.1 d.1)
+
+-- what f gives of an entry is among what it gives of all
+contains_map : {X Y : Type 0} (f : X → Y) (xs : List X) (x : X) → Contains xs x → Contains (map f xs) (f x)
+contains_map f [] x (k, below, is) = absurd (omega arith)
+contains_map f (y ∷ xs) x (zero, below, is) = (0, omega arith, ap f is)
+contains_map f (y ∷ xs) x (suc k, below, is) = let rest = contains_map f xs x (k, omega arith, is) in (suc rest.0, omega (arith, rest.1), rest.2)
 
 -- the number of a place among entries
 abbrev pub place_in_entries : List (Place × ℕ) → Place → Option ℕ
@@ -152,18 +164,19 @@ whole_sorted places (e ∷ es) order placed sorted = (above es placed.1 sorted.0
     above [] p h = tt
     above (x ∷ xs) p h = (whole_less places e.0 x.0 order p.0 h.0, above xs p.1 h.1)
 
--- a key that is found by its rank is found whole
-whole_found : (places : List Place) (es : List (LineKey × ℕ)) (k : LineKey) (n : ℕ) → found_in es k ≡ Some n → find key_cmp (whole places k) (whole_entries places es) ≡ None → ⊥
-whole_found places [] k n e none = not_Some n e
-whole_found places (x ∷ es) k n e none =
+-- a key that is there by its rank is found whole
+whole_found : (places : List Place) (es : List (LineKey × ℕ)) (k : LineKey) (n : ℕ) → Contains es (k, n) → find key_cmp (whole places k) (whole_entries places es) ≡ None → ⊥
+whole_found places [] k n (j, below, is) none = absurd (omega arith)
+whole_found places (x ∷ es) k n (j, below, is) none =
     ⊎_elim
     (λ t. not_Some x.1 (sym none ∙ ap (λ b. cond b (Some x.1) (find key_cmp (whole places k) (whole_entries places es))) t))
     (λ f.
-    let other : is_eq (line_key_cmp k x.0) ≡ false = ⊎_elim (λ t. absurd (true≢false (sym ((key_tie (whole places k) (whole places x.0)).1 (ap (whole places) ((line_key_tie k x.0).0 t))) ∙ f))) (λ f. f) (cases_Bool (is_eq (line_key_cmp k x.0))) in
-    whole_found places es k n
-    (sym (ap (λ b. cond b (Some x.1) (found_in es k)) other) ∙ e)
-    (sym (ap (λ b. cond b (Some x.1) (find key_cmp (whole places k) (whole_entries places es))) f) ∙ none))
+    later j below is f (λ i at. whole_found places es k n (i, at.0, at.1) (sym (ap (λ b. cond b (Some x.1) (find key_cmp (whole places k) (whole_entries places es))) f) ∙ none)))
     (cases_Bool (is_eq (key_cmp (whole places k) (whole places x.0))))
+  where
+    later : (j : ℕ) → j < length (x ∷ es) → get_or (x ∷ es) j (k, n) ≡ (k, n) → is_eq (key_cmp (whole places k) (whole places x.0)) ≡ false → ((i : ℕ) → (i < length es) × (get_or es i (k, n) ≡ (k, n)) → ⊥) → ⊥
+    later zero below is f rest = true≢false (sym ((key_tie (whole places k) (whole places x.0)).1 (ap (λ (e : LineKey × ℕ). whole places e.0) (sym is))) ∙ f)
+    later (suc j) below is f rest = rest j (omega arith, is)
 
 -- of lines whose places were put in order
 module _ (lines : Lines) (places : List Place) (ranks : List ℕ) (ranked : AreRanked lines.places.places.items places ranks) where
@@ -191,30 +204,42 @@ module _ (lines : Lines) (places : List Place) (ranks : List ℕ) (ranked : AreR
       is ∙ ap Some (lines.places.numbered.apart (get_or old i no_place) p i (lines.places.named i (get_or old i no_place) is) e)
 
   -- of keys that were put by the ranks of their places
-  module _ (keys : BTreeMap LineKey ℕ) (renamed : AreRenamed ranks lines.numbers keys) where
-    each_whole : (k : LineKey) (n : ℕ) → get line_key_cmp keys k ≡ Some n → (k.place < length places) × (number_of lines (whole places k) ≡ Some n)
-    each_whole k n e =
-        let came = renamed.came k n e in
-        let there = place_there came.0 k.place (lines.placed (at k.isrc came.0) n came.2) came.1 in (
+  module _ (keys : List (LineKey × ℕ)) (renamed : AreRenamed ranks lines.numbers keys) where
+    abbrev number : LineKey → Option ℕ
+    number = get line_key_cmp lines.numbers
+
+    each_ranked : AllByRecursion (IsRanked ranks number) keys
+    each_ranked =
+        let P = IsRanked ranks number in
+        let placed : ArePlaced number (length ranks) = subst (ArePlaced number) (sym ranked.long) lines.placed in
+        recursion_from_All P keys (All-permutation P _ keys renamed.same (All-from_recursion P _ (all_ranked ranks number placed lines.numbers.entries (found_each lines.numbers renamed.was))))
+
+    each_whole : (e : LineKey × ℕ) → IsRanked ranks number e → (e.0.place < length places) × (number_of lines (whole places e.0) ≡ Some e.1)
+    each_whole e came =
+        let k = e.0 in
+        let there = place_there came.0 k.place (lines.placed (at k.isrc came.0) e.1 came.2) came.1 in (
           slice_get_within places k.place there.0 there.1,
           ap (λ p. option_and_then (λ i. get line_key_cmp lines.numbers (at k.isrc i)) (place_number lines.places (unwrap_or p no_place))) there.1
               ∙ ap (option_and_then (λ i. get line_key_cmp lines.numbers (at k.isrc i))) there.2
               ∙ came.2,
         )
 
-    abbrev AreFound : List (LineKey × ℕ) → Type 0
-    AreFound es = AllByRecursion (λ e. get line_key_cmp keys e.0 ≡ Some e.1) es
+    pub all_placed : ArePlacedIn places keys
+    all_placed = each keys each_ranked
+      where
+        each : (es : List (LineKey × ℕ)) → AllByRecursion (IsRanked ranks number) es → ArePlacedIn places es
+        each [] h = tt
+        each (e ∷ es) h = ((each_whole e h.0).0, each es h.1)
 
-    pub all_placed : (es : List (LineKey × ℕ)) → AreFound es → ArePlacedIn places es
-    all_placed [] h = tt
-    all_placed (e ∷ es) h = ((each_whole e.0 e.1 h.0).0, all_placed es h.1)
-
-    pub all_numbered : (es : List (LineKey × ℕ)) → AreFound es → AllByRecursion (λ e. number_of lines e.0 ≡ Some e.1) (whole_entries places es)
-    all_numbered [] h = tt
-    all_numbered (e ∷ es) h = ((each_whole e.0 e.1 h.0).1, all_numbered es h.1)
+    pub all_numbered : AllByRecursion (λ e. number_of lines e.0 ≡ Some e.1) (whole_entries places keys)
+    all_numbered = each keys each_ranked
+      where
+        each : (es : List (LineKey × ℕ)) → AllByRecursion (IsRanked ranks number) es → AllByRecursion (λ e. number_of lines e.0 ≡ Some e.1) (whole_entries places es)
+        each [] h = tt
+        each (e ∷ es) h = ((each_whole e h.0).1, each es h.1)
 
     -- a whole key that is not found has no number
-    pub none_whole : (q : Key) → find key_cmp q (whole_entries places keys.entries) ≡ None → number_of lines q ≡ None
+    pub none_whole : (q : Key) → find key_cmp q (whole_entries places keys) ≡ None → number_of lines q ≡ None
     none_whole q none = by (number_of lines q) refl
       where
         by : (o : Option ℕ) → number_of lines q ≡ o → number_of lines q ≡ None
@@ -223,4 +248,8 @@ module _ (lines : Lines) (places : List Place) (ranks : List ℕ) (ranked : AreR
             let t = through (place_number lines.places (place_in q)) (λ i. get line_key_cmp lines.numbers (at q.isrc i)) n e in
             let rank = ranked.rank t.0 (place_in q) (place_is (place_in q) t.0 t.1) in
             let is : whole places (at q.isrc rank.0) ≡ q = ap (λ p. let x = unwrap_or p no_place in record { isrc = q.isrc; territory = x.territory; use_type = x.use_type; currency = x.currency }) rank.2 in
-            absurd (whole_found places keys.entries (at q.isrc rank.0) n (renamed.there q.isrc t.0 rank.0 rank.1 ∙ t.2) (ap (λ k. find key_cmp k (whole_entries places keys.entries)) is ∙ none))
+            let old = Contains-from_lookup (λ a b. (line_key_tie a b).0) (at q.isrc t.0) n lines.numbers.entries t.2 in
+            let new = contains_map (ranked_entry ranks) lines.numbers.entries (at q.isrc t.0, n) old in
+            let here = Contains-permutation _ keys _ renamed.same new in
+            let entry : ranked_entry ranks (at q.isrc t.0, n) ≡ (at q.isrc rank.0, n) = ap (λ o. (at q.isrc (unwrap_or o 0), n)) rank.1 in
+            absurd (whole_found places keys (at q.isrc rank.0) n (subst (Contains keys) entry here) (ap (λ k. find key_cmp k (whole_entries places keys)) is ∙ none))

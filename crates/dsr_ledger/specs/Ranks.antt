@@ -1,7 +1,8 @@
 -- Places in their order, and the keys of lines by the ranks of their places.
 use Rattle.std.specs.Prelude.{◌≡◌, ℕ, List, [], Some, length, map, slice_get, unwrap_or}
-use Rattle.std.specs.List.Sorted.{IsStrictlySortedBy}
-use Rattle.std.specs.BTreeMap.{BTreeMap, get}
+use Rattle.std.specs.List.Sorted.{IsPermutation, IsStrictlySortedBy}
+use Rattle.std.specs.BTreeMap.{BTreeMap}
+use Rattle.std.specs.Map.{keys_of}
 use Rattle.dsr_ledger.specs.declared.key.Key.{Key}
 use Rattle.dsr_ledger.specs.declared.place.Place.{Place}
 use Rattle.dsr_ledger.specs.declared.line_key.LineKey.{LineKey}
@@ -17,10 +18,18 @@ pub record AreRanked (numbered places : List Place) (ranks : List ℕ) : Type 0 
 abbrev pub AreApartRanks : List ℕ → Type 0
 AreApartRanks ranks = (i j r : ℕ) → slice_get ranks i ≡ Some r → slice_get ranks j ≡ Some r → i ≡ j
 
--- each key has its number by the rank of its place, and no other key has one
-pub record AreRenamed (ranks : List ℕ) (numbers keys : BTreeMap LineKey ℕ) : Type 0 where
-  pub there : (isrc : List ℕ) (i r : ℕ) → slice_get ranks i ≡ Some r → get line_key_cmp keys (record { isrc = isrc; place = r }) ≡ get line_key_cmp numbers (record { isrc = isrc; place = i })
-  pub came : (k : LineKey) (n : ℕ) → get line_key_cmp keys k ≡ Some n → (i : ℕ) × (slice_get ranks i ≡ Some k.place) × (get line_key_cmp numbers (record { isrc = k.isrc; place = i }) ≡ Some n)
+-- a key by the rank of its place, with its line's number
+abbrev pub ranked_entry : List ℕ → LineKey × ℕ → LineKey × ℕ
+ranked_entry ranks e = (record { isrc = e.0.isrc; place = unwrap_or (slice_get ranks e.0.place) 0 }, e.1)
+
+abbrev pub ranked_entries : List ℕ → List (LineKey × ℕ) → List (LineKey × ℕ)
+ranked_entries ranks es = map (ranked_entry ranks) es
+
+-- these keys were in order, and are so by the ranks of their places
+pub record AreRenamed (ranks : List ℕ) (numbers : BTreeMap LineKey ℕ) (keys : List (LineKey × ℕ)) : Type 0 where
+  pub was : IsStrictlySortedBy line_key_cmp (keys_of numbers.entries)
+  pub order : IsStrictlySortedBy line_key_cmp (keys_of keys)
+  pub same : IsPermutation (ranked_entries ranks numbers.entries) keys
 
 abbrev pub no_place : Place
 no_place = record { territory = []; use_type = []; currency = [] }

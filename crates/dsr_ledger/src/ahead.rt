@@ -15,13 +15,15 @@ use std::alloc::Global;
 /// At how many usages a look looks at most.
 const MOST: usize = 128;
 
-/// The number of no line.
+/// The number of no summary, and of no line.
 pub const NONE: usize = usize::MAX;
 
 /// What was found by looking ahead.
 #[derive(Drop)]
 pub struct Ahead {
-    /// The mixed keys of coming usages.
+    /// The numbers that are guessed of the summaries of coming usages, or `NONE`.
+    summaries: Vec<usize>,
+    /// The mixed keys of these usages.
     mixed: Vec<u64>,
     /// The numbers that are guessed of their lines, or `NONE`.
     numbers: Vec<usize>,
@@ -101,16 +103,17 @@ fn look_at_works(events: &[Event]) -> usize {
     seen
 }
 
-/// The mixed key of a usage of a recording.
-fn mixed_usage(founds: &Founds, isrc: &Isrc, usage: &Usage) -> Option<u64> {
-    let summary = founds.index(&usage.summary_id)?;
-    Some(founds.founds.get(summary)?.mixed(isrc))
+/// The number that is guessed of a usage's summary, and the mixed key of the usage of a recording under it.
+fn guess_usage(founds: &Founds, isrc: &Isrc, usage: &Usage) -> Option<(usize, u64)> {
+    let summary = founds.guess(&usage.summary_id)?;
+    Some((summary, founds.founds.get(summary)?.mixed(isrc)))
 }
 
 impl Ahead {
     /// Nothing was looked at.
     pub fn new(alloc: Global) -> Ahead {
         Ahead {
+            summaries: Vec::new(alloc),
             mixed: Vec::new(alloc),
             numbers: Vec::new(alloc),
             starts: Vec::new(alloc),
@@ -119,7 +122,7 @@ impl Ahead {
         }
     }
 
-    /// Mixes the keys of a block's usages.
+    /// Guesses the summaries of a block's usages, and mixes their keys.
     fn mix(&mut self, founds: &Founds, block: &Block) {
         let _noted = self.starts.push(self.mixed.len());
         let Some(isrc) = Isrc::read(block.resource.isrc.as_str()) else {
@@ -129,14 +132,15 @@ impl Ahead {
             if self.mixed.len() == MOST {
                 return;
             }
-            if let Some(mixed) = mixed_usage(founds, &isrc, usage) {
-                let _noted = self.mixed.push(mixed);
-            }
+            let (summary, mixed) = guess_usage(founds, &isrc, usage).unwrap_or((NONE, 0));
+            let _noted = self.summaries.push(summary);
+            let _noted = self.mixed.push(mixed);
         }
     }
 
-    /// Mixes the keys of all usages.
+    /// Guesses the summaries of all usages, and mixes their keys.
     fn mix_all(&mut self, founds: &Founds, events: &[Event]) {
+        self.summaries.clear();
         self.mixed.clear();
         self.starts.clear();
         self.block = NONE;
@@ -187,13 +191,20 @@ impl Ahead {
         self.block = self.block.wrapping_add(1);
     }
 
-    /// The numbers that were guessed of the lines of the usages of the block at hand, and of those after it. They are
+    /// Where the usages of the block at hand begin.
+    fn start(&self) -> usize {
+        self.starts.get(self.block).copied().unwrap_or(NONE)
+    }
+
+    /// The numbers that were guessed of the summaries of the usages of the block at hand, and of those after it. They are
     /// guesses, and there may be none.
-    pub fn guessed(&self) -> &[usize] {
-        match self.starts.get(self.block) {
-            Some(start) if *start <= self.numbers.len() => &self.numbers.as_slice()[*start..],
-            _ => &[],
-        }
+    pub fn guessed_summaries(&self) -> &[usize] {
+        self.summaries.get(self.start()..).unwrap_or(&[])
+    }
+
+    /// The numbers that were guessed of the lines of these usages, as little sure.
+    pub fn guessed_lines(&self) -> &[usize] {
+        self.numbers.get(self.start()..).unwrap_or(&[])
     }
 
     /// Looks at what the blocks of these events will want.

@@ -71,7 +71,7 @@ impl FileBooks {
             block.works.as_slice(),
             usages,
             draft.summaries.as_slice(),
-            draft.ahead.guessed(),
+            draft.ahead.guessed_lines(),
             &mut draft.usages,
             &mut draft.parts,
         )?;
@@ -135,6 +135,7 @@ impl FileBooks {
             seen,
             &self.founds,
             block,
+            draft.ahead.guessed_summaries(),
             &mut draft.summaries,
         )? {
             Ok(isrc) => {

@@ -53,11 +53,15 @@ impl Founds {
         })
     }
 
-    /// The number that is guessed of a summary, where it is this summary's.
-    fn guessed(&self, id: &Text) -> Option<usize>
+    /// The number that is guessed of a summary, if any.
+    pub fn guess(&self, id: &Text) -> Option<usize> {
+        self.guesses.guess(mixed_name(id))
+    }
+
+    /// A number, where it is this summary's.
+    fn guessed(&self, number: usize, id: &Text) -> Option<usize>
         ensures { IfSome result (λ number. index_at self.now id.now ≡ Some number) }
     {
-        let number = self.guesses.guess(mixed_name(id))?;
         if self.founds.get(number)?.id == *id {
             return Some(number);
         }
@@ -68,10 +72,22 @@ impl Founds {
     pub fn index(&self, id: &Text) -> Option<usize>
         ensures { result ≡ index_at self.now id.now }
     {
-        if let Some(number) = self.guessed(id) {
-            return Some(number);
+        if let Some(guess) = self.guess(id) {
+            if let Some(number) = self.guessed(guess, id) {
+                return Some(number);
+            }
         }
         self.numbers.get(id).copied()
+    }
+
+    /// The same, where `guess` is tried before. Any will do; the number itself is found soonest.
+    pub fn index_near(&self, id: &Text, guess: usize) -> Option<usize>
+        ensures { result ≡ index_at self.now id.now }
+    {
+        if let Some(number) = self.guessed(guess, id) {
+            return Some(number);
+        }
+        self.index(id)
     }
 
     /// The sums of the usages that name a summary.

@@ -4,23 +4,26 @@ ghost use Rattle.std.specs.List.{list_any};
 ghost use Rattle.dsr_ledger.specs.Found.{is_known, index_at};
 ghost use Rattle.dsr_ledger.specs.Verdicts.{names_unknown, share_total, verdict_by};
 
+use crate::ahead::NONE;
 use crate::founds::Founds;
 use crate::verdict::{Reason, Standing, Verdict};
 use dsr_cells::{Isrc, NoMemory};
 use dsr_records::{Block, Usage, Work};
 
-/// Finds the summaries of usages. Answers whether each usage names one.
+/// Finds the summaries of usages. Answers whether each usage names one. Any guesses of their numbers will do.
 fn find_summaries(
     founds: &Founds,
     usages: &[Usage],
+    guessed: &[usize],
     summaries: &mut Vec<usize>,
 ) -> Result<bool, NoMemory>
     ensures known { IfOk result (λ known. known ≡ not (list_any (names_unknown (is_known founds.now)) usages.now)) }
     ensures found { IfOk result (λ known. known ≡ true → map (λ u. index_at founds.now u.summary_id) usages.now ≡ map Some summaries.new.items) }
 {
     summaries.clear();
-    for usage in usages {
-        match founds.index(&usage.summary_id) {
+    for (i, usage) in usages.iter().enumerate() {
+        let guess = guessed.get(i).copied().unwrap_or(NONE);
+        match founds.index_near(&usage.summary_id, guess) {
             Some(index) => summaries.push(index)?,
             None => return Ok(false),
         }
@@ -47,11 +50,13 @@ fn shares_over(works: &[Work]) -> bool
 
 #[tactic(auto, unfolding(crate::specs::Verdicts::verdict_by))]
 /// The recording of a block that is booked, or why it is rejected. Where it is booked, finds the summaries of its usages.
+/// Any guesses of their numbers will do.
 pub fn judge(
     standing: Standing,
     seen: bool,
     founds: &Founds,
     block: &Block,
+    guessed: &[usize],
     summaries: &mut Vec<usize>,
 ) -> Result<Result<Isrc, Reason>, NoMemory>
     ensures verdict { IfOk result (λ r. MatchResult r
@@ -74,7 +79,7 @@ pub fn judge(
     let Some(isrc) = Isrc::read(isrc) else {
         return Ok(Err(Reason::BadIsrc));
     };
-    if !find_summaries(founds, block.usages.as_slice(), summaries)? {
+    if !find_summaries(founds, block.usages.as_slice(), guessed, summaries)? {
         return Ok(Err(Reason::UnknownSummary));
     }
     if shares_over(block.works.as_slice()) {

@@ -1,62 +1,40 @@
-use Rattle.std.proofs.Common.{rules, ◌≡◌, ℕ, sym, ap, ◌∙◌, subst}
-use Rattle.std.specs.Prelude.{All, Some, None}
+use Rattle.std.proofs.Common.{◌≡◌, ℕ, ◌++◌, take, drop, length, refl, sym, ap, ◌∙◌, subst}
+use Rattle.std.specs.Ordering.{is_lt}
+use Rattle.std.specs.Vec.{vec_len}
 use Rattle.std.specs.BTreeMap.{get}
-use Rattle.std.proofs.lemmas.List.Elements.{All-head, All-tail}
-use Rattle.std.proofs.lemmas.Map.Views.{All-found}
-use Rattle.std.proofs.lemmas.Option.{slice_get-get_or}
+use Rattle.std.specs.List.Sorted.{IsPermutation}
+use Rattle.std.specs.Cmp.{eq_by_cmp_equiv}
+use Rattle.std.proofs.Math.Seq.{take-append_seam}
+use Rattle.std.proofs.lemmas.List.MinMax.{ranks_by}
+use Rattle.std.proofs.lemmas.List.Sorted.{answers_always, length_permutation, IsPermutation-trans}
+use Rattle.std.proofs.lemmas.Map.Keys.{IsDistinct-IsPermutation, IsDistinct-from_sorted}
 use Rattle.dsr_ledger.specs.declared.line_key.LineKey.{LineKey}
 use Rattle.dsr_ledger.specs.LineKeys.{line_key_cmp}
-use Rattle.dsr_ledger.specs.Openings.{first_of}
-use Rattle.dsr_ledger.proofs.NumberedLemmas.{not_Some}
+use Rattle.dsr_ledger.specs.Ranks.{ranked_entries}
+use Rattle.dsr_ledger.proofs.OrderLemmas.{strictly_sorted}
 use Rattle.dsr_ledger.proofs.PlaceLemmas.{line_key_total}
-use Rattle.dsr_ledger.proofs.RankLemmas.{found_in, at, there_put, came_put, none_left}
+use Rattle.dsr_ledger.proofs.RankLemmas.{alike, found_each, ranked_differ}
 use Rattle.dsr_ledger.proofs.whole_keys.by_rank.Goals as goal
 
-pub loop-key-init : goal.loop-key-init
-loop-key-init c =
-    let gives = c.into_iter-key-iterator.ensures.into_iter_gives in
-    let P : LineKey × ℕ → Type 0 = λ e. get line_key_cmp c.args.numbers e.0 ≡ Some e.1 in
-    let empty : (q : LineKey) → get line_key_cmp c.new-keys.result q ≡ None = search rules in
-    record {
-      found = subst (All P) (sym gives.0) (All-found line_key_total c.args.numbers gives.5);
-      there = λ isrc i r of.
-          ap (λ o. first_of o (found_in c.into_iter-key-iterator.result (at isrc i))) (empty (at isrc r))
-          ∙ ap (λ es. found_in es (at isrc i)) gives.0;
-      came = λ k n e. absurd (not_Some n (sym (empty k) ∙ e));
-    }
-
-pub bounds-ranks-key : goal.bounds-ranks-key
-bounds-ranks-key c =
-    let P : LineKey × ℕ → Type 0 = λ e. get line_key_cmp c.args.numbers e.0 ≡ Some e.1 in
-    let found = All-head P (c.in-Some.key, c.in-Some.number) c.next.new.self (subst (All P) c.in-Some.ensures.steps c.loop-key.invariant.found) in
-    c.requires.placed c.in-Some.key c.in-Some.number found
-
-pub loop-key-preserved : goal.loop-key-preserved
-loop-key-preserved c =
-    let k = c.in-Some.key in
-    let n = c.in-Some.number in
-    let rest = c.next.new.self in
-    let ranks = c.args.ranks.now in
-    let number = get line_key_cmp c.args.numbers in
-    let P : LineKey × ℕ → Type 0 = λ e. number e.0 ≡ Some e.1 in
-    let all = subst (All P) c.in-Some.ensures.steps c.loop-key.invariant.found in
-    let found = All-head P (k, n) rest all in
-    let at_rank = slice_get-get_or ranks k.place _ (c.requires.placed k n found) in
-    let put = c.in_ok-insert.ensures.updates.0 in
-    record {
-      found = All-tail P (k, n) rest all;
-      there =
-          there_put ranks c.requires.apart number (get line_key_cmp c.loop-key.keys) (get line_key_cmp c.insert.new.self) k n _ at_rank found put rest (λ isrc i r of.
-          ap (λ es. first_of (get line_key_cmp c.loop-key.keys (at isrc r)) (found_in es (at isrc i))) (sym c.in-Some.ensures.steps)
-          ∙ c.loop-key.invariant.there isrc i r of);
-      came = came_put ranks c.requires.apart number (get line_key_cmp c.loop-key.keys) (get line_key_cmp c.insert.new.self) k n _ at_rank found put c.loop-key.invariant.came;
-    }
-
 pub returns : goal.returns
-returns c = record {
-  there = λ isrc i r of.
-      sym (none_left (get line_key_cmp c.loop-key.keys (at isrc r)))
-      ∙ ap (λ es. first_of (get line_key_cmp c.loop-key.keys (at isrc r)) (found_in es (at isrc i))) (sym c.in-None.ensures.steps.0)
-      ∙ c.loop-key.invariant.there isrc i r of;
-  came = c.loop-key.invariant.came;
-}
+returns c =
+    let numbers = c.args.numbers in
+    let ranks = c.args.ranks.now in
+    let keys = c.sort_unstable_by.new.self.items in
+    let first : LineKey × ℕ → LineKey = λ e. e.0 in
+    let made = c.in_ok-keys.ensures in
+    let was = ranked_entries ranks numbers.entries in
+    let grouped = subst (λ l. IsPermutation l c.order_recordings.new.keys) (c.as_mut_slice.ensures.value ∙ made.ranked) c.order_recordings.ensures in
+    let new = c.order_recordings.new.keys in
+    let rest = drop (length new) c.in_ok-keys.keys.items in
+    let long = sym c.as_mut_slice.ensures.len ∙ sym (length_permutation _ new c.order_recordings.ensures) in
+    let written : take (vec_len c.in_ok-keys.keys) (new ++ rest) ≡ new = ap (λ n. take n (new ++ rest)) long ∙ take-append_seam new rest in
+    let moved = subst (λ l. IsPermutation l keys) written c.sort_unstable_by.ensures.permutation in
+    let same = IsPermutation-trans was new keys grouped moved in
+    let differ = ranked_differ ranks (get line_key_cmp numbers) c.requires.placed c.requires.apart numbers.entries (found_each numbers made.order) (IsDistinct-from_sorted line_key_cmp _ made.order) in
+    let sorted = c.sort_unstable_by.ensures.sorted _ (ranks_by line_key_total first) (answers_always _ _ _ (λ f a r f' k. ap is_lt k.met)) in
+    record {
+      was = made.order;
+      order = strictly_sorted first line_key_total alike (λ a b. refl) keys sorted (IsDistinct-IsPermutation alike (λ a b. (eq_by_cmp_equiv line_key_total).symm a.0 b.0) was keys same differ);
+      same = same;
+    }

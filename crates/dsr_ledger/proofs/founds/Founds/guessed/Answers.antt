@@ -11,7 +11,7 @@ pub returns-then-eq : goal.returns-then-eq
 returns-then-eq c =
     let m = c.args.self.now in
     let found = c.in_ok-get.field-0.now in
-    let i = c.in_ok-number.number in
+    let i = c.args.number in
     let alike : bytes_eq found.id c.args.id.now ≡ true = search rules in
     let entry = c.in_ok-get.ensures.lookup in
     let at : slice_get m.founds.items i ≡ Some found =
