@@ -182,8 +182,7 @@ first_known text unseen tabs known some =
 pub known_behind : (text rest : List ℕ) (unseen tabs place : ℕ) → KnownTabs text unseen tabs → place < length text - unseen → rest ≡ drop (place + 1) text → KnownTabs rest unseen (tabs / 2 ^ place / 2)
 known_behind text rest unseen tabs place known inside behind =
     let seen = length text - unseen in
-    let left : length rest - unseen ≡ seen - (place + 1) = omega (arith, ap length behind, length-drop (place + 1) text) in
-    (
+    let left : length rest - unseen ≡ seen - (place + 1) = omega (arith, ap length behind, length-drop (place + 1) text) in (
       omega (arith, left, known.0),
       ap (λ n. n / 2 ^ place / 2) known.1 ∙ tab_bits-behind text seen place inside ∙ (λ i. tab_bits (take (sym left i) (sym behind i))),
     )

@@ -25,7 +25,12 @@ fn behind_cells(from: Option<Rest<'_>>, count: usize) -> Option<Rest<'_>>
 /// from the line's beginning.
 #[cold]
 #[inline(never)]
-fn rest_elsewhere<'l>(line: &'l str, rest: Option<Rest<'l>>, next: usize, place: usize) -> Option<Rest<'l>>
+fn rest_elsewhere<'l>(
+    line: &'l str,
+    rest: Option<Rest<'l>>,
+    next: usize,
+    place: usize,
+) -> Option<Rest<'l>>
     requires { cells_left rest ≡ drop next (cells line.now) }
     ensures { cells_left result ≡ drop place (cells line.now) }
 {

@@ -1,6 +1,4 @@
-use Rattle.std.proofs.Common.{◌%◌, ◌^◌, ◌*◌, ap, ◌∙◌, bit_or}
-use Rattle.std.specs.Simd.Lanes.{chunk}
-use Rattle.dsr_records.specs.Marks.{tab_bits}
+use Rattle.std.proofs.Common.{◌%◌, ◌^◌, ◌*◌, ◌∙◌, bit_or}
 use Rattle.dsr_records.proofs.Marks.{tab_bits-more}
 use Rattle.dsr_records.proofs.tab_bits.with_16_more.Goals as goal
 

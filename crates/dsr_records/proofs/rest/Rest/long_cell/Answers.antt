@@ -1,4 +1,4 @@
-use Rattle.std.proofs.Common.{◌≡◌, ◌+◌, ◌<◌, length, drop, sym, subst, ap, ◌∙◌, eqb, arith}
+use Rattle.std.proofs.Common.{◌≡◌, ◌+◌, drop, sym, subst, ap, ◌∙◌, eqb, arith}
 use Rattle.std.specs.List.{position_or_len}
 use Rattle.dsr_records.proofs.FirstCells.{TabAt, first_tab, no_tab}
 use Rattle.dsr_records.proofs.rest.Rest.long_cell.Goals as goal
