@@ -35,7 +35,7 @@ fn ranked_keys(
     Ok(keys)
 }
 
-/// Where the keys end that have the recording of the first of these keys, and stand together with it.
+/// Where the keys end that have the recording of the key at `from` and stand together with it.
 fn end_of_recording(keys: &[(LineKey, usize)], from: usize) -> usize
     requires { from < length keys.now }
     ensures above { from < result }
