@@ -15,22 +15,25 @@ os.set_inheritable(told, False)
 began = time.perf_counter()
 child = os.posix_spawn(sys.argv[2], sys.argv[2:], os.environ, setsigdef=[13, 25])
 _, status, used = os.wait4(child, 0)
-os.write(told, f'{status} {time.perf_counter() - began} {used.ru_maxrss}'.encode())
+seconds = time.perf_counter() - began
+os.write(told, f'{status} {seconds} {used.ru_maxrss} {used.ru_utime + used.ru_stime}'.encode())
 '''
 
 
 class Answer:
-    """How a run ended: its status (below zero: the signal that ended it), what it wrote, seconds, and megabytes at the peak.
+    """How a run ended: its status (below zero: the signal that ended it), what it wrote, and what it used.
 
-    The megabytes are told where the run was not prepared, and are at least those of the process that started it, some 9.
+    The megabytes are those at the peak; they are told where the run was not prepared, and are at least those of the
+    process that started it, some 9. `processor` is the seconds of all processors together.
     """
 
-    def __init__(self, status, output, error, seconds, megabytes, late):
+    def __init__(self, status, output, error, seconds, megabytes, processor, late):
         self.status = status
         self.output = output
         self.error = error
         self.seconds = seconds
         self.megabytes = megabytes
+        self.processor = processor
         self.late = late
 
     def ending(self):
@@ -71,16 +74,16 @@ class Run:
         late = []
         timer = threading.Timer(seconds, lambda: (late.append(True), self.stop()))
         timer.start()
-        _, status, _ = os.wait4(self.process.pid, 0)
-        took, kilobytes = time.perf_counter() - self.began, 0
+        _, status, used = os.wait4(self.process.pid, 0)
+        took, kilobytes, processor = time.perf_counter() - self.began, 0, used.ru_utime + used.ru_stime
         timer.cancel()
         if self.told is not None:
             words = os.read(self.told, 100).split()
             os.close(self.told)
-            if len(words) == 3:
-                status, took, kilobytes = int(words[0]), float(words[1]), int(words[2])
+            if len(words) == 4:
+                status, took, kilobytes, processor = int(words[0]), float(words[1]), int(words[2]), float(words[3])
         self.process.returncode = os.waitstatus_to_exitcode(status)
-        return Answer(self.process.returncode, *map(content, self.kept), took, kilobytes / 1024, bool(late))
+        return Answer(self.process.returncode, *map(content, self.kept), took, kilobytes / 1024, processor, bool(late))
 
 
 def content(file):
