@@ -470,11 +470,26 @@ def reads_end(rng, text):
     text.ending = 'Reads'
 
 
+def long_end(rng, text):
+    """A read fails, or the limit of reads comes, within a line that no line feed ends: 8,192 bytes of it are no line yet, one more are."""
+    text.byte_spoils.append(lambda rng, content: content.rstrip(b'\r\n') + b'\n#' + b'v' * rng.choice((8191, 8192)))
+    text.ending = rng.choice(('Read', 'Read', 'Reads'))
+
+
+# The longest and greatest spellings of a column, and ones past them.
+BOUNDS = {
+    'MessageId': ('x' * 64, 'x' * 65), 'SummaryRecordId': ('x' * 32, 'x' * 33), 'BlockId': ('x' * 32, 'x' * 33), 'Territory': ('x' * 16, 'x' * 17),
+    'UseType': ('x' * 64, 'x' * 65), 'Currency': ('XXX', 'XXXX'), 'FileNumber': ('000000000001', '0000000000001'), 'NumberOfFiles': ('9999', '10000'),
+    'Usages': ('-999999999999', '1000000000000'), 'Amount': ('-999999999999.9999999999', '0.00000000000'),
+    'Shares': ('100.0000', '100.0001'), 'NumberOfLinesInFile': ('000000000008', '0000000000008'), 'NumberOfSummaryRecords': ('000000000001', '0000000000001'),
+    'NumberOfBlocksInFile': ('000000000001', '0000000000001'),
+}
 EACH_COLUMN = [name for columns in COLUMNS.values() for name, empty in columns if not empty]
 SPOILS = [
     *(odd_column(name, cell) for name in dict.fromkeys([*EACH_COLUMN, 'Shares']) for cell in ('', '101') if (name, cell) != ('Shares', '')),
     *(odd_column(name, 'x\u00e9') for name in dict.fromkeys(EACH_COLUMN)),
     *(cut_at(name) for name in dict.fromkeys(EACH_COLUMN)),
+    *(odd_column(name, cell) for name, cells in BOUNDS.items() for cell in cells),
     odd_column('NumberOfFiles', '0'), odd_column('UsageEndDate', '1999-01-01'),
     many_cells, unknown_record, uneven, drop('HEAD'), drop('SU'), drop('AS'), drop('FOOT'), again('HEAD'), again('SY'),
     again('FOOT'), again('AS'), again('MW'), again('SU'), swap, behind('HEAD', 'MW'), behind('SY', 'SU'), behind('SU', 'MW'),
@@ -484,7 +499,7 @@ SPOILS = [
     many_summaries(1000), many_summaries(1001), other_count('NumberOfLinesInFile'), other_count('NumberOfSummaryRecords'),
     other_count('NumberOfBlocksInFile'), other_sums, empty_file, comments_alone, first_lines, line_spoil(not_utf8), line_spoil(long_line),
     line_spoil(last_long_line), line_spoil(odd_line), byte_spoil(cut_bytes), byte_spoil(other_byte), byte_spoil(swapped_bytes),
-    read_fails, reads_end, odd_cell, cut_record,
+    read_fails, reads_end, long_end, odd_cell, cut_record,
 ]
 HEAVY = {SPOILS[at] for at, spoil in enumerate(SPOILS) if spoil.__qualname__.startswith('many_summaries')}
 
@@ -626,6 +641,3 @@ def case(seed, number):
         spoil = LAYOUT_SPOILS[at % len(LAYOUT_SPOILS)] if 0 <= at else rng.choice(LAYOUT_SPOILS)
         given = spoil(rng, layout.bytes)
     return Case(given, made, rng.choice((None, 1, 2, 16, 1024)), None)
-
-
-CASES_FOR_ALL = 3 * len(SPOILS) + 6 * len(LAYOUT_SPOILS)
