@@ -5,7 +5,7 @@ of the list, so that a short run meets all of them; the later ones draw several.
 """
 import random
 
-from statement import COLUMNS, STANDARD
+from statement import COLUMNS, STANDARD, amount
 
 TYPES = {'HEAD': 'HEAD', 'SY': 'SY01', 'AS': 'AS01', 'MW': 'MW01', 'SU': 'SU01', 'FOOT': 'FOOT'}
 TERRITORIES = ('GB', 'DE', 'FR', 'US-CA', 'worldwide', 'G', 'Z' * 16)
@@ -46,7 +46,7 @@ class Record:
 
 
 class Layout:
-    """Where the columns stand. A standard one is None in the report's words."""
+    """Where the columns stand, the types of the records, and the bytes of the layout's file."""
 
     def __init__(self, rng, standard):
         self.standard = standard
@@ -144,7 +144,6 @@ def block(rng, name, summaries):
 
 def count(records):
     """FOOT's three counts, and the stated sums of the summaries, made to agree."""
-    from statement import amount
     sums = {}
     for record in records:
         if record.role == 'SU':
@@ -532,7 +531,8 @@ def layout_role(rng, lines):
 
 
 def layout_type(rng, lines):
-    lines.insert(any_line(rng, lines), rng.choice((b'SKIP', b'SKIP\t', b'SKIP\t' + b'a' * 17, b'SKIP\ta b', b'SKIP\ta-b', b'HEAD', b'MW\t\t1', 'SKIP\t\u00e9'.encode())))
+    lines.insert(any_line(rng, lines), rng.choice((b'SKIP', b'SKIP\t', b'SKIP\t' + b'a' * 17, b'SKIP\ta b', b'SKIP\ta-b', b'HEAD', b'MW\t\t1',
+                                                  'SKIP\t\u00e9'.encode())))
 
 
 def layout_role_twice(rng, lines):
