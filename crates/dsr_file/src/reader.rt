@@ -328,6 +328,8 @@ impl FileReader {
         // These events are the first that the bytes have; without an event, all.
         ensures begins { (layout : LayoutTable) (b : List ℕ) (es : List Placed) → Stands layout self.new b es → BeginsEvents layout b None es }
         ensures all { IfNone result.1 ((layout : LayoutTable) (b : List ℕ) (es : List Placed) → Stands layout self.new b es → HasEvents layout b None es) }
+        // Where an event of the bytes used so far waits, no byte more is used.
+        ensures waiting { (layout : LayoutTable) (b : List ℕ) (es : List Placed) → Stands layout self.old b es → HasEvents layout b None es ⊎ (result.0 ≡ 0) }
         // Without an event the whole piece was used, unless Ended was given.
         ensures bound { result.0 ≤ length piece.now }
         ensures whole { IfNone result.1 ((result.0 ≡ length piece.now) ⊎ IsDone self.new) }

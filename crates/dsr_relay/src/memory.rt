@@ -1,6 +1,6 @@
 //! The memory of messages, which goes round: the feed fills it, and the tap gives it back once its events are no longer
-//! wanted. So all of it is taken where a relay is made, and events are freed by the thread that made them. Only a lot that
-//! is taken and never given back costs new memory.
+//! wanted. All of it is taken where a relay is made: that of the messages in the channel, of the one that is filled and of
+//! the one that is emptied. So a send takes none, and events are freed by the thread that made them.
 ghost use Rattle.std.specs.Prelude.{◌≡◌, [], ◌≤◌};
 
 use crate::rule::Message;
@@ -74,17 +74,14 @@ pub(crate) fn no_message(alloc: Global) -> Message
 }
 
 impl Spare {
-    /// Memory that can be filled. Where all of it is away, because lots were not given back, the call takes new memory;
-    /// where this is refused it waits for some to come back, and where the tap is gone it answers a message with none.
+    /// Memory that can be filled. Where all of it is away, because lots were not given back, the call waits for some to come
+    /// back; where the tap is gone it answers a message with none.
     fn find<R: Wait>(&mut self, rt: &R) -> Message {
         if let Ok(used) = self.receiver.try_recv(rt) {
             return used;
         }
         if let Some(unused) = self.unused.pop() {
             return unused;
-        }
-        if let Ok(new) = room(self.alloc) {
-            return new;
         }
         match self.receiver.recv(rt) {
             Ok(used) => used,

@@ -104,7 +104,8 @@ impl Tap {
     }
 
     /// Takes what is held of the last message, or else the next message. Where there is none yet, the call waits; where the
-    /// feed is gone and nothing is left it may answer `Closed`, and then nothing has changed.
+    /// feed is gone and nothing is left it may answer `Closed`, and then nothing has changed. A lot is given back before the
+    /// next one is taken: the feed has no other memory for what comes.
     pub fn take_lot<R: Wait>(&mut self, rt: &R) -> Result<Lot, Closed>
         requires { has_ended self.old.taken ≡ false }
         ensures taken { IfOk result (λ lot. self.new ≡ record self.old { taken = self.old.taken ++ lot; held = [] }) }

@@ -3,8 +3,9 @@ ghost use Rattle.std.specs.Prelude.{◌≡◌, ℕ, ◌+◌, ◌<◌, ◌≤◌,
 ghost use Rattle.dsr_file.specs.Orderly.{has_ended, is_ended, MayStandAt};
 
 use crate::{Feed, RelayError, Tap, open_relay};
+use dsr_cells::{NoMemory, Text, Texts};
 use dsr_file::{Ending, Event, EventList, EventPart, Outcome, whole_events};
-use dsr_records::Layout;
+use dsr_records::{Block, Layout, Resource, UsageList, WorkList};
 use std::alloc::{AllocError, Global};
 use std::snapshot::Snapshot;
 use std::sync::Wait;
@@ -495,4 +496,96 @@ fn lots_through_one_place(rt: HostRuntime) -> Result<(), Fail> {
     let settled = tap.take_in(sender.join(&rt));
     assert_eq!(rt; (settled.taken, settled.left), (2002, 0));
     Ok(())
+}
+
+/// A block that takes no memory: its texts are short, and its lists are empty.
+fn plain_block(alloc: Global) -> Result<EventPart, NoMemory>
+    ensures { IfOk result (λ part. ((place : ℕ) → 0 < place → MayStandAt place part) × (is_ended part ≡ false)) }
+{
+    let resource = Resource {
+        block_id: Text::copy_of(alloc, "B1")?,
+        isrc: Text::copy_of(alloc, "GBABC2400001")?,
+        titles: Texts::new(alloc),
+        artists: Texts::new(alloc),
+    };
+    Ok(EventPart::Block(Block {
+        id: Text::copy_of(alloc, "B1")?,
+        resource,
+        works: WorkList::new(alloc),
+        usages: UsageList::new(alloc),
+    }))
+}
+
+/// Sends a block that takes no memory out, takes it and gives it back. Answers whether all of that went well.
+fn passes_block<R: Wait>(rt: &R, alloc: Global, feed: &mut Feed, tap: &mut Tap) -> bool
+    requires going { has_ended feed.old.sent ≡ false }
+    requires few { (0 < length feed.old.sent) × (length feed.old.sent < 100000) }
+    ensures going { has_ended feed.new.sent ≡ false }
+    ensures few { length feed.new.sent ≤ length feed.old.sent + 1 }
+    ensures sent { result ≡ true → length feed.new.sent ≡ length feed.old.sent + 1 }
+{
+    let Ok(part) = plain_block(alloc) else {
+        return false;
+    };
+    let Ok(()) = send_part(rt, feed, part) else {
+        return false;
+    };
+    if !flushes(rt, feed) || tap.ended() {
+        return false;
+    }
+    takes_lot(rt, tap) == Some(1)
+}
+
+/// Sends and takes so many blocks, one after another. Answers whether all of that went well.
+fn passes_blocks<R: Wait>(
+    rt: &R,
+    alloc: Global,
+    feed: &mut Feed,
+    tap: &mut Tap,
+    blocks: u64,
+) -> bool
+    requires going { has_ended feed.old.sent ≡ false }
+    requires some { 0 < length feed.old.sent }
+    requires few { length feed.old.sent + blocks < 50000 }
+{
+    for _n in 0..blocks {
+        if !passes_block(rt, alloc, feed, tap) {
+            return false;
+        }
+    }
+    true
+}
+
+/// Once a relay is open nothing in it takes memory: where any one growth is refused, all that is sent goes through.
+#[test]
+fn sends_take_no_memory(rt: HostRuntime) {
+    let alloc: Global = rt.alloc();
+    let Ok((mut feed, mut tap)) = open_relay(alloc, 1) else {
+        return;
+    };
+    if !send_opened(&rt, alloc, &mut feed) {
+        return;
+    }
+    if feed.sent_count() != 1 {
+        return;
+    }
+    assert!(rt; flushes(&rt, &mut feed));
+    assert!(rt; takes_opened(&rt, &mut tap));
+    assert!(rt; passes_blocks(&rt, alloc, &mut feed, &mut tap, 100));
+}
+
+/// A file goes from thread to thread. Where a growth is refused it has fewer blocks, and what was sent is taken.
+#[test]
+fn a_file_goes_through_or_no_memory(rt: HostRuntime) {
+    let alloc: Global = rt.alloc();
+    let Ok((feed, mut tap)) = open_relay(alloc, 1) else {
+        return;
+    };
+    let Ok(sender) = thread::spawn(&rt, move || send_file(&rt, alloc, feed, 70)) else {
+        return;
+    };
+    let taken = take_lots(&rt, &mut tap);
+    assert!(rt; tap.ended());
+    let feed = sender.join(&rt);
+    assert_eq!(rt; taken, feed.sent_count());
 }

@@ -7,3 +7,6 @@ returns-in-Reading-clause-begins c = λ layout b es s. first_given layout c.read
 
 pub returns-in-Reading-clause-all : goal.returns-in-Reading-clause-all
 returns-in-Reading-clause-all c = if_none c.read.result.1 (λ e layout b es s. inl (all_read layout c.read.new.self b es s e)) c.read.ensures.reading
+
+pub returns-in-Reading-clause-waiting : goal.returns-in-Reading-clause-waiting
+returns-in-Reading-clause-waiting c = λ layout b es s. inl (inl (all_read layout c.args.self.now b es s c.in-Reading.is))
