@@ -6,8 +6,8 @@ use super::limits::comment;
 use super::texts::cut_at;
 use super::{FILE, come_to, letter, text};
 use crate::{
-    Ending, Event, EventList, Failed, FileReader, FromRead, ReadFileError, Sink, Source, read_file,
-    whole_events,
+    Ending, Event, EventList, Failed, FileReader, FromRead, ReadCount, ReadFileError, Sink, Source,
+    read_file, whole_events,
 };
 use dsr_records::Layout;
 use std::alloc::{AllocError, Global};
@@ -20,16 +20,18 @@ struct Pieces<'t> {
     fails: bool,
     failed: bool,
     reads: u32,
+    count: ReadCount,
 }
 
 impl<'t> Source for Pieces<'t> {
     ghost use Rattle.std.specs.Prelude.{None};
 
-    ghost told = { λ s. record { remaining = None; failed = s.failed } };
+    ghost told = { λ s. record { remaining = None; failed = s.failed; reads = s.count } };
 
     fn read(&mut self, piece: &mut [u8]) -> Result<usize, Failed> {
         self.reads = self.reads.wrapping_add(1);
         let count = self.size.min(piece.len()).min(self.rest.len());
+        self.count.add(count);
         if count == 0 && self.fails {
             self.failed = true;
             return Err(Failed);
@@ -54,6 +56,7 @@ fn in_pieces(rest: &[u8], size: usize, fails: bool) -> Pieces<'_>
         fails,
         failed: false,
         reads: 0,
+        count: ReadCount::new(),
     }
 }
 
