@@ -59,9 +59,12 @@ unfolding events_so_far events_of
 nothing_ended layout = refl
 
 -- reads, and then more reads
-answered_more : (old mid new : ReadCount) (reads filled more some : ℕ) → Answered old mid reads filled → Answered mid new more some → Answered old new (reads + more) (filled + some)
-answered_more old mid new reads filled more some a b =
-    (λ less. omega (arith, a.0 (omega arith), b.0 (omega (arith, a.0 (omega arith)))), λ less. omega (arith, a.1 (omega arith), b.1 (omega (arith, a.1 (omega arith)))))
+answered_more : (old mid new : ReadCount) (reads filled more some : ℕ) → Answered old mid reads filled → Answered mid new more some
+    → Answered old new (reads + more) (filled + some)
+answered_more old mid new reads filled more some a b = (
+  λ less. omega (arith, a.0 (omega arith), b.0 (omega (arith, a.0 (omega arith)))),
+  λ less. omega (arith, a.1 (omega arith), b.1 (omega (arith, a.1 (omega arith)))),
+)
 
 -- before the first read
 pub no_reads : (layout : LayoutTable) (told : Told) (r : FileReader) (es : List Placed) → Stands layout r [] es → Reads layout told told 0 r es
@@ -77,11 +80,13 @@ no_reads layout told r es s = record {
 }
 
 -- the text ends
-end_read : (layout : LayoutTable) (limit : ℕ) (before after : Told) (given : List ℕ) (ending : Ending) (es : List Placed) → Stopped layout limit before after given (Some ending) → HasEvents layout given (Some ending) es → IsRead layout limit before after es
+end_read : (layout : LayoutTable) (limit : ℕ) (before after : Told) (given : List ℕ) (ending : Ending) (es : List Placed)
+    → Stopped layout limit before after given (Some ending) → HasEvents layout given (Some ending) es → IsRead layout limit before after es
 end_read layout limit before after given ending es s (inl h) = inl (record { bytes = given; ending = ending }, inl s, h)
 end_read layout limit before after given ending es s (inr h) = inr (given, Some ending, s, h)
 
-end_refused : (layout : LayoutTable) (limit : ℕ) (before after : Told) (given : List ℕ) (ending : Ending) (es : List Placed) → Gave limit before after given → BeginsEvents layout given (Some ending) es → IsRefused layout limit before after es
+end_refused : (layout : LayoutTable) (limit : ℕ) (before after : Told) (given : List ℕ) (ending : Ending) (es : List Placed)
+    → Gave limit before after given → BeginsEvents layout given (Some ending) es → IsRefused layout limit before after es
 end_refused layout limit before after given ending es g h =
     let text : FileText = record { bytes = given; ending = ending } in (text, given, g, ([], append-nil given), begins_run layout text es h)
 
@@ -96,8 +101,9 @@ ended_not true n = absurd (n refl)
 ended_not false n = refl
 
 -- a read gave this piece, after so many reads that each gave bytes
-module _ (layout : LayoutTable) (before mid after : Told) (reads limit : ℕ) (file new : FileReader) (es fs : List Placed) (r : Reads layout before mid reads file es)
-    (piece : List ℕ) (c : Consumes mid.remaining after.remaining piece) (counts : AddsRead mid.reads after.reads (length piece)) (some : 0 < length piece) (few : length piece ≤ 4096)
+module _ (layout : LayoutTable) (before mid after : Told) (reads limit : ℕ) (file new : FileReader) (es fs : List Placed)
+    (r : Reads layout before mid reads file es) (piece : List ℕ) (c : Consumes mid.remaining after.remaining piece) (counts : AddsRead mid.reads after.reads (length piece))
+    (some : 0 < length piece) (few : length piece ≤ 4096)
     (kept : after.failed ≡ mid.failed) (less : reads < limit) where
   consumed : Consumes before.remaining after.remaining (r.given ++ piece)
   consumed = consumes_more before.remaining mid.remaining after.remaining r.given piece r.consumed c
@@ -148,14 +154,21 @@ module _ (layout : LayoutTable) (before mid after : Told) (reads limit : ℕ) (f
       by_case : HasEvents layout b None fs → IsRead layout limit before after fs
       by_case (inl h) =
           let final : (more : List ℕ) (ending : Ending) → so_far layout b ≡ text_events layout ((r.given ++ piece) ++ more) ending =
-          λ more ending. fault_is_final_lem layout b (drop f.used piece ++ more) ending (sym (ap has_ended h) ∙ over) ∙ ap (λ x. text_events layout x ending) (joined f.used more) in
-          let whole : so_far layout b ≡ text_events layout (r.given ++ piece) endings.Whole = final [] endings.Whole ∙ ap (λ x. text_events layout x endings.Whole) (append-nil (r.given ++ piece)) in
-          inl (text, inr (r.given ++ piece, stopped unfailed, ([], append-nil (r.given ++ piece)), λ more ending. sym (final more ending) ∙ whole), h ∙ whole)
+          λ more ending. fault_is_final_lem layout b (drop f.used piece ++ more) ending (sym (ap has_ended h) ∙ over)
+          ∙ ap (λ x. text_events layout x ending) (joined f.used more) in
+          let whole : so_far layout b ≡ text_events layout (r.given ++ piece) endings.Whole =
+          final [] endings.Whole ∙ ap (λ x. text_events layout x endings.Whole) (append-nil (r.given ++ piece)) in
+          inl (
+            text,
+            inr (r.given ++ piece, stopped unfailed, ([], append-nil (r.given ++ piece)), λ more ending. sym (final more ending) ∙ whole),
+            h ∙ whole,
+          )
       by_case (inr cut) = inr (
         r.given ++ piece,
         None,
         stopped unfailed,
-        subst (λ x. IsCutOff (readings layout x endings.Read) fs) (joined f.used [] ∙ append-nil (r.given ++ piece)) (cut_off_later layout b (drop f.used piece ++ []) endings.Read fs cut),
+        subst (λ x. IsCutOff (readings layout x endings.Read) fs) (joined f.used [] ∙ append-nil (r.given ++ piece))
+            (cut_off_later layout b (drop f.used piece ++ []) endings.Read fs cut),
       )
 
   -- no fault stands in it
@@ -186,7 +199,8 @@ module _ (layout : LayoutTable) (before mid after : Told) (reads limit : ℕ) (f
         r.given ++ piece,
         gave,
         ([], append-nil (r.given ++ piece)),
-        begins_run layout text fs (subst (λ x. BeginsEvents layout x (Some endings.Read) fs) (joined f.used [] ∙ append-nil (r.given ++ piece)) (begins_later layout (r.given ++ take f.used piece) (drop f.used piece ++ []) endings.Read fs f.begins)),
+        begins_run layout text fs (subst (λ x. BeginsEvents layout x (Some endings.Read) fs) (joined f.used [] ∙ append-nil (r.given ++ piece))
+            (begins_later layout (r.given ++ take f.used piece) (drop f.used piece ++ []) endings.Read fs f.begins)),
       )
 
 -- a read gave nothing, after so many reads that each gave bytes: the source has nothing left, or it failed
@@ -196,7 +210,10 @@ module _ (layout : LayoutTable) (before mid after : Told) (reads limit : ℕ) (f
   gave_none c = record {
     reads = reads + 1;
     filled = reads;
-    answered = (λ low. omega (arith, r.answered.0 (omega arith), counts.0.0 (omega (arith, r.answered.0 (omega arith)))), λ low. omega (arith, r.answered.1 low, counts.0.1 (omega (arith, r.answered.1 low))));
+    answered = (
+      λ low. omega (arith, r.answered.0 (omega arith), counts.0.0 (omega (arith, r.answered.0 (omega arith)))),
+      λ low. omega (arith, r.answered.1 low, counts.0.1 (omega (arith, r.answered.1 low))),
+    );
     consumed = c;
     limited = omega (arith, less);
     least = r.few;
@@ -211,19 +228,22 @@ module _ (layout : LayoutTable) (before mid after : Told) (reads limit : ℕ) (f
 
   pub whole_read : Consumes mid.remaining after.remaining [] → IsAtEnd after.remaining → before.failed ≡ false → after.failed ≡ mid.failed → HasEvents layout r.given (Some endings.Whole) fs
       → IsRead layout limit before after fs
-  whole_read c e unfailed k h = end_read layout limit before after r.given endings.Whole fs (ended_gave c, (refl, e, k ∙ r.kept ∙ unfailed), r.going) h
+  whole_read c e unfailed k h = end_read layout limit before after r.given endings.Whole fs
+      (ended_gave c, (refl, e, k ∙ r.kept ∙ unfailed), r.going) h
 
   pub whole_refused : Consumes mid.remaining after.remaining [] → BeginsEvents layout r.given (Some endings.Whole) fs → IsRefused layout limit before after fs
   whole_refused c h = end_refused layout limit before after r.given endings.Whole fs (ended_gave c) h
 
-  pub failed_read : Keeps mid.remaining after.remaining → after.failed ≡ true → HasEvents layout r.given (Some endings.Read) fs → IsRead layout limit before after fs
+  pub failed_read : Keeps mid.remaining after.remaining → after.failed ≡ true → HasEvents layout r.given (Some endings.Read) fs
+      → IsRead layout limit before after fs
   failed_read c f h = end_read layout limit before after r.given endings.Read fs (failed_gave c, (refl, f), r.going) h
 
   pub failed_refused : Keeps mid.remaining after.remaining → BeginsEvents layout r.given (Some endings.Read) fs → IsRefused layout limit before after fs
   failed_refused c h = end_refused layout limit before after r.given endings.Read fs (failed_gave c) h
 
 -- the limit of reads was reached
-module _ (layout : LayoutTable) (before after : Told) (limit : ℕ) (file : FileReader) (es fs : List Placed) (r : Reads layout before after limit file es) where
+module _ (layout : LayoutTable) (before after : Told) (limit : ℕ) (file : FileReader) (es fs : List Placed)
+    (r : Reads layout before after limit file es) where
   abbrev all_gave : Gave limit before after r.given
   all_gave = record {
     reads = limit;

@@ -21,8 +21,10 @@ pub trait Source {
     fn read(&mut self, piece: &mut [u8]) -> Result<usize, Failed>
         requires { 0 < length piece.old }
         ensures bound { ReadsAtMost result piece.new }
-        ensures bytes { ReadConsumes (told self.old).remaining (told self.new).remaining result piece.new }
-        ensures failed { MatchResult result (λ _. (told self.new).failed ≡ (told self.old).failed) (λ _. (told self.new).failed ≡ true) }
+        ensures bytes { ReadConsumes (told self.old).remaining (told self.new).remaining
+            result piece.new }
+        ensures failed { MatchResult result (λ _. (told self.new).failed ≡ (told self.old).failed)
+            (λ _. (told self.new).failed ≡ true) }
         ensures reads { MatchResult result (AddsRead (told self.old).reads (told self.new).reads)
             (λ _. AddsRead (told self.old).reads (told self.new).reads 0) };
 
