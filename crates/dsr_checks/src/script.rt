@@ -1,7 +1,7 @@
 //! A reader that gives a text as it is told to.
 ghost use Rattle.std.specs.Prelude.{◌≡◌, ◌≤◌, None, false, length, IfOk};
 
-use dsr_file::{Failed, Source};
+use dsr_file::{Failed, ReadCount, Source};
 use std::alloc::{AllocError, Global};
 use std::sync::Arc;
 use std::sync::atomic::{AtomicU64, Ordering};
@@ -49,6 +49,7 @@ pub struct Script {
     own: Arc<AtomicU64, Global>,
     other: Arc<AtomicU64, Global>,
     failed: bool,
+    reads: ReadCount,
 }
 
 impl Script {
@@ -72,6 +73,7 @@ impl Script {
             own,
             other,
             failed: false,
+            reads: ReadCount::new(),
         }
     }
 
@@ -135,13 +137,16 @@ fn give(text: &[u8], at: usize, step: Step, piece: &mut [u8]) -> usize
     count
 }
 
-impl Source for Script {
-    ghost told = { λ s. record { remaining = None; failed = s.failed } };
-
-    fn read(&mut self, piece: &mut [u8]) -> Result<usize, Failed> {
+impl Script {
+    /// The next bytes of the text, or what comes after it.
+    fn next_bytes(&mut self, piece: &mut [u8]) -> Result<usize, Failed>
+        ensures count { IfOk result (λ n. n ≤ length piece.old) }
+        ensures room { length piece.new ≡ length piece.old }
+        ensures failed { self.new.failed ≡ self.old.failed }
+        ensures reads { self.new.reads ≡ self.old.reads }
+    {
         let own = self.own.fetch_add(1, Ordering::SeqCst).wrapping_add(1);
         if !self.may_read(own) {
-            self.failed = true;
             return Err(Failed);
         }
         let count = give(&self.text, self.at, self.step, piece);
@@ -151,16 +156,29 @@ impl Source for Script {
         }
         match self.after {
             After::End => Ok(0),
-            After::Failure => {
-                self.failed = true;
-                Err(Failed)
-            }
+            After::Failure => Err(Failed),
             After::Again => {
                 let count = give(&self.text, 0, self.step, piece);
                 self.at = count;
                 Ok(count)
             }
         }
+    }
+}
+
+impl Source for Script {
+    ghost told = { λ s. record { remaining = None; failed = s.failed; reads = s.reads } };
+
+    fn read(&mut self, piece: &mut [u8]) -> Result<usize, Failed> {
+        let answer = self.next_bytes(piece);
+        match answer {
+            Ok(count) => self.reads.add(count),
+            Err(Failed) => {
+                self.reads.add(0);
+                self.failed = true;
+            }
+        }
+        answer
     }
 
     fn failed(&self) -> bool {

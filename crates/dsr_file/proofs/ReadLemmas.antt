@@ -1,6 +1,7 @@
 -- What the reading of a file gives.
-use Rattle.std.proofs.Common.{◌≡◌, ℕ, ◌+◌, ◌*◌, ◌<◌, ◌≤◌, ◌⊎◌, inl, inr, ◌∙◌, sym, ap, refl, subst, Bool, true, false, List, [], ◌++◌, length, take, drop, Option, None, Some, append_assoc, take-append-drop, length-append, take_all, arith}
+use Rattle.std.proofs.Common.{◌≡◌, ℕ, ◌+◌, ◌-◌, ◌<◌, ◌≤◌, ◌⊎◌, inl, inr, ◌∙◌, sym, ap, refl, subst, Bool, true, false, List, [], ◌++◌, length, take, drop, Option, None, Some, append_assoc, take-append-drop, length-append, take_all, arith}
 use Rattle.std.proofs.lemmas.List.{append-nil}
+use Rattle.std.proofs.Math.Seq.{take-append_seam}
 use Rattle.std.specs.Io.KnownBytes.{Consumes, Keeps, IsAtEnd}
 use Rattle.dsr_records.specs.Records.{LayoutTable}
 use Rattle.dsr_file.specs.declared.fault.Ending.{Ending}
@@ -10,6 +11,7 @@ use Rattle.dsr_file.specs.declared.fault.Outcome.{Outcome}
 use Rattle.dsr_file.specs.declared.fault.Outcome.TheVariants as outcomes
 use Rattle.dsr_file.specs.declared.event.EventPart.{EventPart}
 use Rattle.dsr_file.specs.declared.event.EventPart.TheVariants.{Ended}
+use Rattle.dsr_file.specs.declared.read_count.ReadCount.{ReadCount}
 use Rattle.dsr_file.specs.declared.reader.Phase.TheVariants as phases
 use Rattle.dsr_file.specs.declared.reader.FileReader.{FileReader}
 use Rattle.dsr_file.specs.Placed.{Placed}
@@ -18,7 +20,8 @@ use Rattle.dsr_file.specs.Readings.{records}
 use Rattle.dsr_file.specs.Parts.{events_of, last_of}
 use Rattle.dsr_file.specs.Texts.{events_so_far, placed, readings, text_events, so_far}
 use Rattle.dsr_file.specs.Runs.{FileText, ended, by_memory, BeginsEvents, HasEvents, IsCutOff, EndsWith}
-use Rattle.dsr_file.specs.Sources.{Told, EndsAs, IsRead, IsRefused}
+use Rattle.dsr_file.specs.ReadCounts.{Answered, AddsRead}
+use Rattle.dsr_file.specs.Sources.{Told, Gave, before_last, Stopped, IsRead, IsRefused}
 use Rattle.dsr_file.specs.Standing.{Stands, StandsAt, IsDone}
 use Rattle.dsr_file.specs.Feeding.{Fed, FedSome, Reads}
 use Rattle.dsr_file.proofs.LawLemmas.{fault_is_final_lem}
@@ -55,10 +58,19 @@ nothing_ended : (layout : LayoutTable) → has_ended (so_far layout []) ≡ fals
 unfolding events_so_far events_of
 nothing_ended layout = refl
 
+-- reads, and then more reads
+answered_more : (old mid new : ReadCount) (reads filled more some : ℕ) → Answered old mid reads filled → Answered mid new more some
+    → Answered old new (reads + more) (filled + some)
+answered_more old mid new reads filled more some a b = (
+  λ less. omega (arith, a.0 (omega arith), b.0 (omega (arith, a.0 (omega arith)))),
+  λ less. omega (arith, a.1 (omega arith), b.1 (omega (arith, a.1 (omega arith)))),
+)
+
 -- before the first read
 pub no_reads : (layout : LayoutTable) (told : Told) (r : FileReader) (es : List Placed) → Stands layout r [] es → Reads layout told told 0 r es
 no_reads layout told r es s = record {
   given = [];
+  answered = (λ less. omega arith, λ less. omega arith);
   consumed = consumes_self told.remaining;
   few = omega arith;
   most = omega arith;
@@ -68,12 +80,15 @@ no_reads layout told r es s = record {
 }
 
 -- the text ends
-pub end_read : (layout : LayoutTable) (most : ℕ) (before after : Told) (given : List ℕ) (ending : Ending) (es : List Placed) → Consumes before.remaining after.remaining given → length given ≤ 4096 * most → EndsAs most after given ending → HasEvents layout given (Some ending) es → IsRead layout most before after es
-end_read layout most before after given ending es c m e (inl h) = let text : FileText = record { bytes = given; ending = ending } in inl (text, (given, c, m, inl (refl, e)), h)
-end_read layout most before after given ending es c m e (inr h) = let text : FileText = record { bytes = given; ending = ending } in inr (text, (given, c, ([], append-nil given)), h)
+end_read : (layout : LayoutTable) (limit : ℕ) (before after : Told) (given : List ℕ) (ending : Ending) (es : List Placed)
+    → Stopped layout limit before after given (Some ending) → HasEvents layout given (Some ending) es → IsRead layout limit before after es
+end_read layout limit before after given ending es s (inl h) = inl (record { bytes = given; ending = ending }, inl s, h)
+end_read layout limit before after given ending es s (inr h) = inr (given, Some ending, s, h)
 
-pub end_refused : (layout : LayoutTable) (before after : Told) (given : List ℕ) (ending : Ending) (es : List Placed) → Consumes before.remaining after.remaining given → BeginsEvents layout given (Some ending) es → IsRefused layout before after es
-end_refused layout before after given ending es c h = let text : FileText = record { bytes = given; ending = ending } in (text, (given, c, ([], append-nil given)), begins_run layout text es h)
+end_refused : (layout : LayoutTable) (limit : ℕ) (before after : Told) (given : List ℕ) (ending : Ending) (es : List Placed)
+    → Gave limit before after given → BeginsEvents layout given (Some ending) es → IsRefused layout limit before after es
+end_refused layout limit before after given ending es g h =
+    let text : FileText = record { bytes = given; ending = ending } in (text, given, g, ([], append-nil given), begins_run layout text es h)
 
 cut_off_ended : (layout : LayoutTable) (b : List ℕ) (es : List Placed) → HasEvents layout b None es → has_ended es ≡ false → es ≡ so_far layout b
 cut_off_ended layout b es (inl h) n = h
@@ -85,9 +100,37 @@ ended_not : (b : Bool) → (b ≡ true → ⊥) → b ≡ false
 ended_not true n = absurd (n refl)
 ended_not false n = refl
 
-module _ (layout : LayoutTable) (before mid after : Told) (reads : ℕ) (file new : FileReader) (es fs : List Placed) (r : Reads layout before mid reads file es) (piece : List ℕ) (c : Consumes mid.remaining after.remaining piece) (few : length piece ≤ 4096) (kept : after.failed ≡ mid.failed) where
+-- a read gave this piece, after so many reads that each gave bytes
+module _ (layout : LayoutTable) (before mid after : Told) (reads limit : ℕ) (file new : FileReader) (es fs : List Placed)
+    (r : Reads layout before mid reads file es) (piece : List ℕ) (c : Consumes mid.remaining after.remaining piece) (counts : AddsRead mid.reads after.reads (length piece))
+    (some : 0 < length piece) (few : length piece ≤ 4096)
+    (kept : after.failed ≡ mid.failed) (less : reads < limit) where
   consumed : Consumes before.remaining after.remaining (r.given ++ piece)
   consumed = consumes_more before.remaining mid.remaining after.remaining r.given piece r.consumed c
+
+  answered : Answered before.reads after.reads (reads + 1) (reads + 1)
+  answered = answered_more before.reads mid.reads after.reads reads reads 1 1 r.answered
+      (counts.0.0, λ low. omega (arith, some, counts.0.1 (omega (arith, some))))
+
+  abbrev gave : Gave limit before after (r.given ++ piece)
+  gave = record {
+    reads = reads + 1;
+    filled = reads + 1;
+    answered = answered;
+    consumed = consumed;
+    limited = omega (arith, less);
+    least = simp length-append (omega (arith, r.few, some));
+    most = simp length-append (omega (arith, r.most, few));
+  }
+
+  -- what was given before it
+  before_it : before_last after.reads (r.given ++ piece) ≡ r.given
+  before_it = ap (λ n. take (length (r.given ++ piece) - n) (r.given ++ piece)) counts.1
+      ∙ ap (λ n. take n (r.given ++ piece)) (simp length-append (omega arith))
+      ∙ take-append_seam r.given piece
+
+  stopped : before.failed ≡ false → Stopped layout limit before after (r.given ++ piece) None
+  stopped unfailed = (gave, refl, kept ∙ r.kept ∙ unfailed, ap (λ b. has_ended (so_far layout b)) before_it ∙ r.going)
 
   -- what was used of the piece, and the rest
   joined : (used : ℕ) (more : List ℕ) → (r.given ++ take used piece) ++ (drop used piece ++ more) ≡ (r.given ++ piece) ++ more
@@ -95,9 +138,9 @@ module _ (layout : LayoutTable) (before mid after : Told) (reads : ℕ) (file ne
       sym (append_assoc (r.given ++ take used piece) (drop used piece) more)
       ∙ ap (λ x. x ++ more) (append_assoc r.given (take used piece) (drop used piece) ∙ ap (λ x. r.given ++ x) (take-append-drop used piece))
 
-  -- a piece came, and a fault stands in it
-  pub fault_read : (most : ℕ) → reads < most → before.failed ≡ false → Fed layout new r.given piece fs → IsDone new → IsRead layout most before after fs
-  fault_read most less unfailed f d = by_case f.all
+  -- a fault stands in it, or memory was refused in it
+  pub fault_read : before.failed ≡ false → Fed layout new r.given piece fs → IsDone new → IsRead layout limit before after fs
+  fault_read unfailed f d = by_case f.all
     where
       b : List ℕ
       b = r.given ++ take f.used piece
@@ -108,36 +151,31 @@ module _ (layout : LayoutTable) (before mid after : Told) (reads : ℕ) (file ne
       text : FileText
       text = record { bytes = r.given ++ piece; ending = endings.Whole }
 
-      by_case : HasEvents layout b None fs → IsRead layout most before after fs
+      by_case : HasEvents layout b None fs → IsRead layout limit before after fs
       by_case (inl h) =
           let final : (more : List ℕ) (ending : Ending) → so_far layout b ≡ text_events layout ((r.given ++ piece) ++ more) ending =
-          λ more ending. fault_is_final_lem layout b (drop f.used piece ++ more) ending (sym (ap has_ended h) ∙ over) ∙ ap (λ x. text_events layout x ending) (joined f.used more) in
-          let whole : so_far layout b ≡ text_events layout (r.given ++ piece) endings.Whole = final [] endings.Whole ∙ ap (λ x. text_events layout x endings.Whole) (append-nil (r.given ++ piece)) in
+          λ more ending. fault_is_final_lem layout b (drop f.used piece ++ more) ending (sym (ap has_ended h) ∙ over)
+          ∙ ap (λ x. text_events layout x ending) (joined f.used more) in
+          let whole : so_far layout b ≡ text_events layout (r.given ++ piece) endings.Whole =
+          final [] endings.Whole ∙ ap (λ x. text_events layout x endings.Whole) (append-nil (r.given ++ piece)) in
           inl (
             text,
-            (
-              r.given ++ piece,
-              consumed,
-              simp length-append (omega (arith, r.most, few, less)),
-              inr (
-                ([], append-nil (r.given ++ piece)),
-                (λ more ending. sym (final more ending) ∙ whole),
-                (r.given, (piece, refl), simp length-append (omega (arith, few)), r.going),
-                kept ∙ r.kept ∙ unfailed,
-              ),
-            ),
+            inr (r.given ++ piece, stopped unfailed, ([], append-nil (r.given ++ piece)), λ more ending. sym (final more ending) ∙ whole),
             h ∙ whole,
           )
       by_case (inr cut) = inr (
-        text,
-        (r.given ++ piece, consumed, ([], append-nil (r.given ++ piece))),
-        subst (λ x. IsCutOff (readings layout x endings.Whole) fs) (joined f.used [] ∙ append-nil (r.given ++ piece)) (cut_off_later layout b (drop f.used piece ++ []) endings.Whole fs cut),
+        r.given ++ piece,
+        None,
+        stopped unfailed,
+        subst (λ x. IsCutOff (readings layout x endings.Read) fs) (joined f.used [] ∙ append-nil (r.given ++ piece))
+            (cut_off_later layout b (drop f.used piece ++ []) endings.Read fs cut),
       )
 
-  -- a piece came, and no fault stands in it
-  pub more_reads : 0 < length piece → Fed layout new r.given piece fs → (IsDone new → ⊥) → Reads layout before after (reads + 1) new fs
-  more_reads some f n = record {
+  -- no fault stands in it
+  pub more_reads : Fed layout new r.given piece fs → (IsDone new → ⊥) → Reads layout before after (reads + 1) new fs
+  more_reads f n = record {
     given = r.given ++ piece;
+    answered = answered;
     consumed = consumed;
     few = simp length-append (omega (arith, r.few, some));
     most = simp length-append (omega (arith, r.most, few));
@@ -153,35 +191,75 @@ module _ (layout : LayoutTable) (before mid after : Told) (reads : ℕ) (file ne
       going : has_ended fs ≡ false
       going = ended_not (has_ended fs) (λ t. n ((done_ended layout new (r.given ++ take f.used piece) fs f.stands).1 t))
 
-  -- an event of a piece was refused
-  pub piece_refused : FedSome layout r.given piece fs → IsRefused layout before after fs
+  -- an event of it was refused
+  pub piece_refused : FedSome layout r.given piece fs → IsRefused layout limit before after fs
   piece_refused f =
       let text : FileText = record { bytes = r.given ++ piece; ending = endings.Read } in (
         text,
-        (r.given ++ piece, consumed, ([], append-nil (r.given ++ piece))),
-        begins_run layout text fs (subst (λ x. BeginsEvents layout x (Some endings.Read) fs) (joined f.used [] ∙ append-nil (r.given ++ piece)) (begins_later layout (r.given ++ take f.used piece) (drop f.used piece ++ []) endings.Read fs f.begins)),
+        r.given ++ piece,
+        gave,
+        ([], append-nil (r.given ++ piece)),
+        begins_run layout text fs (subst (λ x. BeginsEvents layout x (Some endings.Read) fs) (joined f.used [] ∙ append-nil (r.given ++ piece))
+            (begins_later layout (r.given ++ take f.used piece) (drop f.used piece ++ []) endings.Read fs f.begins)),
       )
 
--- the end of the reading, by the last answer of the source
-module _ (layout : LayoutTable) (before mid after : Told) (reads most : ℕ) (file : FileReader) (es : List Placed) (r : Reads layout before mid reads file es) (fs : List Placed) where
-  -- the source has nothing left
-  pub whole_read : (piece : List ℕ) (n : ℕ) → reads ≤ most → before.failed ≡ false → n ≡ 0 → Consumes mid.remaining after.remaining (take n piece) → IsAtEnd after.remaining → after.failed ≡ mid.failed → HasEvents layout r.given (Some endings.Whole) fs → IsRead layout most before after fs
-  whole_read piece n less unfailed z c e k h =
-      end_read layout most before after r.given endings.Whole fs (consumes_none before.remaining mid.remaining after.remaining r.given r.consumed (subst (λ m. Consumes mid.remaining after.remaining (take m piece)) z c)) (omega (arith, r.most, less)) (e, k ∙ r.kept ∙ unfailed) h
+-- a read gave nothing, after so many reads that each gave bytes: the source has nothing left, or it failed
+module _ (layout : LayoutTable) (before mid after : Told) (reads limit : ℕ) (file : FileReader) (es : List Placed) (r : Reads layout before mid reads file es)
+    (counts : AddsRead mid.reads after.reads 0) (less : reads < limit) (fs : List Placed) where
+  abbrev gave_none : Consumes before.remaining after.remaining r.given → Gave limit before after r.given
+  gave_none c = record {
+    reads = reads + 1;
+    filled = reads;
+    answered = (
+      λ low. omega (arith, r.answered.0 (omega arith), counts.0.0 (omega (arith, r.answered.0 (omega arith)))),
+      λ low. omega (arith, r.answered.1 low, counts.0.1 (omega (arith, r.answered.1 low))),
+    );
+    consumed = c;
+    limited = omega (arith, less);
+    least = r.few;
+    most = r.most;
+  }
 
-  pub whole_refused : (piece : List ℕ) (n : ℕ) → n ≡ 0 → Consumes mid.remaining after.remaining (take n piece) → BeginsEvents layout r.given (Some endings.Whole) fs → IsRefused layout before after fs
-  whole_refused piece n z c h = end_refused layout before after r.given endings.Whole fs (consumes_none before.remaining mid.remaining after.remaining r.given r.consumed (subst (λ m. Consumes mid.remaining after.remaining (take m piece)) z c)) h
+  abbrev ended_gave : Consumes mid.remaining after.remaining [] → Gave limit before after r.given
+  ended_gave c = gave_none (consumes_none before.remaining mid.remaining after.remaining r.given r.consumed c)
 
-  -- a read failed
-  pub failed_read : reads ≤ most → Keeps mid.remaining after.remaining → after.failed ≡ true → HasEvents layout r.given (Some endings.Read) fs → IsRead layout most before after fs
-  failed_read less c f h = end_read layout most before after r.given endings.Read fs (consumes_kept before.remaining mid.remaining after.remaining r.given r.consumed c) (omega (arith, r.most, less)) f h
+  abbrev failed_gave : Keeps mid.remaining after.remaining → Gave limit before after r.given
+  failed_gave c = gave_none (consumes_kept before.remaining mid.remaining after.remaining r.given r.consumed c)
 
-  pub failed_refused : Keeps mid.remaining after.remaining → BeginsEvents layout r.given (Some endings.Read) fs → IsRefused layout before after fs
-  failed_refused c h = end_refused layout before after r.given endings.Read fs (consumes_kept before.remaining mid.remaining after.remaining r.given r.consumed c) h
+  pub whole_read : Consumes mid.remaining after.remaining [] → IsAtEnd after.remaining → before.failed ≡ false → after.failed ≡ mid.failed → HasEvents layout r.given (Some endings.Whole) fs
+      → IsRead layout limit before after fs
+  whole_read c e unfailed k h = end_read layout limit before after r.given endings.Whole fs
+      (ended_gave c, (refl, e, k ∙ r.kept ∙ unfailed), r.going) h
+
+  pub whole_refused : Consumes mid.remaining after.remaining [] → BeginsEvents layout r.given (Some endings.Whole) fs → IsRefused layout limit before after fs
+  whole_refused c h = end_refused layout limit before after r.given endings.Whole fs (ended_gave c) h
+
+  pub failed_read : Keeps mid.remaining after.remaining → after.failed ≡ true → HasEvents layout r.given (Some endings.Read) fs
+      → IsRead layout limit before after fs
+  failed_read c f h = end_read layout limit before after r.given endings.Read fs (failed_gave c, (refl, f), r.going) h
+
+  pub failed_refused : Keeps mid.remaining after.remaining → BeginsEvents layout r.given (Some endings.Read) fs → IsRefused layout limit before after fs
+  failed_refused c h = end_refused layout limit before after r.given endings.Read fs (failed_gave c) h
 
 -- the limit of reads was reached
-pub limit_read : (layout : LayoutTable) (before after : Told) (reads : ℕ) (file : FileReader) (es fs : List Placed) (r : Reads layout before after reads file es) (most : ℕ) → reads ≡ most → before.failed ≡ false → HasEvents layout r.given (Some endings.Reads) fs → IsRead layout most before after fs
-limit_read layout before after reads file es fs r most e unfailed h = end_read layout most before after r.given endings.Reads fs r.consumed (omega (arith, r.most, e)) (omega (arith, r.few, e), r.kept ∙ unfailed) h
+module _ (layout : LayoutTable) (before after : Told) (limit : ℕ) (file : FileReader) (es fs : List Placed)
+    (r : Reads layout before after limit file es) where
+  abbrev all_gave : Gave limit before after r.given
+  all_gave = record {
+    reads = limit;
+    filled = limit;
+    answered = r.answered;
+    consumed = r.consumed;
+    limited = omega arith;
+    least = r.few;
+    most = r.most;
+  }
+
+  pub limit_read : before.failed ≡ false → HasEvents layout r.given (Some endings.Reads) fs → IsRead layout limit before after fs
+  limit_read unfailed h = end_read layout limit before after r.given endings.Reads fs (all_gave, (refl, refl, r.kept ∙ unfailed), r.going) h
+
+  pub limit_refused : BeginsEvents layout r.given (Some endings.Reads) fs → IsRefused layout limit before after fs
+  limit_refused h = end_refused layout limit before after r.given endings.Reads fs all_gave h
 
 pub not_done : {D : Type 0} (t : Bool) → (D → t ≡ true) → t ≡ false → D → ⊥
 not_done t back f d = not_both (sym (back d) ∙ f)

@@ -7,6 +7,7 @@ use Rattle.dsr_file.specs.Placed.{Placed}
 use Rattle.dsr_file.specs.Orderly.{has_ended}
 use Rattle.dsr_file.specs.Texts.{so_far}
 use Rattle.dsr_file.specs.Runs.{BeginsEvents, HasEvents}
+use Rattle.dsr_file.specs.ReadCounts.{Answered}
 use Rattle.dsr_file.specs.Sources.{Told}
 use Rattle.dsr_file.specs.Standing.{Stands, IsDone}
 
@@ -31,6 +32,7 @@ pub record FedSome (layout : LayoutTable) (bytes piece : List ℕ) (es : List Pl
 -- after so many reads, each of which gave 1 to 4,096 bytes, no fault stands in what was given
 pub record Reads (layout : LayoutTable) (before after : Told) (reads : ℕ) (r : FileReader) (es : List Placed) : Type 0 where
   pub given : List ℕ
+  pub answered : Answered before.reads after.reads reads reads
   pub consumed : Consumes before.remaining after.remaining given
   pub few : reads ≤ length given
   pub most : length given ≤ 4096 * reads

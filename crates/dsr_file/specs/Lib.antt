@@ -9,6 +9,7 @@ pub mod Texts
 pub mod Placed
 pub mod Orderly
 pub mod Runs
+pub mod ReadCounts
 pub mod Sources
 pub mod Refusals
 -- Laws of them, and words that only relate the fields of the code to them.

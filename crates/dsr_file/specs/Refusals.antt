@@ -1,5 +1,5 @@
 -- What a refused reading of a file leaves.
-use Rattle.std.specs.Prelude.{◌≡◌, List, [], ◌∷◌, ◌++◌}
+use Rattle.std.specs.Prelude.{◌≡◌, ℕ, List, [], ◌∷◌, ◌++◌}
 use Rattle.dsr_records.specs.Records.{LayoutTable}
 use Rattle.dsr_file.specs.declared.reading.ReadFileError.{ReadFileError}
 use Rattle.dsr_file.specs.declared.reading.ReadFileError.TheVariants.{Memory, Refused}
@@ -7,6 +7,6 @@ use Rattle.dsr_file.specs.Placed.{Placed}
 use Rattle.dsr_file.specs.Sources.{Told, IsRefused}
 
 -- for want of memory nothing was read or put; a refused event follows what was put
-abbrev pub IsRefusal : LayoutTable → Told → Told → List Placed → ReadFileError → Type 0
-IsRefusal layout before after es Memory = (after ≡ before) × (es ≡ [])
-IsRefusal layout before after es (Refused e) = IsRefused layout before after (es ++ e ∷ [])
+abbrev pub IsRefusal : LayoutTable → ℕ → Told → Told → List Placed → ReadFileError → Type 0
+IsRefusal layout limit before after es Memory = (after ≡ before) × (es ≡ [])
+IsRefusal layout limit before after es (Refused e) = IsRefused layout limit before after (es ++ e ∷ [])

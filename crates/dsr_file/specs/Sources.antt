@@ -1,52 +1,72 @@
 -- What a source gave, and what the reading of a file put.
-use Rattle.std.specs.Prelude.{◌≡◌, ℕ, ◌+◌, ◌*◌, ◌≤◌, ◌⊎◌, Bool, true, false, List, ◌++◌, length, Option}
+use Rattle.std.specs.Prelude.{◌≡◌, ℕ, ◌+◌, ◌-◌, ◌*◌, ◌≤◌, ◌⊎◌, Bool, true, false, List, ◌++◌, length, take, Option, None, Some}
 use Rattle.std.specs.Io.KnownBytes.{Consumes, IsAtEnd}
 use mathlib.Core.List.{IsPrefix}
 use Rattle.dsr_records.specs.Records.{LayoutTable}
 use Rattle.dsr_file.specs.declared.fault.Ending.{Ending}
 use Rattle.dsr_file.specs.declared.fault.Ending.TheVariants.{Whole, Read, Reads}
+use Rattle.dsr_file.specs.declared.read_count.ReadCount.{ReadCount}
 use Rattle.dsr_file.specs.Placed.{Placed}
 use Rattle.dsr_file.specs.Orderly.{has_ended}
-use Rattle.dsr_file.specs.Texts.{readings, text_events, so_far}
-use Rattle.dsr_file.specs.Runs.{FileText, events_of_text, IsRun, IsCutOff}
+use Rattle.dsr_file.specs.ReadCounts.{Answered}
+use Rattle.dsr_file.specs.Texts.{text_events, so_far}
+use Rattle.dsr_file.specs.Runs.{FileText, events_of_text, known_lines, IsRun, IsCutOff}
 
--- what a source tells of itself: the bytes that it has left, where they are known, and whether a read failed
+-- what a source tells of itself: the bytes that it has left, where they are known, whether a read failed, and the reads that it answered
 pub record Told : Type 0 where
   pub remaining : Option (List ℕ)
   pub failed : Bool
+  pub reads : ReadCount
 
--- how the bytes that were given ended: the source has nothing left, a read failed, or each of the reads gave at least one byte, and 4,096 at most
-abbrev pub EndsAs : ℕ → Told → List ℕ → Ending → Type 0
-EndsAs most after given Whole = IsAtEnd after.remaining × (after.failed ≡ false)
-EndsAs most after given Read = after.failed ≡ true
-EndsAs most after given Reads = (most ≤ length given) × (after.failed ≡ false)
+-- a source gave these bytes, and no read was made beyond the limit: those that gave bytes gave 1 to 4,096 each, the others none
+pub record Gave (limit : ℕ) (before after : Told) (given : List ℕ) : Type 0 where
+  pub reads : ℕ
+  pub filled : ℕ
+  pub answered : Answered before.reads after.reads reads filled
+  pub consumed : Consumes before.remaining after.remaining given
+  pub limited : reads ≤ limit
+  pub least : filled ≤ length given
+  pub most : length given ≤ 4096 * filled
+
+-- how the bytes that were given ended: the last read gave none, since nothing was left or it failed; or each of the reads that the limit allows gave some
+abbrev pub EndsAs : ℕ → Told → ℕ → ℕ → Ending → Type 0
+EndsAs limit after reads filled Whole = (reads ≡ filled + 1) × IsAtEnd after.remaining × (after.failed ≡ false)
+EndsAs limit after reads filled Read = (reads ≡ filled + 1) × (after.failed ≡ true)
+EndsAs limit after reads filled Reads = (reads ≡ limit) × (filled ≡ limit) × (after.failed ≡ false)
+
+-- what was given before the last read
+abbrev pub before_last : ReadCount → List ℕ → List ℕ
+before_last reads given = take (length given - reads.last) given
+
+-- the reading stopped at this ending, where no fault stands in what was given; or in the bytes of the last read, where each read gave some and no fault stands before them
+abbrev pub Stopped : LayoutTable → ℕ → Told → Told → List ℕ → Option Ending → Type 0
+Stopped layout limit before after given (Some ending) =
+    (gave : Gave limit before after given) × EndsAs limit after gave.reads gave.filled ending × (has_ended (so_far layout given) ≡ false)
+Stopped layout limit before after given None =
+    (gave : Gave limit before after given) × (gave.reads ≡ gave.filled) × (after.failed ≡ false)
+    × (has_ended (so_far layout (before_last after.reads given)) ≡ false)
 
 -- a fault stands in what was given: every text that begins with it has the same events
 abbrev pub IsSettledBy : LayoutTable → List ℕ → FileText → Type 0
 IsSettledBy layout given text = (more : List ℕ) (ending : Ending) → text_events layout (given ++ more) ending ≡ events_of_text layout text
 
--- before the last read, of at most 4,096 bytes, no fault stood in what was given
-abbrev pub StopsAtFault : LayoutTable → List ℕ → Type 0
-StopsAtFault layout given =
-    (front : List ℕ) × IsPrefix front given × (length given ≤ length front + 4096) × (has_ended (so_far layout front) ≡ false)
-
 -- the text is what the source gave, with how it ended; where a fault stopped the reading, any text that begins with it
 abbrev pub GaveText : LayoutTable → ℕ → Told → Told → FileText → Type 0
-GaveText layout most before after text =
-    (given : List ℕ) × Consumes before.remaining after.remaining given × (length given ≤ 4096 * most)
-    × (((text.bytes ≡ given) × EndsAs most after given text.ending)
-    ⊎ (IsPrefix given text.bytes × IsSettledBy layout given text × StopsAtFault layout given × (after.failed ≡ false)))
+GaveText layout limit before after text =
+    Stopped layout limit before after text.bytes (Some text.ending)
+    ⊎ ((given : List ℕ) × Stopped layout limit before after given None × IsPrefix given text.bytes × IsSettledBy layout given text)
 
--- the text begins with what the source gave
-abbrev pub GaveStart : Told → Told → FileText → Type 0
-GaveStart before after text = (given : List ℕ) × Consumes before.remaining after.remaining given × IsPrefix given text.bytes
+-- want of memory ended the events of what the source gave, with how it ended where it did
+abbrev pub GaveForMemory : LayoutTable → ℕ → Told → Told → List Placed → Type 0
+GaveForMemory layout limit before after es =
+    (given : List ℕ) × (told : Option Ending) × Stopped layout limit before after given told × IsCutOff (known_lines layout given told) es
 
--- the list has the events of a text that the source gave; or those that want of memory ended, of a text that begins with what it gave
+-- the list has the events of a text that the source gave, or those that want of memory ended
 abbrev pub IsRead : LayoutTable → ℕ → Told → Told → List Placed → Type 0
-IsRead layout most before after es =
-    ((text : FileText) × GaveText layout most before after text × (es ≡ events_of_text layout text))
-    ⊎ ((text : FileText) × GaveStart before after text × IsCutOff (readings layout text.bytes text.ending) es)
+IsRead layout limit before after es =
+    ((text : FileText) × GaveText layout limit before after text × (es ≡ events_of_text layout text)) ⊎ GaveForMemory layout limit before after es
 
 -- the list followed by the event is a run of a text that begins with what the source gave
-abbrev pub IsRefused : LayoutTable → Told → Told → List Placed → Type 0
-IsRefused layout before after es = (text : FileText) × GaveStart before after text × IsRun layout text es
+abbrev pub IsRefused : LayoutTable → ℕ → Told → Told → List Placed → Type 0
+IsRefused layout limit before after es =
+    (text : FileText) × (given : List ℕ) × Gave limit before after given × IsPrefix given text.bytes × IsRun layout text es

@@ -42,8 +42,10 @@ pub fn read_file<R: Source, S: Sink>(
     requires empty { S.list sink.old ≡ [] }
     ensures name { S.name sink.new ≡ S.name sink.old }
     ensures outcome { IfOk result (λ outcome. EndsWith (S.list sink.new) outcome) }
-    ensures read { OnOk result (IsRead layout.now max_reads (R.told reader.old) (R.told reader.new) (S.list sink.new)) }
-    ensures refused { IfErr result (IsRefusal layout.now (R.told reader.old) (R.told reader.new) (S.list sink.new)) }
+    ensures read { OnOk result
+        (IsRead layout.now max_reads (R.told reader.old) (R.told reader.new) (S.list sink.new)) }
+    ensures refused { IfErr result
+        (IsRefusal layout.now max_reads (R.told reader.old) (R.told reader.new) (S.list sink.new)) }
 {
     let Ok(mut file) = FileReader::new(alloc, layout) else {
         return Err(ReadFileError::Memory);
@@ -68,8 +70,12 @@ fn read_all<R: Source, S: Sink>(
     requires empty { S.list sink.old ≡ [] }
     requires known { (layout : LayoutTable) × Stands layout file.old [] (S.list sink.old) }
     ensures name { S.name sink.new ≡ S.name sink.old }
-    ensures read { IfOk result (λ outcome. (layout : LayoutTable) → Stands layout file.old [] (S.list sink.old) → EndsWith (S.list sink.new) outcome × IsRead layout max_reads (R.told reader.old) (R.told reader.new) (S.list sink.new)) }
-    ensures refused { IfErr result (λ e. (layout : LayoutTable) → Stands layout file.old [] (S.list sink.old) → IsRefused layout (R.told reader.old) (R.told reader.new) (S.list sink.new ++ e ∷ [])) }
+    ensures read { IfOk result (λ outcome. (layout : LayoutTable)
+        → Stands layout file.old [] (S.list sink.old) → EndsWith (S.list sink.new) outcome
+        × IsRead layout max_reads (R.told reader.old) (R.told reader.new) (S.list sink.new)) }
+    ensures refused { IfErr result (λ e. (layout : LayoutTable)
+        → Stands layout file.old [] (S.list sink.old)
+        → IsRefused layout max_reads (R.told reader.old) (R.told reader.new) (S.list sink.new ++ e ∷ [])) }
 {
     let mut piece = [0u8; PIECE];
     for _ in 0..max_reads {

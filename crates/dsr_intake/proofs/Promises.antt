@@ -21,15 +21,15 @@ module _ (options : Options) (before after : Told) (sent : List Placed) where
   given_from_read h =
       elim h [
         | inl whole ↦ record { given = λ clean. whole }
-        | inr cut ↦ given_from_unclean (memory_is_unclean _ _ sent cut.2.events_are)
+        | inr cut ↦ given_from_unclean (memory_is_unclean _ _ sent cut.3.events_are)
       ]
 
-  given_from_refused : (e : Placed) → IsRefused options.layout before after (sent ++ e ∷ []) → IsGiven options before after sent
+  given_from_refused : (e : Placed) → IsRefused options.layout options.max_reads before after (sent ++ e ∷ []) → IsGiven options before after sent
   given_from_refused e h =
-      record { given = λ clean. let none = clean_is_whole sent (e ∷ []) (run_orderly options.layout h.0 _ h.2) clean in cc }
+      record { given = λ clean. let none = clean_is_whole sent (e ∷ []) (run_orderly options.layout h.0 _ h.4) clean in cc }
 
   pub given_from_answer : (answer : Result Outcome ReadFileError)
-      → OnOk answer (IsRead options.layout options.max_reads before after sent) → IfErr answer (IsRefusal options.layout before after sent)
+      → OnOk answer (IsRead options.layout options.max_reads before after sent) → IfErr answer (IsRefusal options.layout options.max_reads before after sent)
       → IsGiven options before after sent
   given_from_answer (Ok o) read refused = given_from_read read
   given_from_answer (Err Memory) read refused = given_from_unclean (ap ends_clean refused.1)

@@ -4,10 +4,10 @@ ghost use Rattle.dsr_file.specs.Standing.{bytes_used, ending_told};
 
 use super::limits::comment;
 use super::texts::cut_at;
-use super::{FILE, come_to, letter, text};
+use super::{FILE, come_to, is_named, letter, text};
 use crate::{
-    Ending, Event, EventList, Failed, FileReader, FromRead, ReadFileError, Sink, Source, read_file,
-    whole_events,
+    Ending, Event, EventList, Failed, FileReader, FromRead, Outcome, ReadCount, ReadFileError,
+    Sink, Source, read_file, whole_events,
 };
 use dsr_records::Layout;
 use std::alloc::{AllocError, Global};
@@ -20,16 +20,18 @@ struct Pieces<'t> {
     fails: bool,
     failed: bool,
     reads: u32,
+    count: ReadCount,
 }
 
 impl<'t> Source for Pieces<'t> {
     ghost use Rattle.std.specs.Prelude.{None};
 
-    ghost told = { λ s. record { remaining = None; failed = s.failed } };
+    ghost told = { λ s. record { remaining = None; failed = s.failed; reads = s.count } };
 
     fn read(&mut self, piece: &mut [u8]) -> Result<usize, Failed> {
         self.reads = self.reads.wrapping_add(1);
         let count = self.size.min(piece.len()).min(self.rest.len());
+        self.count.add(count);
         if count == 0 && self.fails {
             self.failed = true;
             return Err(Failed);
@@ -54,6 +56,7 @@ fn in_pieces(rest: &[u8], size: usize, fails: bool) -> Pieces<'_>
         fails,
         failed: false,
         reads: 0,
+        count: ReadCount::new(),
     }
 }
 
@@ -140,6 +143,45 @@ fn no_read_after_a_fault(rt: HostRuntime) -> Result<(), AllocError> {
     let mut source = in_pieces(bytes.as_slice(), 20, false);
     assert!(rt; reads_to(rt.alloc(), &mut source, 5, "E", "1 NoHead"));
     assert!(rt; source.reads == 1);
+    Ok(())
+}
+
+/// How many bytes the first lines have, up to the end of the last of them.
+fn length_of(lines: u64, bytes: &[u8]) -> usize {
+    let mut ended = 0u64;
+    for (place, byte) in bytes.iter().enumerate() {
+        if *byte == b'\n' {
+            ended = ended.wrapping_add(1);
+            if ended == lines {
+                return place.wrapping_add(1);
+            }
+        }
+    }
+    bytes.len()
+}
+
+/// A source that gives a byte by each read is read up to its end, or up to the line at which memory is refused.
+#[test]
+fn no_read_after_the_end(rt: HostRuntime) -> Result<(), AllocError> {
+    let bytes = text(rt.alloc(), FILE, "", b"\n")?;
+    let mut events = EventList::new(rt.alloc());
+    let mut source = in_pieces(bytes.as_slice(), 1, false);
+    let reads = match read_file(
+        rt.alloc(),
+        &Layout::standard(),
+        &mut source,
+        &mut events,
+        1000,
+    ) {
+        Ok(Outcome::Whole) => bytes.len().wrapping_add(1),
+        Ok(Outcome::Fault { line, fault }) if is_named(fault, "Memory") => {
+            length_of(line, bytes.as_slice())
+        }
+        Ok(_) => 0,
+        Err(ReadFileError::Memory) => 0,
+        Err(ReadFileError::Refused(_)) => return Ok(()),
+    };
+    assert!(rt; source.reads as usize == reads);
     Ok(())
 }
 

@@ -1,7 +1,9 @@
-use Rattle.std.proofs.Common.{◌<◌, ◌≤◌, ◌∙◌, refl, arith, take, length, length-take}
+use Rattle.std.proofs.Common.{◌≡◌, ◌≤◌, ◌∙◌, refl, sym, subst, arith, take, length, length-take}
 use Rattle.std.proofs.lemmas.Result.{IfOk-weaker, IfErr-weaker, err_from_is_err_and}
-use Rattle.dsr_file.specs.declared.fault.Ending.TheVariants.{Reads}
-use Rattle.dsr_file.proofs.ReadLemmas.{done_ends, no_reads, whole_read, whole_refused, failed_read, failed_refused, limit_read, end_refused, fault_read, more_reads, piece_refused, not_done}
+use Rattle.std.specs.Io.KnownBytes.{Consumes}
+use Rattle.dsr_file.specs.Feeding.{Reads}
+use Rattle.dsr_file.specs.ReadCounts.{AddsRead}
+use Rattle.dsr_file.proofs.ReadLemmas.{done_ends, no_reads, whole_read, whole_refused, failed_read, failed_refused, limit_read, limit_refused, fault_read, more_reads, piece_refused, not_done}
 use Rattle.dsr_file.proofs.reading.read_all.Goals as goal
 
 pub loop-init : goal.loop-init
@@ -16,69 +18,119 @@ pub returns-in-Err-clause-read : goal.returns-in-Err-clause-read
 returns-in-Err-clause-read g c = IfOk-weaker c.finish_all.result _ _
     (λ o h layout s.
     let r = c.loop.invariant.read layout s in
-    let all = h layout r.given r.stands in
-    (all.1, failed_read layout (g.R.Source.told c.args.reader.now) (g.R.Source.told c.loop.reader) (g.R.Source.told c.read.new.self) c.loop.counter c.args.max_reads c.loop.file (g.S.Sink.list c.loop.sink) r (g.S.Sink.list c.finish_all.new.sink) (omega (arith, c.loop-test.true)) c.in-Err.ensures.bytes c.in-Err.ensures.failed all.0)) c.finish_all.ensures.all
+    let all = h layout r.given r.stands in (
+      all.1,
+      failed_read layout (g.R.Source.told c.args.reader.now) (g.R.Source.told c.loop.reader) (g.R.Source.told c.read.new.self)
+          c.loop.counter c.args.max_reads c.loop.file (g.S.Sink.list c.loop.sink) r
+          c.in-Err.ensures.reads (omega (arith, c.loop-test.true)) _ c.in-Err.ensures.bytes c.in-Err.ensures.failed all.0,
+    )) c.finish_all.ensures.all
 
 pub returns-in-Err-clause-refused : goal.returns-in-Err-clause-refused
 returns-in-Err-clause-refused g c = IfErr-weaker c.finish_all.result _ _
     (λ e h layout s.
     let r = c.loop.invariant.read layout s in
-    failed_refused layout (g.R.Source.told c.args.reader.now) (g.R.Source.told c.loop.reader) (g.R.Source.told c.read.new.self) c.loop.counter c.args.max_reads c.loop.file (g.S.Sink.list c.loop.sink) r _ c.in-Err.ensures.bytes (h layout r.given r.stands)) c.finish_all.ensures.refused
+    failed_refused layout (g.R.Source.told c.args.reader.now) (g.R.Source.told c.loop.reader) (g.R.Source.told c.read.new.self)
+    c.loop.counter c.args.max_reads c.loop.file (g.S.Sink.list c.loop.sink) r
+    c.in-Err.ensures.reads (omega (arith, c.loop-test.true)) _ c.in-Err.ensures.bytes (h layout r.given r.stands)) c.finish_all.ensures.refused
 
 pub returns-in-Ok-eq0-clause-read : goal.returns-in-Ok-eq0-clause-read
 returns-in-Ok-eq0-clause-read g c =
     let bytes = c.in-Ok-eq0.ensures.bytes in
+    let none = subst (λ n. Consumes (g.R.Source.told c.loop.reader).remaining
+    (g.R.Source.told c.read.new.self).remaining (take n c.read.new.piece)) c.in-Ok-eq0.field-0-test bytes.0 in
+    let counts = subst (AddsRead (g.R.Source.told c.loop.reader).reads (g.R.Source.told c.read.new.self).reads)
+    c.in-Ok-eq0.field-0-test c.in-Ok-eq0.ensures.reads in
     IfOk-weaker c.finish_all-in-Ok-eq0.result _ _
     (λ o h layout s.
     let r = c.loop.invariant.read layout s in
-    let all = h layout r.given r.stands in
-    (all.1, whole_read layout (g.R.Source.told c.args.reader.now) (g.R.Source.told c.loop.reader) (g.R.Source.told c.read.new.self) c.loop.counter c.args.max_reads c.loop.file (g.S.Sink.list c.loop.sink) r (g.S.Sink.list c.finish_all-in-Ok-eq0.new.sink) c.read.new.piece c.in-Ok-eq0.field-0 (omega (arith, c.loop-test.true)) c.requires.unfailed c.in-Ok-eq0.field-0-test bytes.0 (bytes.1 c.in-Ok-eq0.field-0-test (omega (arith, c.read.auto.piece))) c.in-Ok-eq0.ensures.failed all.0)) c.finish_all-in-Ok-eq0.ensures.all
+    let all = h layout r.given r.stands in (
+      all.1,
+      whole_read layout (g.R.Source.told c.args.reader.now) (g.R.Source.told c.loop.reader) (g.R.Source.told c.read.new.self)
+          c.loop.counter c.args.max_reads c.loop.file (g.S.Sink.list c.loop.sink) r
+          counts (omega (arith, c.loop-test.true)) _ none (bytes.1 c.in-Ok-eq0.field-0-test (omega (arith, c.read.auto.piece)))
+          c.requires.unfailed c.in-Ok-eq0.ensures.failed all.0,
+    )) c.finish_all-in-Ok-eq0.ensures.all
 
 pub returns-in-Ok-eq0-clause-refused : goal.returns-in-Ok-eq0-clause-refused
-returns-in-Ok-eq0-clause-refused g c = IfErr-weaker c.finish_all-in-Ok-eq0.result _ _
+returns-in-Ok-eq0-clause-refused g c =
+    let none = subst (λ n. Consumes (g.R.Source.told c.loop.reader).remaining
+    (g.R.Source.told c.read.new.self).remaining (take n c.read.new.piece)) c.in-Ok-eq0.field-0-test c.in-Ok-eq0.ensures.bytes.0 in
+    let counts = subst (AddsRead (g.R.Source.told c.loop.reader).reads (g.R.Source.told c.read.new.self).reads)
+    c.in-Ok-eq0.field-0-test c.in-Ok-eq0.ensures.reads in
+    IfErr-weaker c.finish_all-in-Ok-eq0.result _ _
     (λ e h layout s.
     let r = c.loop.invariant.read layout s in
-    whole_refused layout (g.R.Source.told c.args.reader.now) (g.R.Source.told c.loop.reader) (g.R.Source.told c.read.new.self) c.loop.counter c.args.max_reads c.loop.file (g.S.Sink.list c.loop.sink) r _ c.read.new.piece c.in-Ok-eq0.field-0 c.in-Ok-eq0.field-0-test c.in-Ok-eq0.ensures.bytes.0 (h layout r.given r.stands)) c.finish_all-in-Ok-eq0.ensures.refused
+    whole_refused layout (g.R.Source.told c.args.reader.now) (g.R.Source.told c.loop.reader) (g.R.Source.told c.read.new.self)
+    c.loop.counter c.args.max_reads c.loop.file (g.S.Sink.list c.loop.sink) r
+    counts (omega (arith, c.loop-test.true)) _ none (h layout r.given r.stands)) c.finish_all-in-Ok-eq0.ensures.refused
 
 pub returns-in_err-feed-in-Ok-clause-refused : goal.returns-in_err-feed-in-Ok-clause-refused
 returns-in_err-feed-in-Ok-clause-refused g c =
     let p = err_from_is_err_and c.from_residual.result c.from_residual.ensures.1 in
+    let size : length (take c.in-Ok.n c.read.new.piece) ≡ c.in-Ok.n = simp length-take (omega (arith, c.in-Ok.ensures.bound)) in
+    let few : length (take c.in-Ok.n c.read.new.piece) ≤ 4096 = simp length-take (omega (arith, c.read.auto.piece)) in
+    let counts = subst (AddsRead (g.R.Source.told c.loop.reader).reads (g.R.Source.told c.read.new.self).reads) (sym size) c.in-Ok.ensures.reads in
     rw (p.1, p.2) (λ layout s.
     let r = c.loop.invariant.read layout s in
-    let few : length (take c.in-Ok.n c.read.new.piece) ≤ 4096 = simp length-take (omega (arith, c.read.auto.piece)) in
-    piece_refused layout (g.R.Source.told c.args.reader.now) (g.R.Source.told c.loop.reader) (g.R.Source.told c.read.new.self) c.loop.counter c.loop.file c.feed.new.file (g.S.Sink.list c.loop.sink) _ r (take c.in-Ok.n c.read.new.piece) c.in-Ok.ensures.bytes.0 few c.in-Ok.ensures.failed (c.in_err-feed-in-Ok.ensures.refused layout r.given r.stands))
+    piece_refused layout (g.R.Source.told c.args.reader.now) (g.R.Source.told c.loop.reader) (g.R.Source.told c.read.new.self)
+    c.loop.counter c.args.max_reads c.loop.file c.feed.new.file (g.S.Sink.list c.loop.sink) _ r
+    (take c.in-Ok.n c.read.new.piece) c.in-Ok.ensures.bytes.0
+    counts (omega (arith, size, c.in-Ok.n-test))
+    few c.in-Ok.ensures.failed (omega (arith, c.loop-test.true)) (c.in_err-feed-in-Ok.ensures.refused layout r.given r.stands))
 
 pub returns-then-done-clause-read : goal.returns-then-done-clause-read
 returns-then-done-clause-read g c = λ layout s.
     let r = c.loop.invariant.read layout s in
     let fed = c.in_ok-feed-in-Ok.ensures.fed layout r.given r.stands in
-    let few : length (take c.in-Ok.n c.read.new.piece) ≤ 4096 = simp length-take (omega (arith, c.read.auto.piece)) in (
+    let size : length (take c.in-Ok.n c.read.new.piece) ≡ c.in-Ok.n = simp length-take (omega (arith, c.in-Ok.ensures.bound)) in
+    let few : length (take c.in-Ok.n c.read.new.piece) ≤ 4096 = simp length-take (omega (arith, c.read.auto.piece)) in
+    let counts = subst (AddsRead (g.R.Source.told c.loop.reader).reads (g.R.Source.told c.read.new.self).reads) (sym size) c.in-Ok.ensures.reads in (
       done_ends layout c.feed.new.file _ (g.S.Sink.list c.feed.new.sink) c.outcome.result fed.stands c.outcome.ensures,
-      fault_read layout (g.R.Source.told c.args.reader.now) (g.R.Source.told c.loop.reader) (g.R.Source.told c.read.new.self) c.loop.counter c.loop.file c.feed.new.file (g.S.Sink.list c.loop.sink) (g.S.Sink.list c.feed.new.sink) r (take c.in-Ok.n c.read.new.piece) c.in-Ok.ensures.bytes.0 few c.in-Ok.ensures.failed c.args.max_reads c.loop-test.true c.requires.unfailed fed (c.done.ensures.phase.0 c.if-done.true),
+      fault_read layout (g.R.Source.told c.args.reader.now) (g.R.Source.told c.loop.reader) (g.R.Source.told c.read.new.self)
+          c.loop.counter c.args.max_reads c.loop.file c.feed.new.file (g.S.Sink.list c.loop.sink) (g.S.Sink.list c.feed.new.sink) r
+          (take c.in-Ok.n c.read.new.piece) c.in-Ok.ensures.bytes.0
+          counts (omega (arith, size, c.in-Ok.n-test))
+          few c.in-Ok.ensures.failed (omega (arith, c.loop-test.true)) c.requires.unfailed fed (c.done.ensures.phase.0 c.if-done.true),
     )
 
 pub loop-preserved : goal.loop-preserved
 loop-preserved g c =
+    let size : length (take c.in-Ok.n c.read.new.piece) ≡ c.in-Ok.n = simp length-take (omega (arith, c.in-Ok.ensures.bound)) in
+    let counts = subst (AddsRead (g.R.Source.told c.loop.reader).reads (g.R.Source.told c.read.new.self).reads) (sym size) c.in-Ok.ensures.reads in
     let few : length (take c.in-Ok.n c.read.new.piece) ≤ 4096 = simp length-take (omega (arith, c.read.auto.piece)) in
-    let some : 0 < length (take c.in-Ok.n c.read.new.piece) = simp length-take (omega (arith, c.read.auto.piece, c.in-Ok.n-test)) in
     record {
       ending = c.feed.ensures.«open»;
       count = omega (arith, c.in_ok-feed-in-Ok.ensures.used, c.loop.invariant.count, few);
       name = c.feed.ensures.name ∙ c.loop.invariant.name;
       read = λ layout s.
           let r = c.loop.invariant.read layout s in
-          more_reads layout (g.R.Source.told c.args.reader.now) (g.R.Source.told c.loop.reader) (g.R.Source.told c.read.new.self) c.loop.counter c.loop.file c.feed.new.file (g.S.Sink.list c.loop.sink) (g.S.Sink.list c.feed.new.sink) r (take c.in-Ok.n c.read.new.piece) c.in-Ok.ensures.bytes.0 few c.in-Ok.ensures.failed some (c.in_ok-feed-in-Ok.ensures.fed layout r.given r.stands) (not_done c.done.result c.done.ensures.phase.1 c.if-done.false);
+          more_reads layout (g.R.Source.told c.args.reader.now) (g.R.Source.told c.loop.reader) (g.R.Source.told c.read.new.self)
+          c.loop.counter c.args.max_reads c.loop.file c.feed.new.file (g.S.Sink.list c.loop.sink) (g.S.Sink.list c.feed.new.sink) r
+          (take c.in-Ok.n c.read.new.piece) c.in-Ok.ensures.bytes.0
+          counts (omega (arith, size, c.in-Ok.n-test))
+          few c.in-Ok.ensures.failed (omega (arith, c.loop-test.true))
+          (c.in_ok-feed-in-Ok.ensures.fed layout r.given r.stands) (not_done c.done.result c.done.ensures.phase.1 c.if-done.false);
     }
 
 pub returns-clause-read : goal.returns-clause-read
-returns-clause-read g c = IfOk-weaker c.finish_all-2.result _ _
+returns-clause-read g c =
+    let end : c.loop.counter ≡ c.args.max_reads = omega (arith, c.loop-test.false, c.loop.auto.counter-end) in
+    IfOk-weaker c.finish_all-2.result _ _
     (λ o h layout s.
-    let r = c.loop.invariant.read layout s in
-    let all = h layout r.given r.stands in
-    (all.1, limit_read layout (g.R.Source.told c.args.reader.now) (g.R.Source.told c.loop.reader) c.loop.counter c.loop.file (g.S.Sink.list c.loop.sink) (g.S.Sink.list c.finish_all-2.new.sink) r c.args.max_reads (omega (arith, c.loop-test.false, c.loop.auto.counter-end)) c.requires.unfailed all.0)) c.finish_all-2.ensures.all
+    let r = subst (λ n. Reads layout (g.R.Source.told c.args.reader.now)
+    (g.R.Source.told c.loop.reader) n c.loop.file (g.S.Sink.list c.loop.sink)) end (c.loop.invariant.read layout s) in
+    let all = h layout r.given r.stands in (
+      all.1,
+      limit_read layout (g.R.Source.told c.args.reader.now) (g.R.Source.told c.loop.reader)
+          c.args.max_reads c.loop.file (g.S.Sink.list c.loop.sink) _ r c.requires.unfailed all.0,
+    )) c.finish_all-2.ensures.all
 
 pub returns-clause-refused : goal.returns-clause-refused
-returns-clause-refused g c = IfErr-weaker c.finish_all-2.result _ _
+returns-clause-refused g c =
+    let end : c.loop.counter ≡ c.args.max_reads = omega (arith, c.loop-test.false, c.loop.auto.counter-end) in
+    IfErr-weaker c.finish_all-2.result _ _
     (λ e h layout s.
-    let r = c.loop.invariant.read layout s in
-    end_refused layout (g.R.Source.told c.args.reader.now) (g.R.Source.told c.loop.reader) r.given Reads _ r.consumed (h layout r.given r.stands)) c.finish_all-2.ensures.refused
+    let r = subst (λ n. Reads layout (g.R.Source.told c.args.reader.now)
+    (g.R.Source.told c.loop.reader) n c.loop.file (g.S.Sink.list c.loop.sink)) end (c.loop.invariant.read layout s) in
+    limit_refused layout (g.R.Source.told c.args.reader.now) (g.R.Source.told c.loop.reader)
+    c.args.max_reads c.loop.file (g.S.Sink.list c.loop.sink) _ r (h layout r.given r.stands)) c.finish_all-2.ensures.refused
