@@ -6,6 +6,7 @@ mod command;
 mod faults;
 mod inputs;
 mod layout_file;
+mod print;
 mod program;
 
 use std::process::ExitCode;
