@@ -178,7 +178,7 @@ fn a_line_for_each_file_that_is_refused(rt: HostRuntime) -> Result<(), AllocErro
     assert!(rt; write_bad_layout(error, &mut out));
     assert!(rt;
         out.as_slice()
-            == b"dsr: cannot open a b\ndsr: cannot read a b\ndsr: bad layout at line 12: BadPosition\n"
+            == b"dsr: cannot open a b\ndsr: cannot read a b\ndsr: bad layout at line 12: BadPosition\n".as_slice()
     );
     Ok(())
 }
@@ -188,11 +188,11 @@ fn a_text_that_has_no_room(rt: HostRuntime) {
     let mut room = [0; 3];
     let mut out = room.as_mut_slice();
     assert!(rt; print_text(b"report", &mut out) == Err(3));
-    assert!(rt; room.as_slice() == b"rep");
+    assert!(rt; room.as_slice() == b"rep".as_slice());
     let mut small = [0; 3];
     let mut out = small.as_mut_slice();
     assert!(rt; !write_parts(&["re", "port"], &mut out));
-    assert!(rt; small.as_slice() == b"rep");
+    assert!(rt; small.as_slice() == b"rep".as_slice());
 }
 
 #[test]
