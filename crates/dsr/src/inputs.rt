@@ -114,11 +114,7 @@ fn standard_input<H: io::Input<Reader = StdinLock<'static>>>(
 }
 
 /// Opens a file under its name.
-fn open_file<H: Files<File = File>>(
-    rt: &H,
-    alloc: Global,
-    name: &Text,
-) -> Result<Input, OpenError>
+fn open_file<H: Files<File = File>>(rt: &H, alloc: Global, name: &Text) -> Result<Input, OpenError>
     ensures name { IfOk result (λ i. i.name ≡ Some name.now) }
     ensures unfailed { IfOk result (λ i. (⟦<Input as Source>⟧.told i).failed ≡ false) }
     ensures refused { IfErr result (IsRefusalOf name.now) }
