@@ -6,6 +6,9 @@ use Rattle.dsr_intake.specs.declared.run_error.RunError.{RunError}
 use Rattle.dsr_intake.specs.declared.run_error.RunError.TheVariants as run
 use Rattle.dsr_intake.specs.declared.verdict.Status.{Status}
 use Rattle.dsr_intake.specs.declared.verdict.Status.TheVariants.{Clean, Remarks}
+use Rattle.dsr_records.specs.declared.layout_fault.LayoutError.{LayoutError}
+use Rattle.dsr_records.specs.declared.layout_fault.LayoutFault.{LayoutFault}
+use Rattle.dsr_records.specs.declared.layout_fault.LayoutFault.TheVariants as layout
 
 abbrev pub status_number : Result Status RunError → ℕ
 status_number (Ok Clean) = 0
@@ -36,3 +39,26 @@ abbrev pub fault_line : RunError → List ℕ
 fault_line (run.Intake error) = intake_line error
 fault_line run.Memory = line_of (codes "out of memory")
 fault_line (run.Write written) = failed_line written
+
+abbrev pub layout_fault_text : LayoutFault → List ℕ
+layout_fault_text layout.Large = codes "Large"
+layout_fault_text layout.LongLine = codes "LongLine"
+layout_fault_text layout.NotUtf8 = codes "NotUtf8"
+layout_fault_text layout.UnknownRole = codes "UnknownRole"
+layout_fault_text layout.BadType = codes "BadType"
+layout_fault_text layout.RoleTwice = codes "RoleTwice"
+layout_fault_text layout.TypeTwice = codes "TypeTwice"
+layout_fault_text layout.BadPosition = codes "BadPosition"
+layout_fault_text layout.ManySkips = codes "ManySkips"
+layout_fault_text layout.MissingRole = codes "MissingRole"
+
+-- the lines of a file that cannot be opened, of a layout that cannot be read, and of a layout's first fault
+abbrev pub cannot_open_line : List ℕ → List ℕ
+cannot_open_line name = codes "dsr: cannot open " ++ (name ++ 10 ∷ [])
+
+abbrev pub cannot_read_line : List ℕ → List ℕ
+cannot_read_line name = codes "dsr: cannot read " ++ (name ++ 10 ∷ [])
+
+abbrev pub bad_layout_line : LayoutError → List ℕ
+bad_layout_line error = codes "dsr: bad layout at line "
+    ++ (decimal error.line ++ (codes ": " ++ (layout_fault_text error.fault ++ 10 ∷ [])))

@@ -1,3 +1,6 @@
 -- definitions to believe
+pub mod CommandLine
+pub mod Inputs
 pub mod Faults
+pub mod Printing
 pub mod LayoutFile

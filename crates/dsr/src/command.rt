@@ -18,8 +18,8 @@ pub struct Asked {
 /// Why a command line asks for no work.
 #[derive(Drop)]
 pub enum CommandFault {
-    /// It asks for help, which is this text.
-    Help(Text),
+    /// It asks for this text to be printed: the help, or the version.
+    Shown(Text),
     /// It is at fault, and this text says why.
     Refused(Text),
     /// A growth was refused.

@@ -1,10 +1,14 @@
 //! What the program says of a run that failed, and its exit status.
-ghost use Rattle.std.specs.Prelude.{◌≡◌, true};
-ghost use Rattle.std.specs.Io.KnownBytes.{Appends};
+ghost use Rattle.std.specs.Prelude.{◌≡◌};
 ghost use Rattle.dsr.specs.Faults.{status_number, fault_line, line_of, closed_line, failed_line};
+ghost use Rattle.dsr.specs.Faults.{cannot_open_line, cannot_read_line, bad_layout_line, layout_fault_text};
+ghost use Rattle.dsr.specs.Printing.{IsWritten};
 
+use crate::print::write_parts;
+use dsr_cells::Text;
 use dsr_intake::{IntakeError, RunError, Status};
-use dsr_records::LayoutFault;
+use dsr_records::{LayoutError, LayoutFault};
+use itoa::Buffer;
 use std::io::Write;
 
 /// The exit status of a run.
@@ -20,7 +24,7 @@ pub fn exit_status(outcome: &Result<Status, RunError>) -> u8
 
 /// Writes the line that tells the fault, and answers whether the writer took it.
 pub fn write_fault<W: Write>(error: &RunError, out: &mut W) -> bool
-    ensures { result ≡ true → Appends (W.contents out.old) (W.contents out.new) (fault_line error.now) }
+    ensures { IsWritten result (W.contents out.old) (W.contents out.new) (fault_line error.now) }
 {
     match error {
         RunError::Intake(error) => write_intake_fault(error, out),
@@ -31,7 +35,7 @@ pub fn write_fault<W: Write>(error: &RunError, out: &mut W) -> bool
 
 /// Writes the line that tells why there is no report.
 fn write_intake_fault<W: Write>(error: &IntakeError, out: &mut W) -> bool
-    ensures { result ≡ true → Appends (W.contents out.old) (W.contents out.new) (fault_line (RunError.Intake error.now)) }
+    ensures { IsWritten result (W.contents out.old) (W.contents out.new) (fault_line (RunError.Intake error.now)) }
 {
     match error {
         IntakeError::NoFiles => write_line("no files", out),
@@ -46,27 +50,57 @@ fn write_intake_fault<W: Write>(error: &IntakeError, out: &mut W) -> bool
 
 /// Writes a line of the program's.
 pub fn write_line<W: Write>(text: &str, out: &mut W) -> bool
-    ensures { result ≡ true → Appends (W.contents out.old) (W.contents out.new) (line_of text.now) }
+    ensures { IsWritten result (W.contents out.old) (W.contents out.new) (line_of text.now) }
 {
-    writeln!(out, "dsr: {text}").is_ok()
+    write_parts(&["dsr: ", text, "\n"], out)
 }
 
 /// Writes the line for a relay that closed early.
 fn write_closed<W: Write>(file: u32, out: &mut W) -> bool
-    ensures { result ≡ true → Appends (W.contents out.old) (W.contents out.new) (closed_line file) }
+    ensures { IsWritten result (W.contents out.old) (W.contents out.new) (closed_line file) }
 {
-    writeln!(out, "dsr: relay of file {file} closed early").is_ok()
+    let mut digits = Buffer::new();
+    let file = digits.format(file);
+    write_parts(&["dsr: relay of file ", file, " closed early\n"], out)
 }
 
 /// Writes the line for a write that failed.
 fn write_failed<W: Write>(written: u64, out: &mut W) -> bool
-    ensures { result ≡ true → Appends (W.contents out.old) (W.contents out.new) (failed_line written) }
+    ensures { IsWritten result (W.contents out.old) (W.contents out.new) (failed_line written) }
 {
-    writeln!(out, "dsr: write failed after {written} bytes").is_ok()
+    let mut digits = Buffer::new();
+    let written = digits.format(written);
+    write_parts(&["dsr: write failed after ", written, " bytes\n"], out)
+}
+
+/// Writes the line for a file that cannot be opened.
+pub fn write_cannot_open<W: Write>(name: &Text, out: &mut W) -> bool
+    ensures { IsWritten result (W.contents out.old) (W.contents out.new) (cannot_open_line name.now) }
+{
+    write_parts(&["dsr: cannot open ", name.as_str(), "\n"], out)
+}
+
+/// Writes the line for a layout that cannot be read.
+pub fn write_cannot_read<W: Write>(name: &Text, out: &mut W) -> bool
+    ensures { IsWritten result (W.contents out.old) (W.contents out.new) (cannot_read_line name.now) }
+{
+    write_parts(&["dsr: cannot read ", name.as_str(), "\n"], out)
+}
+
+/// Writes the line for the first fault of a layout.
+pub fn write_bad_layout<W: Write>(error: LayoutError, out: &mut W) -> bool
+    ensures { IsWritten result (W.contents out.old) (W.contents out.new) (bad_layout_line error) }
+{
+    let mut digits = Buffer::new();
+    let line = digits.format(error.line);
+    let name = layout_fault_name(error.fault);
+    write_parts(&["dsr: bad layout at line ", line, ": ", name, "\n"], out)
 }
 
 /// The name of a layout's fault.
-pub fn layout_fault_name(fault: LayoutFault) -> &'static str {
+fn layout_fault_name(fault: LayoutFault) -> &'static str
+    ensures { result.now ≡ layout_fault_text fault }
+{
     match fault {
         LayoutFault::Large => "Large",
         LayoutFault::LongLine => "LongLine",

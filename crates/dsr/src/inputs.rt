@@ -1,9 +1,10 @@
 //! Opening the files of the report.
-ghost use Rattle.std.specs.Prelude.{◌≡◌, ◌+◌, false, All, length, IfOk, OnOk, if◌then◌else◌, ◌==◌};
+ghost use Rattle.std.specs.Prelude.{◌≡◌, false, All, IfOk, IfErr, Some, map, []};
+ghost use Rattle.dsr.specs.Inputs.{IsRefusal, IsRefusalOf, sources_of};
 
 use crate::command::Names;
-use dsr_cells::{NoMemory, Text};
-use dsr_file::FromRead;
+use dsr_cells::Text;
+use dsr_file::{Failed, FromRead, Source};
 use std::alloc::Global;
 use std::fs::{File, Files};
 use std::io::{Read, StdinLock};
@@ -25,8 +26,40 @@ impl Read for InputReader {
     }
 }
 
+/// The source of a file of the report, under the name that the file was opened by. Standard input has none.
+#[derive(Drop)]
+pub struct Input {
+    name: Option<Text>,
+    source: FromRead<InputReader>,
+}
+
+impl Input {
+    /// A source that has not failed.
+    fn new(name: Option<Text>, reader: InputReader) -> Input
+        ensures name { result.name ≡ name }
+        ensures unfailed { (⟦<Input as Source>⟧.told result).failed ≡ false }
+    {
+        Input {
+            name,
+            source: FromRead::new(reader),
+        }
+    }
+}
+
+impl Source for Input {
+    ghost told = { λ s. ⟦<FromRead<InputReader> as Source>⟧.told s.source };
+
+    fn read(&mut self, piece: &mut [u8]) -> Result<usize, Failed> {
+        self.source.read(piece)
+    }
+
+    fn failed(&self) -> bool {
+        self.source.failed()
+    }
+}
+
 /// The sources of the report's files, in the order given.
-pub type Inputs = Vec<FromRead<InputReader>>;
+pub type Inputs = Vec<Input>;
 
 /// Why the files were not opened.
 #[derive(Drop)]
@@ -43,38 +76,54 @@ pub fn open_inputs<H: Files<File = File> + io::Input<Reader = StdinLock<'static>
     alloc: Global,
     files: &Names,
 ) -> Result<Inputs, OpenError>
-    ensures unfailed { IfOk result (λ v. All (λ r. r.failed ≡ false) v.items) }
-    ensures count { IfOk result (λ v. length v.items ≡ (if length files.now == 0 then 1 else length files.now)) }
+    ensures unfailed { IfOk result (λ v. All (λ i. (⟦<Input as Source>⟧.told i).failed ≡ false) v.items) }
+    ensures sources { IfOk result (λ v. map (λ i. i.name) v.items ≡ sources_of files.now) }
+    ensures refused { IfErr result (IsRefusal files.now) }
 {
-    let mut inputs = Vec::new(alloc);
     if files.len() == 0 {
-        add(&mut inputs, InputReader::Standard(rt.reader()))?;
-        return Ok(inputs);
+        return standard_input(rt, alloc);
     }
+    let mut inputs = Vec::new(alloc);
     for name in files.as_slice() {
-        let Ok(file) = fs::open(rt, name.as_str()) else {
-            return Err(cannot_open(alloc, name));
+        let input = match open_file(rt, alloc, name) {
+            Ok(input) => input,
+            Err(error) => return Err(error),
         };
-        add(&mut inputs, InputReader::File(file))?;
+        if inputs.push(input).is_err() {
+            return Err(OpenError::Memory);
+        }
     }
     Ok(inputs)
 }
 
-/// Adds a source that has not failed.
-fn add(inputs: &mut Inputs, reader: InputReader) -> Result<(), OpenError>
-    ensures count { OnOk result (length inputs.new.items ≡ length inputs.old.items + 1) }
-    ensures unfailed { OnOk result (All (λ r. r.failed ≡ false) inputs.old.items → All (λ r. r.failed ≡ false) inputs.new.items) }
+/// Standard input alone.
+fn standard_input<H: io::Input<Reader = StdinLock<'static>>>(
+    rt: &H,
+    alloc: Global,
+) -> Result<Inputs, OpenError>
+    ensures unfailed { IfOk result (λ v. All (λ i. (⟦<Input as Source>⟧.told i).failed ≡ false) v.items) }
+    ensures sources { IfOk result (λ v. map (λ i. i.name) v.items ≡ sources_of []) }
+    ensures refused { IfErr result (IsRefusal []) }
 {
-    match inputs.push(FromRead::new(reader)) {
-        Ok(()) => Ok(()),
-        Err(_) => Err(OpenError::Memory),
+    let mut inputs = Vec::new(alloc);
+    let input = Input::new(None, InputReader::Standard(rt.reader()));
+    if inputs.push(input).is_err() {
+        return Err(OpenError::Memory);
     }
+    Ok(inputs)
 }
 
-/// The fault of a file that cannot be opened.
-fn cannot_open(alloc: Global, name: &Text) -> OpenError {
-    match name.copy(alloc) {
-        Ok(name) => OpenError::CannotOpen(name),
-        Err(NoMemory) => OpenError::Memory,
+/// Opens a file under its name.
+fn open_file<H: Files<File = File>>(rt: &H, alloc: Global, name: &Text) -> Result<Input, OpenError>
+    ensures name { IfOk result (λ i. i.name ≡ Some name.now) }
+    ensures unfailed { IfOk result (λ i. (⟦<Input as Source>⟧.told i).failed ≡ false) }
+    ensures refused { IfErr result (IsRefusalOf name.now) }
+{
+    let Ok(copy) = name.copy(alloc) else {
+        return Err(OpenError::Memory);
+    };
+    match fs::open(rt, name.as_str()) {
+        Ok(file) => Ok(Input::new(Some(copy), InputReader::File(file))),
+        Err(_) => Err(OpenError::CannotOpen(copy)),
     }
 }

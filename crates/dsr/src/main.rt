@@ -1,4 +1,16 @@
 //! The program: it reads the files of a sales report and prints their statement.
+//!
+//! Its stages, in order:
+//!
+//! 1. `arguments`: what the words of the command line ask for (`command`).
+//! 2. `print`: the help and the version, where they are asked for.
+//! 3. `layout_file`: the layout, where one is named.
+//! 4. `inputs`: a source for each file, or standard input alone.
+//! 5. `run` of dsr_intake: reads the sources and writes the statement.
+//! 6. `faults`: the line of what went wrong, and the exit status.
+//!
+//! `program` goes through them. Nobody calls this crate; who wants its work in a program of their own calls `run`,
+//! or reads a file by `FileReader` as `crates/example_reader` does.
 #![tactic(auto)]
 
 mod arguments;
@@ -6,6 +18,7 @@ mod command;
 mod faults;
 mod inputs;
 mod layout_file;
+mod print;
 mod program;
 
 use std::process::ExitCode;

@@ -1,11 +1,14 @@
 //! The program's way from its arguments to its exit status.
 use crate::arguments::asked;
 use crate::command::{Asked, CommandFault};
-use crate::faults::{exit_status, layout_fault_name, write_fault, write_line};
+use crate::faults::{
+    exit_status, write_bad_layout, write_cannot_open, write_cannot_read, write_fault, write_line,
+};
 use crate::inputs::{OpenError, open_inputs};
 use crate::layout_file::{LayoutReadError, read_layout};
+use crate::print::print_text;
 use dsr_cells::Text;
-use dsr_intake::{Options, ToWrite, run};
+use dsr_intake::{Options, RunError, ToWrite, run};
 use std::alloc::Global;
 use std::env::Env;
 use std::fs::{File, Files};
@@ -41,7 +44,7 @@ pub fn serve<
     };
     match asked(alloc, &words) {
         Ok(asked) => read_and_print(rt, alloc, asked, out, fault),
-        Err(CommandFault::Help(text)) => print_help(&text, out),
+        Err(CommandFault::Shown(text)) => show(&text, out, fault),
         Err(CommandFault::Refused(text)) => {
             let _ = fault.write_all(text.as_str().as_bytes());
             REFUSED
@@ -71,11 +74,17 @@ fn words<H: Env + AllocGlobal, F: Write>(
     }
 }
 
-/// Prints the help. The status stands also where it could not be printed.
-fn print_help<W: Write + Drop>(text: &Text, out: W) -> u8 {
+/// Prints a text that was asked for. The status says where it could not be printed.
+fn show<W: Write + Drop, F: Write>(text: &Text, out: W, fault: &mut F) -> u8 {
     let mut out = out;
-    let _ = out.write_all(text.as_str().as_bytes());
-    0
+    match print_text(text.as_str().as_bytes(), &mut out) {
+        Ok(()) => 0,
+        Err(written) => {
+            let written = written as u64;
+            write_fault(&RunError::Write { written }, fault);
+            UNFINISHED
+        }
+    }
 }
 
 /// Reads the files of the report and prints its statement.
@@ -138,15 +147,13 @@ fn with_layout<H: Files<File = File>, F: Write>(
 
 /// Tells why there is no layout.
 fn layout_refused<F: Write>(name: &Text, error: LayoutReadError, fault: &mut F) -> u8 {
-    let name = name.as_str();
     match error {
         LayoutReadError::Read => {
-            let _ = writeln!(fault, "dsr: cannot read {name}");
+            write_cannot_read(name, fault);
             REFUSED
         }
         LayoutReadError::Bad(error) => {
-            let (line, text) = (error.line, layout_fault_name(error.fault));
-            let _ = writeln!(fault, "dsr: bad layout at line {line}: {text}");
+            write_bad_layout(error, fault);
             REFUSED
         }
         LayoutReadError::Memory => no_memory(fault),
@@ -155,8 +162,7 @@ fn layout_refused<F: Write>(name: &Text, error: LayoutReadError, fault: &mut F) 
 
 /// Tells that a file cannot be opened.
 fn cannot_open<F: Write>(name: &Text, fault: &mut F) -> u8 {
-    let name = name.as_str();
-    let _ = writeln!(fault, "dsr: cannot open {name}");
+    write_cannot_open(name, fault);
     REFUSED
 }
 

@@ -1,9 +1,13 @@
 use crate::arguments::asked;
 use crate::command::{Asked, CommandFault, Names};
-use crate::faults::{exit_status, write_fault};
+use crate::faults::{
+    exit_status, write_bad_layout, write_cannot_open, write_cannot_read, write_fault,
+};
 use crate::inputs::{OpenError, open_inputs};
 use crate::layout_file::{LayoutReadError, read_layout};
+use crate::print::{print_text, write_parts};
 use dsr_cells::Text;
+use dsr_file::Source;
 use dsr_intake::{IntakeError, Options, RunError, Status, ToWrite, run};
 use dsr_records::{LayoutError, LayoutFault};
 use std::alloc::{AllocError, Global};
@@ -76,7 +80,16 @@ fn refused_words(rt: HostRuntime) -> Result<(), AllocError> {
 fn help(rt: HostRuntime) -> Result<(), AllocError> {
     let answer = asked_by(rt.alloc(), &["--help"])?;
     assert!(rt;
-        matches!(&answer, Err(CommandFault::Help(text)) if text.as_str().contains("--layout"))
+        matches!(&answer, Err(CommandFault::Shown(text)) if text.as_str().contains("--layout"))
+    );
+    Ok(())
+}
+
+#[test]
+fn version(rt: HostRuntime) -> Result<(), AllocError> {
+    let answer = asked_by(rt.alloc(), &["--version"])?;
+    assert!(rt;
+        matches!(&answer, Err(CommandFault::Shown(text)) if text.as_str().starts_with("dsr "))
     );
     Ok(())
 }
@@ -152,6 +165,37 @@ fn a_line_for_each_fault(rt: HostRuntime) {
 }
 
 #[test]
+fn a_line_for_each_file_that_is_refused(rt: HostRuntime) -> Result<(), AllocError> {
+    let alloc = rt.alloc();
+    let name = Text::copy_of(alloc, "a b").map_err(|_| AllocError)?;
+    let mut out = Vec::new(alloc);
+    assert!(rt; write_cannot_open(&name, &mut out));
+    assert!(rt; write_cannot_read(&name, &mut out));
+    let error = LayoutError {
+        line: 12,
+        fault: LayoutFault::BadPosition,
+    };
+    assert!(rt; write_bad_layout(error, &mut out));
+    assert!(rt;
+        out.as_slice()
+            == b"dsr: cannot open a b\ndsr: cannot read a b\ndsr: bad layout at line 12: BadPosition\n".as_slice()
+    );
+    Ok(())
+}
+
+#[test]
+fn a_text_that_has_no_room(rt: HostRuntime) {
+    let mut room = [0; 3];
+    let mut out = room.as_mut_slice();
+    assert!(rt; print_text(b"report", &mut out) == Err(3));
+    assert!(rt; room.as_slice() == b"rep".as_slice());
+    let mut small = [0; 3];
+    let mut out = small.as_mut_slice();
+    assert!(rt; !write_parts(&["re", "port"], &mut out));
+    assert!(rt; small.as_slice() == b"rep".as_slice());
+}
+
+#[test]
 fn a_status_for_each_end(rt: HostRuntime) {
     assert_eq!(rt; exit_status(&Ok(Status::Clean)), 0);
     assert_eq!(rt; exit_status(&Ok(Status::Remarks)), 1);
@@ -179,6 +223,34 @@ fn a_file_that_is_not_there(rt: HostRuntime) -> Result<(), AllocError> {
     assert!(rt;
         matches!(&answer, Err(OpenError::CannotOpen(name)) if name.as_str() == "not_there.tsv")
     );
+    Ok(())
+}
+
+/// The first byte that a source gives.
+fn first_byte<S: Source>(source: &mut S) -> Option<u8> {
+    let mut piece = [0; 1];
+    match source.read(&mut piece) {
+        Ok(1) => Some(piece[0]),
+        _ => None,
+    }
+}
+
+#[test]
+fn each_name_has_its_own_file(rt: HostRuntime) -> Result<(), AllocError> {
+    let alloc = rt.alloc();
+    assert!(rt; fs::write(&rt, "one.tsv", "1").is_ok());
+    assert!(rt; fs::write(&rt, "two.tsv", "2").is_ok());
+    let mut names = name_list(alloc, "two.tsv")?;
+    let other = Text::copy_of(alloc, "one.tsv").map_err(|_| AllocError)?;
+    names.push(other).map_err(|_| AllocError)?;
+    let Ok(mut inputs) = open_inputs(&rt, alloc, &names) else {
+        assert!(rt; false);
+        return Ok(());
+    };
+    assert_eq!(rt; inputs.len(), 2);
+    for (input, byte) in inputs.iter_mut().zip([b'2', b'1']) {
+        assert!(rt; first_byte(input) == Some(byte));
+    }
     Ok(())
 }
 

@@ -1,5 +1,11 @@
 use Rattle.dsr.proofs.faults.write_intake_fault.Goals as goal
 
+pub returns-in-NoFiles : goal.returns-in-NoFiles
+returns-in-NoFiles g c = rw c.in-NoFiles.is c.write_line.ensures
+
+pub returns-in-TooManyFiles : goal.returns-in-TooManyFiles
+returns-in-TooManyFiles g c = rw c.in-TooManyFiles.is c.write_line-in-TooManyFiles.ensures
+
 pub returns-in-Capacity : goal.returns-in-Capacity
 returns-in-Capacity g c = rw c.in-Capacity.is c.write_line-in-Capacity.ensures
 

@@ -1,0 +1,70 @@
+//! An example of a program over the library: it reads one report file on standard input and prints its blocks.
+#![tactic(auto)]
+
+ghost use Rattle.std.specs.Prelude.{◌≡◌, ◌+◌, ◌≤◌, ◌^◌, None, length};
+ghost use Rattle.dsr_file.specs.Standing.{bytes_used, ending_told};
+
+use dsr_file::{Ending, Event, EventPart, FileReader, Outcome};
+use dsr_records::Layout;
+use std::io::{self, Print, Read};
+
+/// The most bytes that one reader takes.
+const MOST: u64 = 1 << 36;
+
+/// Prints what an event tells.
+fn show<P: Print>(rt: &P, event: &Event) -> io::Result<()> {
+    match &event.part {
+        EventPart::Opened(opening) => println!(rt; "report {}", opening.head.message_id.as_str()),
+        EventPart::Block(block) => {
+            let (id, isrc) = (block.id.as_str(), block.resource.isrc.as_str());
+            println!(rt; "block {id}: {} usages of {isrc}", block.usages.len())
+        }
+        EventPart::Ended(Outcome::Whole) => println!(rt; "whole"),
+        EventPart::Ended(_) => println!(rt; "not whole"),
+    }
+}
+
+/// Gives a piece to the reader, and prints each event that it answers.
+fn feed<P: Print>(rt: &P, file: &mut FileReader, piece: &[u8]) -> io::Result<()>
+    requires open { ending_told file.old ≡ None }
+    requires room { bytes_used file.old + length piece.now ≤ 2 ^ 36 }
+    ensures open { ending_told file.new ≡ None }
+{
+    let mut used = 0;
+    for _ in 0..u64::MAX {
+        let (more, event) = file.take(&piece[used..]);
+        used += more;
+        let Some(event) = event else {
+            break;
+        };
+        show(rt, &event)?;
+    }
+    Ok(())
+}
+
+/// Reads to the end, a failure or the first fault.
+fn drain<P: Print, R: Read>(rt: &P, file: &mut FileReader, reader: &mut R) -> io::Result<()>
+    requires open { ending_told file.old ≡ None }
+    ensures open { ending_told file.new ≡ None }
+{
+    let mut piece = [0u8; 4096];
+    for _ in 0..u64::MAX {
+        let count = reader.read(&mut piece).unwrap_or(0);
+        if count == 0 || file.done() || file.given() + 4096 > MOST {
+            break;
+        }
+        feed(rt, file, &piece[..count])?;
+    }
+    Ok(())
+}
+
+fn main(rt: HostRuntime) -> io::Result<()> {
+    let Ok(mut file) = FileReader::new(rt.alloc(), &Layout::standard()) else {
+        return println!(rt; "out of memory");
+    };
+    drain(&rt, &mut file, &mut rt.stdin())?;
+    while let Some(event) = file.finish(Ending::Whole) {
+        show(&rt, &event)?;
+    }
+    Ok(())
+}

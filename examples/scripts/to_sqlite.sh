@@ -1,0 +1,24 @@
+#!/usr/bin/env bash
+# to_sqlite.sh STATEMENT DATABASE: the lines of a statement as tables of an SQLite database (ledger, party,
+# unclaimed, reject), and what is owed by territory and currency on standard output. Amounts are whole numbers of
+# units of 0.0000000001, so sums are exact: SQLite's whole numbers have 64 bits, enough for 922 million of a currency.
+set -euo pipefail
+statement=$1
+database=$2
+lines() { grep "^$1"$'\t' "$statement" | cut -f 2- || true; }
+rm -f "$database"
+sqlite3 "$database" \
+    'create table ledger(isrc, territory, use_type, currency, usages integer, amount)' \
+    'create table party(isrc, territory, use_type, currency, party, amount)' \
+    'create table unclaimed(isrc, territory, use_type, currency, amount)' \
+    'create table reject(file integer, position integer, block, reason)'
+for table in ledger party unclaimed reject; do
+    lines "${table^^}" > "$database.$table"
+    sqlite3 "$database" '.mode ascii' '.separator "\t" "\n"' ".import $database.$table $table"
+    rm "$database.$table"
+done
+for table in ledger party unclaimed; do
+    sqlite3 "$database" "update $table set amount = cast(replace(amount, '.', '') as integer)"
+done
+sqlite3 -separator $'\t' "$database" \
+    'select territory, currency, sum(usages), sum(amount) from ledger group by 1, 2 order by 1, 2'
