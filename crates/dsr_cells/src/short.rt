@@ -1,6 +1,6 @@
 //! Texts that are short enough to lie in the value itself.
-ghost use Rattle.std.specs.Prelude.{◌≡◌, ◌≤◌, ◌+◌, ◌-◌, length, take, drop, replicate};
-ghost use Rattle.std.specs.Int.{w64, w128, from_le_bytes};
+ghost use Rattle.std.specs.Prelude.{◌≡◌, ◌≤◌, ◌+◌, length, take, drop};
+ghost use Rattle.std.specs.Int.{w64, from_le_bytes};
 ghost use Rattle.std.specs.Str.{bytes_eq};
 
 use std::marker::Model;
@@ -60,6 +60,27 @@ fn copy_short(bytes: &mut [u8; SHORT], text: &[u8])
     }
 }
 
+/// Eight bytes, as a number.
+#[inline(always)]
+fn word(bytes: &[u8; SHORT], at: usize) -> u64
+    requires { at ≤ 14 }
+    ensures { result ≡ from_le_bytes w64 (take 8 (drop at bytes.now)) }
+{
+    let b = &bytes[at..at + 8];
+    u64::from_le_bytes([b[0], b[1], b[2], b[3], b[4], b[5], b[6], b[7]])
+}
+
+/// Whether all bytes in place are the same: three words are compared with no branch, of which the last two overlap.
+#[inline(always)]
+fn same_bytes(bytes: &[u8; SHORT], other: &[u8; SHORT]) -> bool
+    ensures { result ≡ bytes_eq bytes.now other.now }
+{
+    let front = word(bytes, 0) == word(other, 0);
+    let middle = word(bytes, 8) == word(other, 8);
+    let back = word(bytes, 14) == word(other, 14);
+    front & middle & back
+}
+
 impl ShortText {
     /// The same bytes, in place.
     #[inline(always)]
@@ -84,6 +105,14 @@ impl ShortText {
             bytes: self.bytes,
             size: self.size,
         }
+    }
+
+    /// Whether the other text has the same bytes.
+    #[inline(always)]
+    pub(crate) fn equals(&self, other: &ShortText) -> bool
+        ensures { result ≡ bytes_eq self.now other.now }
+    {
+        self.size == other.size && same_bytes(&self.bytes, &other.bytes)
     }
 
     /// The text.
