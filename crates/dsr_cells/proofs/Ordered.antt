@@ -55,13 +55,13 @@ cut (suc n) [] (y ∷ ys) l = absurd (omega arith)
 cut (suc n) (x ∷ xs) [] l = absurd (omega arith)
 cut (suc n) (x ∷ xs) (y ∷ ys) l = ap (ordering_then (nat_cmp x y)) (cut n xs ys (omega arith)) ∙ then_assoc (nat_cmp x y) _ _
 
-small_front : (n : ℕ) (xs : List ℕ) → AreBytes xs → AreBytes (take n xs)
+pub small_front : (n : ℕ) (xs : List ℕ) → AreBytes xs → AreBytes (take n xs)
 small_front zero xs small i = omega arith
 small_front (suc n) [] small i = small i
 small_front (suc n) (x ∷ xs) small zero = small 0
 small_front (suc n) (x ∷ xs) small (suc i) = small_front n xs (λ j. small (suc j)) i
 
-small_back : (n : ℕ) (xs : List ℕ) → AreBytes xs → AreBytes (drop n xs)
+pub small_back : (n : ℕ) (xs : List ℕ) → AreBytes xs → AreBytes (drop n xs)
 small_back zero xs small = small
 small_back (suc n) [] small = small
 small_back (suc n) (x ∷ xs) small = small_back n xs (λ j. small (suc j))

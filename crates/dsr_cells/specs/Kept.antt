@@ -6,4 +6,4 @@ use Rattle.dsr_cells.specs.declared.kept.Kept.TheVariants.{Short, Long}
 
 abbrev pub kept_bytes : Kept → List ℕ
 kept_bytes (Short text) = text
-kept_bytes (Long string) = string_bytes string
+kept_bytes (Long string) = string_bytes string.value

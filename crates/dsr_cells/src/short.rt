@@ -1,13 +1,15 @@
 //! Texts that are short enough to lie in the value itself.
-ghost use Rattle.std.specs.Prelude.{◌≡◌, ◌≤◌, ◌+◌, length, take};
+ghost use Rattle.std.specs.Prelude.{◌≡◌, ◌≤◌, ◌+◌, length, take, drop};
+ghost use Rattle.std.specs.Int.{w64, from_le_bytes};
+ghost use Rattle.std.specs.Str.{bytes_eq};
 
 use std::marker::Model;
 use std::str;
 
 /// How many bytes a short text has at most.
-pub(crate) const SHORT: usize = 30;
+pub(crate) const SHORT: usize = 22;
 
-/// A text of at most 30 bytes, which takes no memory of its own.
+/// A text of at most 22 bytes, which takes no memory of its own. Zeros stand behind it, so two are compared by words.
 #[derive(Drop)]
 pub(crate) struct ShortText {
     bytes: [u8; SHORT],
@@ -16,12 +18,13 @@ pub(crate) struct ShortText {
 
 impl Model for ShortText {
     ghost use Rattle.std.specs.Prelude.{◌≤◌, List, ℕ, take, IsUtf8};
+    ghost use Rattle.dsr_cells.specs.Short.{HasZerosBehind};
 
     ghost Value = { List ℕ };
 
     ghost view = { λ s. take s.size s.bytes };
 
-    ghost invariant = { λ s. (s.size ≤ 30) × ∥ IsUtf8 (take s.size s.bytes) ∥₁ };
+    ghost invariant = { λ s. (s.size ≤ 22) × HasZerosBehind s.size s.bytes × ∥ IsUtf8 (take s.size s.bytes) ∥₁ };
 }
 
 /// Copies a text of `HALF` to twice as many bytes to the front: its first and its last `HALF`, which may overlap. Copies
@@ -29,8 +32,9 @@ impl Model for ShortText {
 fn copy_ends<const HALF: usize>(bytes: &mut [u8; SHORT], text: &[u8])
     requires long { HALF ≤ length text.now }
     requires short { length text.now ≤ HALF + HALF }
-    requires room { length text.now ≤ 30 }
-    ensures { take (length text.now) bytes.new ≡ text.now }
+    requires room { length text.now ≤ 22 }
+    ensures front { take (length text.now) bytes.new ≡ text.now }
+    ensures rest { drop (length text.now) bytes.new ≡ drop (length text.now) bytes.old }
 {
     let tail = text.len() - HALF;
     bytes[..HALF].copy_from_slice(&text[..HALF]);
@@ -39,8 +43,9 @@ fn copy_ends<const HALF: usize>(bytes: &mut [u8; SHORT], text: &[u8])
 
 /// Copies a text to the front.
 fn copy_short(bytes: &mut [u8; SHORT], text: &[u8])
-    requires { length text.now ≤ 30 }
-    ensures { take (length text.now) bytes.new ≡ text.now }
+    requires { length text.now ≤ 22 }
+    ensures front { take (length text.now) bytes.new ≡ text.now }
+    ensures rest { drop (length text.now) bytes.new ≡ drop (length text.now) bytes.old }
 {
     if text.len() >= 16 {
         copy_ends::<16>(bytes, text);
@@ -55,11 +60,32 @@ fn copy_short(bytes: &mut [u8; SHORT], text: &[u8])
     }
 }
 
+/// Eight bytes, as a number.
+#[inline(always)]
+fn word(bytes: &[u8; SHORT], at: usize) -> u64
+    requires { at ≤ 14 }
+    ensures { result ≡ from_le_bytes w64 (take 8 (drop at bytes.now)) }
+{
+    let b = &bytes[at..at + 8];
+    u64::from_le_bytes([b[0], b[1], b[2], b[3], b[4], b[5], b[6], b[7]])
+}
+
+/// Whether all bytes in place are the same: three words are compared with no branch, of which the last two overlap.
+#[inline(always)]
+fn same_bytes(bytes: &[u8; SHORT], other: &[u8; SHORT]) -> bool
+    ensures { result ≡ bytes_eq bytes.now other.now }
+{
+    let front = word(bytes, 0) == word(other, 0);
+    let middle = word(bytes, 8) == word(other, 8);
+    let back = word(bytes, 14) == word(other, 14);
+    front & middle & back
+}
+
 impl ShortText {
     /// The same bytes, in place.
     #[inline(always)]
     pub(crate) fn copy_of(text: &str) -> ShortText
-        requires { length text.now ≤ 30 }
+        requires { length text.now ≤ 22 }
         ensures { result ≡ text.now }
     {
         let mut bytes = [0; SHORT];
@@ -70,7 +96,27 @@ impl ShortText {
         }
     }
 
+    /// A second text with the same bytes.
+    #[inline(always)]
+    pub(crate) fn copy(&self) -> ShortText
+        ensures { result ≡ self.now }
+    {
+        ShortText {
+            bytes: self.bytes,
+            size: self.size,
+        }
+    }
+
+    /// Whether the other text has the same bytes.
+    #[inline(always)]
+    pub(crate) fn equals(&self, other: &ShortText) -> bool
+        ensures { result ≡ bytes_eq self.now other.now }
+    {
+        self.size == other.size && same_bytes(&self.bytes, &other.bytes)
+    }
+
     /// The text.
+    #[inline(always)]
     pub(crate) fn as_str(&self) -> &str
         ensures { result.now ≡ self.now }
     {

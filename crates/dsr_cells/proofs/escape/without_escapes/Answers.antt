@@ -17,4 +17,5 @@ loop-front-preserved c =
 pub returns : goal.returns
 returns c =
     let none = split_parts 92 c.loop-front.rest.now None c.in_default.ensures.cases (lit< tt) in
-    c.of_string.ensures ∙ unescape_end (string_bytes c.loop-front.value) c.loop-front.rest.now _ _ none c.in_ok-push_str-2.ensures.bytes c.loop-front.invariant.value
+    let whole = unescape_end (string_bytes c.loop-front.value) c.loop-front.rest.now _ _ none c.in_ok-push_str-2.ensures.bytes c.loop-front.invariant.value in
+    rw whole at c.of_string.ensures
