@@ -7,9 +7,8 @@ ghost use Rattle.dsr_file.specs.Counting.{foot_in, summary_count, block_count};
 use crate::event::EventPart;
 use crate::fault::{Ending, FileFault, Outcome};
 use crate::stage::Stage;
-use dsr_records::{CheckedLine, Foot, Kind, Layout, Record, RecordFault, check_line};
+use dsr_records::{CheckedLine, Foot, Kind, Layout, Record, RecordFault, check_line, text_of};
 use std::alloc::Global;
-use std::str;
 
 /// What a line does.
 #[derive(Clone, Copy)]
@@ -253,9 +252,9 @@ impl Grammar {
         ensures steps { (ls : List Reading) → Keeps self.old ls → LineSteps ls (reading layout.now line.now) result closed.new self.new }
         ensures counts { self.new.lines ≤ self.old.lines + 1 }
     {
-        match str::from_utf8(strip_return(line)) {
-            Ok(text) => self.text(alloc, layout, text, closed),
-            Err(_) => Step::Faulty(FileFault::NotUtf8),
+        match text_of(strip_return(line)) {
+            Some(text) => self.text(alloc, layout, text, closed),
+            None => Step::Faulty(FileFault::NotUtf8),
         }
     }
 

@@ -1,0 +1,4 @@
+//! Scanning of bytes by vectors.
+mod utf8;
+
+pub use utf8::text_of;
