@@ -10,11 +10,13 @@ ghost use Rattle.dsr_intake.specs.Texts.{file_of};
 ghost use Rattle.dsr_intake.specs.Stops.{IsStopped};
 ghost use Rattle.dsr_intake.specs.Collecting.{with_part, is_opening, first_file, IsFileAt, IsGoing, Knows, Changes, IsNext, Opens, IsTapped, IsFollowed, TakesAll, IsStoppedAt};
 
+use crate::seed::random_seed;
 use dsr_cells::NoMemory;
 use dsr_file::{Event, EventPart, FileFault, Outcome};
 use dsr_ledger::{Books, Report};
 use dsr_relay::Tap;
 use std::alloc::Global;
+use std::random::RandomSource;
 use std::sync::Wait;
 use thiserror::Error;
 
@@ -102,7 +104,6 @@ fn take_message<H: Wait>(
     let Ok(lot) = tap.take_lot(rt) else {
         return Err(closed(k));
     };
-    books.look_ahead(k, lot.events());
     let answer = book_events(books, k, lot.events());
     tap.give_back(rt, lot);
     match answer {
@@ -244,7 +245,11 @@ fn take_all<H: Wait>(rt: &H, books: &mut Books, taps: &mut Vec<Tap>) -> Result<(
 }
 
 /// Takes what the taps have, and reports it.
-pub fn collect<H: Wait>(rt: &H, alloc: Global, taps: &mut Vec<Tap>) -> Result<Report, CollectError>
+pub fn collect<H: Wait + RandomSource>(
+    rt: &H,
+    alloc: Global,
+    taps: &mut Vec<Tap>,
+) -> Result<Report, CollectError>
     requires some { 0 < vec_len taps.old }
     requires most { vec_len taps.old ≤ 64 }
     requires fresh { All (λ t. t.taken ≡ []) taps.old.items }
@@ -253,7 +258,7 @@ pub fn collect<H: Wait>(rt: &H, alloc: Global, taps: &mut Vec<Tap>) -> Result<Re
     ensures report { IfOk result (λ r. r ≡ report_of (map (λ t. file_of t.taken) taps.new.items)) }
     ensures stopped { IfErr result (IsStopped taps.new.items) }
 {
-    let Ok(mut books) = Books::new(alloc, taps.len() as u32) else {
+    let Ok(mut books) = Books::with_seed(alloc, taps.len() as u32, random_seed(rt)) else {
         return Err(CollectError::Memory);
     };
     open_all(rt, &mut books, taps)?;

@@ -21,7 +21,7 @@ impl<'a, H> Model for FeedSink<'a, H> {
     ghost view = { λ s. s.feed };
 }
 
-impl<'a, H: Wait> FeedSink<'a, H> {
+impl<'a, H> FeedSink<'a, H> {
     /// The sink that sends on this feed.
     pub fn new(rt: &'a H, feed: Feed) -> FeedSink<'a, H>
         ensures { result ≡ feed }

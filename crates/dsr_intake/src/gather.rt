@@ -14,6 +14,7 @@ use dsr_file::Source;
 use dsr_ledger::Report;
 use dsr_relay::{Feed, RelayError, Tap, open_relay};
 use std::alloc::Global;
+use std::random::RandomSource;
 use std::sync::Wait;
 use std::thread::Threads;
 
@@ -109,7 +110,10 @@ fn join_all<R: Source + Send + Drop + 'static, H: Threads>(
 }
 
 /// Starts the threads, and collects what they send.
-fn start_and_collect<R: Source + Send + Drop + 'static, H: Threads + Wait + Copy + Send + 'static>(
+fn start_and_collect<
+    R: Source + Send + Drop + 'static,
+    H: Threads + Wait + RandomSource + Copy + Send + 'static,
+>(
     rt: &H,
     alloc: Global,
     readers: Vec<R>,
@@ -141,12 +145,10 @@ fn start_and_collect<R: Source + Send + Drop + 'static, H: Threads + Wait + Copy
     }
 }
 
-fn gather<R: Source + Send + Drop + 'static, H: Threads + Wait + Copy + Send + 'static>(
-    rt: &H,
-    alloc: Global,
-    readers: &mut Vec<R>,
-    options: &Options,
-) -> Result<Report, IntakeError>
+fn gather<
+    R: Source + Send + Drop + 'static,
+    H: Threads + Wait + RandomSource + Copy + Send + 'static,
+>(rt: &H, alloc: Global, readers: &mut Vec<R>, options: &Options) -> Result<Report, IntakeError>
     requires some { 0 < vec_len readers.old }
     requires files { vec_len readers.old ≤ 64 }
     requires some_reads { 0 < options.now.max_reads }
@@ -198,12 +200,10 @@ fn collect_error(error: CollectError) -> IntakeError
 }
 
 /// Reads the files at once, a thread for each, and reports them.
-pub fn intake<R: Source + Send + Drop + 'static, H: Threads + Wait + Copy + Send + 'static>(
-    rt: &H,
-    alloc: Global,
-    readers: &mut Vec<R>,
-    options: Options,
-) -> Result<Report, IntakeError>
+pub fn intake<
+    R: Source + Send + Drop + 'static,
+    H: Threads + Wait + RandomSource + Copy + Send + 'static,
+>(rt: &H, alloc: Global, readers: &mut Vec<R>, options: Options) -> Result<Report, IntakeError>
     requires { All (λ r. (R.told r).failed ≡ false) readers.old.items }
     ensures report { IfOk result (λ report. (texts : List FileText) × GaveEach R.told options readers.old.items readers.new.items texts × (report ≡ report_of_texts options.layout texts)) }
     ensures refused { MatchOption (refusal_of (vec_len readers.old) options) (IfErr result IsLate) (λ e. (result ≡ Err e) × (readers.new ≡ readers.old)) }

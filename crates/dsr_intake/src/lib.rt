@@ -11,6 +11,7 @@ mod outlet;
 mod put;
 mod run_error;
 mod runs;
+mod seed;
 mod statements;
 mod threads;
 mod to_write;

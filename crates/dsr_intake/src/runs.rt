@@ -1,26 +1,29 @@
 //! Reading the files of a report and writing its statement.
 ghost use Rattle.std.specs.Prelude.{◌≡◌, false, List, All, IfOk, IfErr, Err, MatchOption, vec_len};
-ghost use Rattle.std.specs.Io.KnownBytes.{Appends};
 ghost use Rattle.dsr_file.specs.Runs.{FileText};
 ghost use Rattle.dsr_intake.specs.Texts.{GaveEach, report_of_texts};
 ghost use Rattle.dsr_intake.specs.Options.{refusal_of};
 ghost use Rattle.dsr_intake.specs.Statement.{statement_of};
-ghost use Rattle.dsr_intake.specs.Status.{status_of};
-ghost use Rattle.dsr_intake.specs.Outcomes.{IsUnwritten, IsLateRun};
+ghost use Rattle.dsr_intake.specs.Outcomes.{IsReported, IsUnwritten, IsLateRun};
 
 use crate::gather::intake;
 use crate::options::Options;
-use crate::outlet::{Outlet, write_all};
+use crate::outlet::{Outlet, write_and_flush};
 use crate::run_error::RunError;
 use crate::statements::{statement, status};
 use crate::verdict::Status;
 use dsr_file::Source;
 use std::alloc::Global;
+use std::random::RandomSource;
 use std::sync::Wait;
 use std::thread::Threads;
 
 /// Reads the files, and writes their statement.
-pub fn run<R: Source + Send + Drop + 'static, W: Outlet, H: Threads + Wait + Copy + Send + 'static>(
+pub fn run<
+    R: Source + Send + Drop + 'static,
+    W: Outlet,
+    H: Threads + Wait + RandomSource + Copy + Send + 'static,
+>(
     rt: &H,
     alloc: Global,
     readers: &mut Vec<R>,
@@ -29,9 +32,10 @@ pub fn run<R: Source + Send + Drop + 'static, W: Outlet, H: Threads + Wait + Cop
 ) -> Result<Status, RunError>
     requires sources { All (λ r. (R.told r).failed ≡ false) readers.old.items }
     requires outlet { (W.told out.old).failed ≡ false }
-    ensures written { IfOk result (λ status. (texts : List FileText) × GaveEach R.told options readers.old.items readers.new.items texts
-        × Appends (W.told out.old).contents (W.told out.new).contents (statement_of (report_of_texts options.layout texts)) × (status ≡ status_of (report_of_texts options.layout texts))) }
-    ensures unwritten { IfErr result (IsUnwritten (GaveEach R.told options readers.old.items readers.new.items) (λ texts. statement_of (report_of_texts options.layout texts)) (W.told out.old) (W.told out.new)) }
+    ensures reported { IfOk result (λ status. (texts : List FileText)
+        × IsReported R.told options readers.old.items readers.new.items (W.told out.old) (W.told out.new) texts status) }
+    ensures unwritten { IfErr result (IsUnwritten (GaveEach R.told options readers.old.items readers.new.items)
+        (λ texts. statement_of (report_of_texts options.layout texts)) (W.told out.old) (W.told out.new)) }
     ensures refused { MatchOption (refusal_of (vec_len readers.old) options) (IfErr result IsLateRun) (λ e. (result ≡ Err (RunError.Intake e)) × (readers.new ≡ readers.old)) }
 {
     let report = match intake(rt, alloc, readers, options) {
@@ -41,7 +45,7 @@ pub fn run<R: Source + Send + Drop + 'static, W: Outlet, H: Threads + Wait + Cop
     let Ok(bytes) = statement(alloc, &report) else {
         return Err(RunError::Memory);
     };
-    match write_all(out, &bytes) {
+    match write_and_flush(out, &bytes) {
         Ok(()) => Ok(status(&report)),
         Err(written) => Err(RunError::Write {
             written: written as u64,
