@@ -11,6 +11,7 @@ use Rattle.dsr_relay.specs.Views.{TapView}
 use Rattle.dsr_records.specs.Records.{LayoutTable}
 use Rattle.dsr_intake.specs.declared.options.Options.{Options}
 use Rattle.dsr_intake.specs.Ends.{ends_clean}
+use Rattle.dsr_intake.specs.Collecting.{IsDrained}
 use Rattle.dsr_intake.specs.Given.{IsGiven}
 use Rattle.dsr_intake.specs.Texts.{GaveEach, file_of}
 use Rattle.dsr_intake.proofs.EndLemmas.{clean_is_whole}
@@ -26,10 +27,6 @@ gave_more told options [] [] (z ∷ ts) r s t h new = absurd h
 gave_more told options [] (y ∷ ss) ts r s t h new = absurd h
 gave_more told options (x ∷ rs) [] ts r s t h new = absurd h
 gave_more told options (x ∷ rs) (y ∷ ss) [] r s t h new = absurd h
-
--- a tap of which all was taken
-abbrev pub IsDrained : TapView → Type 0
-IsDrained t = IsOrderly t.taken × (ends_clean t.taken ≡ true)
 
 -- `H` is a handle of a thread, of which `reader`, `name` and `terms` tell what the thread was given
 module _ {R H : Type 0} (told : R → Told) (options : Options) (reader : H → R) (name : H → Name) (terms : H → Options) where

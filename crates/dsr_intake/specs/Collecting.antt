@@ -77,3 +77,7 @@ TakesAll old new k taken events =
 abbrev pub IsStoppedAt : ℕ → TapView → CollectError → Type 0
 IsStoppedAt i t Memory = Unit {0}
 IsStoppedAt i t (Closed k) = (k ≡ i + 1) × (has_ended t.taken ≡ false)
+
+-- a tap of which all was taken
+abbrev pub IsDrained : TapView → Type 0
+IsDrained t = IsOrderly t.taken × (ends_clean t.taken ≡ true)

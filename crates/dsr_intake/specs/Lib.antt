@@ -9,5 +9,6 @@ pub mod Outcomes
 pub mod Ends
 pub mod Stops
 -- Words that relate what the code keeps to them.
+pub mod Ready
 pub mod Given
 pub mod Collecting

@@ -2,6 +2,7 @@
 use Rattle.std.specs.Prelude.{ℕ, Option, Some, None, ◌==◌, ◌||◌, nat_lt, if◌then◌else◌}
 use Rattle.dsr_records.specs.Layouts.{standard_layout}
 use Rattle.dsr_intake.specs.declared.options.Options.{Options}
+use Rattle.dsr_intake.specs.declared.options.TheConstants.{MOST_FILES, MOST_MESSAGES, MOST_READS}
 use Rattle.dsr_intake.specs.declared.options.IntakeError.{IntakeError}
 use Rattle.dsr_intake.specs.declared.options.IntakeError.TheVariants as error
 
@@ -12,9 +13,9 @@ standard_options = record { capacity = 16; max_reads = 4194304; layout = standar
 abbrev pub refusal_of : ℕ → Options → Option IntakeError
 refusal_of files o =
     if files == 0 then Some error.NoFiles
-    else (if nat_lt 64 files then Some error.TooManyFiles
-    else (if (o.capacity == 0) || nat_lt 1024 o.capacity then Some error.Capacity
-    else (if (o.max_reads == 0) || nat_lt 16777216 o.max_reads then Some error.Reads
+    else (if nat_lt MOST_FILES files then Some error.TooManyFiles
+    else (if (o.capacity == 0) || nat_lt MOST_MESSAGES o.capacity then Some error.Capacity
+    else (if (o.max_reads == 0) || nat_lt MOST_READS o.max_reads then Some error.Reads
     else None)))
 
 -- an error that is found only once something is read

@@ -3,6 +3,7 @@ use Rattle.std.specs.Prelude.{◌≡◌, ℕ, ◌≤◌, List, length, take, fal
 use Rattle.std.specs.Io.KnownBytes.{Keeps}
 use Rattle.dsr_file.specs.Runs.{FileText}
 use Rattle.dsr_file.specs.Sources.{Told}
+use Rattle.dsr_ledger.specs.declared.report.Report.{Report}
 use Rattle.dsr_intake.specs.declared.options.Options.{Options}
 use Rattle.dsr_intake.specs.declared.run_error.RunError.{RunError}
 use Rattle.dsr_intake.specs.declared.run_error.RunError.TheVariants as error
@@ -12,6 +13,11 @@ use Rattle.dsr_intake.specs.Statement.{statement_of}
 use Rattle.dsr_intake.specs.Status.{status_of}
 use Rattle.dsr_intake.specs.Texts.{GaveEach, report_of_texts}
 use Rattle.dsr_intake.specs.Written.{Written, IsFlushed, IsCut}
+
+-- the report is that of the texts that the readers gave
+abbrev pub IsReportOf : {R : Type 0} → (R → Told) → Options → List R → List R → Report → Type 0
+IsReportOf told options readers left report =
+    (texts : List FileText) × GaveEach told options readers left texts × (report ≡ report_of_texts options.layout texts)
 
 -- The headline, on the texts of the files:
 pub record IsReported {R : Type 0} (told : R → Told) (options : Options) (readers left : List R) (before after : Written)

@@ -5,11 +5,13 @@ ghost use Rattle.dsr_file.specs.Orderly.{IsOrderly, is_ended, has_ended, MayStan
 ghost use Rattle.dsr_ledger.specs.BooksWords.{Stands, files_count};
 ghost use Rattle.dsr_ledger.specs.Reports.{report_of};
 ghost use Rattle.dsr_ledger.specs.Files.{File};
-ghost use Rattle.dsr_intake.specs.Ends.{ends_clean, is_clean_end, is_memory};
+ghost use Rattle.dsr_intake.specs.Ends.{is_clean_end, is_memory};
 ghost use Rattle.dsr_intake.specs.Texts.{file_of};
 ghost use Rattle.dsr_intake.specs.Stops.{IsStopped};
-ghost use Rattle.dsr_intake.specs.Collecting.{with_part, is_opening, first_file, IsFileAt, IsGoing, Knows, Changes, IsNext, Opens, IsTapped, IsFollowed, TakesAll, IsStoppedAt};
+ghost use Rattle.dsr_intake.specs.Collecting.{with_part, is_opening, first_file, IsGoing, Knows, Changes};
+ghost use Rattle.dsr_intake.specs.Collecting.{IsNext, Opens, IsTapped, IsDrained, IsFollowed, TakesAll, IsStoppedAt};
 
+use crate::options::MOST_FILES;
 use crate::seed::random_seed;
 use dsr_cells::NoMemory;
 use dsr_file::{Event, EventPart, FileFault, Outcome};
@@ -33,7 +35,7 @@ pub enum CollectError {
 
 /// The relay of file k, counted from 0, closed early.
 fn closed(k: u32) -> CollectError
-    requires { k < 64 }
+    requires { k < MOST_FILES }
     ensures { result ≡ CollectError.Closed (k + 1) }
 {
     CollectError::Closed(k + 1)
@@ -53,7 +55,8 @@ fn is_memory(outcome: &Outcome) -> bool
 fn book_part(books: &mut Books, k: u32, part: &EventPart) -> Result<(), NoMemory>
     requires later { is_opening part.now ≡ false }
     requires file { (f : File) × Knows books.old k f × IsGoing f }
-    ensures booked { OnOk result ((f : File) → Changes books.old books.new k f (with_part f part.now)) }
+    ensures booked { OnOk result ((f : File)
+        → Changes books.old books.new k f (with_part f part.now)) }
     ensures clean { OnOk result (is_ended part.now ≡ true → is_clean_end part.now ≡ true) }
     ensures files { files_count books.new ≡ files_count books.old }
 {
@@ -74,8 +77,10 @@ fn book_part(books: &mut Books, k: u32, part: &EventPart) -> Result<(), NoMemory
 
 /// Books further events of file k.
 fn book_events(books: &mut Books, k: u32, events: &[Event]) -> Result<(), NoMemory>
-    requires followed { (taken : List Placed) × IsFollowed taken events.now × Knows books.old k (file_of taken) }
-    ensures booked { OnOk result ((taken : List Placed) → IsFollowed taken events.now → TakesAll books.old books.new k taken events.now) }
+    requires followed { (taken : List Placed) × IsFollowed taken events.now
+        × Knows books.old k (file_of taken) }
+    ensures booked { OnOk result ((taken : List Placed) → IsFollowed taken events.now
+        → TakesAll books.old books.new k taken events.now) }
     ensures files { files_count books.new ≡ files_count books.old }
 {
     for event in events {
@@ -93,12 +98,13 @@ fn take_message<H: Wait>(
 ) -> Result<(), CollectError>
     requires tapped { IsTapped tap.old }
     requires running { has_ended tap.old.taken ≡ false }
-    requires number { k < 64 }
+    requires number { k < MOST_FILES }
     requires file { Knows books.old k (file_of tap.old.taken) }
     ensures name { tap.new.name ≡ tap.old.name }
     ensures files { files_count books.new ≡ files_count books.old }
     ensures tapped { OnOk result (IsTapped tap.new) }
-    ensures booked { OnOk result (Changes books.old books.new k (file_of tap.old.taken) (file_of tap.new.taken)) }
+    ensures booked { OnOk result (Changes books.old books.new k (file_of tap.old.taken)
+        (file_of tap.new.taken)) }
     ensures stopped { IfErr result (IsStoppedAt k tap.new) }
 {
     let Ok(lot) = tap.take_lot(rt) else {
@@ -115,12 +121,13 @@ fn take_message<H: Wait>(
 /// Takes a message of file k where it has not ended.
 fn go_on<H: Wait>(rt: &H, books: &mut Books, k: u32, tap: &mut Tap) -> Result<(), CollectError>
     requires tapped { IsTapped tap.old }
-    requires number { k < 64 }
+    requires number { k < MOST_FILES }
     requires file { Knows books.old k (file_of tap.old.taken) }
     ensures name { tap.new.name ≡ tap.old.name }
     ensures files { files_count books.new ≡ files_count books.old }
     ensures tapped { OnOk result (IsTapped tap.new) }
-    ensures booked { OnOk result (Changes books.old books.new k (file_of tap.old.taken) (file_of tap.new.taken)) }
+    ensures booked { OnOk result (Changes books.old books.new k (file_of tap.old.taken)
+        (file_of tap.new.taken)) }
     ensures stopped { IfErr result (IsStoppedAt k tap.new) }
 {
     if tap.ended() {
@@ -157,7 +164,7 @@ fn open_part(books: &mut Books, k: u32, part: EventPart) -> Result<(), NoMemory>
 /// Takes the first event of file k, and opens the file.
 fn open_one<H: Wait>(rt: &H, books: &mut Books, k: u32, tap: &mut Tap) -> Result<(), CollectError>
     requires fresh { tap.old.taken ≡ [] }
-    requires number { k < 64 }
+    requires number { k < MOST_FILES }
     requires next { IsNext books.old k }
     ensures name { tap.new.name ≡ tap.old.name }
     ensures files { files_count books.new ≡ files_count books.old }
@@ -176,7 +183,7 @@ fn open_one<H: Wait>(rt: &H, books: &mut Books, k: u32, tap: &mut Tap) -> Result
 
 /// Takes the first event of each file, and opens the files in order.
 fn open_all<H: Wait>(rt: &H, books: &mut Books, taps: &mut Vec<Tap>) -> Result<(), CollectError>
-    requires most { vec_len taps.old ≤ 64 }
+    requires most { vec_len taps.old ≤ MOST_FILES }
     requires fresh { All (λ t. t.taken ≡ []) taps.old.items }
     requires empty { Stands books.old [] }
     requires files { files_count books.old ≡ vec_len taps.old }
@@ -195,7 +202,7 @@ fn open_all<H: Wait>(rt: &H, books: &mut Books, taps: &mut Vec<Tap>) -> Result<(
 
 /// Takes a message of each file that has not ended.
 fn go_round<H: Wait>(rt: &H, books: &mut Books, taps: &mut Vec<Tap>) -> Result<(), CollectError>
-    requires most { vec_len taps.old ≤ 64 }
+    requires most { vec_len taps.old ≤ MOST_FILES }
     requires tapped { All IsTapped taps.old.items }
     requires stands { Stands books.old (map (λ t. file_of t.taken) taps.old.items) }
     ensures names { map (λ t. t.name) taps.new.items ≡ map (λ t. t.name) taps.old.items }
@@ -225,7 +232,7 @@ fn have_ended(taps: &Vec<Tap>) -> bool
 
 /// Goes round until every file has ended.
 fn take_all<H: Wait>(rt: &H, books: &mut Books, taps: &mut Vec<Tap>) -> Result<(), CollectError>
-    requires most { vec_len taps.old ≤ 64 }
+    requires most { vec_len taps.old ≤ MOST_FILES }
     requires tapped { All IsTapped taps.old.items }
     requires stands { Stands books.old (map (λ t. file_of t.taken) taps.old.items) }
     ensures names { map (λ t. t.name) taps.new.items ≡ map (λ t. t.name) taps.old.items }
@@ -251,10 +258,10 @@ pub fn collect<H: Wait + RandomSource>(
     taps: &mut Vec<Tap>,
 ) -> Result<Report, CollectError>
     requires some { 0 < vec_len taps.old }
-    requires most { vec_len taps.old ≤ 64 }
+    requires most { vec_len taps.old ≤ MOST_FILES }
     requires fresh { All (λ t. t.taken ≡ []) taps.old.items }
     ensures names { map (λ t. t.name) taps.new.items ≡ map (λ t. t.name) taps.old.items }
-    ensures ended { OnOk result (All (λ t. IsOrderly t.taken × (ends_clean t.taken ≡ true)) taps.new.items) }
+    ensures ended { OnOk result (All IsDrained taps.new.items) }
     ensures report { IfOk result (λ r. r ≡ report_of (map (λ t. file_of t.taken) taps.new.items)) }
     ensures stopped { IfErr result (IsStopped taps.new.items) }
 {

@@ -1,14 +1,16 @@
 //! Reading the files of a report at once.
-ghost use Rattle.std.specs.Prelude.{◌≡◌, ◌<◌, ◌≤◌, ◌^◌, true, false, List, [], map, All, IfOk, OnOk, IfErr, Err, MatchOption, vec_len, vec_capacity};
-ghost use Rattle.dsr_file.specs.Orderly.{IsOrderly};
+ghost use Rattle.std.specs.Prelude.{◌≡◌, ◌<◌, ◌≤◌, false, List, [], map, All, IfOk, OnOk, IfErr};
+ghost use Rattle.std.specs.Prelude.{Err, MatchOption, vec_len, vec_capacity};
 ghost use Rattle.dsr_file.specs.Runs.{FileText, events_of_text};
 ghost use Rattle.dsr_ledger.specs.Reports.{report_of};
-ghost use Rattle.dsr_intake.specs.Ends.{ends_clean};
-ghost use Rattle.dsr_intake.specs.Texts.{GaveEach, file_of, report_of_texts};
+ghost use Rattle.dsr_intake.specs.Collecting.{IsDrained};
+ghost use Rattle.dsr_intake.specs.Texts.{GaveEach, file_of};
 ghost use Rattle.dsr_intake.specs.Options.{refusal_of, IsLate};
+ghost use Rattle.dsr_intake.specs.Outcomes.{IsReportOf};
+ghost use Rattle.dsr_intake.specs.Ready.{AreReady};
 
 use crate::collector::{CollectError, collect};
-use crate::options::{IntakeError, Options, refusal};
+use crate::options::{IntakeError, MOST_MESSAGES, Options, refusal};
 use crate::threads::{Thread, start};
 use dsr_file::Source;
 use dsr_ledger::Report;
@@ -27,17 +29,16 @@ fn start_all<R: Source + Send + Drop + 'static, H: Threads + Wait + Copy + Send 
     threads: &mut Vec<Thread<R>>,
     taps: &mut Vec<Tap>,
 ) -> Result<(), IntakeError>
-    requires some_reads { 0 < options.now.max_reads }
-    requires reads { options.now.max_reads ≤ 2 ^ 24 }
-    requires some_room { 0 < options.now.capacity }
-    requires most_room { options.now.capacity ≤ 1024 }
-    requires fresh { All (λ r. (R.told r).failed ≡ false) readers.items }
+    requires ready { AreReady R.told options.now readers.items }
     requires no_threads { threads.old.items ≡ [] }
     requires no_taps { taps.old.items ≡ [] }
     requires room { vec_len readers ≤ vec_capacity threads.old }
-    ensures readers { OnOk result (map (λ h. h.promise.reader.value) threads.new.items ≡ readers.items) }
-    ensures names { OnOk result (map (λ h. h.promise.feed.value.name) threads.new.items ≡ map (λ t. t.name) taps.new.items) }
-    ensures most { OnOk result (All (λ h. h.promise.options.value ≡ options.now) threads.new.items) }
+    ensures readers { OnOk result (map (λ h. h.promise.reader.value) threads.new.items
+        ≡ readers.items) }
+    ensures names { OnOk result (map (λ h. h.promise.feed.value.name) threads.new.items
+        ≡ map (λ t. t.name) taps.new.items) }
+    ensures terms { OnOk result (All (λ h. h.promise.options.value ≡ options.now)
+        threads.new.items) }
     ensures fresh { OnOk result (All (λ t. t.taken ≡ []) taps.new.items) }
     ensures late { IfErr result IsLate }
 {
@@ -56,7 +57,7 @@ fn start_all<R: Source + Send + Drop + 'static, H: Threads + Wait + Copy + Send 
 
 fn open(alloc: Global, capacity: u32) -> Result<(Feed, Tap), IntakeError>
     requires some { 0 < capacity }
-    requires most { capacity ≤ 1024 }
+    requires most { capacity ≤ MOST_MESSAGES }
     ensures ends { IfOk result (λ r. (r.0.name ≡ r.1.name) × (r.0.sent ≡ []) × (r.1.taken ≡ [])) }
     ensures late { IfErr result IsLate }
 {
@@ -75,12 +76,16 @@ fn settle_all<R: Source + Send + Drop + 'static, H: Threads + Wait>(
     readers: &mut Vec<R>,
     options: &Options,
 )
-    requires names { map (λ h. h.promise.feed.value.name) threads.items ≡ map (λ t. t.name) taps.items }
-    requires most { All (λ h. h.promise.options.value ≡ options.now) threads.items }
-    requires ended { All (λ t. IsOrderly t.taken × (ends_clean t.taken ≡ true)) taps.items }
+    requires names { map (λ h. h.promise.feed.value.name) threads.items
+        ≡ map (λ t. t.name) taps.items }
+    requires terms { All (λ h. h.promise.options.value ≡ options.now) threads.items }
+    requires ended { All IsDrained taps.items }
     requires empty { readers.old.items ≡ [] }
     requires room { vec_len threads ≤ vec_capacity readers.old }
-    ensures { (texts : List FileText) × GaveEach R.told options.now (map (λ h. h.promise.reader.value) threads.items) readers.new.items texts × (map (λ t. t.taken) taps.items ≡ map (events_of_text options.now.layout) texts) }
+    ensures { (texts : List FileText)
+        × GaveEach R.told options.now (map (λ h. h.promise.reader.value) threads.items)
+        readers.new.items texts
+        × (map (λ t. t.taken) taps.items ≡ map (events_of_text options.now.layout) texts) }
 {
     let mut taps = taps.into_iter();
     for thread in threads {
@@ -121,20 +126,17 @@ fn start_and_collect<
     threads: &mut Vec<Thread<R>>,
     taps: &mut Vec<Tap>,
 ) -> Result<Report, IntakeError>
-    requires some { 0 < vec_len readers }
-    requires files { vec_len readers ≤ 64 }
-    requires some_reads { 0 < options.now.max_reads }
-    requires reads { options.now.max_reads ≤ 2 ^ 24 }
-    requires some_room { 0 < options.now.capacity }
-    requires most_room { options.now.capacity ≤ 1024 }
-    requires fresh { All (λ r. (R.told r).failed ≡ false) readers.items }
+    requires ready { AreReady R.told options.now readers.items }
     requires no_threads { threads.old.items ≡ [] }
     requires no_taps { taps.old.items ≡ [] }
     requires room { vec_len readers ≤ vec_capacity threads.old }
-    ensures readers { OnOk result (map (λ h. h.promise.reader.value) threads.new.items ≡ readers.items) }
-    ensures names { OnOk result (map (λ h. h.promise.feed.value.name) threads.new.items ≡ map (λ t. t.name) taps.new.items) }
-    ensures most { OnOk result (All (λ h. h.promise.options.value ≡ options.now) threads.new.items) }
-    ensures ended { OnOk result (All (λ t. IsOrderly t.taken × (ends_clean t.taken ≡ true)) taps.new.items) }
+    ensures readers { OnOk result (map (λ h. h.promise.reader.value) threads.new.items
+        ≡ readers.items) }
+    ensures names { OnOk result (map (λ h. h.promise.feed.value.name) threads.new.items
+        ≡ map (λ t. t.name) taps.new.items) }
+    ensures terms { OnOk result (All (λ h. h.promise.options.value ≡ options.now)
+        threads.new.items) }
+    ensures ended { OnOk result (All IsDrained taps.new.items) }
     ensures report { IfOk result (λ r. r ≡ report_of (map (λ t. file_of t.taken) taps.new.items)) }
     ensures late { IfErr result IsLate }
 {
@@ -149,14 +151,9 @@ fn gather<
     R: Source + Send + Drop + 'static,
     H: Threads + Wait + RandomSource + Copy + Send + 'static,
 >(rt: &H, alloc: Global, readers: &mut Vec<R>, options: &Options) -> Result<Report, IntakeError>
-    requires some { 0 < vec_len readers.old }
-    requires files { vec_len readers.old ≤ 64 }
-    requires some_reads { 0 < options.now.max_reads }
-    requires reads { options.now.max_reads ≤ 2 ^ 24 }
-    requires some_room { 0 < options.now.capacity }
-    requires most_room { options.now.capacity ≤ 1024 }
-    requires fresh { All (λ r. (R.told r).failed ≡ false) readers.old.items }
-    ensures report { IfOk result (λ report. (texts : List FileText) × GaveEach R.told options.now readers.old.items readers.new.items texts × (report ≡ report_of_texts options.now.layout texts)) }
+    requires ready { AreReady R.told options.now readers.old.items }
+    ensures report { IfOk result (IsReportOf R.told options.now readers.old.items
+        readers.new.items) }
     ensures late { IfErr result IsLate }
 {
     let count = readers.len();
@@ -205,8 +202,9 @@ pub fn intake<
     H: Threads + Wait + RandomSource + Copy + Send + 'static,
 >(rt: &H, alloc: Global, readers: &mut Vec<R>, options: Options) -> Result<Report, IntakeError>
     requires { All (λ r. (R.told r).failed ≡ false) readers.old.items }
-    ensures report { IfOk result (λ report. (texts : List FileText) × GaveEach R.told options readers.old.items readers.new.items texts × (report ≡ report_of_texts options.layout texts)) }
-    ensures refused { MatchOption (refusal_of (vec_len readers.old) options) (IfErr result IsLate) (λ e. (result ≡ Err e) × (readers.new ≡ readers.old)) }
+    ensures report { IfOk result (IsReportOf R.told options readers.old.items readers.new.items) }
+    ensures refused { MatchOption (refusal_of (vec_len readers.old) options) (IfErr result IsLate)
+        (λ e. (result ≡ Err e) × (readers.new ≡ readers.old)) }
 {
     if let Some(error) = refusal(readers.len(), &options) {
         return Err(error);

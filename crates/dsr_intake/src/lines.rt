@@ -2,7 +2,9 @@
 ghost use Rattle.std.specs.Prelude.{◌≡◌, ◌++◌, ◌∷◌, [], OnOk};
 ghost use Rattle.std.specs.Fmt.{signed_decimal};
 ghost use Rattle.std.specs.List.{flat_map};
-ghost use Rattle.dsr_intake.specs.Statement.{tabbed, head_line, report_line, number_cell, outcome_cells, column_cells, key_cells, file_line, missing_line, difference_line, ledger_lines, sums_line, party_line, unclaimed_line, reject_line};
+ghost use Rattle.dsr_intake.specs.Statement.{tabbed, head_line, report_line, number_cell, outcome_cells, column_cells};
+ghost use Rattle.dsr_intake.specs.Statement.{key_cells, file_line, missing_line, difference_line, ledger_lines};
+ghost use Rattle.dsr_intake.specs.Statement.{sums_line, party_line, unclaimed_line, reject_line};
 
 use crate::names::{reason_name, standing_name};
 use crate::put::{put_amount, put_day, put_end, put_number, put_signed, put_text};
@@ -111,7 +113,8 @@ pub(crate) fn put_difference(out: &mut Vec<u8>, difference: &Difference) -> Resu
 
 /// Puts the usages that a summary states, and those that are found for it.
 fn put_usages(out: &mut Vec<u8>, stated: i64, found: i128) -> Result<(), NoMemory>
-    ensures { OnOk result (out.new.items ≡ out.old.items ++ tabbed (signed_decimal stated ∷ signed_decimal found ∷ [])) }
+    ensures { OnOk result (out.new.items
+        ≡ out.old.items ++ tabbed (signed_decimal stated ∷ signed_decimal found ∷ [])) }
 {
     put_signed(out, i128::from(stated))?;
     put_signed(out, found)
@@ -158,7 +161,8 @@ fn put_sums(out: &mut Vec<u8>, key: &[u8], line: &LedgerLine) -> Result<(), NoMe
 /// Puts the lines of a key's parties. `key` has the key's cells.
 fn put_parties(out: &mut Vec<u8>, key: &[u8], line: &LedgerLine) -> Result<(), NoMemory>
     requires { key.now ≡ tabbed (key_cells line.now) }
-    ensures { OnOk result (out.new.items ≡ out.old.items ++ flat_map (party_line line.now) line.now.parties) }
+    ensures { OnOk result (out.new.items
+        ≡ out.old.items ++ flat_map (party_line line.now) line.now.parties) }
 {
     for party in line.parties.as_slice() {
         put_party(out, key, line, party)?;

@@ -5,6 +5,15 @@ ghost use Rattle.dsr_intake.specs.Options.{standard_options, refusal_of};
 use dsr_records::Layout;
 use thiserror::Error;
 
+/// How many files a report is read from at most.
+pub(crate) const MOST_FILES: usize = 64;
+
+/// How many messages a relay holds at most.
+pub(crate) const MOST_MESSAGES: u32 = 1_024;
+
+/// After how many reads the reading of a file stops at the latest.
+pub(crate) const MOST_READS: u32 = 16_777_216;
+
 /// How an intake goes about its files.
 #[derive(Drop)]
 pub struct Options {
@@ -69,11 +78,11 @@ pub(crate) fn refusal(files: usize, options: &Options) -> Option<IntakeError>
 {
     if files == 0 {
         Some(IntakeError::NoFiles)
-    } else if files > 64 {
+    } else if files > MOST_FILES {
         Some(IntakeError::TooManyFiles)
-    } else if options.capacity == 0 || options.capacity > 1024 {
+    } else if options.capacity == 0 || options.capacity > MOST_MESSAGES {
         Some(IntakeError::Capacity)
-    } else if options.max_reads == 0 || options.max_reads > 16_777_216 {
+    } else if options.max_reads == 0 || options.max_reads > MOST_READS {
         Some(IntakeError::Reads)
     } else {
         None

@@ -14,18 +14,26 @@ pub trait Outlet {
     fn write(&mut self, piece: &[u8]) -> Result<usize, Failed>
         requires { 0 < length piece.now }
         ensures count { IfOk result (λ n. (0 < n) × (n ≤ length piece.now)) }
-        ensures bytes { WriteAppends (told self.old).contents (told self.new).contents result piece.now }
-        ensures failed { MatchResult result (λ _. (told self.new).failed ≡ (told self.old).failed) (λ _. (told self.new).failed ≡ true) }
+        ensures bytes { WriteAppends (told self.old).contents (told self.new).contents
+            result piece.now }
+        ensures failed { MatchResult result
+            (λ _. (told self.new).failed ≡ (told self.old).failed)
+            (λ _. (told self.new).failed ≡ true) }
         ensures flushes { ((told self.new).flushes ≡ (told self.old).flushes)
-            × MatchResult result (λ _. (told self.new).unflushed ≡ true) (λ _. (told self.new).unflushed ≡ (told self.old).unflushed) };
+            × MatchResult result (λ _. (told self.new).unflushed ≡ true)
+            (λ _. (told self.new).unflushed ≡ (told self.old).unflushed) };
 
     /// Passes on what it took.
     fn flush(&mut self) -> Result<(), Failed>
         ensures bytes { Keeps (told self.old).contents (told self.new).contents }
-        ensures failed { MatchResult result (λ _. (told self.new).failed ≡ (told self.old).failed) (λ _. (told self.new).failed ≡ true) }
+        ensures failed { MatchResult result
+            (λ _. (told self.new).failed ≡ (told self.old).failed)
+            (λ _. (told self.new).failed ≡ true) }
         ensures flushes { MatchResult result
-            (λ _. ((told self.new).flushes ≡ (told self.old).flushes + 1) × ((told self.new).unflushed ≡ false))
-            (λ _. ((told self.new).flushes ≡ (told self.old).flushes) × ((told self.new).unflushed ≡ (told self.old).unflushed)) };
+            (λ _. ((told self.new).flushes ≡ (told self.old).flushes + 1)
+            × ((told self.new).unflushed ≡ false))
+            (λ _. ((told self.new).flushes ≡ (told self.old).flushes)
+            × ((told self.new).unflushed ≡ (told self.old).unflushed)) };
 
     /// Whether a write or a flush has failed.
     fn failed(&self) -> bool

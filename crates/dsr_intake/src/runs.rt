@@ -33,10 +33,15 @@ pub fn run<
     requires sources { All (λ r. (R.told r).failed ≡ false) readers.old.items }
     requires outlet { (W.told out.old).failed ≡ false }
     ensures reported { IfOk result (λ status. (texts : List FileText)
-        × IsReported R.told options readers.old.items readers.new.items (W.told out.old) (W.told out.new) texts status) }
-    ensures unwritten { IfErr result (IsUnwritten (GaveEach R.told options readers.old.items readers.new.items)
-        (λ texts. statement_of (report_of_texts options.layout texts)) (W.told out.old) (W.told out.new)) }
-    ensures refused { MatchOption (refusal_of (vec_len readers.old) options) (IfErr result IsLateRun) (λ e. (result ≡ Err (RunError.Intake e)) × (readers.new ≡ readers.old)) }
+        × IsReported R.told options readers.old.items readers.new.items
+        (W.told out.old) (W.told out.new) texts status) }
+    ensures unwritten { IfErr result (IsUnwritten
+        (GaveEach R.told options readers.old.items readers.new.items)
+        (λ texts. statement_of (report_of_texts options.layout texts))
+        (W.told out.old) (W.told out.new)) }
+    ensures refused { MatchOption (refusal_of (vec_len readers.old) options)
+        (IfErr result IsLateRun)
+        (λ e. (result ≡ Err (RunError.Intake e)) × (readers.new ≡ readers.old)) }
 {
     let report = match intake(rt, alloc, readers, options) {
         Ok(report) => report,

@@ -55,7 +55,8 @@ fn put_numbers(out: &mut Vec<u8>, numbers: &[u32]) -> Result<(), NoMemory>
 
 /// Puts the lines of the summaries that differ.
 fn put_differences(out: &mut Vec<u8>, differences: &[Difference]) -> Result<(), NoMemory>
-    ensures { OnOk result (out.new.items ≡ out.old.items ++ flat_map difference_line differences.now) }
+    ensures { OnOk result (out.new.items
+        ≡ out.old.items ++ flat_map difference_line differences.now) }
 {
     for difference in differences {
         put_difference(out, difference)?;

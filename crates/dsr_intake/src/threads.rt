@@ -1,5 +1,5 @@
 //! The threads, each of which reads a file and sends its events.
-ghost use Rattle.std.specs.Prelude.{◌≡◌, ◌<◌, ◌≤◌, ◌^◌, false, List, [], ◌++◌, IfOk, IfErr};
+ghost use Rattle.std.specs.Prelude.{◌≡◌, ◌<◌, ◌≤◌, false, List, [], ◌++◌, IfOk, IfErr};
 ghost use Rattle.dsr_file.specs.Placed.{Placed};
 ghost use Rattle.dsr_file.specs.Orderly.{IsOrderly};
 ghost use Rattle.dsr_intake.specs.Options.{IsLate};
@@ -7,7 +7,7 @@ ghost use Rattle.dsr_intake.specs.Ends.{ends_clean};
 ghost use Rattle.dsr_intake.specs.Given.{IsGiven};
 
 use crate::feed_sink::FeedSink;
-use crate::options::{IntakeError, Options};
+use crate::options::{IntakeError, MOST_READS, Options};
 use dsr_file::{Event, EventPart, FileFault, Outcome, ReadFileError, Source, read_file};
 use dsr_relay::{Feed, Tap};
 use std::alloc::Global;
@@ -33,7 +33,8 @@ pub(crate) struct Reading<R> {
 }
 
 impl<R: Source> Promise<Finished<R>> for Reading<R> {
-    ghost kept_by = { λ p r. (r.feed.name ≡ p.feed.value.name) × IsGiven p.options.value (R.told p.reader.value) (R.told r.reader) r.feed.sent };
+    ghost kept_by = { λ p r. (r.feed.name ≡ p.feed.value.name)
+        × IsGiven p.options.value (R.told p.reader.value) (R.told r.reader) r.feed.sent };
 }
 
 /// A thread that reads a file.
@@ -73,7 +74,7 @@ fn read_and_send<R: Source, H: Wait>(
     options: Options,
 ) -> Finished<R>
     requires some_reads { 0 < options.max_reads }
-    requires reads { options.max_reads ≤ 2 ^ 24 }
+    requires reads { options.max_reads ≤ MOST_READS }
     requires fresh { (R.told reader).failed ≡ false }
     requires empty { feed.sent ≡ [] }
     ensures name { result.feed.name ≡ feed.name }
@@ -140,11 +141,12 @@ pub(crate) fn start<R: Source + Send + Drop + 'static, H: Threads + Wait + Copy 
     options: &Options,
 ) -> Result<Thread<R>, IntakeError>
     requires some_reads { 0 < options.now.max_reads }
-    requires reads { options.now.max_reads ≤ 2 ^ 24 }
+    requires reads { options.now.max_reads ≤ MOST_READS }
     requires fresh { (R.told reader).failed ≡ false }
     requires empty { feed.sent ≡ [] }
     ensures late { IfErr result IsLate }
-    ensures promise { IfOk result (λ h. (h.promise.reader.value ≡ reader) × (h.promise.feed.value ≡ feed) × (h.promise.options.value ≡ options.now)) }
+    ensures promise { IfOk result (λ h. (h.promise.reader.value ≡ reader)
+        × (h.promise.feed.value ≡ feed) × (h.promise.options.value ≡ options.now)) }
 {
     let promise = Reading {
         reader: Snapshot::of(&reader),

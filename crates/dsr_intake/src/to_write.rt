@@ -17,7 +17,13 @@ pub struct ToWrite<W> {
 impl<W: Write> ToWrite<W> {
     /// The outlet over this writer, which has not failed.
     pub fn new(writer: W) -> ToWrite<W>
-        ensures { ⟦<ToWrite<W> as Outlet>⟧.told result ≡ record { contents = W.contents writer; failed = false; flushes = 0; unflushed = false } }
+        ensures { ⟦<ToWrite<W> as Outlet>⟧.told result
+            ≡ record {
+              contents = W.contents writer;
+              failed = false;
+              flushes = 0;
+              unflushed = false;
+            } }
     {
         ToWrite {
             writer,
@@ -29,7 +35,12 @@ impl<W: Write> ToWrite<W> {
 }
 
 impl<W: Write> Outlet for ToWrite<W> {
-    ghost told = { λ s. record { contents = W.contents s.writer; failed = s.failed; flushes = s.flushes; unflushed = s.unflushed } };
+    ghost told = { λ s. record {
+      contents = W.contents s.writer;
+      failed = s.failed;
+      flushes = s.flushes;
+      unflushed = s.unflushed;
+    } };
 
     /// An answer of 0 bytes is a failure.
     fn write(&mut self, piece: &[u8]) -> Result<usize, Failed> {

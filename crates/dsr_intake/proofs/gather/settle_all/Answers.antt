@@ -7,7 +7,7 @@ use Rattle.dsr_intake.proofs.gather.settle_all.Goals as goal
 pub loop-thread-init : goal.loop-thread-init
 loop-thread-init g c =
     record {
-      joined = rw (c.into_iter-thread-iterator.ensures.into_iter_gives.0, c.into_iter-taps.ensures.rest, c.requires.empty) (joining_none g.R.Source.told c.args.options.now _ _ _ c.args.threads.items c.args.taps.items c.requires.names c.requires.most c.requires.ended);
+      joined = rw (c.into_iter-thread-iterator.ensures.into_iter_gives.0, c.into_iter-taps.ensures.rest, c.requires.empty) (joining_none g.R.Source.told c.args.options.now _ _ _ c.args.threads.items c.args.taps.items c.requires.names c.requires.terms c.requires.ended);
       room = grind (arith, common_steps);
     }
 
