@@ -1,7 +1,7 @@
 //! Where a statement goes.
 ghost use Rattle.std.specs.Prelude.{◌≡◌, ◌<◌, ◌≤◌, ◌+◌, true, false, length, take, MatchResult, IfOk};
 ghost use Rattle.std.specs.Io.KnownBytes.{WriteAppends, Keeps};
-ghost use Rattle.dsr_intake.specs.Written.{Written, IsTaken, IsFlushed, IsCut};
+ghost use Rattle.dsr_intake.specs.meaning.Written.{Written, IsTaken, IsFlushed, IsCut};
 
 use dsr_file::Failed;
 
