@@ -17,7 +17,7 @@ use Rattle.dsr_file.specs.Orderly.{MayStandAt, has_ended}
 use Rattle.dsr_relay.specs.Views.{TapView}
 use Rattle.dsr_ledger.specs.declared.books.Books.{Books}
 use Rattle.dsr_ledger.specs.Files.{File, opened, add_block, end_with, with_block, with_outcome}
-use Rattle.dsr_ledger.specs.Books.{has_opening_in, ended_in, blocks_in}
+use Rattle.dsr_ledger.specs.Books.{ended_in}
 use Rattle.dsr_ledger.specs.BooksWords.{Stands, files_count, opened_count, CanBook, CanEnd, AllEnded}
 use Rattle.dsr_ledger.proofs.CallerLemmas.{opened_is, can_book, can_end, all_ended}
 use Rattle.dsr_intake.specs.meaning.Texts.{file_of, first, outcome_in}

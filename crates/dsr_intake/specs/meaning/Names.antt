@@ -1,7 +1,5 @@
 -- The names that a statement prints.
 use Rattle.std.specs.Prelude.{ℕ, List, codes}
-use Rattle.dsr_file.specs.declared.fault.FileFault.{FileFault}
-use Rattle.dsr_file.specs.declared.fault.FileFault.TheVariants as fault
 use Rattle.dsr_ledger.specs.declared.verdict.Standing.{Standing}
 use Rattle.dsr_ledger.specs.declared.verdict.Standing.TheVariants as standing
 use Rattle.dsr_ledger.specs.declared.verdict.Reason.{Reason}
