@@ -1,11 +1,11 @@
 -- The exit status of a run, and the line that tells its fault.
 use Rattle.std.specs.Prelude.{ℕ, List, [], ◌∷◌, ◌++◌, codes, decimal, Result, Ok, Err}
-use Rattle.dsr_intake.specs.declared.options.IntakeError.{IntakeError}
-use Rattle.dsr_intake.specs.declared.options.IntakeError.TheVariants as intake
-use Rattle.dsr_intake.specs.declared.run_error.RunError.{RunError}
-use Rattle.dsr_intake.specs.declared.run_error.RunError.TheVariants as run
-use Rattle.dsr_intake.specs.declared.verdict.Status.{Status}
-use Rattle.dsr_intake.specs.declared.verdict.Status.TheVariants.{Clean, Remarks}
+use Rattle.dsr_intake.specs.declared.pipeline.errors.IntakeError.{IntakeError}
+use Rattle.dsr_intake.specs.declared.pipeline.errors.IntakeError.TheVariants as intake
+use Rattle.dsr_intake.specs.declared.pipeline.errors.RunError.{RunError}
+use Rattle.dsr_intake.specs.declared.pipeline.errors.RunError.TheVariants as run
+use Rattle.dsr_intake.specs.declared.statements.verdict.Status.{Status}
+use Rattle.dsr_intake.specs.declared.statements.verdict.Status.TheVariants.{Clean, Remarks}
 use Rattle.dsr_records.specs.declared.layout_fault.LayoutError.{LayoutError}
 use Rattle.dsr_records.specs.declared.layout_fault.LayoutFault.{LayoutFault}
 use Rattle.dsr_records.specs.declared.layout_fault.LayoutFault.TheVariants as layout

@@ -13,6 +13,7 @@ use std::alloc::Global;
 use std::env::Env;
 use std::fs::{File, Files};
 use std::io::{ErrorKind, StdinLock, Write};
+use std::random::RandomSource;
 use std::sync::Wait;
 use std::thread::Threads;
 use std::{env, fs, io};
@@ -31,6 +32,7 @@ pub fn serve<
         + io::Input<Reader = StdinLock<'static>>
         + Threads
         + Wait
+        + RandomSource
         + Copy
         + Send
         + 'static,
@@ -93,6 +95,7 @@ fn read_and_print<
         + io::Input<Reader = StdinLock<'static>>
         + Threads
         + Wait
+        + RandomSource
         + Copy
         + Send
         + 'static,

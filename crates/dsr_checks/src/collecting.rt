@@ -8,6 +8,7 @@ use dsr_ledger::Report;
 use dsr_records::Layout;
 use dsr_relay::{Feed, Name, Tap, open_relay};
 use std::alloc::{AllocError, Global};
+use std::random::RandomSource;
 use std::sync::Wait;
 use std::thread;
 use std::thread::Threads;
@@ -62,7 +63,7 @@ fn open(alloc: Global) -> Result<(Feed, Tap), AllocError>
 }
 
 /// What is collected of two files of which the second thread sends so many events, and whether both taps have ended.
-fn collected<H: Threads + Wait + Copy + Send + 'static>(
+fn collected<H: Threads + Wait + RandomSource + Copy + Send + 'static>(
     rt: &H,
     alloc: Global,
     most: u32,

@@ -8,6 +8,7 @@ use crate::turns::hundred_blocks;
 use dsr_file::Failed;
 use dsr_intake::{IntakeError, Outlet, RunError, Status, run};
 use std::alloc::{AllocError, Global};
+use std::random::RandomSource;
 use std::sync::Wait;
 use std::thread::Threads;
 
@@ -18,20 +19,29 @@ struct Mirror {
     written: usize,
     agrees: bool,
     failed: bool,
+    flushes: u64,
+    unflushed: bool,
 }
 
 impl Outlet for Mirror {
-    ghost told = { λ s. record { contents = None; failed = s.failed } };
+    ghost told = { λ s. record { contents = None; failed = s.failed; flushes = s.flushes; unflushed = s.unflushed } };
 
     fn write(&mut self, piece: &[u8]) -> Result<usize, Failed> {
         if !stands_at(self.expected, self.written, piece) {
             self.agrees = false;
         }
         self.written = self.written.wrapping_add(piece.len());
+        self.unflushed = true;
         Ok(piece.len())
     }
 
     fn flush(&mut self) -> Result<(), Failed> {
+        let Some(flushes) = self.flushes.checked_add(1) else {
+            self.failed = true;
+            return Err(Failed);
+        };
+        self.flushes = flushes;
+        self.unflushed = false;
         Ok(())
     }
 
@@ -46,7 +56,7 @@ fn stands_at(text: &[u8], at: usize, piece: &[u8]) -> bool {
 }
 
 /// Whether a run on these readers writes this statement, or wants memory or a thread and writes nothing.
-fn ends_well<H: Threads + Wait + Copy + Send + 'static>(
+fn ends_well<H: Threads + Wait + RandomSource + Copy + Send + 'static>(
     rt: &H,
     alloc: Global,
     readers: Vec<Script>,
@@ -61,6 +71,8 @@ fn ends_well<H: Threads + Wait + Copy + Send + 'static>(
         written: 0,
         agrees: true,
         failed: false,
+        flushes: 0,
+        unflushed: false,
     };
     let answer = run(rt, alloc, &mut readers, options(1, 1000), &mut mirror);
     match answer {

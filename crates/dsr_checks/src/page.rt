@@ -13,6 +13,8 @@ pub struct Page {
     room: usize,
     flushes: bool,
     failed: bool,
+    flush_count: u64,
+    unflushed: bool,
 }
 
 impl Page {
@@ -33,7 +35,14 @@ impl Page {
             room,
             flushes,
             failed: false,
+            flush_count: 0,
+            unflushed: false,
         }
+    }
+
+    /// Whether it was flushed once, after the last byte.
+    pub fn is_flushed_once(&self) -> bool {
+        self.flush_count == 1 && !self.unflushed
     }
 
     /// What was written.
@@ -43,7 +52,7 @@ impl Page {
 }
 
 impl Outlet for Page {
-    ghost told = { λ s. record { contents = None; failed = s.failed } };
+    ghost told = { λ s. record { contents = None; failed = s.failed; flushes = s.flush_count; unflushed = s.unflushed } };
 
     fn write(&mut self, piece: &[u8]) -> Result<usize, Failed> {
         let count = piece.len().min(self.at_once).min(self.room);
@@ -52,11 +61,18 @@ impl Outlet for Page {
             return Err(Failed);
         }
         self.room -= count;
+        self.unflushed = true;
         Ok(count)
     }
 
     fn flush(&mut self) -> Result<(), Failed> {
+        let Some(flush_count) = self.flush_count.checked_add(1) else {
+            self.failed = true;
+            return Err(Failed);
+        };
         if self.flushes {
+            self.flush_count = flush_count;
+            self.unflushed = false;
             return Ok(());
         }
         self.failed = true;

@@ -9,11 +9,12 @@ use dsr_intake::{IntakeError, RunError, Status, ToWrite, run};
 use std::alloc::{AllocError, Global};
 use std::io;
 use std::io::Write;
+use std::random::RandomSource;
 use std::sync::Wait;
 use std::thread::Threads;
 
 /// Whether a run on so many readers ends with this error and writes nothing.
-fn refuses<H: Threads + Wait + Copy + Send + 'static>(
+fn refuses<H: Threads + Wait + RandomSource + Copy + Send + 'static>(
     rt: &H,
     alloc: Global,
     count: usize,
@@ -50,7 +51,7 @@ fn what_is_refused_before_anything_is_read(rt: HostRuntime) -> Result<(), AllocE
 }
 
 /// How a run on the clean report ends on this page.
-fn writes<H: Threads + Wait + Copy + Send + 'static>(
+fn writes<H: Threads + Wait + RandomSource + Copy + Send + 'static>(
     rt: &H,
     alloc: Global,
     page: &mut Page,
@@ -194,7 +195,7 @@ fn each_read_fails_in_turn(rt: HostRuntime) -> Result<(), AllocError> {
 
 /// Whether the statement of a file of one line tells this fault. The line has this first byte and is so long, no line feed
 /// ends it, and then a read fails.
-fn ends_by<H: Threads + Wait + Copy + Send + 'static>(
+fn ends_by<H: Threads + Wait + RandomSource + Copy + Send + 'static>(
     rt: &H,
     alloc: Global,
     first: u8,

@@ -6,6 +6,7 @@ use crate::script::Script;
 use dsr_intake::{Options, Status, run};
 use dsr_records::Layout;
 use std::alloc::Global;
+use std::random::RandomSource;
 use std::sync::Wait;
 use std::thread::Threads;
 
@@ -18,8 +19,8 @@ pub fn options(capacity: u32, max_reads: u32) -> Options {
     }
 }
 
-/// Whether the statement of what the readers give is this one, and what it comes to is this.
-pub fn gives<H: Threads + Wait + Copy + Send + 'static>(
+/// Whether the statement of what the readers give is this one, flushed once, and what it comes to is this.
+pub fn gives<H: Threads + Wait + RandomSource + Copy + Send + 'static>(
     rt: &H,
     alloc: Global,
     readers: Vec<Script>,
@@ -32,5 +33,5 @@ pub fn gives<H: Threads + Wait + Copy + Send + 'static>(
     let mut readers = readers;
     let mut page = Page::new(alloc);
     let answer = run(rt, alloc, &mut readers, options, &mut page);
-    answer == Ok(status) && page.bytes() == statement
+    answer == Ok(status) && page.bytes() == statement && page.is_flushed_once()
 }

@@ -8,7 +8,7 @@ use Rattle.dsr_file.specs.Placed.{Placed}
 use Rattle.dsr_file.specs.Orderly.{is_ended, has_ended, IsOrderly}
 use Rattle.dsr_file.specs.OrderlyLaws.{slice_get_front}
 use Rattle.dsr_file.specs.Texts.{placed}
-use Rattle.dsr_intake.specs.Ends.{is_clean_end, ends_clean}
+use Rattle.dsr_intake.specs.inner.Ends.{is_clean_end, ends_clean}
 
 pub ends_clean_push : (xs : List Placed) (e : Placed) → ends_clean (xs ++ e ∷ []) ≡ is_clean_end e.part
 ends_clean_push [] e = refl
@@ -46,12 +46,14 @@ clean_is_whole xs (y ∷ ys) o h =
     let e = o.ended_last l.0 l.1 (slice_get_front xs (y ∷ ys) l.0 l.1 l.2) l.3 in
     absurd (omega (arith, e, l.4, length-append xs (y ∷ ys)))
 
-placed_push : (n : ℕ) (parts : List EventPart) (p : EventPart) → (m : ℕ) × (placed n (parts ++ p ∷ []) ≡ placed n parts ++ (record { place = m; part = p }) ∷ [])
+placed_push : (n : ℕ) (parts : List EventPart) (p : EventPart) → (m : ℕ)
+    × (placed n (parts ++ p ∷ []) ≡ placed n parts ++ (record { place = m; part = p }) ∷ [])
 placed_push n [] p = (n, refl)
 placed_push n (q ∷ parts) p = let r = placed_push (n + 1) parts p in (r.0, ap (λ l. record { place = n; part = q } ∷ l) r.1)
 
 -- events that want of memory ends have no clean end
-pub memory_is_unclean : (parts : List EventPart) (line : ℕ) (es : List Placed) → es ≡ placed 0 (parts ++ Ended (Fault line Memory) ∷ []) → ends_clean es ≡ false
+pub memory_is_unclean : (parts : List EventPart) (line : ℕ) (es : List Placed) → es ≡ placed 0 (parts ++ Ended (Fault line Memory) ∷ []) → ends_clean es
+    ≡ false
 memory_is_unclean parts line es h =
     let r = placed_push 0 parts (Ended (Fault line Memory)) in
     ap ends_clean (h ∙ r.1) ∙ ends_clean_push (placed 0 parts) (record { place = r.0; part = Ended (Fault line Memory) })

@@ -1,5 +1,6 @@
 -- The file that a list of events tells of, event by event.
-use Rattle.std.proofs.Common.{◌≡◌, ℕ, zero, suc, ◌+◌, ◌<◌, ◌≤◌, ◌^◌, ◌||◌, true, false, List, [], ◌∷◌, ◌++◌, length, take, drop, get_or, Some, IsSome, refl, sym, ap, subst, ◌∙◌, arith, add-one, append_assoc, length-append, set, slice_get}
+use Rattle.std.proofs.Common.{◌≡◌, ℕ, zero, suc, ◌+◌, ◌<◌, ◌≤◌, ◌^◌, ◌||◌, true, false, List, [], ◌∷◌, ◌++◌, length, take, drop, get_or, Some, IsSome, refl}
+use Rattle.std.proofs.Common.{sym, ap, subst, ◌∙◌, arith, add-one, append_assoc, length-append, set, slice_get}
 use Rattle.std.specs.List.{filter_map}
 use Rattle.std.proofs.lemmas.List.{append-nil, set-set, set-get_or, take-append-drop}
 use Rattle.std.proofs.Math.Seq.{take-suc}
@@ -14,9 +15,9 @@ use Rattle.dsr_relay.proofs.Taking.{going_on}
 use Rattle.dsr_ledger.specs.declared.books.Books.{Books}
 use Rattle.dsr_ledger.specs.Files.{File}
 use Rattle.dsr_ledger.specs.BooksWords.{Stands}
-use Rattle.dsr_intake.specs.Ends.{ends_clean, is_clean_end}
-use Rattle.dsr_intake.specs.Texts.{opening_in, block_in, outcome_in, first, file_of}
-use Rattle.dsr_intake.specs.Collecting.{with_part, is_opening, IsGoing, Knows, Changes, IsFollowed, TakesAll}
+use Rattle.dsr_intake.specs.inner.Ends.{ends_clean, is_clean_end}
+use Rattle.dsr_intake.specs.meaning.Texts.{opening_in, block_in, outcome_in, first, file_of}
+use Rattle.dsr_intake.specs.inner.Collecting.{with_part, is_opening, IsGoing, Knows, Changes, IsFollowed, TakesAll}
 use Rattle.dsr_intake.proofs.EndLemmas.{ends_clean_push, has_ended_push}
 
 abbrev event : ℕ → EventPart → Placed
@@ -29,22 +30,26 @@ module _ (n : ℕ) where
   none_at (part.Block b) es h = h
   none_at (part.Ended o) es h = cc
 
-  no_outcome_at : (p : EventPart) (es : List Placed) → has_ended (event n p ∷ es) ≡ false → filter_map outcome_in es ≡ [] → filter_map outcome_in (event n p ∷ es) ≡ []
+  no_outcome_at : (p : EventPart) (es : List Placed) → has_ended (event n p ∷ es) ≡ false → filter_map outcome_in es ≡ []
+      → filter_map outcome_in (event n p ∷ es) ≡ []
   no_outcome_at (part.Opened o) es h ih = ih
   no_outcome_at (part.Block b) es h ih = ih
   no_outcome_at (part.Ended o) es h ih = cc
 
-  opened_at : (p : EventPart) (es : List Placed) → MayStandAt 0 p → has_ended (event n p ∷ es) ≡ false → IsSome (first (filter_map opening_in (event n p ∷ es)))
+  opened_at : (p : EventPart) (es : List Placed) → MayStandAt 0 p → has_ended (event n p ∷ es) ≡ false
+      → IsSome (first (filter_map opening_in (event n p ∷ es)))
   opened_at (part.Opened o) es f h = refl
   opened_at (part.Block b) es f h = absurd (f refl)
   opened_at (part.Ended o) es f h = cc
 
-  blocks_at : (p : EventPart) (es : List Placed) → length (filter_map block_in es) ≤ length es → length (filter_map block_in (event n p ∷ es)) ≤ suc (length es)
+  blocks_at : (p : EventPart) (es : List Placed) → length (filter_map block_in es) ≤ length es
+      → length (filter_map block_in (event n p ∷ es)) ≤ suc (length es)
   blocks_at (part.Opened o) es h = omega arith
   blocks_at (part.Block b) es h = omega arith
   blocks_at (part.Ended o) es h = omega arith
 
-  more_at : (es : List Placed) (p : EventPart) → is_opening p ≡ false → filter_map outcome_in es ≡ [] → file_of (es ++ event n p ∷ []) ≡ with_part (file_of es) p
+  more_at : (es : List Placed) (p : EventPart) → is_opening p ≡ false → filter_map outcome_in es ≡ [] → file_of (es ++ event n p ∷ [])
+      ≡ with_part (file_of es) p
   more_at es (part.Opened o) later none = cc
   more_at es (part.Block b) later none = simp (filter_map-append, append-nil)
   more_at es (part.Ended o) later none = simp (filter_map-append, append-nil) (rw none refl)
@@ -77,7 +82,8 @@ pub later_part : (es : List Placed) (e : Placed) → IsOrderly (es ++ e ∷ []) 
 later_part es e o some = later_at e.place (length es) e.part some (o.parts (length es) e (get_end es e))
 
 -- a later event tells of its part
-pub file_more : (es : List Placed) (e : Placed) → IsOrderly (es ++ e ∷ []) → 0 < length es → has_ended es ≡ false → file_of (es ++ e ∷ []) ≡ with_part (file_of es) e.part
+pub file_more : (es : List Placed) (e : Placed) → IsOrderly (es ++ e ∷ []) → 0 < length es → has_ended es ≡ false → file_of (es ++ e ∷ [])
+    ≡ with_part (file_of es) e.part
 file_more es e o some h = more_at e.place es e.part (later_part es e o some) (no_outcome es h)
 
 -- a file that has not ended may take a further event, whose place shows that there is room
@@ -124,18 +130,23 @@ next_at taken events i d f low =
       more = ap (λ l. taken ++ l) (rw add-one (take-suc events i d low)) ∙ sym (append_assoc taken (take i events) (e ∷ []));
     }
 
-pub follows_next : (taken events : List Placed) (i : ℕ) (e : Placed) → IsFollowed taken events → i < length events → e ≡ get_or events i e → FollowsNext taken events i e
+pub follows_next : (taken events : List Placed) (i : ℕ) (e : Placed) → IsFollowed taken events → i < length events → e ≡ get_or events i e
+    → FollowsNext taken events i e
 follows_next taken events i e f low is = subst (FollowsNext taken events i) (sym is) (next_at taken events i e f low)
 
 pub takes_none : (a : Books) (k : ℕ) (taken : List Placed) → has_ended taken ≡ false → TakesAll a a k taken []
 takes_none a k taken running = rw append-nil (changes_none a k (file_of taken), λ ended. absurd (cc))
 
 -- the books take the next of the events that follow
-pub takes_more : (a b c : Books) (k : ℕ) (taken events : List Placed) (i : ℕ) (e : Placed) → FollowsNext taken events i e → TakesAll a b k taken (take i events)
+pub takes_more : (a b c : Books) (k : ℕ) (taken events : List Placed) (i : ℕ) (e : Placed) → FollowsNext taken events i e
+    → TakesAll a b k taken (take i events)
     → ((f : File) → Changes b c k f (with_part f e.part)) → (is_ended e.part ≡ true → is_clean_end e.part ≡ true) → TakesAll a c k taken (take (i + 1) events)
 takes_more a b c k taken events i e n was step clean =
     let xs = taken ++ take i events in
-    let same : with_part (file_of xs) e.part ≡ file_of (taken ++ take (i + 1) events) = sym (ap file_of n.more ∙ file_more xs e n.orderly n.some n.running) in (
-      λ files stands at. subst (λ f. Stands c (set files k f)) same (changes_more a b c k (file_of taken) (file_of xs) (with_part (file_of xs) e.part) was.0 (step (file_of xs)) files stands at),
-      λ ended. ap ends_clean n.more ∙ ends_clean_push xs e ∙ clean (sym (has_ended_push xs e ∙ ap (λ b. b || is_ended e.part) n.running) ∙ ap has_ended (sym n.more) ∙ ended),
+    let same : with_part (file_of xs) e.part
+    ≡ file_of (taken ++ take (i + 1) events) = sym (ap file_of n.more ∙ file_more xs e n.orderly n.some n.running) in (
+      λ files stands at. subst (λ f. Stands c (set files k f)) same
+          (changes_more a b c k (file_of taken) (file_of xs) (with_part (file_of xs) e.part) was.0 (step (file_of xs)) files stands at),
+      λ ended. ap ends_clean n.more ∙ ends_clean_push xs e
+          ∙ clean (sym (has_ended_push xs e ∙ ap (λ b. b || is_ended e.part) n.running) ∙ ap has_ended (sym n.more) ∙ ended),
     )

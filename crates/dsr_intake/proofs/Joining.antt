@@ -1,5 +1,5 @@
 -- What holds while the threads are started, and while they are joined.
-use Rattle.std.proofs.Common.{◌≡◌, true, false, List, [], ◌∷◌, ◌++◌, map, All, refl, sym, ap, subst, ◌∙◌, append_assoc}
+use Rattle.std.proofs.Common.{◌≡◌, false, List, [], ◌∷◌, ◌++◌, map, All, refl, sym, ap, subst, ◌∙◌, append_assoc}
 use Rattle.std.proofs.lemmas.List.{append-nil, map-append}
 use Rattle.std.proofs.lemmas.List.Elements.{All-head, All-tail, All-cons, All-append, All-nil}
 use Rattle.dsr_file.specs.Placed.{Placed}
@@ -9,27 +9,25 @@ use Rattle.dsr_file.specs.Sources.{Told, GaveText}
 use Rattle.dsr_relay.specs.declared.name.Name.{Name}
 use Rattle.dsr_relay.specs.Views.{TapView}
 use Rattle.dsr_records.specs.Records.{LayoutTable}
-use Rattle.dsr_intake.specs.declared.options.Options.{Options}
-use Rattle.dsr_intake.specs.Ends.{ends_clean}
-use Rattle.dsr_intake.specs.Given.{IsGiven}
-use Rattle.dsr_intake.specs.Texts.{GaveEach, file_of}
+use Rattle.dsr_intake.specs.declared.pipeline.options.Options.{Options}
+use Rattle.dsr_intake.specs.inner.Ends.{ends_clean}
+use Rattle.dsr_intake.specs.inner.Collecting.{IsDrained}
+use Rattle.dsr_intake.specs.inner.Given.{IsGiven}
+use Rattle.dsr_intake.specs.meaning.Texts.{GaveEach, file_of}
 use Rattle.dsr_intake.proofs.EndLemmas.{clean_is_whole}
 
 All-one : {A : Type 0} (P : A → Type 0) (x : A) → P x → All P (x ∷ [])
 All-one P x h = All-cons P x [] h (All-nil P)
 
 gave_more : {R : Type 0} (told : R → Told) (options : Options) (rs ss : List R) (ts : List FileText) (r s : R) (t : FileText)
-    → GaveEach told options rs ss ts → GaveText options.layout options.max_reads (told r) (told s) t → GaveEach told options (rs ++ r ∷ []) (ss ++ s ∷ []) (ts ++ t ∷ [])
+    → GaveEach told options rs ss ts → GaveText options.layout options.max_reads (told r) (told s) t
+    → GaveEach told options (rs ++ r ∷ []) (ss ++ s ∷ []) (ts ++ t ∷ [])
 gave_more told options [] [] [] r s t h new = (new, tt)
 gave_more told options (x ∷ rs) (y ∷ ss) (z ∷ ts) r s t h new = (h.0, gave_more told options rs ss ts r s t h.1 new)
 gave_more told options [] [] (z ∷ ts) r s t h new = absurd h
 gave_more told options [] (y ∷ ss) ts r s t h new = absurd h
 gave_more told options (x ∷ rs) [] ts r s t h new = absurd h
 gave_more told options (x ∷ rs) (y ∷ ss) [] r s t h new = absurd h
-
--- a tap of which all was taken
-abbrev pub IsDrained : TapView → Type 0
-IsDrained t = IsOrderly t.taken × (ends_clean t.taken ≡ true)
 
 -- `H` is a handle of a thread, of which `reader`, `name` and `terms` tell what the thread was given
 module _ {R H : Type 0} (told : R → Told) (options : Options) (reader : H → R) (name : H → Name) (terms : H → Options) where
@@ -94,7 +92,8 @@ module _ {R H : Type 0} (told : R → Told) (options : Options) (reader : H → 
       let drained = All-head IsDrained t ts j.drained in
       let none = clean_is_whole t.taken s.left (subst IsOrderly s.meets s.orderly) drained.1 in
       let whole : s.sent ≡ t.taken = s.meets ∙ ap (λ l. t.taken ++ l) none ∙ append-nil t.taken in
-      let g = (subst (λ o. IsGiven o (told (reader h)) (told new) s.sent) (All-head (λ x. terms x ≡ options) h hs j.terms_are) s.given).given (ap ends_clean whole ∙ drained.1) in
+      let g = (subst (λ o. IsGiven o (told (reader h)) (told new) s.sent) (All-head (λ x. terms x ≡ options) h hs j.terms_are) s.given).given
+      (ap ends_clean whole ∙ drained.1) in
       record {
         names = let e = j.names in cc;
         terms_are = All-tail (λ x. terms x ≡ options) h hs j.terms_are;
@@ -103,13 +102,18 @@ module _ {R H : Type 0} (told : R → Told) (options : Options) (reader : H → 
         before = j.before ++ reader h ∷ [];
         gave = gave_more told options j.before news j.texts (reader h) new g.0 j.gave g.1;
         readers = append_assoc j.before (reader h ∷ []) (map reader hs) ∙ j.readers;
-        taken = rw (map-append, append_assoc) (subst (λ l. map (events_of_text options.layout) j.texts ++ l ∷ map (λ x. x.taken) ts ≡ lists) (sym whole ∙ g.2) j.taken);
+        taken = rw (map-append, append_assoc)
+            (subst (λ l. map (events_of_text options.layout) j.texts ++ l ∷ map (λ x. x.taken) ts ≡ lists) (sym whole ∙ g.2) j.taken);
       }
 
   pub joining_done : (all : List R) (lists : List (List Placed)) (ts : List TapView) (news : List R) → Joining all lists [] ts news
       → (texts : List FileText) × GaveEach told options all news texts × (lists ≡ map (events_of_text options.layout) texts)
-  joining_done all lists [] news j =
-      (j.texts, subst (λ rs. GaveEach told options rs news j.texts) (sym (append-nil j.before) ∙ j.readers) j.gave, sym j.taken ∙ append-nil (map (events_of_text options.layout) j.texts))
+  joining_done all lists [] news j = (
+    j.texts,
+    subst (λ rs. GaveEach told options rs news j.texts) (sym (append-nil j.before) ∙ j.readers) j.gave,
+    sym j.taken
+        ∙ append-nil (map (events_of_text options.layout) j.texts),
+  )
   joining_done all lists (t ∷ ts) news j = let e = j.names in cc
 
 -- where what was taken is the texts' events, the files are the texts'

@@ -8,9 +8,9 @@ use Rattle.dsr_file.specs.Placed.{Placed}
 use Rattle.dsr_file.specs.Sources.{Told, IsRead, IsRefused}
 use Rattle.dsr_file.specs.Refusals.{IsRefusal}
 use Rattle.dsr_file.proofs.RunLemmas.{run_orderly}
-use Rattle.dsr_intake.specs.declared.options.Options.{Options}
-use Rattle.dsr_intake.specs.Ends.{ends_clean}
-use Rattle.dsr_intake.specs.Given.{IsGiven}
+use Rattle.dsr_intake.specs.declared.pipeline.options.Options.{Options}
+use Rattle.dsr_intake.specs.inner.Ends.{ends_clean}
+use Rattle.dsr_intake.specs.inner.Given.{IsGiven}
 use Rattle.dsr_intake.proofs.EndLemmas.{clean_is_whole, memory_is_unclean}
 
 module _ (options : Options) (before after : Told) (sent : List Placed) where

@@ -1,5 +1,6 @@
 -- What holds while the files are opened, and in a round.
-use Rattle.std.proofs.Common.{◌≡◌, ℕ, zero, suc, ◌+◌, ◌<◌, ◌≤◌, true, List, [], ◌∷◌, ◌++◌, map, take, set, length, get_or, All, Some, None, Result, Ok, Err, refl, sym, ap, subst, ◌∙◌, arith, length-take, add-one, ◌⊎◌, inl, inr, IsSome, is_some, slice_get}
+use Rattle.std.proofs.Common.{◌≡◌, ℕ, zero, suc, ◌+◌, ◌<◌, ◌≤◌, true, List, [], ◌∷◌, ◌++◌, map, take, set, length, get_or, All, Some, None, Result, Ok, Err}
+use Rattle.std.proofs.Common.{refl, sym, ap, subst, ◌∙◌, arith, length-take, add-one, ◌⊎◌, inl, inr, IsSome, is_some, slice_get}
 use Rattle.std.specs.List.{filter_map}
 use Rattle.std.specs.Prelude.{OnOk}
 use Rattle.std.specs.Option.{option_map}
@@ -16,14 +17,14 @@ use Rattle.dsr_file.specs.Orderly.{MayStandAt, has_ended}
 use Rattle.dsr_relay.specs.Views.{TapView}
 use Rattle.dsr_ledger.specs.declared.books.Books.{Books}
 use Rattle.dsr_ledger.specs.Files.{File, opened, add_block, end_with, with_block, with_outcome}
-use Rattle.dsr_ledger.specs.Books.{has_opening_in, ended_in, blocks_in}
+use Rattle.dsr_ledger.specs.Books.{ended_in}
 use Rattle.dsr_ledger.specs.BooksWords.{Stands, files_count, opened_count, CanBook, CanEnd, AllEnded}
 use Rattle.dsr_ledger.proofs.CallerLemmas.{opened_is, can_book, can_end, all_ended}
-use Rattle.dsr_intake.specs.Texts.{file_of, first, outcome_in}
-use Rattle.dsr_intake.specs.Stops.{IsStopped}
-use Rattle.dsr_intake.specs.declared.collector.CollectError.{CollectError}
-use Rattle.dsr_intake.specs.declared.collector.CollectError.TheVariants.{Memory, Closed}
-use Rattle.dsr_intake.specs.Collecting.{IsTapped, IsStoppedAt, IsFileAt, Changes, Opens, first_file, IsGoing, Knows, IsNext}
+use Rattle.dsr_intake.specs.meaning.Texts.{file_of, first, outcome_in}
+use Rattle.dsr_intake.specs.inner.Stops.{IsStopped}
+use Rattle.dsr_intake.specs.declared.pipeline.errors.CollectError.{CollectError}
+use Rattle.dsr_intake.specs.declared.pipeline.errors.CollectError.TheVariants.{Memory, Closed}
+use Rattle.dsr_intake.specs.inner.Collecting.{IsTapped, IsStoppedAt, IsFileAt, Changes, Opens, first_file, IsGoing, Knows, IsNext}
 use Rattle.dsr_intake.proofs.Filing.{get_end, get_set_same}
 
 abbrev event : ℕ → EventPart → Placed
@@ -41,7 +42,8 @@ outcome_is_set (g ∷ files) zero f o at = let e : g ≡ f = cc in ap (λ h. end
 outcome_is_set (g ∷ files) (suc k) f o at = ap (λ l. g ∷ l) (outcome_is_set files k f o at)
 
 -- ending a file changes it
-pub outcome_changes : (a c : Books) (k : ℕ) (o : Outcome) → ((files : List File) → Stands a files → Stands c (with_outcome files k o)) → (f : File) → Changes a c k f (end_with o f)
+pub outcome_changes : (a c : Books) (k : ℕ) (o : Outcome) → ((files : List File) → Stands a files → Stands c (with_outcome files k o)) → (f : File)
+    → Changes a c k f (end_with o f)
 outcome_changes a c k o h f files stands at = subst (Stands c) (outcome_is_set files k f o at) (h files stands)
 
 pub on_any : {A E P : Type 0} (answer : Result A E) → P → OnOk answer P
@@ -64,7 +66,9 @@ pub opens_ended : (a b c : Books) (k : ℕ) (o : Outcome) → Opens a b k (opene
 opens_ended a b c k o p q files stands len =
     let f = opened None in
     let at : slice_get (files ++ f ∷ []) k ≡ Some f = subst (λ i. slice_get (files ++ f ∷ []) i ≡ Some f) len (get_end files f) in
-    let same : set (files ++ f ∷ []) k (end_with o f) ≡ files ++ end_with o f ∷ [] = subst (λ i. set (files ++ f ∷ []) i (end_with o f) ≡ files ++ end_with o f ∷ []) len (set-append_seam files f [] (end_with o f)) in
+    let same : set (files ++ f ∷ []) k (end_with o f) ≡ files
+    ++ end_with o f ∷ [] = subst (λ i. set (files ++ f ∷ []) i (end_with o f) ≡ files ++ end_with o f ∷ []) len
+    (set-append_seam files f [] (end_with o f)) in
     subst (Stands c) (outcome_is_set (files ++ f ∷ []) k f o at ∙ same) (q (files ++ f ∷ []) (p files stands len))
 
 pub get_set_other : {A : Type 0} (xs : List A) (k j : ℕ) (y : A) → (j ≡ k → ⊥) → slice_get (set xs k y) j ≡ slice_get xs j
@@ -83,7 +87,8 @@ same_or_other (suc j) (suc k) = elim (same_or_other j k) [ inl e ↦ inl (ap suc
 put_here : (now : List TapView) (k : ℕ) (t u x : TapView) → slice_get now k ≡ Some t → slice_get (set now k u) k ≡ Some x → u ≡ x
 put_here now k t u x at here = let e = get_set_same now k t u at in cc
 
-pub names_set : (now : List TapView) (k : ℕ) (t u : TapView) → slice_get now k ≡ Some t → u.name ≡ t.name → map (λ x. x.name) (set now k u) ≡ map (λ x. x.name) now
+pub names_set : (now : List TapView) (k : ℕ) (t u : TapView) → slice_get now k ≡ Some t → u.name ≡ t.name → map (λ x. x.name) (set now k u)
+    ≡ map (λ x. x.name) now
 names_set now k t u at name = map-set_same (λ x. x.name) now k u t (name ∙ ap (λ x. x.name) (sym (get_or_from_slice_get now k t t at)))
 
 take_whole : (k : ℕ) (ts : List TapView) → length ts ≤ k → take k ts ≡ ts
@@ -125,7 +130,8 @@ opening_more all now k books new t u o at name tapped opens =
       stands = rw (grown, map-append) (opens files o.stands len);
     }
 
-pub opening_done : (all now : List TapView) (k : ℕ) (books : Books) → Opening all now k books → length now ≤ k → All IsTapped now × Stands books (map (λ t. file_of t.taken) now)
+pub opening_done : (all now : List TapView) (k : ℕ) (books : Books) → Opening all now k books → length now ≤ k → All IsTapped now
+    × Stands books (map (λ t. file_of t.taken) now)
 opening_done all now k books o h = (
   λ j d low. o.tapped j (get_or now j d) (omega arith) (slice_get-get_or now j d low),
   rw (take_whole k now h) at o.stands,
@@ -142,7 +148,8 @@ pub stopped_at : (now : List TapView) (k : ℕ) (t u : TapView) (e : CollectErro
 stopped_at now k t u Memory at s = tt
 stopped_at now k t u (Closed n) at s = (k, u, s.0, get_set_same now k t u at, s.1)
 
-outcome_at : (n : ℕ) (p : EventPart) (es : List Placed) → has_ended (event n p ∷ es) ≡ true → (has_ended es ≡ true → IsSome (first (filter_map outcome_in es))) → IsSome (first (filter_map outcome_in (event n p ∷ es)))
+outcome_at : (n : ℕ) (p : EventPart) (es : List Placed) → has_ended (event n p ∷ es) ≡ true
+    → (has_ended es ≡ true → IsSome (first (filter_map outcome_in es))) → IsSome (first (filter_map outcome_in (event n p ∷ es)))
 outcome_at n (part.Opened o) es h ih = ih h
 outcome_at n (part.Block b) es h ih = ih h
 outcome_at n (part.Ended o) es h ih = refl
@@ -157,7 +164,8 @@ ended_at (t ∷ ts) zero h below = ended_outcome t.taken (h 0 t (omega arith))
 ended_at (t ∷ ts) (suc k) h below = ended_at ts k (All-tail (λ x. has_ended x.taken ≡ true) t ts h) (omega arith)
 
 -- all files have ended
-pub files_ended : (books : Books) (ts : List TapView) → Stands books (map (λ t. file_of t.taken) ts) → length ts ≡ files_count books → All (λ t. has_ended t.taken ≡ true) ts → AllEnded books
+pub files_ended : (books : Books) (ts : List TapView) → Stands books (map (λ t. file_of t.taken) ts) → length ts ≡ files_count books
+    → All (λ t. has_ended t.taken ≡ true) ts → AllEnded books
 files_ended books ts stands count h =
     let len = length-map ts (λ t. file_of t.taken) in
     all_ended books (map (λ t. file_of t.taken) ts) stands (len ∙ count) (λ k below. ended_at ts k h (omega (arith, len, below)))

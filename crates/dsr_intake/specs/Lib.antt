@@ -1,13 +1,3 @@
--- Definitions to believe: what is refused, what a statement says, and of which texts it is.
-pub mod Options
-pub mod Names
-pub mod Statement
-pub mod Status
-pub mod Texts
-pub mod Written
-pub mod Outcomes
-pub mod Ends
-pub mod Stops
--- Words that relate what the code keeps to them.
-pub mod Given
-pub mod Collecting
+-- What `run` must be believed by, and what relates the code to it.
+pub mod meaning
+pub mod inner

@@ -1,28 +1,35 @@
 //! Reading the files of a report at once, and writing its statement.
+//!
+//! A run goes through these stages:
+//!
+//! 1. `pipeline/options`: what is asked for, and what is refused before anything is read.
+//! 2. `pipeline/gather`: opens a relay for each file and starts a thread for it.
+//! 3. `pipeline/threads`: each thread reads its file, and `pipeline/feed_sink` sends its events into the relay.
+//! 4. `pipeline/collector`: takes the events of all relays, a message of each in turn, and books them.
+//!    `pipeline/seed`: the seed of the hashes in the books.
+//! 5. `pipeline/gather` again: joins the threads and hands the readers back, with the report.
+//! 6. `statements/write`: the bytes of the report, by `statements/lines`, `statements/cells` and `statements/names`.
+//!    `statements/status`: whether anybody has to look at them.
+//! 7. `pipeline/run`: all of this, and then the bytes go to an `outlet`, which is flushed. `to_write` makes an
+//!    outlet of a writer of the library.
+//!
+//! `pipeline/errors` has each error with its text. Of the definitions, `specs/meaning` has those that `run` must be
+//! believed by, and `specs/inner` relates to them what the code keeps.
 #![tactic(auto)]
 
-mod collector;
-mod feed_sink;
-mod gather;
-mod lines;
-mod names;
-mod options;
 mod outlet;
-mod put;
-mod run_error;
-mod runs;
+mod pipeline;
 mod statements;
-mod threads;
 mod to_write;
-mod verdict;
 
-pub use collector::{CollectError, collect};
-pub use feed_sink::FeedSink;
-pub use gather::intake;
-pub use options::{IntakeError, Options};
 pub use outlet::Outlet;
-pub use run_error::RunError;
-pub use runs::run;
-pub use statements::{statement, status};
+pub use pipeline::collector::collect;
+pub use pipeline::errors::{CollectError, IntakeError, RunError};
+pub use pipeline::feed_sink::FeedSink;
+pub use pipeline::gather::intake;
+pub use pipeline::options::Options;
+pub use pipeline::run::run;
+pub use statements::status::status;
+pub use statements::verdict::Status;
+pub use statements::write::statement;
 pub use to_write::ToWrite;
-pub use verdict::Status;

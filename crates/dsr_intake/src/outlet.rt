@@ -1,40 +1,50 @@
 //! Where a statement goes.
-ghost use Rattle.std.specs.Prelude.{◌≡◌, ◌<◌, ◌≤◌, true, length, take, MatchResult, IfOk};
-ghost use Rattle.std.specs.Io.KnownBytes.{WriteAppends, Appends, Keeps};
-ghost use Rattle.dsr_intake.specs.Written.{Written};
+ghost use Rattle.std.specs.Prelude.{◌≡◌, ◌<◌, ◌≤◌, ◌+◌, true, false, length, take, MatchResult, IfOk};
+ghost use Rattle.std.specs.Io.KnownBytes.{WriteAppends, Keeps};
+ghost use Rattle.dsr_intake.specs.meaning.Written.{Written, IsTaken, IsFlushed, IsCut};
 
 use dsr_file::Failed;
 
 /// What takes the bytes of a statement.
 pub trait Outlet {
-    /// What it holds, and whether it has failed.
+    /// What it holds, whether it has failed, and how it was flushed.
     ghost told: { Self → Written };
 
     /// Takes the first bytes of a piece that is not empty, and tells how many.
     fn write(&mut self, piece: &[u8]) -> Result<usize, Failed>
         requires { 0 < length piece.now }
         ensures count { IfOk result (λ n. (0 < n) × (n ≤ length piece.now)) }
-        ensures bytes { WriteAppends (told self.old).contents (told self.new).contents result piece.now }
-        ensures failed { MatchResult result (λ _. (told self.new).failed ≡ (told self.old).failed) (λ _. (told self.new).failed ≡ true) };
+        ensures bytes { WriteAppends (told self.old).contents (told self.new).contents
+            result piece.now }
+        ensures failed { MatchResult result
+            (λ _. (told self.new).failed ≡ (told self.old).failed)
+            (λ _. (told self.new).failed ≡ true) }
+        ensures flushes { ((told self.new).flushes ≡ (told self.old).flushes)
+            × MatchResult result (λ _. (told self.new).unflushed ≡ true)
+            (λ _. (told self.new).unflushed ≡ (told self.old).unflushed) };
 
     /// Passes on what it took.
     fn flush(&mut self) -> Result<(), Failed>
         ensures bytes { Keeps (told self.old).contents (told self.new).contents }
-        ensures failed { MatchResult result (λ _. (told self.new).failed ≡ (told self.old).failed) (λ _. (told self.new).failed ≡ true) };
+        ensures failed { MatchResult result
+            (λ _. (told self.new).failed ≡ (told self.old).failed)
+            (λ _. (told self.new).failed ≡ true) }
+        ensures flushes { MatchResult result
+            (λ _. ((told self.new).flushes ≡ (told self.old).flushes + 1)
+            × ((told self.new).unflushed ≡ false))
+            (λ _. ((told self.new).flushes ≡ (told self.old).flushes)
+            × ((told self.new).unflushed ≡ (told self.old).unflushed)) };
 
     /// Whether a write or a flush has failed.
     fn failed(&self) -> bool
         ensures { result ≡ (told self.now).failed };
 }
 
-/// Writes all bytes, and then flushes. The fault is how many bytes went out.
+/// Writes all bytes. The fault is how many of them went out.
 pub(crate) fn write_all<W: Outlet>(out: &mut W, bytes: &[u8]) -> Result<(), usize>
     ensures written { MatchResult result
-        (λ _. Appends (W.told out.old).contents (W.told out.new).contents bytes.now
-        × ((W.told out.new).failed ≡ (W.told out.old).failed))
-        (λ n. (n ≤ length bytes.now)
-        × Appends (W.told out.old).contents (W.told out.new).contents (take n bytes.now)
-        × ((W.told out.new).failed ≡ true)) }
+        (λ _. IsTaken bytes.now (W.told out.old) (W.told out.new))
+        (λ n. (n ≤ length bytes.now) × IsCut (take n bytes.now) (W.told out.old) (W.told out.new)) }
 {
     let mut written = 0;
     while written < bytes.len() {
@@ -43,8 +53,18 @@ pub(crate) fn write_all<W: Outlet>(out: &mut W, bytes: &[u8]) -> Result<(), usiz
             Err(Failed) => return Err(written),
         }
     }
+    Ok(())
+}
+
+/// Writes all bytes, and then flushes. The fault is how many of them went out.
+pub(crate) fn write_and_flush<W: Outlet>(out: &mut W, bytes: &[u8]) -> Result<(), usize>
+    ensures written { MatchResult result
+        (λ _. IsFlushed bytes.now (W.told out.old) (W.told out.new))
+        (λ n. (n ≤ length bytes.now) × IsCut (take n bytes.now) (W.told out.old) (W.told out.new)) }
+{
+    write_all(out, bytes)?;
     match out.flush() {
         Ok(()) => Ok(()),
-        Err(Failed) => Err(written),
+        Err(Failed) => Err(bytes.len()),
     }
 }

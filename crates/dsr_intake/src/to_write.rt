@@ -5,32 +5,50 @@ use crate::outlet::Outlet;
 use dsr_file::Failed;
 use std::io::Write;
 
-/// An outlet over a writer.
+/// An outlet over a writer. After 2^64 - 1 flushes it fails.
 #[derive(Drop)]
 pub struct ToWrite<W> {
     writer: W,
     failed: bool,
+    flushes: u64,
+    unflushed: bool,
 }
 
 impl<W: Write> ToWrite<W> {
     /// The outlet over this writer, which has not failed.
     pub fn new(writer: W) -> ToWrite<W>
-        ensures { ⟦<ToWrite<W> as Outlet>⟧.told result ≡ record { contents = W.contents writer; failed = false } }
+        ensures { ⟦<ToWrite<W> as Outlet>⟧.told result
+            ≡ record {
+              contents = W.contents writer;
+              failed = false;
+              flushes = 0;
+              unflushed = false;
+            } }
     {
         ToWrite {
             writer,
             failed: false,
+            flushes: 0,
+            unflushed: false,
         }
     }
 }
 
 impl<W: Write> Outlet for ToWrite<W> {
-    ghost told = { λ s. record { contents = W.contents s.writer; failed = s.failed } };
+    ghost told = { λ s. record {
+      contents = W.contents s.writer;
+      failed = s.failed;
+      flushes = s.flushes;
+      unflushed = s.unflushed;
+    } };
 
     /// An answer of 0 bytes is a failure.
     fn write(&mut self, piece: &[u8]) -> Result<usize, Failed> {
         match self.writer.write(piece) {
-            Ok(n) if n > 0 => Ok(n),
+            Ok(n) if n > 0 => {
+                self.unflushed = true;
+                Ok(n)
+            }
             _ => {
                 self.failed = true;
                 Err(Failed)
@@ -39,8 +57,16 @@ impl<W: Write> Outlet for ToWrite<W> {
     }
 
     fn flush(&mut self) -> Result<(), Failed> {
+        let Some(flushes) = self.flushes.checked_add(1) else {
+            self.failed = true;
+            return Err(Failed);
+        };
         match self.writer.flush() {
-            Ok(()) => Ok(()),
+            Ok(()) => {
+                self.flushes = flushes;
+                self.unflushed = false;
+                Ok(())
+            }
             Err(_) => {
                 self.failed = true;
                 Err(Failed)

@@ -8,6 +8,7 @@ use crate::kept::Kept;
 use crate::lines::Lines;
 use crate::open::open_after;
 use crate::report::Report;
+use crate::seeded::Seeded;
 use crate::verdict::{Standing, Verdict};
 use dsr_cells::NoMemory;
 use dsr_file::{Event, Opening, Outcome};
@@ -20,6 +21,7 @@ use std::alloc::Global;
 pub struct Books {
     files: u32,
     alloc: Global,
+    seeded: Seeded,
     kept: Kept,
     draft: Draft,
     ghost most: { files ≤ 64 },
@@ -35,8 +37,18 @@ impl Books {
     ghost use Rattle.dsr_ledger.specs.Reports.{report_of};
     ghost use Rattle.dsr_ledger.specs.BooksWords.{Stands, files_count, opened_count, has_opening_at, ended_at, blocks_at, CanBook, CanEnd, AllEnded};
 
-    /// New books of a report in so many files, from 1 to 64, of which none is open.
+    /// New books of a report in so many files, from 1 to 64, of which none is open, with a fixed seed.
     pub fn new(alloc: Global, files: u32) -> Result<Books, NoMemory>
+        requires some { 1 ≤ files }
+        requires most { files ≤ 64 }
+        ensures stands { IfOk result (λ books. Stands books []) }
+        ensures count { IfOk result (λ books. files_count books ≡ files) }
+    {
+        Books::with_seed(alloc, files, 0)
+    }
+
+    /// The same, with this seed for the hashes of identifiers and names. No report depends on the seed.
+    pub fn with_seed(alloc: Global, files: u32, seed: u64) -> Result<Books, NoMemory>
         requires some { 1 ≤ files }
         requires most { files ≤ 64 }
         ensures stands { IfOk result (λ books. Stands books []) }
@@ -49,6 +61,7 @@ impl Books {
         Ok(Books {
             files,
             alloc,
+            seeded: Seeded::with_seed(seed),
             kept,
             draft: Draft::new(alloc),
         })

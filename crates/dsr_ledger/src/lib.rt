@@ -36,6 +36,7 @@ mod places;
 mod ranks;
 mod rejects;
 mod report;
+mod seeded;
 mod sums;
 #[cfg(test)]
 mod tests;

@@ -1,7 +1,0 @@
-use Rattle.std.proofs.Common.{◌≡◌, ◌++◌, take}
-use Rattle.std.specs.List.{flat_map}
-use Rattle.dsr_intake.specs.Statement.{party_line}
-use Rattle.dsr_intake.proofs.lines.put_parties.Given as goal
-
-abbrev pub invariant-loop-party : goal.invariant-loop-party
-invariant-loop-party l = l.out.items ≡ l.fn.out.items ++ flat_map (party_line l.line) (take l.party-index l.line.parties)

@@ -1,0 +1,6 @@
+-- Words that relate what the code keeps to them.
+pub mod Ends
+pub mod Stops
+pub mod Ready
+pub mod Given
+pub mod Collecting

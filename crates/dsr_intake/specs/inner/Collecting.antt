@@ -1,0 +1,85 @@
+-- What the collector keeps true of a tap and of the books.
+use Rattle.std.specs.Prelude.{◌≡◌, ℕ, ◌+◌, ◌<◌, ◌^◌, Bool, true, false, List, [], ◌∷◌, ◌++◌, length, Some, None}
+use Rattle.std.specs.Prelude.{IsSome, slice_get, slice_set}
+use Rattle.dsr_file.specs.declared.event.EventPart.{EventPart}
+use Rattle.dsr_file.specs.declared.event.EventPart.TheVariants as part
+use Rattle.dsr_file.specs.Orderly.{IsOrderly, has_ended}
+use Rattle.dsr_file.specs.Placed.{Placed}
+use Rattle.dsr_relay.specs.Views.{TapView}
+use Rattle.dsr_ledger.specs.declared.books.Books.{Books}
+use Rattle.dsr_ledger.specs.Files.{File, opened, add_block, end_with}
+use Rattle.dsr_ledger.specs.BooksWords.{Stands, files_count}
+use Rattle.dsr_intake.specs.declared.pipeline.errors.CollectError.{CollectError}
+use Rattle.dsr_intake.specs.declared.pipeline.errors.CollectError.TheVariants.{Memory, Closed}
+use Rattle.dsr_intake.specs.inner.Ends.{ends_clean}
+use Rattle.dsr_intake.specs.meaning.Texts.{file_of}
+
+-- a later part told of the file
+abbrev pub with_part : File → EventPart → File
+with_part f (part.Opened o) = f
+with_part f (part.Block b) = add_block b f
+with_part f (part.Ended o) = end_with o f
+
+abbrev pub is_opening : EventPart → Bool
+is_opening (part.Opened o) = true
+is_opening (part.Block b) = false
+is_opening (part.Ended o) = false
+
+-- the file that a first part tells of
+abbrev pub first_file : EventPart → File
+first_file (part.Opened o) = opened (Some o)
+first_file (part.Block b) = opened None
+first_file (part.Ended o) = end_with o (opened None)
+
+-- file k of the list is this file
+abbrev pub IsFileAt : List File → ℕ → File → Type 0
+IsFileAt files k f = slice_get files k ≡ Some f
+
+-- the file may take a further event
+pub record IsGoing (f : File) : Type 0 where
+  pub running : f.outcome ≡ None
+  pub opened : IsSome f.opening
+  pub short : length f.blocks < 2 ^ 37
+
+-- the books stand for some list with this file
+abbrev pub Knows : Books → ℕ → File → Type 0
+Knows books k f = (files : List File) × Stands books files × IsFileAt files k f
+
+-- the new books stand for the list with file k changed to g, where the old ones stand for it with f there
+abbrev pub Changes : Books → Books → ℕ → File → File → Type 0
+Changes old new k f g = (files : List File) → Stands old files → IsFileAt files k f → Stands new (slice_set files k g)
+
+-- file k is the next to be opened
+abbrev pub IsNext : Books → ℕ → Type 0
+IsNext books k = (files : List File) × Stands books files × (length files ≡ k) × (k < files_count books)
+
+-- the new books stand for the list followed by f, where the old ones stand for it and file k is next
+abbrev pub Opens : Books → Books → ℕ → File → Type 0
+Opens old new k f = (files : List File) → Stands old files → length files ≡ k → Stands new (files ++ f ∷ [])
+
+-- a tap in its course: something was taken, in order, and no Ended with Memory
+pub record IsTapped (t : TapView) : Type 0 where
+  pub orderly : IsOrderly t.taken
+  pub some : 0 < length t.taken
+  pub clean : has_ended t.taken ≡ true → ends_clean t.taken ≡ true
+
+-- these events follow those that were taken before, which did not end their file
+pub record IsFollowed (taken events : List Placed) : Type 0 where
+  pub some : 0 < length taken
+  pub running : has_ended taken ≡ false
+  pub orderly : IsOrderly (taken ++ events)
+
+-- the new books stand for the list with file k told of the further events too, which do not end it with Memory
+abbrev pub TakesAll : Books → Books → ℕ → List Placed → List Placed → Type 0
+TakesAll old new k taken events =
+    Changes old new k (file_of taken) (file_of (taken ++ events))
+    × (has_ended (taken ++ events) ≡ true → ends_clean (taken ++ events) ≡ true)
+
+-- tap i, from 0, is why the collector stops
+abbrev pub IsStoppedAt : ℕ → TapView → CollectError → Type 0
+IsStoppedAt i t Memory = Unit {0}
+IsStoppedAt i t (Closed k) = (k ≡ i + 1) × (has_ended t.taken ≡ false)
+
+-- a tap of which all was taken
+abbrev pub IsDrained : TapView → Type 0
+IsDrained t = IsOrderly t.taken × (ends_clean t.taken ≡ true)

@@ -1,0 +1,12 @@
+-- Why a collector stops.
+use Rattle.std.specs.Prelude.{◌≡◌, ℕ, ◌+◌, false, List, Some, slice_get}
+use Rattle.dsr_file.specs.Orderly.{has_ended}
+use Rattle.dsr_relay.specs.Views.{TapView}
+use Rattle.dsr_intake.specs.declared.pipeline.errors.CollectError.{CollectError}
+use Rattle.dsr_intake.specs.declared.pipeline.errors.CollectError.TheVariants.{Memory, Closed}
+
+-- Closed has the number, from 1, of a tap that has not ended
+abbrev pub IsStopped : List TapView → CollectError → Type 0
+IsStopped taps Memory = Unit {0}
+IsStopped taps (Closed k) =
+    (i : ℕ) × (t : TapView) × (k ≡ i + 1) × (slice_get taps i ≡ Some t) × (has_ended t.taken ≡ false)

@@ -1,0 +1,53 @@
+-- What a run answers for: the statement of the texts, or what is left where it fails.
+use Rattle.std.specs.Prelude.{◌≡◌, ℕ, ◌≤◌, List, length, take, false}
+use Rattle.std.specs.Io.KnownBytes.{Keeps}
+use Rattle.dsr_file.specs.Runs.{FileText}
+use Rattle.dsr_file.specs.Sources.{Told}
+use Rattle.dsr_ledger.specs.declared.report.Report.{Report}
+use Rattle.dsr_intake.specs.declared.pipeline.options.Options.{Options}
+use Rattle.dsr_intake.specs.declared.pipeline.errors.RunError.{RunError}
+use Rattle.dsr_intake.specs.declared.pipeline.errors.RunError.TheVariants as error
+use Rattle.dsr_intake.specs.declared.statements.verdict.Status.{Status}
+use Rattle.dsr_intake.specs.meaning.Options.{IsLate}
+use Rattle.dsr_intake.specs.meaning.Statement.{statement_of}
+use Rattle.dsr_intake.specs.meaning.Status.{status_of}
+use Rattle.dsr_intake.specs.meaning.Texts.{GaveEach, report_of_texts}
+use Rattle.dsr_intake.specs.meaning.Written.{Written, IsFlushed, IsCut}
+
+-- the report is that of the texts that the readers gave
+abbrev pub IsReportOf : {R : Type 0} → (R → Told) → Options → List R → List R → Report → Type 0
+IsReportOf told options readers left report =
+    (texts : List FileText) × GaveEach told options readers left texts × (report ≡ report_of_texts options.layout texts)
+
+-- The headline, on the texts of the files:
+pub record IsReported {R : Type 0} (told : R → Told) (options : Options) (readers left : List R)
+    (before after : Written) (texts : List FileText) (status : Status) : Type 0 where
+  -- each text is what the reader at its place gave, with how it ended
+  pub given : GaveEach told options readers left texts
+  -- exactly the statement of the texts was written, and then flushed, once
+  pub written : IsFlushed (statement_of (report_of_texts options.layout texts)) before after
+  -- the outlet has not failed
+  pub sound : after.failed ≡ false
+  -- the status is that of the same report
+  pub status_is : status ≡ status_of (report_of_texts options.layout texts)
+
+-- nothing was written or flushed
+pub record IsUntouched (before after : Written) : Type 0 where
+  pub kept : Keeps before.contents after.contents
+  pub failed : after.failed ≡ before.failed
+  pub flushes : after.flushes ≡ before.flushes
+  pub unflushed : after.unflushed ≡ before.unflushed
+
+-- nothing was written, or the first bytes of the statement of the texts, and the outlet failed
+abbrev pub IsUnwritten : (List FileText → Type 0) → (List FileText → List ℕ) → Written → Written → RunError → Type 0
+IsUnwritten gave statement before after (error.Intake e) = IsUntouched before after
+IsUnwritten gave statement before after error.Memory = (texts : List FileText) × gave texts × IsUntouched before after
+IsUnwritten gave statement before after (error.Write written) =
+    (texts : List FileText) × gave texts × (written ≤ length (statement texts))
+    × IsCut (take written (statement texts)) before after
+
+-- an error that is found only once something is read
+abbrev pub IsLateRun : RunError → Type 0
+IsLateRun (error.Intake e) = IsLate e
+IsLateRun error.Memory = Unit {0}
+IsLateRun (error.Write written) = Unit {0}

@@ -1,0 +1,36 @@
+-- Whether anybody has to look at a statement.
+use Rattle.std.specs.Prelude.{Bool, true, false, ◌&&◌, is_some, if◌then◌else◌, List, [], ◌∷◌}
+use Rattle.std.specs.List.{list_all}
+use Rattle.dsr_file.specs.declared.fault.Outcome.{Outcome}
+use Rattle.dsr_file.specs.declared.fault.Outcome.TheVariants.{Whole, Fault}
+use Rattle.dsr_ledger.specs.declared.verdict.Standing.{Standing}
+use Rattle.dsr_ledger.specs.declared.verdict.Standing.TheVariants.{Ours, Foreign, Doubled, Headless}
+use Rattle.dsr_ledger.specs.declared.report.FileLine.{FileLine}
+use Rattle.dsr_ledger.specs.declared.report.Report.{Report}
+use Rattle.dsr_intake.specs.declared.statements.verdict.Status.{Status}
+use Rattle.dsr_intake.specs.declared.statements.verdict.Status.TheVariants.{Clean, Remarks}
+
+abbrev pub is_ours : Standing → Bool
+is_ours Ours = true
+is_ours Foreign = false
+is_ours Doubled = false
+is_ours Headless = false
+
+abbrev pub is_whole : Outcome → Bool
+is_whole Whole = true
+is_whole (Fault line fault) = false
+
+abbrev pub is_clean_file : FileLine → Bool
+is_clean_file f = is_ours f.standing && is_whole f.outcome
+
+abbrev pub is_nil : {A : Type 0} → List A → Bool
+is_nil [] = true
+is_nil (x ∷ xs) = false
+
+-- there is a report key, every file is ours and whole, and nothing is missing, differs or is rejected
+abbrev pub is_clean : Report → Bool
+is_clean r =
+    is_some r.key && (list_all is_clean_file r.files && (is_nil r.missing && (is_nil r.differences && is_nil r.rejects)))
+
+abbrev pub status_of : Report → Status
+status_of r = if is_clean r then Clean else Remarks

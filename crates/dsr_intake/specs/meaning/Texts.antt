@@ -1,0 +1,48 @@
+-- The texts of several files, and the report of them.
+use Rattle.std.specs.Prelude.{List, [], ◌∷◌, map, Option, Some, None}
+use Rattle.std.specs.List.{filter_map}
+use Rattle.dsr_records.specs.Blocks.{BlockParts}
+use Rattle.dsr_records.specs.Records.{LayoutTable}
+use Rattle.dsr_file.specs.declared.event.EventPart.TheVariants as part
+use Rattle.dsr_file.specs.declared.fault.Outcome.{Outcome}
+use Rattle.dsr_file.specs.Openings.{OpeningParts}
+use Rattle.dsr_file.specs.Placed.{Placed}
+use Rattle.dsr_file.specs.Runs.{FileText, events_of_text}
+use Rattle.dsr_file.specs.Sources.{Told, GaveText}
+use Rattle.dsr_ledger.specs.declared.report.Report.{Report}
+use Rattle.dsr_ledger.specs.Files.{File}
+use Rattle.dsr_ledger.specs.Reports.{report_of}
+use Rattle.dsr_intake.specs.declared.pipeline.options.Options.{Options}
+
+-- each source gave the text that stands at its place
+abbrev pub GaveEach : {R : Type 0} → (R → Told) → Options → List R → List R → List FileText → Type 0
+GaveEach told options [] [] [] = Unit {0}
+GaveEach told options (r ∷ rs) (s ∷ ss) (t ∷ ts) =
+    GaveText options.layout options.max_reads (told r) (told s) t × GaveEach told options rs ss ts
+GaveEach told options _ _ _ = ⊥
+
+abbrev pub opening_in : Placed → Option OpeningParts
+opening_in e = elim e.part [ part.Opened o ↦ Some o | part.Block b ↦ None | part.Ended o ↦ None ]
+
+abbrev pub block_in : Placed → Option BlockParts
+block_in e = elim e.part [ part.Opened o ↦ None | part.Block b ↦ Some b | part.Ended o ↦ None ]
+
+abbrev pub outcome_in : Placed → Option Outcome
+outcome_in e = elim e.part [ part.Opened o ↦ None | part.Block b ↦ None | part.Ended o ↦ Some o ]
+
+abbrev pub first : {A : Type 0} → List A → Option A
+first [] = None
+first (x ∷ xs) = Some x
+
+-- the file that a list of events tells of
+abbrev pub file_of : List Placed → File
+file_of events =
+    record {
+      opening = first (filter_map opening_in events);
+      blocks = filter_map block_in events;
+      outcome = first (filter_map outcome_in events);
+    }
+
+-- the report of the texts of several files
+unfoldable pub report_of_texts : LayoutTable → List FileText → Report
+report_of_texts layout texts = report_of (map (λ text. file_of (events_of_text layout text)) texts)

@@ -1,0 +1,30 @@
+-- What an outlet tells of itself, and what was done to it by several calls.
+use Rattle.std.specs.Prelude.{◌≡◌, ℕ, ◌+◌, Bool, true, false, List, Option}
+use Rattle.std.specs.Io.KnownBytes.{Appends}
+
+-- the bytes that it holds, where they are known, whether it has failed, how many flushes it has answered with Ok,
+-- and whether it took bytes since the last of these
+pub record Written : Type 0 where
+  pub contents : Option (List ℕ)
+  pub failed : Bool
+  pub flushes : ℕ
+  pub unflushed : Bool
+
+-- it took these bytes
+pub record IsTaken (bytes : List ℕ) (before after : Written) : Type 0 where
+  pub added : Appends before.contents after.contents bytes
+  pub sound : after.failed ≡ before.failed
+  pub flushes : after.flushes ≡ before.flushes
+
+-- it took these bytes, and then was flushed once
+pub record IsFlushed (bytes : List ℕ) (before after : Written) : Type 0 where
+  pub added : Appends before.contents after.contents bytes
+  pub sound : after.failed ≡ before.failed
+  pub once : after.flushes ≡ before.flushes + 1
+  pub at_the_end : after.unflushed ≡ false
+
+-- it took these bytes, and then failed
+pub record IsCut (bytes : List ℕ) (before after : Written) : Type 0 where
+  pub added : Appends before.contents after.contents bytes
+  pub failed : after.failed ≡ true
+  pub flushes : after.flushes ≡ before.flushes

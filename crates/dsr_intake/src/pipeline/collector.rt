@@ -1,0 +1,267 @@
+//! The collector: it takes the events of all files, books them, and reports.
+ghost use Rattle.std.specs.Prelude.{◌≡◌, ◌+◌, ◌<◌, ◌≤◌, true, false, List, [], map, All, OnOk, IfOk, IfErr};
+ghost use Rattle.std.specs.Prelude.{vec_len};
+ghost use Rattle.dsr_file.specs.Placed.{Placed};
+ghost use Rattle.dsr_file.specs.Orderly.{is_ended, has_ended, MayStandAt};
+ghost use Rattle.dsr_ledger.specs.BooksWords.{Stands, files_count};
+ghost use Rattle.dsr_ledger.specs.Reports.{report_of};
+ghost use Rattle.dsr_ledger.specs.Files.{File};
+ghost use Rattle.dsr_intake.specs.inner.Ends.{is_clean_end, is_memory};
+ghost use Rattle.dsr_intake.specs.meaning.Texts.{file_of};
+ghost use Rattle.dsr_intake.specs.inner.Stops.{IsStopped};
+ghost use Rattle.dsr_intake.specs.inner.Collecting.{with_part, is_opening, first_file, IsGoing, Knows, Changes};
+ghost use Rattle.dsr_intake.specs.inner.Collecting.{IsNext, Opens, IsTapped, IsDrained, IsFollowed, TakesAll, IsStoppedAt};
+
+use crate::pipeline::errors::CollectError;
+use crate::pipeline::options::MOST_FILES;
+use crate::pipeline::seed::random_seed;
+use dsr_cells::NoMemory;
+use dsr_file::{Event, EventPart, FileFault, Outcome};
+use dsr_ledger::{Books, Report};
+use dsr_relay::Tap;
+use std::alloc::Global;
+use std::random::RandomSource;
+use std::sync::Wait;
+
+/// The relay of file k, counted from 0, closed early.
+fn closed(k: u32) -> CollectError
+    requires { k < MOST_FILES }
+    ensures { result ≡ CollectError.Closed (k + 1) }
+{
+    CollectError::Closed(k + 1)
+}
+
+/// Whether want of memory ended the file.
+fn is_memory(outcome: &Outcome) -> bool
+    ensures { result ≡ is_memory outcome.now }
+{
+    match outcome {
+        Outcome::Whole => false,
+        Outcome::Fault { line: _, fault } => matches!(fault, FileFault::Memory),
+    }
+}
+
+/// Books a later event of file k.
+fn book_part(books: &mut Books, k: u32, part: &EventPart) -> Result<(), NoMemory>
+    requires later { is_opening part.now ≡ false }
+    requires file { (f : File) × Knows books.old k f × IsGoing f }
+    ensures booked { OnOk result ((f : File)
+        → Changes books.old books.new k f (with_part f part.now)) }
+    ensures clean { OnOk result (is_ended part.now ≡ true → is_clean_end part.now ≡ true) }
+    ensures files { files_count books.new ≡ files_count books.old }
+{
+    match part {
+        EventPart::Opened(_) => unreachable!(),
+        EventPart::Block(block) => {
+            books.book(k, block)?;
+            Ok(())
+        }
+        EventPart::Ended(outcome) => {
+            if is_memory(outcome) {
+                return Err(NoMemory);
+            }
+            books.end_file(k, *outcome)
+        }
+    }
+}
+
+/// Books further events of file k.
+fn book_events(books: &mut Books, k: u32, events: &[Event]) -> Result<(), NoMemory>
+    requires followed { (taken : List Placed) × IsFollowed taken events.now
+        × Knows books.old k (file_of taken) }
+    ensures booked { OnOk result ((taken : List Placed) → IsFollowed taken events.now
+        → TakesAll books.old books.new k taken events.now) }
+    ensures files { files_count books.new ≡ files_count books.old }
+{
+    for event in events {
+        book_part(books, k, &event.part)?;
+    }
+    Ok(())
+}
+
+/// Takes a message of file k, or what is held of one, and books it.
+fn take_message<H: Wait>(
+    rt: &H,
+    books: &mut Books,
+    k: u32,
+    tap: &mut Tap,
+) -> Result<(), CollectError>
+    requires tapped { IsTapped tap.old }
+    requires running { has_ended tap.old.taken ≡ false }
+    requires number { k < MOST_FILES }
+    requires file { Knows books.old k (file_of tap.old.taken) }
+    ensures name { tap.new.name ≡ tap.old.name }
+    ensures files { files_count books.new ≡ files_count books.old }
+    ensures tapped { OnOk result (IsTapped tap.new) }
+    ensures booked { OnOk result (Changes books.old books.new k (file_of tap.old.taken)
+        (file_of tap.new.taken)) }
+    ensures stopped { IfErr result (IsStoppedAt k tap.new) }
+{
+    let Ok(lot) = tap.take_lot(rt) else {
+        return Err(closed(k));
+    };
+    let answer = book_events(books, k, lot.events());
+    tap.give_back(rt, lot);
+    match answer {
+        Ok(()) => Ok(()),
+        Err(NoMemory) => Err(CollectError::Memory),
+    }
+}
+
+/// Takes a message of file k where it has not ended.
+fn go_on<H: Wait>(rt: &H, books: &mut Books, k: u32, tap: &mut Tap) -> Result<(), CollectError>
+    requires tapped { IsTapped tap.old }
+    requires number { k < MOST_FILES }
+    requires file { Knows books.old k (file_of tap.old.taken) }
+    ensures name { tap.new.name ≡ tap.old.name }
+    ensures files { files_count books.new ≡ files_count books.old }
+    ensures tapped { OnOk result (IsTapped tap.new) }
+    ensures booked { OnOk result (Changes books.old books.new k (file_of tap.old.taken)
+        (file_of tap.new.taken)) }
+    ensures stopped { IfErr result (IsStoppedAt k tap.new) }
+{
+    if tap.ended() {
+        return Ok(());
+    }
+    take_message(rt, books, k, tap)
+}
+
+/// Opens file k by its first part.
+fn open_part(books: &mut Books, k: u32, part: EventPart) -> Result<(), NoMemory>
+    requires first { MayStandAt 0 part }
+    requires next { IsNext books.old k }
+    ensures opened { OnOk result (Opens books.old books.new k (first_file part)) }
+    ensures clean { OnOk result (is_ended part ≡ true → is_clean_end part ≡ true) }
+    ensures files { files_count books.new ≡ files_count books.old }
+{
+    match part {
+        EventPart::Opened(opening) => {
+            books.open_next(Some(opening))?;
+            Ok(())
+        }
+        EventPart::Block(_) => unreachable!(),
+        EventPart::Ended(outcome) => {
+            if is_memory(&outcome) {
+                return Err(NoMemory);
+            }
+            books.open_next(None)?;
+            books.end_file(k, outcome)?;
+            Ok(())
+        }
+    }
+}
+
+/// Takes the first event of file k, and opens the file.
+fn open_one<H: Wait>(rt: &H, books: &mut Books, k: u32, tap: &mut Tap) -> Result<(), CollectError>
+    requires fresh { tap.old.taken ≡ [] }
+    requires number { k < MOST_FILES }
+    requires next { IsNext books.old k }
+    ensures name { tap.new.name ≡ tap.old.name }
+    ensures files { files_count books.new ≡ files_count books.old }
+    ensures tapped { OnOk result (IsTapped tap.new) }
+    ensures opened { OnOk result (Opens books.old books.new k (file_of tap.new.taken)) }
+    ensures stopped { IfErr result (IsStoppedAt k tap.new) }
+{
+    let Ok(event) = tap.take(rt) else {
+        return Err(closed(k));
+    };
+    match open_part(books, k, event.part) {
+        Ok(()) => Ok(()),
+        Err(NoMemory) => Err(CollectError::Memory),
+    }
+}
+
+/// Takes the first event of each file, and opens the files in order.
+fn open_all<H: Wait>(rt: &H, books: &mut Books, taps: &mut Vec<Tap>) -> Result<(), CollectError>
+    requires most { vec_len taps.old ≤ MOST_FILES }
+    requires fresh { All (λ t. t.taken ≡ []) taps.old.items }
+    requires empty { Stands books.old [] }
+    requires files { files_count books.old ≡ vec_len taps.old }
+    ensures names { map (λ t. t.name) taps.new.items ≡ map (λ t. t.name) taps.old.items }
+    ensures files { files_count books.new ≡ files_count books.old }
+    ensures tapped { OnOk result (All IsTapped taps.new.items) }
+    ensures stands { OnOk result (Stands books.new (map (λ t. file_of t.taken) taps.new.items)) }
+    ensures stopped { IfErr result (IsStopped taps.new.items) }
+{
+    for k in 0..taps.len() {
+        let tap = &mut taps[k];
+        open_one(rt, books, k as u32, tap)?;
+    }
+    Ok(())
+}
+
+/// Takes a message of each file that has not ended.
+fn go_round<H: Wait>(rt: &H, books: &mut Books, taps: &mut Vec<Tap>) -> Result<(), CollectError>
+    requires most { vec_len taps.old ≤ MOST_FILES }
+    requires tapped { All IsTapped taps.old.items }
+    requires stands { Stands books.old (map (λ t. file_of t.taken) taps.old.items) }
+    ensures names { map (λ t. t.name) taps.new.items ≡ map (λ t. t.name) taps.old.items }
+    ensures files { files_count books.new ≡ files_count books.old }
+    ensures tapped { OnOk result (All IsTapped taps.new.items) }
+    ensures stands { OnOk result (Stands books.new (map (λ t. file_of t.taken) taps.new.items)) }
+    ensures stopped { IfErr result (IsStopped taps.new.items) }
+{
+    for k in 0..taps.len() {
+        let tap = &mut taps[k];
+        go_on(rt, books, k as u32, tap)?;
+    }
+    Ok(())
+}
+
+/// Whether every file has ended.
+fn have_ended(taps: &Vec<Tap>) -> bool
+    ensures { result ≡ true → All (λ t. has_ended t.taken ≡ true) taps.now.items }
+{
+    for k in 0..taps.len() {
+        if !taps[k].ended() {
+            return false;
+        }
+    }
+    true
+}
+
+/// Goes round until every file has ended.
+fn take_all<H: Wait>(rt: &H, books: &mut Books, taps: &mut Vec<Tap>) -> Result<(), CollectError>
+    requires most { vec_len taps.old ≤ MOST_FILES }
+    requires tapped { All IsTapped taps.old.items }
+    requires stands { Stands books.old (map (λ t. file_of t.taken) taps.old.items) }
+    ensures names { map (λ t. t.name) taps.new.items ≡ map (λ t. t.name) taps.old.items }
+    ensures files { files_count books.new ≡ files_count books.old }
+    ensures tapped { OnOk result (All IsTapped taps.new.items) }
+    ensures ended { OnOk result (All (λ t. has_ended t.taken ≡ true) taps.new.items) }
+    ensures stands { OnOk result (Stands books.new (map (λ t. file_of t.taken) taps.new.items)) }
+    ensures stopped { IfErr result (IsStopped taps.new.items) }
+{
+    for _ in rt.forever() {
+        if have_ended(taps) {
+            return Ok(());
+        }
+        go_round(rt, books, taps)?;
+    }
+    unreachable!()
+}
+
+/// Takes what the taps have, and reports it.
+pub fn collect<H: Wait + RandomSource>(
+    rt: &H,
+    alloc: Global,
+    taps: &mut Vec<Tap>,
+) -> Result<Report, CollectError>
+    requires some { 0 < vec_len taps.old }
+    requires most { vec_len taps.old ≤ MOST_FILES }
+    requires fresh { All (λ t. t.taken ≡ []) taps.old.items }
+    ensures names { map (λ t. t.name) taps.new.items ≡ map (λ t. t.name) taps.old.items }
+    ensures ended { OnOk result (All IsDrained taps.new.items) }
+    ensures report { IfOk result (λ r. r ≡ report_of (map (λ t. file_of t.taken) taps.new.items)) }
+    ensures stopped { IfErr result (IsStopped taps.new.items) }
+{
+    let Ok(mut books) = Books::with_seed(alloc, taps.len() as u32, random_seed(rt)) else {
+        return Err(CollectError::Memory);
+    };
+    open_all(rt, &mut books, taps)?;
+    take_all(rt, &mut books, taps)?;
+    match books.into_report() {
+        Ok(report) => Ok(report),
+        Err(NoMemory) => Err(CollectError::Memory),
+    }
+}

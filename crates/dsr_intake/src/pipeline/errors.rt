@@ -1,0 +1,50 @@
+//! Why a run, an intake or a collector gives up, with the text of each error.
+use thiserror::Error;
+
+/// Why there is no report. The first four are found before anything is read.
+#[derive(Debug, Clone, Copy, PartialEq, Eq, Error)]
+pub enum IntakeError {
+    #[error("no files")]
+    NoFiles,
+    /// There are more than 64 files.
+    #[error("too many files")]
+    TooManyFiles,
+    #[error("capacity out of range")]
+    Capacity,
+    #[error("reads out of range")]
+    Reads,
+    /// A growth was refused.
+    #[error("out of memory")]
+    Memory,
+    /// A thread could not be started.
+    #[error("cannot start a thread")]
+    Thread,
+    /// The relay of this file, counted from 1, closed before the file had ended.
+    #[error("relay of file {0} closed early")]
+    Broken(u32),
+}
+
+/// Why a collector stopped.
+#[derive(Debug, Clone, Copy, PartialEq, Eq, Error)]
+pub enum CollectError {
+    /// A growth was refused, to the collector or to the sender of an event.
+    #[error("out of memory")]
+    Memory,
+    /// The relay of this tap, counted from 1, closed before Ended was taken.
+    #[error("relay of file {0} closed early")]
+    Closed(u32),
+}
+
+/// Why a statement was not written, or not to its end.
+#[derive(Debug, Clone, Copy, PartialEq, Eq, Error)]
+pub enum RunError {
+    /// There is no report, and nothing was written.
+    #[error("{0}")]
+    Intake(IntakeError),
+    /// There is no memory for the statement, and nothing was written.
+    #[error("out of memory")]
+    Memory,
+    /// Exactly so many first bytes of the statement were written.
+    #[error("write failed after {written} bytes")]
+    Write { written: u64 },
+}

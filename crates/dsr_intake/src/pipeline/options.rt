@@ -1,0 +1,67 @@
+//! What an intake is asked to do, and what is refused at once.
+ghost use Rattle.std.specs.Prelude.{◌≡◌};
+ghost use Rattle.dsr_intake.specs.meaning.Options.{standard_options, refusal_of};
+
+use crate::pipeline::errors::IntakeError;
+use dsr_records::Layout;
+
+/// How many files a report is read from at most.
+pub(crate) const MOST_FILES: usize = 64;
+
+/// How many messages a relay holds at most.
+pub(crate) const MOST_MESSAGES: u32 = 1_024;
+
+/// After how many reads the reading of a file stops at the latest.
+pub(crate) const MOST_READS: u32 = 16_777_216;
+
+/// How an intake goes about its files.
+#[derive(Drop)]
+pub struct Options {
+    /// How many messages the relay of a file holds at most: 1 to 1,024.
+    pub capacity: u32,
+    /// After how many reads the reading of a file stops: 1 to 16,777,216.
+    pub max_reads: u32,
+    /// Where the columns of the records stand.
+    pub layout: Layout,
+}
+
+impl Options {
+    /// 16 messages, 4,194,304 reads and the standard layout.
+    pub fn standard() -> Options
+        ensures { result ≡ standard_options }
+    {
+        Options {
+            capacity: 16,
+            max_reads: 4_194_304,
+            layout: Layout::standard(),
+        }
+    }
+
+    /// Equal options.
+    pub(crate) fn copy(&self) -> Options
+        ensures { result ≡ self.now }
+    {
+        Options {
+            capacity: self.capacity,
+            max_reads: self.max_reads,
+            layout: self.layout.copy(),
+        }
+    }
+}
+
+/// What is refused before anything is read.
+pub(crate) fn refusal(files: usize, options: &Options) -> Option<IntakeError>
+    ensures { result ≡ refusal_of files options.now }
+{
+    if files == 0 {
+        Some(IntakeError::NoFiles)
+    } else if files > MOST_FILES {
+        Some(IntakeError::TooManyFiles)
+    } else if options.capacity == 0 || options.capacity > MOST_MESSAGES {
+        Some(IntakeError::Capacity)
+    } else if options.max_reads == 0 || options.max_reads > MOST_READS {
+        Some(IntakeError::Reads)
+    } else {
+        None
+    }
+}

@@ -1,0 +1,60 @@
+//! Reading the files of a report and writing its statement.
+ghost use Rattle.std.specs.Prelude.{◌≡◌, false, List, All, IfOk, IfErr, Err, MatchOption, vec_len};
+ghost use Rattle.dsr_file.specs.Runs.{FileText};
+ghost use Rattle.dsr_intake.specs.meaning.Texts.{GaveEach, report_of_texts};
+ghost use Rattle.dsr_intake.specs.meaning.Options.{refusal_of};
+ghost use Rattle.dsr_intake.specs.meaning.Statement.{statement_of};
+ghost use Rattle.dsr_intake.specs.meaning.Outcomes.{IsReported, IsUnwritten, IsLateRun};
+
+use crate::outlet::{Outlet, write_and_flush};
+use crate::pipeline::errors::RunError;
+use crate::pipeline::gather::intake;
+use crate::pipeline::options::Options;
+use crate::statements::status::status;
+use crate::statements::verdict::Status;
+use crate::statements::write::statement;
+use dsr_file::Source;
+use std::alloc::Global;
+use std::random::RandomSource;
+use std::sync::Wait;
+use std::thread::Threads;
+
+/// Reads the files, and writes their statement.
+pub fn run<
+    R: Source + Send + Drop + 'static,
+    W: Outlet,
+    H: Threads + Wait + RandomSource + Copy + Send + 'static,
+>(
+    rt: &H,
+    alloc: Global,
+    readers: &mut Vec<R>,
+    options: Options,
+    out: &mut W,
+) -> Result<Status, RunError>
+    requires sources { All (λ r. (R.told r).failed ≡ false) readers.old.items }
+    requires outlet { (W.told out.old).failed ≡ false }
+    ensures reported { IfOk result (λ status. (texts : List FileText)
+        × IsReported R.told options readers.old.items readers.new.items
+        (W.told out.old) (W.told out.new) texts status) }
+    ensures unwritten { IfErr result (IsUnwritten
+        (GaveEach R.told options readers.old.items readers.new.items)
+        (λ texts. statement_of (report_of_texts options.layout texts))
+        (W.told out.old) (W.told out.new)) }
+    ensures refused { MatchOption (refusal_of (vec_len readers.old) options)
+        (IfErr result IsLateRun)
+        (λ e. (result ≡ Err (RunError.Intake e)) × (readers.new ≡ readers.old)) }
+{
+    let report = match intake(rt, alloc, readers, options) {
+        Ok(report) => report,
+        Err(error) => return Err(RunError::Intake(error)),
+    };
+    let Ok(bytes) = statement(alloc, &report) else {
+        return Err(RunError::Memory);
+    };
+    match write_and_flush(out, &bytes) {
+        Ok(()) => Ok(status(&report)),
+        Err(written) => Err(RunError::Write {
+            written: written as u64,
+        }),
+    }
+}

@@ -1,0 +1,167 @@
+//! The threads, each of which reads a file and sends its events.
+ghost use Rattle.std.specs.Prelude.{◌≡◌, ◌<◌, ◌≤◌, false, List, [], ◌++◌, IfOk, IfErr};
+ghost use Rattle.dsr_file.specs.Placed.{Placed};
+ghost use Rattle.dsr_file.specs.Orderly.{IsOrderly};
+ghost use Rattle.dsr_intake.specs.meaning.Options.{IsLate};
+ghost use Rattle.dsr_intake.specs.inner.Ends.{ends_clean};
+ghost use Rattle.dsr_intake.specs.inner.Given.{IsGiven};
+
+use crate::pipeline::errors::IntakeError;
+use crate::pipeline::feed_sink::FeedSink;
+use crate::pipeline::options::{MOST_READS, Options};
+use dsr_file::{Event, EventPart, FileFault, Outcome, ReadFileError, Source, read_file};
+use dsr_relay::{Feed, Tap};
+use std::alloc::Global;
+use std::snapshot::Snapshot;
+use std::sync::Wait;
+use std::thread;
+use std::thread::{Promise, PromisedHandle, Threads};
+
+/// What a thread hands back: its reader, its feed, and whether memory was refused.
+#[derive(Drop)]
+pub(crate) struct Finished<R> {
+    reader: R,
+    feed: Feed,
+    memory: bool,
+}
+
+/// What a thread was given.
+#[derive(Drop)]
+pub(crate) struct Reading<R> {
+    reader: Snapshot<R>,
+    feed: Snapshot<Feed>,
+    options: Snapshot<Options>,
+}
+
+impl<R: Source> Promise<Finished<R>> for Reading<R> {
+    ghost kept_by = { λ p r. (r.feed.name ≡ p.feed.value.name)
+        × IsGiven p.options.value (R.told p.reader.value) (R.told r.reader) r.feed.sent };
+}
+
+/// A thread that reads a file.
+pub(crate) type Thread<R> = PromisedHandle<Finished<R>, Reading<R>>;
+
+impl<R> Finished<R> {
+    /// Whether memory was refused while the file was read.
+    pub(crate) fn wanted_memory(&self) -> bool
+        ensures { result ≡ self.now.memory }
+    {
+        self.memory
+    }
+
+    /// Joins the two ends of the relay, and hands the reader back.
+    pub(crate) fn settle(self, tap: Tap) -> R
+        requires { tap.name ≡ self.feed.name }
+        ensures reader { result ≡ self.reader }
+        ensures sent { (left : List Placed) × (self.feed.sent ≡ tap.taken ++ left) }
+        ensures orderly { IsOrderly self.feed.sent }
+    {
+        let Finished {
+            reader,
+            feed,
+            memory: _,
+        } = self;
+        tap.take_in(feed);
+        reader
+    }
+}
+
+/// Reads a file and sends its events. Whatever happens, either Ended was sent or the tap is gone, so that nobody waits for more.
+fn read_and_send<R: Source, H: Wait>(
+    rt: &H,
+    alloc: Global,
+    reader: R,
+    feed: Feed,
+    options: Options,
+) -> Finished<R>
+    requires some_reads { 0 < options.max_reads }
+    requires reads { options.max_reads ≤ MOST_READS }
+    requires fresh { (R.told reader).failed ≡ false }
+    requires empty { feed.sent ≡ [] }
+    ensures name { result.feed.name ≡ feed.name }
+    ensures given { IsGiven options (R.told reader) (R.told result.reader) result.feed.sent }
+{
+    let mut reader = reader;
+    let mut sink = FeedSink::new(rt, feed);
+    let answer = read_file(
+        alloc,
+        &options.layout,
+        &mut reader,
+        &mut sink,
+        options.max_reads,
+    );
+    let mut feed = sink.into_feed();
+    let memory = wants_memory(&answer);
+    match answer {
+        Ok(_) => {}
+        Err(ReadFileError::Memory) => send_memory(rt, &mut feed),
+        Err(ReadFileError::Refused(_)) => {}
+    }
+    Finished {
+        reader,
+        feed,
+        memory,
+    }
+}
+
+/// Whether memory was refused while the file was read.
+fn wants_memory(answer: &Result<Outcome, ReadFileError>) -> bool {
+    match answer {
+        Ok(Outcome::Fault { line: _, fault }) => matches!(fault, FileFault::Memory),
+        Ok(Outcome::Whole) => false,
+        Err(ReadFileError::Memory) => true,
+        Err(ReadFileError::Refused(_)) => false,
+    }
+}
+
+/// Sends the end of a file of which nothing was read.
+fn send_memory<H: Wait>(rt: &H, feed: &mut Feed)
+    requires { feed.old.sent ≡ [] }
+    ensures name { feed.new.name ≡ feed.old.name }
+    ensures unclean { ends_clean feed.new.sent ≡ false }
+{
+    let outcome = Outcome::Fault {
+        line: 1,
+        fault: FileFault::Memory,
+    };
+    let _ = feed.send(
+        rt,
+        Event {
+            place: 0,
+            part: EventPart::Ended(outcome),
+        },
+    );
+}
+
+/// Starts the thread that reads a file.
+pub(crate) fn start<R: Source + Send + Drop + 'static, H: Threads + Wait + Copy + Send + 'static>(
+    rt: &H,
+    alloc: Global,
+    reader: R,
+    feed: Feed,
+    options: &Options,
+) -> Result<Thread<R>, IntakeError>
+    requires some_reads { 0 < options.now.max_reads }
+    requires reads { options.now.max_reads ≤ MOST_READS }
+    requires fresh { (R.told reader).failed ≡ false }
+    requires empty { feed.sent ≡ [] }
+    ensures late { IfErr result IsLate }
+    ensures promise { IfOk result (λ h. (h.promise.reader.value ≡ reader)
+        × (h.promise.feed.value ≡ feed) × (h.promise.options.value ≡ options.now)) }
+{
+    let promise = Reading {
+        reader: Snapshot::of(&reader),
+        feed: Snapshot::of(&feed),
+        options: Snapshot::of(options),
+    };
+    let own_rt = *rt;
+    let own_options = options.copy();
+    match thread::spawn_with(
+        rt,
+        promise,
+        move || read_and_send(&own_rt, alloc, reader, feed, own_options),
+    ) {
+        Ok(child) => Ok(child),
+        Err(_) => Err(IntakeError::Thread),
+    }
+}

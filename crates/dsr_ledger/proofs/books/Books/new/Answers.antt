@@ -1,4 +1,0 @@
-use Rattle.dsr_ledger.proofs.books.Books.new.Goals as goal
-
-pub invariant_of-result-clause-most : goal.invariant_of-result-clause-most
-invariant_of-result-clause-most c = c.requires.most

@@ -1,0 +1,27 @@
+//! A hasher with a seed of the run.
+use std::hash::{BuildHasher, FoldHasher, Hasher};
+
+/// Makes hashers into which a seed was written, so that whoever picks the keys can't make them collide.
+#[derive(Clone, Copy)]
+pub struct Seeded {
+    first: FoldHasher,
+}
+
+impl Seeded {
+    /// Hashers with this seed.
+    pub fn with_seed(seed: u64) -> Seeded {
+        let mut first = FoldHasher::default();
+        first.write_u64(seed);
+        Seeded { first }
+    }
+}
+
+impl BuildHasher for Seeded {
+    type Hasher = FoldHasher;
+
+    ghost build_hasher = { λ s. s.first };
+
+    fn build_hasher(&self) -> FoldHasher {
+        self.first
+    }
+}
