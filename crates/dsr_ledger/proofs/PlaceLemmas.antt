@@ -13,7 +13,7 @@ use Rattle.std.proofs.lemmas.Slice.Eq.{bytes_eq-Decides}
 use Rattle.std.proofs.lemmas.Bool.{and_parts}
 use Rattle.std.proofs.lemmas.Map.Lookups.{exact_bytes}
 use Rattle.dsr_ledger.specs.declared.key.Key.{Key}
-use Rattle.dsr_ledger.specs.declared.place.Place.{Place}
+use Rattle.dsr_ledger.specs.declared.ledger.summary_key.SummaryKey.{SummaryKey}
 use Rattle.dsr_ledger.specs.declared.places.Places.{Places}
 use Rattle.dsr_ledger.specs.declared.line_key.LineKey.{LineKey}
 use Rattle.dsr_ledger.specs.declared.lines.Lines.{Lines}
@@ -33,10 +33,10 @@ tie_of cmp total exact a b = (
 
 pub place_total : IsTotalOrder place_cmp
 place_total =
-    then_total (on_total (λ (p : Place). p.territory) nat_list_cmp_total)
-    (then_total (on_total (λ (p : Place). p.use_type) nat_list_cmp_total) (on_total (λ (p : Place). p.currency) nat_list_cmp_total))
+    then_total (on_total (λ (p : SummaryKey). p.territory) nat_list_cmp_total)
+    (then_total (on_total (λ (p : SummaryKey). p.use_type) nat_list_cmp_total) (on_total (λ (p : SummaryKey). p.currency) nat_list_cmp_total))
 
-place_exact : (a b : Place) → place_cmp a b ≡ Equal → a ≡ b
+place_exact : (a b : SummaryKey) → place_cmp a b ≡ Equal → a ≡ b
 place_exact a b e =
     let first = both_Equal _ _ e in
     let second = both_Equal _ _ first.1 in
@@ -46,10 +46,10 @@ place_exact a b e =
       currency = exact_bytes a.currency b.currency second.1 i;
     }
 
-pub place_tie : (a b : Place) → Decides (is_eq (place_cmp a b)) (a ≡ b)
+pub place_tie : (a b : SummaryKey) → Decides (is_eq (place_cmp a b)) (a ≡ b)
 place_tie = tie_of place_cmp place_total place_exact
 
-pub one_place : (a b : Place) → place_eq a b ≡ true → a ≡ b
+pub one_place : (a b : SummaryKey) → place_eq a b ≡ true → a ≡ b
 one_place a b h =
     let first = and_parts _ _ h in
     let second = and_parts _ _ first.1 in

@@ -16,7 +16,7 @@ use Rattle.std.proofs.lemmas.List.Sorted.{All-permutation, Contains-permutation}
 use Rattle.std.proofs.lemmas.Map.Views.{All-found, Contains-from_lookup}
 use Rattle.std.proofs.lemmas.Option.{slice_get-get_or, slice_get_within}
 use Rattle.dsr_ledger.specs.declared.key.Key.{Key}
-use Rattle.dsr_ledger.specs.declared.place.Place.{Place}
+use Rattle.dsr_ledger.specs.declared.ledger.summary_key.SummaryKey.{SummaryKey}
 use Rattle.dsr_ledger.specs.declared.places.Places.{Places}
 use Rattle.dsr_ledger.specs.declared.line_key.LineKey.{LineKey}
 use Rattle.dsr_ledger.specs.declared.lines.Lines.{Lines}
@@ -83,11 +83,11 @@ contains_map f (y ∷ xs) x (zero, below, is) = (0, omega arith, ap f is)
 contains_map f (y ∷ xs) x (suc k, below, is) = let rest = contains_map f xs x (k, omega arith, is) in (suc rest.0, omega (arith, rest.1), rest.2)
 
 -- the number of a place among entries
-abbrev pub place_in_entries : List (Place × ℕ) → Place → Option ℕ
+abbrev pub place_in_entries : List (SummaryKey × ℕ) → SummaryKey → Option ℕ
 place_in_entries es p = lookup (λ q. is_eq (place_cmp p q)) es
 
 -- the place stands at the rank of its number
-abbrev pub IsAtRank : List Place → List ℕ → ℕ → Place → Type 0
+abbrev pub IsAtRank : List SummaryKey → List ℕ → ℕ → SummaryKey → Type 0
 IsAtRank places ranks i p = (r : ℕ) × (slice_get ranks i ≡ Some r) × (slice_get places r ≡ Some p)
 
 stays : {X : Type 0} (xs : List X) (x y : X) (i : ℕ) → slice_get xs i ≡ Some y → slice_get (xs ++ x ∷ []) i ≡ Some y
@@ -105,7 +105,7 @@ set_here (z ∷ xs) zero x below = refl
 set_here (z ∷ xs) (suc i) x below = set_here xs i x (omega arith)
 
 -- one more place is put at the end
-pub rank_put : (numbered : Places) (e : Place × ℕ) (es : List (Place × ℕ)) (places : List Place) (ranks : List ℕ) → place_number numbered e.0 ≡ Some e.1 → e.1 < length ranks → (i : ℕ) (p : Place) → slice_get numbered.places.items i ≡ Some p → (place_in_entries (e ∷ es) p ≡ Some i) ⊎ IsAtRank places ranks i p → (place_in_entries es p ≡ Some i) ⊎ IsAtRank (places ++ e.0 ∷ []) (set ranks e.1 (length places)) i p
+pub rank_put : (numbered : Places) (e : SummaryKey × ℕ) (es : List (SummaryKey × ℕ)) (places : List SummaryKey) (ranks : List ℕ) → place_number numbered e.0 ≡ Some e.1 → e.1 < length ranks → (i : ℕ) (p : SummaryKey) → slice_get numbered.places.items i ≡ Some p → (place_in_entries (e ∷ es) p ≡ Some i) ⊎ IsAtRank places ranks i p → (place_in_entries es p ≡ Some i) ⊎ IsAtRank (places ++ e.0 ∷ []) (set ranks e.1 (length places)) i p
 rank_put numbered e es places ranks found below i p at was =
     ⊎_elim
     (λ same. inr (here (same_Some i e.1 (sym (numbered.named i p at) ∙ ap (place_number numbered) ((place_tie p e.0).0 same) ∙ found)) ((place_tie p e.0).0 same)))
@@ -148,14 +148,14 @@ nat_cmp-Less : (i j : ℕ) → nat_cmp i j ≡ Less → i < j
 nat_cmp-Less i j e = ⊎_elim (λ t. ltb-true i j t) (λ f. absurd (not_Less (i == j) (sym (ap (λ b. cond b Less (cond (i == j) Equal Greater)) f) ∙ e))) (cases_Bool (nat_lt i j))
 
 -- the keys by ranks are in the order of the whole keys
-whole_less : (places : List Place) (a b : LineKey) → IsStrictlySortedBy place_cmp places → b.place < length places → line_key_cmp a b ≡ Less → key_cmp (whole places a) (whole places b) ≡ Less
+whole_less : (places : List SummaryKey) (a b : LineKey) → IsStrictlySortedBy place_cmp places → b.place < length places → line_key_cmp a b ≡ Less → key_cmp (whole places a) (whole places b) ≡ Less
 whole_less places a b sorted below =
     then_less (text_cmp a.isrc b.isrc) (nat_cmp a.place b.place) (place_cmp (place_in (whole places a)) (place_in (whole places b))) (λ less. sorted_at place_cmp places a.place b.place no_place sorted (nat_cmp-Less a.place b.place less) below)
 
-abbrev pub ArePlacedIn : List Place → List (LineKey × ℕ) → Type 0
+abbrev pub ArePlacedIn : List SummaryKey → List (LineKey × ℕ) → Type 0
 ArePlacedIn places es = AllByRecursion (λ e. e.0.place < length places) es
 
-pub whole_sorted : (places : List Place) (es : List (LineKey × ℕ)) → IsStrictlySortedBy place_cmp places → ArePlacedIn places es → IsStrictlySortedBy line_key_cmp (keys_of es) → IsStrictlySortedBy key_cmp (keys_of (whole_entries places es))
+pub whole_sorted : (places : List SummaryKey) (es : List (LineKey × ℕ)) → IsStrictlySortedBy place_cmp places → ArePlacedIn places es → IsStrictlySortedBy line_key_cmp (keys_of es) → IsStrictlySortedBy key_cmp (keys_of (whole_entries places es))
 unfolding IsStrictlySortedBy
 whole_sorted places [] order placed sorted = tt
 whole_sorted places (e ∷ es) order placed sorted = (above es placed.1 sorted.0, whole_sorted places es order placed.1 sorted.1)
@@ -165,7 +165,7 @@ whole_sorted places (e ∷ es) order placed sorted = (above es placed.1 sorted.0
     above (x ∷ xs) p h = (whole_less places e.0 x.0 order p.0 h.0, above xs p.1 h.1)
 
 -- a key that is there by its rank is found whole
-whole_found : (places : List Place) (es : List (LineKey × ℕ)) (k : LineKey) (n : ℕ) → Contains es (k, n) → find key_cmp (whole places k) (whole_entries places es) ≡ None → ⊥
+whole_found : (places : List SummaryKey) (es : List (LineKey × ℕ)) (k : LineKey) (n : ℕ) → Contains es (k, n) → find key_cmp (whole places k) (whole_entries places es) ≡ None → ⊥
 whole_found places [] k n (j, below, is) none = absurd (omega arith)
 whole_found places (x ∷ es) k n (j, below, is) none =
     ⊎_elim
@@ -179,9 +179,9 @@ whole_found places (x ∷ es) k n (j, below, is) none =
     later (suc j) below is f rest = rest j (omega arith, is)
 
 -- of lines whose places were put in order
-module _ (lines : Lines) (places : List Place) (ranks : List ℕ) (ranked : AreRanked lines.places.places.items places ranks) where
+module _ (lines : Lines) (places : List SummaryKey) (ranks : List ℕ) (ranked : AreRanked lines.places.places.items places ranks) where
   -- the place of a rank
-  place_there : (i r : ℕ) → i < length lines.places.places.items → slice_get ranks i ≡ Some r → (p : Place) × (slice_get places r ≡ Some p) × (place_number lines.places p ≡ Some i)
+  place_there : (i r : ℕ) → i < length lines.places.places.items → slice_get ranks i ≡ Some r → (p : SummaryKey) × (slice_get places r ≡ Some p) × (place_number lines.places p ≡ Some i)
   place_there i r below at =
       let old = lines.places.places.items in
       let p = get_or old i no_place in
@@ -197,7 +197,7 @@ module _ (lines : Lines) (places : List Place) (ranks : List ℕ) (ranked : AreR
       same_Some i j (sym here.2 ∙ ap (place_number lines.places) same ∙ there.2)
 
   -- the place of a number
-  place_is : (p : Place) (i : ℕ) → place_number lines.places p ≡ Some i → slice_get lines.places.places.items i ≡ Some p
+  place_is : (p : SummaryKey) (i : ℕ) → place_number lines.places p ≡ Some i → slice_get lines.places.places.items i ≡ Some p
   place_is p i e =
       let old = lines.places.places.items in
       let is = slice_get-get_or old i no_place (lines.places.numbered.below p i e) in

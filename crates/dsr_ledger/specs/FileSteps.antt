@@ -6,7 +6,7 @@ use Rattle.dsr_ledger.specs.declared.file.FileBooks.{FileBooks}
 use Rattle.dsr_ledger.specs.declared.verdict.Verdict.{Verdict}
 use Rattle.dsr_ledger.specs.declared.verdict.Verdict.TheVariants.{Booked, Rejected}
 use Rattle.dsr_ledger.specs.IdSteps.{is_in}
-use Rattle.dsr_ledger.specs.declared.place.Place.{Place}
+use Rattle.dsr_ledger.specs.declared.ledger.summary_key.SummaryKey.{SummaryKey}
 use Rattle.dsr_ledger.specs.Bookings.{Booking, usage_bookings}
 use Rattle.dsr_ledger.specs.Findings.{rejects_from}
 use Rattle.dsr_ledger.specs.Ranges.{IsInRange}
@@ -32,7 +32,7 @@ pub record IsBlockInRange (b : BlockParts) : Type 0 where
   pub range : AllByRecursion IsInRange b.usages
 
 -- what a block with this verdict adds
-abbrev pub bookings_by : (List ℕ → Option Place) → BlockParts → Verdict → List Booking
+abbrev pub bookings_by : (List ℕ → Option SummaryKey) → BlockParts → Verdict → List Booking
 bookings_by place b Booked = usage_bookings place b.resource.isrc b.works b.usages
 bookings_by place b (Rejected reason) = []
 

@@ -8,7 +8,7 @@ use Rattle.dsr_ledger.specs.declared.sums.Sums.{Sums}
 use Rattle.dsr_ledger.specs.declared.found.Found.{Found}
 use Rattle.dsr_ledger.specs.declared.founds.Founds.{Founds}
 use Rattle.dsr_ledger.specs.Sums.{int_sum_by}
-use Rattle.dsr_ledger.specs.declared.place.Place.{Place}
+use Rattle.dsr_ledger.specs.declared.ledger.summary_key.SummaryKey.{SummaryKey}
 use Rattle.dsr_ledger.specs.Bookings.{place_of}
 use Rattle.dsr_ledger.specs.Findings.{naming}
 use Rattle.dsr_ledger.specs.Ranges.{SumsFit}
@@ -17,7 +17,7 @@ use Rattle.dsr_ledger.specs.Numbered.{read_at}
 
 -- all but the identifier and the guess
 pub record Shown : Type 0 where
-  pub place : Place
+  pub place : SummaryKey
   pub sums : Sums
 
 abbrev pub shown : Found → Shown
@@ -35,7 +35,7 @@ index_at founds id = get text_cmp founds.numbers id
 abbrev pub shown_at : Founds → List ℕ → Option Shown
 shown_at founds id = read_at (λ f. Some (shown f)) None founds.founds.items (index_at founds id)
 
-abbrev pub place_at : Founds → List ℕ → Option Place
+abbrev pub place_at : Founds → List ℕ → Option SummaryKey
 place_at founds id = option_map (λ s. s.place) (shown_at founds id)
 
 -- with the usages added that name it

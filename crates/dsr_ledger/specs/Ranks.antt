@@ -4,15 +4,15 @@ use Rattle.std.specs.List.Sorted.{IsPermutation, IsStrictlySortedBy}
 use Rattle.std.specs.BTreeMap.{BTreeMap}
 use Rattle.std.specs.Map.{keys_of}
 use Rattle.dsr_ledger.specs.declared.key.Key.{Key}
-use Rattle.dsr_ledger.specs.declared.place.Place.{Place}
+use Rattle.dsr_ledger.specs.declared.ledger.summary_key.SummaryKey.{SummaryKey}
 use Rattle.dsr_ledger.specs.declared.line_key.LineKey.{LineKey}
 use Rattle.dsr_ledger.specs.LineKeys.{place_cmp, line_key_cmp}
 
 -- the places are in order, and each has its rank under the number that it had
-pub record AreRanked (numbered places : List Place) (ranks : List ℕ) : Type 0 where
+pub record AreRanked (numbered places : List SummaryKey) (ranks : List ℕ) : Type 0 where
   pub order : IsStrictlySortedBy place_cmp places
   pub long : length ranks ≡ length numbered
-  pub rank : (i : ℕ) (p : Place) → slice_get numbered i ≡ Some p → (r : ℕ) × (slice_get ranks i ≡ Some r) × (slice_get places r ≡ Some p)
+  pub rank : (i : ℕ) (p : SummaryKey) → slice_get numbered i ≡ Some p → (r : ℕ) × (slice_get ranks i ≡ Some r) × (slice_get places r ≡ Some p)
 
 -- no rank stands twice
 abbrev pub AreApartRanks : List ℕ → Type 0
@@ -31,15 +31,15 @@ pub record AreRenamed (ranks : List ℕ) (numbers : BTreeMap LineKey ℕ) (keys 
   pub order : IsStrictlySortedBy line_key_cmp (keys_of keys)
   pub same : IsPermutation (ranked_entries ranks numbers.entries) keys
 
-abbrev pub no_place : Place
+abbrev pub no_place : SummaryKey
 no_place = record { territory = []; use_type = []; currency = [] }
 
 -- the whole key, whose place is that of this rank
-abbrev pub whole : List Place → LineKey → Key
+abbrev pub whole : List SummaryKey → LineKey → Key
 whole places k =
     let p = unwrap_or (slice_get places k.place) no_place in
     record { isrc = k.isrc; territory = p.territory; use_type = p.use_type; currency = p.currency }
 
 -- the numbers of lines by whole keys
-abbrev pub whole_entries : List Place → List (LineKey × ℕ) → List (Key × ℕ)
+abbrev pub whole_entries : List SummaryKey → List (LineKey × ℕ) → List (Key × ℕ)
 whole_entries places es = map (λ e. (whole places e.0, e.1)) es

@@ -6,7 +6,7 @@ use Rattle.std.specs.Vec.{vec_len}
 use Rattle.std.proofs.lemmas.List.{length-set}
 use Rattle.std.proofs.lemmas.List.Elements.{All-head, All-tail}
 use Rattle.std.proofs.lemmas.Map.Views.{All-found}
-use Rattle.dsr_ledger.specs.declared.place.Place.{Place}
+use Rattle.dsr_ledger.specs.declared.ledger.summary_key.SummaryKey.{SummaryKey}
 use Rattle.dsr_ledger.specs.LineKeys.{place_cmp}
 use Rattle.dsr_ledger.specs.Places.{place_number}
 use Rattle.dsr_ledger.proofs.NumberedLemmas.{not_Some}
@@ -17,7 +17,7 @@ use Rattle.dsr_ledger.proofs.ranks.in_place_order.Goals as goal
 pub loop-place-init : goal.loop-place-init
 loop-place-init c =
     let gives = c.into_iter-place-iterator.ensures.into_iter_gives in
-    let P : Place × ℕ → Type 0 = λ e. place_number c.args.places e.0 ≡ Some e.1 in
+    let P : SummaryKey × ℕ → Type 0 = λ e. place_number c.args.places e.0 ≡ Some e.1 in
     let none : c.in_ok-places.places.items ≡ [] = search rules in
     record {
       all = ap (λ l. l ++ keys_of c.into_iter-place-iterator.result) none;
@@ -29,7 +29,7 @@ loop-place-init c =
 pub index_mut-requires : goal.index_mut-requires
 index_mut-requires c =
     let places = c.args.places in
-    let P : Place × ℕ → Type 0 = λ e. place_number places e.0 ≡ Some e.1 in
+    let P : SummaryKey × ℕ → Type 0 = λ e. place_number places e.0 ≡ Some e.1 in
     let found = All-head P (c.in-Some.place, c.in-Some.number) c.next.new.self (subst (All P) c.in-Some.ensures.steps c.loop-place.invariant.found) in
     let long : length c.loop-place.ranks.items ≡ vec_len c.loop-place.ranks = search rules in
     subst (λ n. c.in-Some.number < n) (sym c.loop-place.invariant.long ∙ long) (places.numbered.below c.in-Some.place c.in-Some.number found)
@@ -42,7 +42,7 @@ loop-place-preserved c =
     let place = c.in-Some.place in
     let n = c.in-Some.number in
     let rest = c.next.new.self in
-    let P : Place × ℕ → Type 0 = λ e. place_number places e.0 ≡ Some e.1 in
+    let P : SummaryKey × ℕ → Type 0 = λ e. place_number places e.0 ≡ Some e.1 in
     let all = subst (All P) c.in-Some.ensures.steps c.loop-place.invariant.found in
     let found = All-head P (place, n) rest all in
     let pushed : c.push.new.self.items ≡ own ++ place ∷ [] = search rules in

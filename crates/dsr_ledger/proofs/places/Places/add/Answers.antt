@@ -2,7 +2,7 @@ use Rattle.std.proofs.Common.{◌≡◌, ◌+◌, [], ◌∷◌, ◌++◌, ap, s
 use Rattle.std.specs.Prelude.{Some, None}
 use Rattle.std.specs.Ordering.{is_eq}
 use Rattle.std.specs.BTreeMap.{get}
-use Rattle.dsr_ledger.specs.declared.place.Place.{Place}
+use Rattle.dsr_ledger.specs.declared.ledger.summary_key.SummaryKey.{SummaryKey}
 use Rattle.dsr_ledger.specs.LineKeys.{place_cmp}
 use Rattle.dsr_ledger.specs.Places.{place_number}
 use Rattle.dsr_ledger.specs.Numbered.{IsNumbered, AreNamed}
@@ -21,13 +21,13 @@ invariant_of-self-2 c =
     let long : length c.push.new.self.items ≡ n + 1 = search rules in
     let number : c.in-Ok.number ≡ n = search rules in
     let all : c.push.new.self.items ≡ old ++ own ∷ [] = search rules in
-    let is : (q : Place) → new q ≡ cond (is_eq (place_cmp key q)) (Some n) (place_number places q) =
+    let is : (q : SummaryKey) → new q ≡ cond (is_eq (place_cmp key q)) (Some n) (place_number places q) =
     λ q. c.in_ok-insert.ensures.updates.0 q ∙ ap (λ m. cond (is_eq (place_cmp key q)) (Some m) (place_number places q)) number in
     let absent : place_number places key ≡ None = ap (place_number places) c.in_ok-copy.ensures ∙ c.requires in
     record {
       numbered = subst (IsNumbered new) (sym long) (numbered_more (λ a b. is_eq (place_cmp a b)) place_tie (place_number places) new key n places.numbered is);
-      named = subst (λ ps. AreNamed new (λ (p : Place). p) ps) (sym all) (
-          named_more (λ a b. is_eq (place_cmp a b)) place_tie (λ (p : Place). p) (place_number places) new key old own places.named absent
+      named = subst (λ ps. AreNamed new (λ (p : SummaryKey). p) ps) (sym all) (
+          named_more (λ a b. is_eq (place_cmp a b)) place_tie (λ (p : SummaryKey). p) (place_number places) new key old own places.named absent
           (c.in_ok-copy.ensures ∙ sym c.in_ok-own.ensures) is);
     }
 
@@ -39,7 +39,7 @@ returns-clause-grows c =
     let key = c.in_ok-copy.field-0 in
     let long : length c.push.new.self.items ≡ n + 1 = search rules in
     let number : c.in-Ok.number ≡ n = search rules in
-    let is : (q : Place) → new q ≡ cond (is_eq (place_cmp key q)) (Some n) (place_number places q) =
+    let is : (q : SummaryKey) → new q ≡ cond (is_eq (place_cmp key q)) (Some n) (place_number places q) =
     λ q. c.in_ok-insert.ensures.updates.0 q ∙ ap (λ m. cond (is_eq (place_cmp key q)) (Some m) (place_number places q)) number in
     let absent : place_number places key ≡ None = ap (place_number places) c.in_ok-copy.ensures ∙ c.requires in
     record {
