@@ -11,7 +11,7 @@ use Rattle.dsr_cells.specs.Days.{CivilDay}
 use Rattle.dsr_records.specs.declared.record.Head.{Head}
 use Rattle.dsr_records.specs.declared.record.Summary.{Summary}
 use Rattle.dsr_ledger.specs.Files.{is_same_report, same_day, has_number_of}
-use Rattle.dsr_ledger.specs.Found.{found_in, nothing_found}
+use Rattle.dsr_ledger.specs.Summaries.{found_in, nothing_found}
 use Rattle.dsr_ledger.specs.Openings.{first_of, named, openings_of}
 use Rattle.dsr_ledger.specs.declared.file.FileBooks.{FileBooks}
 use Rattle.dsr_ledger.proofs.TextLemmas.{same_text}

@@ -12,14 +12,13 @@ pub mod Laws
 -- Words that relate what is kept to them.
 pub mod Numbered
 pub mod SummaryKeys
-pub mod Ranks
 pub mod Ranges
 pub mod Owed
 pub mod Tallies
 pub mod Seats
 pub mod Seated
 pub mod Recordings
-pub mod Found
+pub mod Summaries
 pub mod Lined
 pub mod Plans
 pub mod Ids

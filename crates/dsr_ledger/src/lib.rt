@@ -1,16 +1,13 @@
 //! The books of a report: how its files stand, what is said of each block, the ledger, and the report.
 #![tactic(auto)]
 
-mod booking;
 mod assemble;
+mod booking;
 mod books;
 mod counting;
 mod differences;
 mod file;
 mod file_lines;
-mod found;
-mod founds;
-mod guesses;
 mod ids;
 mod judge;
 mod kept;
@@ -18,7 +15,6 @@ mod key;
 pub mod laws;
 mod ledger;
 mod missing;
-mod mixing;
 mod open;
 mod owed;
 mod rejects;
