@@ -1,6 +1,9 @@
 pub mod SumLemmas
 pub mod IndexMapLemmas
 pub mod NumberedLemmas
+pub mod PlaceByLemmas
+pub mod PartLemmas
+pub mod RecordingLemmas
 pub mod TextLemmas
 pub mod OwedLemmas
 pub mod KeyLemmas
