@@ -1,14 +1,18 @@
 //! The International Standard Recording Code.
-ghost use Rattle.std.specs.Prelude.{◌≡◌, if◌then◌else◌, Some, None, true, length, take, drop, refl};
+ghost use Rattle.std.specs.Prelude.{◌≡◌, ◌++◌, if◌then◌else◌, Some, None, true, length, take, drop, refl};
 ghost use Rattle.std.specs.Cmp.{partial_equiv_from_equiv};
+ghost use Rattle.std.specs.Cmp.Rules.{hashing};
 ghost use Rattle.std.specs.Cmp.Lexicographic.{slice_cmp, nat_list_eq_equiv, nat_list_cmp_total, texts_po, texts_ties};
 ghost use Rattle.std.specs.Ordering.{nat_cmp};
 ghost use Rattle.std.specs.Str.{bytes_eq};
+ghost use Rattle.std.specs.Hash as fed;
+ghost use Rattle.std.proofs.Common.{rules};
 ghost use Rattle.dsr_cells.specs.Order.{number_of_bytes, AreBytes};
 ghost use Rattle.dsr_cells.specs.Texts.{is_isrc_text};
 
 use crate::bytes::{all_capitals, all_capitals_or_digits, all_digits};
 use std::cmp::Ordering;
+use std::hash::{Hash, Hasher};
 use std::marker::Model;
 
 /// An International Standard Recording Code (ISO 3901): two capitals, three capitals or digits, two
@@ -77,6 +81,17 @@ impl Isrc {
     {
         let b = &self.bytes;
         u32::from_be_bytes([b[8], b[9], b[10], b[11]])
+    }
+}
+
+impl Hash for Isrc {
+    ghost hash_input = { λ x. fed.u64 (number_of_bytes (take 8 x)) ++ fed.u32 (number_of_bytes (drop 8 x)) };
+
+    ghost respects_eq = { Prim.search (hashing, rules) };
+
+    fn hash<H: Hasher>(&self, state: &mut H) {
+        state.write_u64(self.front());
+        state.write_u32(self.back());
     }
 }
 

@@ -6,7 +6,15 @@ use crate::{
     read_texts_with_room, read_usages, unescape, values, write_amount, write_day,
 };
 use std::cmp::Ordering;
+use std::hash::{DefaultHasher, Hash, Hasher};
 use std::test::Fail;
+
+/// The hash of a value by the standard hasher.
+fn hash_of<T: Hash>(value: &T) -> u64 {
+    let mut state = DefaultHasher::new();
+    value.hash(&mut state);
+    state.finish()
+}
 
 #[test]
 fn cells_of_a_line(rt: HostRuntime) {
@@ -206,6 +214,26 @@ fn texts_are_kept_and_ordered(rt: HostRuntime) -> Result<(), Fail> {
     assert_eq!(rt; short.as_str(), "a title");
     assert!(rt; short.cmp(&kept) == Ordering::Less);
     assert!(rt; short != kept);
+    Ok(())
+}
+
+#[test]
+fn equal_texts_and_isrcs_hash_alike(rt: HostRuntime) -> Result<(), Fail> {
+    for text in ["", "a title", "a title of more than thirty bytes"] {
+        let kept = Text::copy_of(rt.alloc(), text)?;
+        assert_eq!(rt; hash_of(&kept), hash_of(&text), "at {text}");
+    }
+    let one = Isrc::read("GB1BC2400001");
+    assert_eq!(rt;
+        one.map(|isrc| hash_of(&isrc)),
+        Isrc::read("GB1BC2400001").map(|isrc| hash_of(&isrc))
+    );
+    assert!(rt;
+        one.map(|isrc| hash_of(&isrc)) != Isrc::read("GB1BC2400002").map(|isrc| hash_of(&isrc))
+    );
+    assert!(rt;
+        one.map(|isrc| hash_of(&isrc)) != Isrc::read("US1BC2400001").map(|isrc| hash_of(&isrc))
+    );
     Ok(())
 }
 
