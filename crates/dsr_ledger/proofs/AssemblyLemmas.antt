@@ -10,7 +10,7 @@ use Rattle.dsr_records.specs.declared.record.Summary.{Summary}
 use Rattle.dsr_records.specs.declared.record.Usage.{Usage}
 use Rattle.dsr_records.specs.declared.record.Head.{Head}
 use Rattle.dsr_file.specs.Openings.{OpeningParts}
-use Rattle.dsr_ledger.specs.declared.founds.Founds.{Founds}
+use Rattle.dsr_ledger.specs.declared.file.summaries.Summaries.{Summaries}
 use Rattle.dsr_ledger.specs.declared.file.FileBooks.{FileBooks}
 use Rattle.dsr_ledger.specs.declared.kept.Kept.{Kept}
 use Rattle.dsr_ledger.specs.declared.report.Report.{Report}
@@ -18,7 +18,7 @@ use Rattle.dsr_ledger.specs.declared.report.ReportKey.{ReportKey}
 use Rattle.dsr_ledger.specs.Sums.{int_sum_by}
 use Rattle.dsr_ledger.specs.Files.{File, Filed, filed, filed_after, standing, summaries_of, first_head}
 use Rattle.dsr_ledger.specs.Findings.{is_ours, ended_whole, usages_in, naming, difference, differs, differences_in, differences, has_number, is_there, missing_for, rejects_in, rejects}
-use Rattle.dsr_ledger.specs.Found.{shown_at, shown_with, nothing_found, found_in}
+use Rattle.dsr_ledger.specs.Summaries.{shown_at, shown_with, nothing_found, found_in}
 use Rattle.dsr_ledger.specs.Openings.{openings_of, first_of}
 use Rattle.dsr_ledger.specs.Bookings.{Booking, bookings}
 use Rattle.dsr_ledger.specs.Ledger.{ledger}
@@ -97,7 +97,7 @@ here_too p [] s ss h = ap (λ b. b || list_any p ss) h
 here_too p (t ∷ done) s ss h = elim (p t) as (λ b. (b || list_any p (done ++ s ∷ ss)) ≡ true) [ true ↦ refl | false ↦ here_too p done s ss h ]
 
 -- each summary beside what is kept of it
-differences_found : (place : ℕ) (m : Founds) (us : List Usage) (done ss all : List Summary) → all ≡ done ++ ss → ((id : List ℕ) → shown_at m id ≡ found_in all us id) → map (λ s. difference_to place (sums_shown (shown_at m s.id)) s) ss ≡ map (difference place us) ss
+differences_found : (place : ℕ) (m : Summaries) (us : List Usage) (done ss all : List Summary) → all ≡ done ++ ss → ((id : List ℕ) → shown_at m id ≡ found_in all us id) → map (λ s. difference_to place (sums_shown (shown_at m s.id)) s) ss ≡ map (difference place us) ss
 differences_found place m us done [] all split is = refl
 differences_found place m us done (s ∷ ss) all split is =
     let p : Summary → Bool = λ t. bytes_eq s.id t.id in
@@ -120,8 +120,8 @@ pub differences_stand : (f : FileBooks) (d : Filed) → FileStands f d → diffe
 differences_stand f d s =
     let ss = summaries_of d.file.opening in
     let us = usages_in d.file.blocks in
-    (λ i. if is_ours (s.standing i) && ended_whole (s.outcome i) then differences_to (s.place i) f.founds (summaries_of (s.opening i)) else [])
-    ∙ ap (λ l. if is_ours d.standing && ended_whole d.file.outcome then filter differs l else []) (differences_found d.place f.founds us [] ss ss refl s.founds)
+    (λ i. if is_ours (s.standing i) && ended_whole (s.outcome i) then differences_to (s.place i) f.summaries (summaries_of (s.opening i)) else [])
+    ∙ ap (λ l. if is_ours d.standing && ended_whole d.file.outcome then filter differs l else []) (differences_found d.place f.summaries us [] ss ss refl s.summaries)
     ∙ both_or_none (is_ours d.standing) (ended_whole d.file.outcome) differs (map (difference d.place us) ss)
 
 -- the key, file after file

@@ -15,7 +15,7 @@ use Rattle.dsr_ledger.specs.declared.verdict.Verdict.{Verdict}
 use Rattle.dsr_ledger.specs.Files.{File, Filed, standing, opened, with_block, with_outcome}
 use Rattle.dsr_ledger.specs.Verdicts.{verdict_in, verdict_after}
 use Rattle.dsr_ledger.specs.Openings.{openings_of}
-use Rattle.dsr_ledger.specs.Found.{shown_at, ShownFits}
+use Rattle.dsr_ledger.specs.Summaries.{shown_at, ShownFits}
 use Rattle.dsr_ledger.specs.Ranges.{SumsFit}
 use Rattle.dsr_ledger.specs.Tallies.{Tally, tally_at, key_tally, TallyFits}
 use Rattle.dsr_ledger.specs.FileSteps.{IsSameFile, IsBlockInRange}
@@ -25,7 +25,7 @@ use Rattle.dsr_ledger.proofs.EachLemmas.{each_append}
 use Rattle.dsr_ledger.proofs.StandLemmas.{stands_same}
 use Rattle.dsr_ledger.proofs.FilesLemmas.{file_at, openings_are, length-stand, stand_push}
 use Rattle.dsr_ledger.proofs.PutLemmas.{lines_took, bookings-opened, bookings-outcome}
-use Rattle.dsr_ledger.proofs.SmallLemmas.{lines_fit, founds_fit}
+use Rattle.dsr_ledger.proofs.SmallLemmas.{lines_fit, summaries_fit}
 
 TallyFits-prop : (n : ℕ) (t : Tally) → IsProp (TallyFits n t)
 TallyFits-prop n t = hlevel props
@@ -40,11 +40,11 @@ lines_fit_reached kept few r q =
     let long = length-stand 1 [] kept.files.items x.files x.stands.each in
     lines_fit x.files kept.lines x.stands.lines x.small (omega arith) q)
 
-pub founds_fit_reached : (kept : Kept) (k : ℕ) (f : FileBooks) → ∥ IsReached kept ∥₁ → slice_get kept.files.items k ≡ Some f → (id : List ℕ) → ForSome (shown_at f.founds id) (ShownFits 63)
-founds_fit_reached kept k f r is id = λ x e.
+pub summaries_fit_reached : (kept : Kept) (k : ℕ) (f : FileBooks) → ∥ IsReached kept ∥₁ → slice_get kept.files.items k ≡ Some f → (id : List ℕ) → ForSome (shown_at f.summaries id) (ShownFits 63)
+summaries_fit_reached kept k f r is id = λ x e.
     ∥∥₁_elim r (SumsFit-prop _ _) (λ y.
     let at = file_at 1 [] kept.files.items y.files k f y.stands.each is in
-    founds_fit f at.filed at.stands (at.own_small y.small) id x e)
+    summaries_fit f at.filed at.stands (at.own_small y.small) id x e)
 
 -- what one file's answer means for the books
 pub record Answered {A : Type 0} (f g : FileBooks) (b : BlockParts) (res : Result Verdict A) (old new : Kept) (k : ℕ) : Type 0 where
@@ -101,7 +101,7 @@ stands_ended old new files k f o is items lines h =
             standing = s.standing;
             blocks = s.blocks;
             ids = s.ids;
-            founds = s.founds;
+            summaries = s.summaries;
             rejects = s.rejects;
             outcome = refl;
           }));

@@ -1,5 +1,6 @@
 pub mod SumLemmas
 pub mod NumberedLemmas
+pub mod IndexMapLemmas
 pub mod TextLemmas
 pub mod NameLemmas
 pub mod OwedLemmas
@@ -8,7 +9,7 @@ pub mod KeyLemmas
 pub mod PlaceLemmas
 pub mod RankLemmas
 pub mod TallyLemmas
-pub mod FoundLemmas
+pub mod SummaryLemmas
 pub mod DraftLemmas
 pub mod ShareLemmas
 pub mod OrderLemmas

@@ -23,7 +23,7 @@ use Rattle.dsr_ledger.specs.Files.{File, Filed, filed_after, standing, summaries
 use Rattle.dsr_ledger.specs.Verdicts.{first_reason, is_foreign, is_doubled, names_unknown, share_total, verdict_by, verdict, judged}
 use Rattle.dsr_ledger.specs.Bookings.{verdict_bookings, block_bookings, filed_bookings, bookings, place_named}
 use Rattle.dsr_ledger.specs.Findings.{usages_in}
-use Rattle.dsr_ledger.specs.Found.{Shown, shown_at, shown_with, nothing_found, ShownFits}
+use Rattle.dsr_ledger.specs.Summaries.{Shown, shown_at, shown_with, nothing_found, ShownFits}
 use Rattle.dsr_ledger.specs.Ranges.{IsInRange}
 use Rattle.dsr_ledger.specs.Tallies.{tally_at, tally_of, key_tally, TallyFits}
 use Rattle.dsr_ledger.specs.FileSteps.{IsBlockInRange}
@@ -128,10 +128,10 @@ found_fits (Some s) id us i n m few room small u a = λ x e.
     subst (ShownFits m) is (shown_fits_after id us (nothing_found s) i n m few room small (record { usages = omega arith; amount = omega arith }))
 
 -- and so they do in what is found for a file's summaries
-pub founds_fit : (f : FileBooks) (d : Filed) → FileStands f d → IsSmallFile d.file → (id : List ℕ) → ForSome (shown_at f.founds id) (ShownFits 63)
-founds_fit f d h small id =
+pub summaries_fit : (f : FileBooks) (d : Filed) → FileStands f d → IsSmallFile d.file → (id : List ℕ) → ForSome (shown_at f.summaries id) (ShownFits 63)
+summaries_fit f d h small id =
     let P : Option Shown → Type 0 = λ o. ForSome o (ShownFits 63) in
     let many = length-usages_in d.file.blocks small.range in
     let few = small.few in
-    subst P (sym (h.founds id)) (
+    subst P (sym (h.summaries id)) (
     found_fits (find (λ s. bytes_eq id s.id) (summaries_of d.file.opening)) id (usages_in d.file.blocks) (2 ^ 37 * 63) (2 ^ 37 * 63 + 63) 63 (omega arith) (omega arith) (small_usages_in d.file.blocks small.range) (omega arith) (omega arith))

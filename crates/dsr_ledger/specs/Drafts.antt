@@ -6,14 +6,14 @@ use Rattle.dsr_records.specs.Works.{WorkParts}
 use Rattle.dsr_ledger.specs.declared.key.Key.{Key}
 use Rattle.dsr_ledger.specs.declared.owed.PartNote.{PartNote}
 use Rattle.dsr_ledger.specs.declared.draft.UsageNote.{UsageNote}
-use Rattle.dsr_ledger.specs.declared.founds.Founds.{Founds}
+use Rattle.dsr_ledger.specs.declared.file.summaries.Summaries.{Summaries}
 use Rattle.dsr_ledger.specs.declared.lines.Lines.{Lines}
 use Rattle.dsr_ledger.specs.declared.place.Place.{Place}
 use Rattle.dsr_ledger.specs.Bookings.{key_under}
 use Rattle.dsr_ledger.specs.Parts.{work_parts}
 use Rattle.dsr_ledger.specs.Owed.{AreNoted}
 use Rattle.dsr_ledger.specs.Tallies.{number_of, seat_in}
-use Rattle.dsr_ledger.specs.Found.{place_at, index_at}
+use Rattle.dsr_ledger.specs.Summaries.{place_at, index_at}
 
 -- the numbers that keys, parties and summaries have, and the places of the summaries
 pub record Numbers : Type 0 where
@@ -22,8 +22,8 @@ pub record Numbers : Type 0 where
   pub number : Key → Option ℕ
   pub seat : ℕ → List ℕ → Option ℕ
 
-abbrev pub numbers_in : Lines → Founds → Numbers
-numbers_in lines founds = record { index = index_at founds; place = place_at founds; number = number_of lines; seat = seat_in lines }
+abbrev pub numbers_in : Lines → Summaries → Numbers
+numbers_in lines summaries = record { index = index_at summaries; place = place_at summaries; number = number_of lines; seat = seat_in lines }
 
 -- a note of a usage, and the notes of its parts
 pub record IsNoted (m : Numbers) (isrc : List ℕ) (works : List WorkParts) (u : Usage) (n : UsageNote) (own : List PartNote) : Type 0 where

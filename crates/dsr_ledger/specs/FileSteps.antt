@@ -10,7 +10,7 @@ use Rattle.dsr_ledger.specs.declared.place.Place.{Place}
 use Rattle.dsr_ledger.specs.Bookings.{Booking, usage_bookings}
 use Rattle.dsr_ledger.specs.Findings.{rejects_from}
 use Rattle.dsr_ledger.specs.Ranges.{IsInRange}
-use Rattle.dsr_ledger.specs.Found.{shown_at, shown_with, place_at}
+use Rattle.dsr_ledger.specs.Summaries.{shown_at, shown_with, place_at}
 use Rattle.dsr_ledger.specs.Tallies.{tally_at, tally_plus, key_tally}
 use Rattle.dsr_ledger.specs.declared.lines.Lines.{Lines}
 use Rattle.dsr_ledger.specs.declared.key.Key.{Key}
@@ -22,7 +22,7 @@ pub record IsSameFile (f g : FileBooks) : Type 0 where
   pub standing : g.standing ≡ f.standing
   pub blocks : g.blocks ≡ f.blocks
   pub ids : (id : List ℕ) → is_in g.ids id ≡ is_in f.ids id
-  pub founds : (id : List ℕ) → shown_at g.founds id ≡ shown_at f.founds id
+  pub summaries : (id : List ℕ) → shown_at g.summaries id ≡ shown_at f.summaries id
   pub rejects : g.rejects.items ≡ f.rejects.items
   pub outcome : g.outcome ≡ f.outcome
 
@@ -42,8 +42,8 @@ pub record TakesBlock (f g : FileBooks) (old new : Lines) (b : BlockParts) (v : 
   pub opening : g.opening ≡ f.opening
   pub standing : g.standing ≡ f.standing
   pub blocks : g.blocks ≡ f.blocks + 1
-  pub founds : (id : List ℕ) → shown_at g.founds id ≡ option_map (shown_with id b.usages) (shown_at f.founds id)
+  pub summaries : (id : List ℕ) → shown_at g.summaries id ≡ option_map (shown_with id b.usages) (shown_at f.summaries id)
   pub rejects : g.rejects.items ≡ f.rejects.items ++ rejects_from f.place (f.blocks + 1) ((b, v) ∷ [])
   pub outcome : g.outcome ≡ f.outcome
-  pub tallies : (q : Key) → tally_at new q ≡ tally_plus (tally_at old q) (key_tally (bookings_by (place_at f.founds) b v) q)
+  pub tallies : (q : Key) → tally_at new q ≡ tally_plus (tally_at old q) (key_tally (bookings_by (place_at f.summaries) b v) q)
   pub range : IsBlockInRange b

@@ -18,7 +18,7 @@ pub mod Ranges
 pub mod Names
 pub mod Owed
 pub mod Tallies
-pub mod Found
+pub mod Summaries
 pub mod Drafts
 pub mod Ids
 pub mod IdSteps

@@ -4,8 +4,10 @@
 //! many blocks in a row waits hardly longer than one at a single block, and their bookings then find near what they want.
 //! Each pass looks at one thing of each block, and the next pass at what that one leads to.
 
-use crate::founds::Founds;
+use crate::file::summaries::Summaries;
+use crate::line_key::LineKey;
 use crate::lines::Lines;
+use crate::mixing::mixed_key;
 use crate::party_entry::PartyEntry;
 use dsr_cells::{Isrc, Text};
 use dsr_file::{Event, EventPart};
@@ -21,9 +23,7 @@ pub const NONE: usize = usize::MAX;
 /// What was found by looking ahead.
 #[derive(Drop)]
 pub struct Ahead {
-    /// The numbers that are guessed of the summaries of coming usages, or `NONE`.
-    summaries: Vec<usize>,
-    /// The mixed keys of these usages.
+    /// The mixed keys of coming usages.
     mixed: Vec<u64>,
     /// The numbers that are guessed of their lines, or `NONE`.
     numbers: Vec<usize>,
@@ -103,17 +103,21 @@ fn look_at_works(events: &[Event]) -> usize {
     seen
 }
 
-/// The number that is guessed of a usage's summary, and the mixed key of the usage of a recording under it.
-fn guess_usage(founds: &Founds, isrc: &Isrc, usage: &Usage) -> Option<(usize, u64)> {
-    let summary = founds.guess(&usage.summary_id)?;
-    Some((summary, founds.founds.get(summary)?.mixed(isrc)))
+/// The mixed key of a usage of a recording under its summary.
+fn guess_usage(summaries: &Summaries, isrc: &Isrc, usage: &Usage) -> Option<u64> {
+    let summary = summaries.index(&usage.summary_id)?;
+    let (_, state) = summaries.states.get_index(summary)?;
+    let key = LineKey {
+        isrc: *isrc,
+        place: state.key_hint,
+    };
+    Some(mixed_key(&key))
 }
 
 impl Ahead {
     /// Nothing was looked at.
     pub fn new(alloc: Global) -> Ahead {
         Ahead {
-            summaries: Vec::new(alloc),
             mixed: Vec::new(alloc),
             numbers: Vec::new(alloc),
             starts: Vec::new(alloc),
@@ -123,7 +127,7 @@ impl Ahead {
     }
 
     /// Guesses the summaries of a block's usages, and mixes their keys.
-    fn mix(&mut self, founds: &Founds, block: &Block) {
+    fn mix(&mut self, summaries: &Summaries, block: &Block) {
         let _noted = self.starts.push(self.mixed.len());
         let Some(isrc) = Isrc::read(block.resource.isrc.as_str()) else {
             return;
@@ -132,21 +136,19 @@ impl Ahead {
             if self.mixed.len() == MOST {
                 return;
             }
-            let (summary, mixed) = guess_usage(founds, &isrc, usage).unwrap_or((NONE, 0));
-            let _noted = self.summaries.push(summary);
+            let mixed = guess_usage(summaries, &isrc, usage).unwrap_or(0);
             let _noted = self.mixed.push(mixed);
         }
     }
 
     /// Guesses the summaries of all usages, and mixes their keys.
-    fn mix_all(&mut self, founds: &Founds, events: &[Event]) {
-        self.summaries.clear();
+    fn mix_all(&mut self, summaries: &Summaries, events: &[Event]) {
         self.mixed.clear();
         self.starts.clear();
         self.block = NONE;
         for event in events {
             if let Some(block) = block_of(event) {
-                self.mix(founds, block);
+                self.mix(summaries, block);
             }
         }
     }
@@ -196,22 +198,17 @@ impl Ahead {
         self.starts.get(self.block).copied().unwrap_or(NONE)
     }
 
-    /// The numbers that were guessed of the summaries of the usages of the block at hand, and of those after it. They are
+    /// The numbers that were guessed of the lines of the usages of the block at hand, and of those after it. They are
     /// guesses, and there may be none.
-    pub fn guessed_summaries(&self) -> &[usize] {
-        self.summaries.get(self.start()..).unwrap_or(&[])
-    }
-
-    /// The numbers that were guessed of the lines of these usages, as little sure.
     pub fn guessed_lines(&self) -> &[usize] {
         self.numbers.get(self.start()..).unwrap_or(&[])
     }
 
     /// Looks at what the blocks of these events will want.
-    pub fn look(&mut self, lines: &Lines, founds: &Founds, events: &[Event]) {
+    pub fn look(&mut self, lines: &Lines, summaries: &Summaries, events: &[Event]) {
         let blocks = look_at_blocks(events);
         let works = look_at_works(events);
-        self.mix_all(founds, events);
+        self.mix_all(summaries, events);
         self.guess_all(lines);
         let counted = self.look_at_lines(lines);
         let parties = self.look_at_parties(lines);

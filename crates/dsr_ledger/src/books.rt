@@ -123,7 +123,7 @@ impl Books {
             (λ s. (s ≡ standing (map (λ f. f.opening) files) opening) × Stands self.new (files ++ opened opening ∷ []))
             (λ _. Stands self.new files) }
     {
-        let file = open_after(self.kept.files.as_slice(), self.alloc, opening)?;
+        let file = open_after(self.kept.files.as_slice(), self.alloc, self.seeded, opening)?;
         let standing = file.standing;
         self.kept.files.push(file)?;
         Ok(standing)
@@ -137,7 +137,7 @@ impl Books {
     {
         if let Some(file) = self.kept.files.get(k as usize) {
             let ahead = &mut self.draft.ahead;
-            ahead.look(&self.kept.lines, &file.founds, events);
+            ahead.look(&self.kept.lines, &file.summaries, events);
         }
     }
 

@@ -3,15 +3,17 @@ ghost use Rattle.std.specs.Prelude.{◌≡◌, ◌+◌, ◌<◌, ◌^◌, ◌≤
 ghost use Rattle.std.specs.Option.{ForSome};
 ghost use Rattle.dsr_ledger.specs.Verdicts.{share_total, verdict_by};
 ghost use Rattle.dsr_ledger.specs.Files.{Filed};
-ghost use Rattle.dsr_ledger.specs.Found.{shown_at, index_at, is_known, ShownFits};
+ghost use Rattle.dsr_ledger.specs.Summaries.{shown_at, index_at, is_known, ShownFits};
 ghost use Rattle.dsr_ledger.specs.Tallies.{tally_at, TallyFits};
 ghost use Rattle.dsr_ledger.specs.FileSteps.{IsSameFile, TakesBlock};
 ghost use Rattle.dsr_ledger.specs.Stands.{FileStands, Took};
 
+pub mod summaries;
+
 use crate::adding::add_usages;
 use crate::counting::count_usages;
 use crate::draft::Draft;
-use crate::founds::Founds;
+use crate::file::summaries::Summaries;
 use crate::ids::Ids;
 use crate::judge::judge;
 use crate::lines::Lines;
@@ -34,7 +36,7 @@ pub struct FileBooks {
     pub blocks: u64,
     /// The identifiers of all blocks, whatever their verdicts.
     pub ids: Ids,
-    pub founds: Founds,
+    pub summaries: Summaries,
     pub rejects: Vec<Reject>,
     pub outcome: Option<Outcome>,
 }
@@ -52,9 +54,9 @@ impl FileBooks {
         requires blocks { self.old.blocks + 1 < 2 ^ 64 }
         requires recording { isrc ≡ block.now.resource.isrc }
         requires shares { share_total block.now.works ≤ 1000000 }
-        requires found { map (λ u. index_at self.old.founds u.summary_id) block.now.usages ≡ map Some draft.old.summaries.items }
+        requires found { map (λ u. index_at self.old.summaries u.summary_id) block.now.usages ≡ map Some draft.old.summaries.items }
         requires lines_fit { (q : _) → TallyFits 63 (tally_at lines.old q) }
-        requires founds_fit { (id : List ℕ) → ForSome (shown_at self.old.founds id) (ShownFits 63) }
+        requires summaries_fit { (id : List ℕ) → ForSome (shown_at self.old.summaries id) (ShownFits 63) }
         ensures ids { self.new.ids ≡ self.old.ids }
         ensures err { OnErr result (IsSameFile self.old self.new) }
         ensures same_lines { OnErr result ((q : _) → tally_at lines.new q ≡ tally_at lines.old q) }
@@ -66,7 +68,7 @@ impl FileBooks {
         note_usages(
             lines,
             alloc,
-            &mut self.founds,
+            &mut self.summaries,
             isrc,
             block.works.as_slice(),
             usages,
@@ -77,7 +79,7 @@ impl FileBooks {
         )?;
         add_usages(
             lines,
-            &mut self.founds,
+            &mut self.summaries,
             usages,
             draft.usages.as_slice(),
             draft.parts.as_slice(),
@@ -95,7 +97,7 @@ impl FileBooks {
         reason: Reason,
     ) -> Result<(), NoMemory>
         requires blocks { self.old.blocks + 1 < 2 ^ 64 }
-        requires founds_fit { (id : List ℕ) → ForSome (shown_at self.old.founds id) (ShownFits 63) }
+        requires summaries_fit { (id : List ℕ) → ForSome (shown_at self.old.summaries id) (ShownFits 63) }
         ensures ids { self.new.ids ≡ self.old.ids }
         ensures err { OnErr result (IsSameFile self.old self.new) }
         ensures ok { OnOk result (TakesBlock self.old self.new lines.now lines.now block.now (Verdict.Rejected reason)) }
@@ -107,7 +109,7 @@ impl FileBooks {
             reason,
         };
         self.rejects.push(reject)?;
-        count_usages(&mut self.founds, block.usages.as_slice());
+        count_usages(&mut self.summaries, block.usages.as_slice());
         self.blocks += 1;
         Ok(())
     }
@@ -123,19 +125,18 @@ impl FileBooks {
     ) -> Result<Verdict, NoMemory>
         requires blocks { self.old.blocks + 1 < 2 ^ 64 }
         requires lines_fit { (q : _) → TallyFits 63 (tally_at lines.old q) }
-        requires founds_fit { (id : List ℕ) → ForSome (shown_at self.old.founds id) (ShownFits 63) }
+        requires summaries_fit { (id : List ℕ) → ForSome (shown_at self.old.summaries id) (ShownFits 63) }
         ensures ids { self.new.ids ≡ self.old.ids }
         ensures err { OnErr result (IsSameFile self.old self.new) }
         ensures same_lines { OnErr result ((q : _) → tally_at lines.new q ≡ tally_at lines.old q) }
-        ensures verdict { IfOk result (λ v. verdict_by self.old.standing seen (is_known self.old.founds) block.now ≡ v) }
+        ensures verdict { IfOk result (λ v. verdict_by self.old.standing seen (is_known self.old.summaries) block.now ≡ v) }
         ensures ok { IfOk result (λ v. TakesBlock self.old self.new lines.old lines.new block.now v) }
     {
         match judge(
             self.standing,
             seen,
-            &self.founds,
+            &self.summaries,
             block,
-            draft.ahead.guessed_summaries(),
             &mut draft.summaries,
         )? {
             Ok(isrc) => {
@@ -159,7 +160,7 @@ impl FileBooks {
     ) -> Result<Verdict, NoMemory>
         requires blocks { self.old.blocks + 1 < 2 ^ 64 }
         requires lines_fit { (q : _) → TallyFits 63 (tally_at lines.old q) }
-        requires founds_fit { (id : List ℕ) → ForSome (shown_at self.old.founds id) (ShownFits 63) }
+        requires summaries_fit { (id : List ℕ) → ForSome (shown_at self.old.summaries id) (ShownFits 63) }
         ensures ok { (d : Filed) → FileStands self.old d → IfOk result (λ v. Took d block.now v self.new lines.old lines.new) }
         ensures count { OnOk result (self.new.blocks ≡ self.old.blocks + 1) }
         ensures err { OnErr result (IsSameFile self.old self.new) }

@@ -10,8 +10,6 @@ mod differences;
 mod draft;
 mod file;
 mod file_lines;
-mod found;
-mod founds;
 mod guesses;
 mod ids;
 mod index;

@@ -3,12 +3,12 @@ ghost use Rattle.std.specs.Prelude.{◌≡◌, ℕ, List, [], OnOk, Some, map};
 ghost use Rattle.dsr_ledger.specs.Bookings.{key_under};
 ghost use Rattle.dsr_ledger.specs.Ranges.{IsInRange};
 ghost use Rattle.dsr_ledger.specs.Tallies.{tally_at, LinesGrow};
-ghost use Rattle.dsr_ledger.specs.Found.{shown_at, index_at};
+ghost use Rattle.dsr_ledger.specs.Summaries.{shown_at, index_at};
 ghost use Rattle.dsr_ledger.specs.Drafts.{numbers_in, NotedUnder, DraftedMore, AreDrafted};
 
 use crate::ahead::NONE;
 use crate::draft::UsageNote;
-use crate::founds::Founds;
+use crate::file::summaries::Summaries;
 use crate::lines::Lines;
 use crate::owed::PartNote;
 use crate::place::Place;
@@ -50,7 +50,7 @@ fn note_under(
 fn note_usage(
     lines: &mut Lines,
     alloc: Global,
-    founds: &mut Founds,
+    summaries: &mut Summaries,
     isrc: Isrc,
     works: &[Work],
     usage: &Usage,
@@ -59,59 +59,52 @@ fn note_usage(
     notes: &mut Vec<UsageNote>,
     parts: &mut Vec<PartNote>,
 ) -> Result<(), NoMemory>
-    requires { index_at founds.old usage.now.summary_id ≡ Some summary }
+    requires { index_at summaries.old usage.now.summary_id ≡ Some summary }
     ensures same { (q : _) → tally_at lines.new q ≡ tally_at lines.old q }
     ensures grows { LinesGrow lines.old lines.new }
-    ensures same_founds { (id : List ℕ) → shown_at founds.new id ≡ shown_at founds.old id }
-    ensures same_index { (id : List ℕ) → index_at founds.new id ≡ index_at founds.old id }
-    ensures noted { OnOk result (DraftedMore (numbers_in lines.new founds.new) isrc works.now usage.now notes.old.items notes.new.items parts.old.items parts.new.items) }
+    ensures same_summaries { (id : List ℕ) → shown_at summaries.new id ≡ shown_at summaries.old id }
+    ensures same_index { (id : List ℕ) → index_at summaries.new id ≡ index_at summaries.old id }
+    ensures noted { OnOk result (DraftedMore (numbers_in lines.new summaries.new) isrc works.now usage.now notes.old.items notes.new.items parts.old.items parts.new.items) }
 {
-    let found = &mut founds.founds[summary];
+    let state = summaries.state(summary);
+    let mut hint = state.key_hint;
     note_under(
-        lines,
-        alloc,
-        isrc,
-        &found.place,
-        &mut found.guess,
-        guessed,
-        works,
-        usage,
-        summary,
-        notes,
-        parts,
-    )
+        lines, alloc, isrc, &state.key, &mut hint, guessed, works, usage, summary, notes, parts,
+    )?;
+    summaries.keep_hint(summary, hint);
+    Ok(())
 }
 
 /// Notes where the usages of a recording count. Nothing is added. Any guesses of the numbers of their lines will do.
 pub fn note_usages(
     lines: &mut Lines,
     alloc: Global,
-    founds: &mut Founds,
+    summaries: &mut Summaries,
     isrc: Isrc,
     works: &[Work],
     usages: &[Usage],
-    summaries: &[usize],
+    numbers: &[usize],
     guessed: &[usize],
     notes: &mut Vec<UsageNote>,
     parts: &mut Vec<PartNote>,
 ) -> Result<(), NoMemory>
-    requires found { map (λ u. index_at founds.old u.summary_id) usages.now ≡ map Some summaries.now }
+    requires found { map (λ u. index_at summaries.old u.summary_id) usages.now ≡ map Some numbers.now }
     requires no_notes { notes.old.items ≡ [] }
     requires no_parts { parts.old.items ≡ [] }
     ensures same { (q : _) → tally_at lines.new q ≡ tally_at lines.old q }
-    ensures same_founds { (id : List ℕ) → shown_at founds.new id ≡ shown_at founds.old id }
-    ensures same_index { (id : List ℕ) → index_at founds.new id ≡ index_at founds.old id }
-    ensures noted { OnOk result (AreDrafted (numbers_in lines.new founds.new) isrc works.now usages.now notes.new.items parts.new.items) }
+    ensures same_summaries { (id : List ℕ) → shown_at summaries.new id ≡ shown_at summaries.old id }
+    ensures same_index { (id : List ℕ) → index_at summaries.new id ≡ index_at summaries.old id }
+    ensures noted { OnOk result (AreDrafted (numbers_in lines.new summaries.new) isrc works.now usages.now notes.new.items parts.new.items) }
 {
     for (i, usage) in usages.iter().enumerate() {
         note_usage(
             lines,
             alloc,
-            founds,
+            summaries,
             isrc,
             works,
             usage,
-            summaries[i],
+            numbers[i],
             guessed.get(i).copied().unwrap_or(NONE),
             notes,
             parts,

@@ -9,7 +9,7 @@ use Rattle.dsr_ledger.proofs.TallyPlusLemmas.{tally_with-key}
 use Rattle.dsr_ledger.proofs.adding.add_usage.Goals as goal
 
 pub count-requires-clause-fits : goal.count-requires-clause-fits
-count-requires-clause-fits c = c.requires.founds_fit c.args.usage.now.summary_id
+count-requires-clause-fits c = c.requires.summaries_fit c.args.usage.now.summary_id
 
 pub add-requires-clause-there : goal.add-requires-clause-there
 add-requires-clause-there c =

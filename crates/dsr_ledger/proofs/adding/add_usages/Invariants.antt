@@ -6,7 +6,7 @@ use Rattle.dsr_ledger.specs.declared.key.Key.{Key}
 use Rattle.dsr_ledger.specs.Bookings.{usage_bookings}
 use Rattle.dsr_ledger.specs.Ranges.{IsInRange}
 use Rattle.dsr_ledger.specs.Tallies.{tally_at, tally_plus, key_tally, number_of, seat_in}
-use Rattle.dsr_ledger.specs.Found.{shown_at, shown_with, place_at, index_at}
+use Rattle.dsr_ledger.specs.Summaries.{shown_at, shown_with, place_at, index_at}
 use Rattle.dsr_ledger.specs.Drafts.{numbers_in, AreDrafted}
 use Rattle.dsr_ledger.proofs.adding.add_usages.Given as goal
 
@@ -15,9 +15,9 @@ invariant-loop-i l = record {
   range : AllByRecursion IsInRange (take l.i l.usages);
   numbers : (q : Key) → number_of l.lines q ≡ number_of l.fn.lines q;
   seats : (i : ℕ) (q : List ℕ) → seat_in l.lines i q ≡ seat_in l.fn.lines i q;
-  index : (id : List ℕ) → index_at l.founds id ≡ index_at l.fn.founds id;
-  founds : (id : List ℕ) → shown_at l.founds id ≡ option_map (shown_with id (take l.i l.usages)) (shown_at l.fn.founds id);
-  left : (isrc : List ℕ) (works : List WorkParts) → AreDrafted (numbers_in l.fn.lines l.fn.founds) isrc works l.usages l.notes l.parts → AreDrafted (numbers_in l.fn.lines l.fn.founds) isrc works (drop l.i l.usages) (drop l.i l.notes) l.left;
-  lines : (isrc : List ℕ) (works : List WorkParts) → AreDrafted (numbers_in l.fn.lines l.fn.founds) isrc works l.usages l.notes l.parts
-      → (q : Key) → tally_at l.lines q ≡ tally_plus (tally_at l.fn.lines q) (key_tally (usage_bookings (place_at l.fn.founds) isrc works (take l.i l.usages)) q);
+  index : (id : List ℕ) → index_at l.summaries id ≡ index_at l.fn.summaries id;
+  summaries : (id : List ℕ) → shown_at l.summaries id ≡ option_map (shown_with id (take l.i l.usages)) (shown_at l.fn.summaries id);
+  left : (isrc : List ℕ) (works : List WorkParts) → AreDrafted (numbers_in l.fn.lines l.fn.summaries) isrc works l.usages l.notes l.parts → AreDrafted (numbers_in l.fn.lines l.fn.summaries) isrc works (drop l.i l.usages) (drop l.i l.notes) l.left;
+  lines : (isrc : List ℕ) (works : List WorkParts) → AreDrafted (numbers_in l.fn.lines l.fn.summaries) isrc works l.usages l.notes l.parts
+      → (q : Key) → tally_at l.lines q ≡ tally_plus (tally_at l.fn.lines q) (key_tally (usage_bookings (place_at l.fn.summaries) isrc works (take l.i l.usages)) q);
 }

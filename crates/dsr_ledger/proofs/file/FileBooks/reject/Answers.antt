@@ -6,4 +6,4 @@ pub count_usages-requires : goal.count_usages-requires
 count_usages-requires c = λ id x at.
     let room = c.block.invariant in
     let long = ap length c.as_slice.ensures in
-    fewer_sums 63 (length c.as_slice.result.now) x.sums (omega arith) (c.requires.founds_fit id x at)
+    fewer_sums 63 (length c.as_slice.result.now) x.sums (omega arith) (c.requires.summaries_fit id x at)

@@ -4,19 +4,22 @@ use Rattle.std.specs.Prelude.{◌+ℤ◌, Option, None, Some, is_some, option_ma
 use Rattle.std.specs.Str.{bytes_eq}
 use Rattle.std.specs.Cmp.Lexicographic.{nat_list_eq_equiv}
 use Rattle.dsr_records.specs.declared.record.Usage.{Usage}
-use Rattle.dsr_ledger.specs.declared.founds.Founds.{Founds}
+use Rattle.dsr_ledger.specs.declared.file.summaries.Summaries.{Summaries}
 use Rattle.dsr_ledger.specs.Sums.{int_sum_by}
-use Rattle.dsr_ledger.specs.Found.{Shown, shown, shown_at, shown_plus, shown_with, index_at, is_known}
-use Rattle.dsr_ledger.proofs.NumberedLemmas.{read_some}
+use Rattle.dsr_ledger.specs.Summaries.{Shown, shown, shown_at, shown_plus, shown_with, index_at, is_known}
+use Rattle.indexmap.specs.IndexMap.{get}
+use Rattle.indexmap.proofs.MapLemmas.{some_index}
+use Rattle.dsr_ledger.proofs.TextLemmas.{same_text}
 use Rattle.dsr_ledger.proofs.SumLemmas.{add-zero}
 
--- something is kept of each summary that has a number
-pub known_shown : (founds : Founds) (id : List ℕ) → is_some (shown_at founds id) ≡ is_known founds id
-known_shown founds id = read_some shown founds.founds.items (index_at founds id) (founds.numbered.below id)
+pub is_some-map : {A B : Type 0} (f : A → B) (o : Option A) → is_some (option_map f o) ≡ is_some o
+is_some-map f None = refl
+is_some-map f (Some x) = refl
 
-pub not_there : {X : Type 0} (o : Option X) → is_some o ≡ false → o ≡ None
-not_there None e = refl
-not_there (Some x) e = absurd (true≢false e)
+-- something is kept of each summary that has a number
+pub known_shown : (summaries : Summaries) (id : List ℕ) → is_some (shown_at summaries id) ≡ is_known summaries id
+known_shown summaries id =
+    is_some-map shown (get bytes_eq summaries.states id) ∙ sym (some_index (bytes_eq id) summaries.states.entries)
 
 -- a usage under another name adds nothing
 other_name : (id : List ℕ) (u : Usage) (s : Shown) → bytes_eq id u.summary_id ≡ false → s ≡ shown_with id (u ∷ []) s
@@ -49,3 +52,18 @@ counted id u (Some s) =
       | true ↦ λ e. ap Some (own_name id u s (nat_list_eq_equiv.symm id u.summary_id ∙ e))
       | false ↦ λ e. ap Some (other_name id u s (nat_list_eq_equiv.symm id u.summary_id ∙ e))
     ] refl
+
+not_there : {X : Type 0} (o : Option X) → is_some o ≡ false → o ≡ None
+not_there None e = refl
+not_there (Some x) e = absurd (true≢false e)
+
+-- a usage that names no summary adds nothing
+pub uncounted : (summaries : Summaries) (u : Usage) → index_at summaries u.summary_id ≡ None → (id : List ℕ) → shown_at summaries id ≡ option_map (shown_with id (u ∷ [])) (shown_at summaries id)
+uncounted summaries u absent id =
+    elim (bytes_eq u.summary_id id) as (λ b. bytes_eq u.summary_id id ≡ b → shown_at summaries id ≡ cond b (option_map (shown_plus u) (shown_at summaries id)) (shown_at summaries id)) [
+      | true ↦ λ e.
+          let none = ap (shown_at summaries) (sym (same_text u.summary_id id e)) ∙ not_there _ (known_shown summaries u.summary_id ∙ ap is_some absent) in
+          none ∙ sym (ap (option_map (shown_plus u)) none)
+      | false ↦ λ _. refl
+    ] refl
+    ∙ counted id u (shown_at summaries id)
