@@ -6,7 +6,7 @@ use Rattle.std.proofs.Math.ListN.{length-set}
 use Rattle.std.specs.Vec.{with_item}
 use Rattle.dsr_ledger.specs.declared.kept.Kept.{Kept}
 use Rattle.dsr_ledger.proofs.FilesLemmas.{open_at}
-use Rattle.dsr_ledger.proofs.BooksLemmas.{lines_fit_reached, founds_fit_reached, Answered, answered_stands, answered_reached}
+use Rattle.dsr_ledger.proofs.BooksLemmas.{lines_fit_reached, summaries_fit_reached, Answered, answered_stands, answered_reached}
 use Rattle.dsr_ledger.proofs.books.Books.book.Goals as goal
 
 pub book-requires-clause-lines_fit : goal.book-requires-clause-lines_fit
@@ -15,11 +15,11 @@ book-requires-clause-lines_fit c =
     let room = c.args.self.now.room in
     lines_fit_reached c.args.self.now.kept (omega arith) c.args.self.now.reached
 
-pub book-requires-clause-founds_fit : goal.book-requires-clause-founds_fit
-book-requires-clause-founds_fit c =
+pub book-requires-clause-summaries_fit : goal.book-requires-clause-summaries_fit
+book-requires-clause-summaries_fit c =
     let f = c.index_mut-file.result.now in
     let at = open_at (λ f. is_some f.opening) c.args.self.now.kept.files.items c.args.k f c.index_mut-file.ensures.value c.requires.opening in
-    founds_fit_reached c.args.self.now.kept c.args.k f c.args.self.now.reached at
+    summaries_fit_reached c.args.self.now.kept c.args.k f c.args.self.now.reached at
 
 pub invariant_of-self : goal.invariant_of-self
 invariant_of-self c =

@@ -1,4 +1,6 @@
-use Rattle.std.proofs.Common.{◌≡◌, ℕ, List, ap, subst, ◌∙◌}
+use Rattle.std.proofs.Common.{◌≡◌, ℕ, List, ap, sym, subst, ◌∙◌}
+use Rattle.std.proofs.lemmas.Result.{on_err_weaker}
+use Rattle.dsr_ledger.specs.declared.ids.Ids.{Ids}
 use Rattle.dsr_ledger.specs.declared.verdict.Verdict.{Verdict}
 use Rattle.dsr_ledger.specs.Summaries.{is_known}
 use Rattle.dsr_ledger.specs.IdSteps.{is_in, IsNoted}
@@ -34,3 +36,18 @@ returns-else-is_err-clause-ok c = λ d h.
       tallies = t.tallies;
       range = t.range;
     }) noted) c.take-answer.ensures.verdict c.take-answer.ensures.ok
+
+pub returns-then-is_err-clause-err : goal.returns-then-is_err-clause-err
+returns-then-is_err-clause-err c =
+    let was = c.args.self.now.ids in
+    let noted = subst (λ (ids : Ids). IsNoted c.in_ok-noted.noted was ids c.block.inside.id) (sym c.take-answer.ensures.ids) c.in_ok-noted.ensures.noted in
+    on_err_weaker c.take-answer.result (λ same. record {
+      place = same.place;
+      opening = same.opening;
+      standing = same.standing;
+      blocks = same.blocks;
+      ids = c.forget.ensures was noted;
+      summaries = same.summaries;
+      rejects = same.rejects;
+      outcome = same.outcome;
+    }) c.take-answer.ensures.err
