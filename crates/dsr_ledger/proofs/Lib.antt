@@ -4,6 +4,10 @@ pub mod NumberedLemmas
 pub mod PlaceByLemmas
 pub mod PartLemmas
 pub mod RecordingLemmas
+pub mod LedgerLemmas
+pub mod SeatedLemmas
+pub mod KeepsLemmas
+pub mod PlanLemmas
 pub mod TextLemmas
 pub mod OwedLemmas
 pub mod KeyLemmas
@@ -11,6 +15,7 @@ pub mod SummaryLemmas
 pub mod ShareLemmas
 pub mod OrderLemmas
 pub mod PartyLemmas
+pub mod WholeLemmas
 pub mod LawLemmas
 pub mod SmallBookings
 pub mod FitLemmas

@@ -82,11 +82,7 @@ fn standing_after(files: &[FileBooks], opening: &Option<Opening>) -> Standing
 }
 
 /// What is kept of these summaries, which no usage names so far.
-fn summaries_of(
-    alloc: Global,
-    seeded: Seeded,
-    stated: &[Summary],
-) -> Result<Summaries, NoMemory>
+fn summaries_of(alloc: Global, seeded: Seeded, stated: &[Summary]) -> Result<Summaries, NoMemory>
     ensures { IfOk result (λ m. (id : List ℕ) → shown_at m id ≡ found_in stated.now [] id) }
 {
     let mut summaries = Summaries::with_room(alloc, seeded, stated.len())?;
