@@ -61,12 +61,12 @@ impl Recording {
     }
 
     /// The seat of a party, which is given one where it has none. The lines stay.
-    pub fn seat(&mut self, party: u32) -> Result<usize, NoMemory>
+    pub fn seat(&mut self, alloc: Global, party: u32) -> Result<usize, NoMemory>
         ensures lines { self.new.lines ≡ self.old.lines }
         ensures more { IsWithNumber (seat_numbers self.old.seats) (seat_numbers self.new.seats) party }
         ensures there { IfOk result (λ seat. place_in (seat_numbers self.new.seats) party ≡ Some seat) }
     {
-        self.seats.seat(party)
+        self.seats.seat(alloc, party)
     }
 
     /// Makes the line of a summary key that has none.

@@ -18,14 +18,14 @@ use Rattle.dsr_ledger.proofs.PlanLemmas.{StepOf, step_of}
 use Rattle.dsr_ledger.proofs.TallyPlusLemmas.{tally_with-key}
 use Rattle.dsr_ledger.proofs.booking.apply.add_usage.Goals as goal
 
-pub index-requires : goal.index-requires
-index-requires c =
+pub index-summary-requires : goal.index-summary-requires
+index-summary-requires c =
     let p = c.requires.planned in
     let s = step_of c.args.ledger.now c.args.summaries.now p.0 p.1 p.2 c.args.i c.args.usage.now c.args.plan.now p.3 p.4 in
     s.summary_below
 
-pub index-2-requires : goal.index-2-requires
-index-2-requires c =
+pub index-line-requires : goal.index-line-requires
+index-line-requires c =
     let p = c.requires.planned in
     let s = step_of c.args.ledger.now c.args.summaries.now p.0 p.1 p.2 c.args.i c.args.usage.now c.args.plan.now p.3 p.4 in
     s.line_below
@@ -34,7 +34,7 @@ pub count-requires-clause-there : goal.count-requires-clause-there
 count-requires-clause-there c =
     let p = c.requires.planned in
     let s = step_of c.args.ledger.now c.args.summaries.now p.0 p.1 p.2 c.args.i c.args.usage.now c.args.plan.now p.3 p.4 in
-    s.summary_is ∙ ap Some (sym (c.index.ensures ∙ s.summary_at _))
+    s.summary_is ∙ ap Some (sym (c.index-summary.ensures ∙ s.summary_at _))
 
 pub count-requires-clause-fits : goal.count-requires-clause-fits
 count-requires-clause-fits c = c.requires.summaries_fit c.args.usage.now.summary_id
@@ -45,7 +45,7 @@ add-requires c =
     let s = step_of c.args.ledger.now c.args.summaries.now p.0 p.1 p.2 c.args.i c.args.usage.now c.args.plan.now p.3 p.4 in
     let a = c.args.usage.now.amount in
     let works = p.1 in
-    let line = s.line_of c.index-2.result (c.index-2.ensures ∙ s.line_at _) c.as_slice.result.now c.as_slice.ensures.value in
+    let line = s.line_of c.index-line.result (c.index-line.ensures ∙ s.line_at _) c.as_slice.result.now c.as_slice.ensures.value in
     let within = parts_within a works p.5 in
     let range = c.count.ensures.range.amount in
     let size = ap parts_size (parts_of_shares a works) in
@@ -56,7 +56,7 @@ returns-clause-tallies c = λ isrc works us planned at q.
     let s = step_of c.args.ledger.now c.args.summaries.now isrc works us c.args.i c.args.usage.now c.args.plan.now planned at in
     let u = c.args.usage.now in
     let t = tally_at c.args.ledger.now q in
-    let line = s.line_of c.index-2.result (c.index-2.ensures ∙ s.line_at _) c.as_slice.result.now c.as_slice.ensures.value in
+    let line = s.line_of c.index-line.result (c.index-line.ensures ∙ s.line_at _) c.as_slice.result.now c.as_slice.ensures.value in
     c.add.ensures.tally isrc s.key (shares_of works) line q
     ∙ s.with_parts t q
     ∙ tally_with-key t isrc works u s.key q

@@ -7,6 +7,7 @@ use Rattle.dsr_ledger.specs.Ranges.{IsInRange}
 use Rattle.dsr_ledger.specs.Tallies.{tally_plus, key_tally, TallyFits}
 use Rattle.dsr_ledger.specs.Summaries.{shown_with, place_at, index_at}
 use Rattle.dsr_ledger.specs.Plans.{IsPlanned}
+use Rattle.dsr_ledger.specs.Verdicts.{share_total}
 use Rattle.dsr_ledger.proofs.FitLemmas.{fewer_sums, fewer_tallies}
 use Rattle.dsr_ledger.proofs.KeepsLemmas.{same_places}
 use Rattle.dsr_ledger.proofs.file.FileBooks.accept.Goals as goal
