@@ -90,7 +90,7 @@ impl Recording {
         ensures keys { line_keys self.new.lines.items ≡ line_keys self.old.lines.items }
         ensures wide { OnOk result (IsWide (length (seat_numbers self.old.seats)) self.new.lines.items number) }
     {
-        let seats = self.seats.as_slice().len();
+        let seats = self.seats.len();
         widen(&mut self.lines[number].parts, seats)
     }
 

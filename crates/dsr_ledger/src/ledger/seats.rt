@@ -85,6 +85,13 @@ impl Seats {
         self.numbers.as_slice()
     }
 
+    /// How many seats there are.
+    pub fn len(&self) -> usize
+        ensures { result ≡ length (seat_numbers self.now) }
+    {
+        self.numbers.len()
+    }
+
     /// The seat of a party, if it has one.
     fn find(&self, party: u32) -> Option<usize>
         ensures { result ≡ place_in (seat_numbers self.now) party }

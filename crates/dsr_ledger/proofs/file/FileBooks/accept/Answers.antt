@@ -22,7 +22,7 @@ add_usages-requires-clause-planned c =
       c.args.isrc,
       c.as_slice-works.result.now,
       subst (λ us. IsPlanned c.fill.new.ledger c.fill.new.summaries c.args.isrc c.as_slice-works.result.now us c.fill.new.self) (sym usages) (c.in_ok-fill.ensures.planned c.args.block.now.usages c.requires.found),
-      search rules,
+      subst (λ ws. share_total ws ≤ 1000000) (sym works) c.requires.shares,
     )
 
 pub add_usages-requires-clause-ledger_fits : goal.add_usages-requires-clause-ledger_fits

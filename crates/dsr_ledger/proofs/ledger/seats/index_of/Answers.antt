@@ -1,9 +1,8 @@
-use Rattle.std.proofs.Common.{◌≡◌, ◌+◌, ◌++◌, ◌∷◌, [], ap, sym, ◌∙◌, cond, length, take, nat_eq, arith, rules, refl}
+use Rattle.std.proofs.Common.{◌≡◌, ◌+◌, ◌++◌, ◌∷◌, [], ap, sym, ◌∙◌, cond, length, take, get_or, nat_eq, arith, rules, refl}
 use Rattle.std.specs.Prelude.{Some, None, slice_get}
 use Rattle.std.proofs.lemmas.List.{take_all, take_more, length-take-le}
-use Rattle.std.proofs.lemmas.Option.{slice_get_read}
 use Rattle.dsr_ledger.specs.Numbered.{place_in}
-use Rattle.dsr_ledger.proofs.NumberedLemmas.{place_more, place_before}
+use Rattle.dsr_ledger.proofs.NumberedLemmas.{place_more, place_before, got_or}
 use Rattle.dsr_ledger.proofs.PlaceByLemmas.{same_number}
 use Rattle.dsr_ledger.proofs.TieLemmas.{number_ties}
 use Rattle.dsr_ledger.proofs.ledger.seats.index_of.Goals as goal
@@ -12,9 +11,9 @@ pub loop-seat-preserved : goal.loop-seat-preserved
 loop-seat-preserved c = λ q.
     let ns = c.args.numbers.now in
     let i = c.loop-seat.seat in
-    let n = c.index-numbers-seat.result in
-    let at : slice_get ns i ≡ Some n = slice_get_read ns (length ns) i n refl c.loop-seat-test.true c.index-numbers-seat.is in
-    let more : take (i + 1) ns ≡ take i ns ++ n ∷ [] = take_more ns i n c.loop-seat-test.true ∙ ap (λ x. take i ns ++ x ∷ []) (sym c.index-numbers-seat.is) in
+    let n = get_or ns i 0 in
+    let at : slice_get ns i ≡ Some n = got_or ns i 0 c.loop-seat-test.true in
+    let more : take (i + 1) ns ≡ take i ns ++ n ∷ [] = take_more ns i 0 c.loop-seat-test.true in
     let below = c.loop-seat-test.true in
     let long = length-take-le i ns (omega arith) in
     c.in_ok-insert.ensures.updates.0 q

@@ -14,7 +14,7 @@ invariant_of-self c =
     let ls = r.lines.items in
     let l = c.new.result in
     let none : line_in ls l.key ≡ None = ap (line_in ls) c.new.ensures.key ∙ c.requires in
-    let items : c.push.new.self.items ≡ ls ++ l ∷ [] = search rules in
+    let items : c.push.new.self.items ≡ ls ++ l ∷ [] = c.in_ok-push.ensures.items in
     let few = ap length c.new.ensures.parts in
     record {
       apart = subst AreApart (sym (ap line_keys items ∙ keys_pushed ls l)) (apart_more nat_eq same_number (line_keys ls) l.key none r.apart);
@@ -27,7 +27,7 @@ returns-clause-grows c =
     let ls = r.lines.items in
     let l = c.new.result in
     let none : line_in ls l.key ≡ None = ap (line_in ls) c.new.ensures.key ∙ c.requires in
-    let items : c.push.new.self.items ≡ ls ++ l ∷ [] = search rules in
+    let items : c.push.new.self.items ≡ ls ++ l ∷ [] = c.in_ok-push.ensures.items in
     subst (LinesGrow (length (seat_numbers r.seats)) ls) (sym items) (grow_pushed (length (seat_numbers r.seats)) ls l none c.new.ensures.tally)
 
 pub returns-clause-there : goal.returns-clause-there
@@ -35,6 +35,6 @@ returns-clause-there c =
     let ls = c.args.self.now.lines.items in
     let l = c.new.result in
     let none : line_in ls l.key ≡ None = ap (line_in ls) c.new.ensures.key ∙ c.requires in
-    let items : c.push.new.self.items ≡ ls ++ l ∷ [] = search rules in
+    let items : c.push.new.self.items ≡ ls ++ l ∷ [] = c.in_ok-push.ensures.items in
     let long : length ls ≡ c.len-number.result = search rules in
     ap (line_in c.push.new.self.items) (sym c.new.ensures.key) ∙ ap (λ xs. line_in xs l.key) items ∙ line_there ls l none ∙ ap Some long
