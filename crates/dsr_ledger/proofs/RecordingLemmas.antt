@@ -189,3 +189,8 @@ pub wide_here : (seats : ℕ) (ls : List Line) (i : ℕ) (l : Line) → IsWide s
 wide_here seats ls i l h is =
     let at = slice_get_read ls (length ls) i l refl (wide_below seats ls i h) is in
     ap (λ (x : Line). length x.parts.items) (same_Some l h.line (sym at ∙ h.there)) ∙ h.wide
+
+-- a line was pushed, or memory was refused
+pub pushed_or : (b : Bool) (P : List Line → Type 0) (new ls : List Line) (l : Line) → new ≡ cond b (ls ++ l ∷ []) ls → P ls → P (ls ++ l ∷ []) → P new
+pushed_or true P new ls l e old more = subst P (sym e) more
+pushed_or false P new ls l e old more = subst P (sym e) old

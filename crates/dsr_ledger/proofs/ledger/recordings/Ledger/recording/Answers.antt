@@ -6,7 +6,7 @@ use Rattle.std.specs.Str.{bytes_eq}
 use Rattle.std.proofs.lemmas.List.{map-append, length-map}
 use Rattle.std.proofs.lemmas.Slice.Eq.{bytes_eq-Decides}
 use Rattle.std.proofs.lemmas.Result.{on_ok_weaker, on_err_weaker}
-use Rattle.indexmap.specs.IndexMap.{get, keys, index_of, IsUnchanged}
+use Rattle.indexmap.specs.IndexMap.{get, keys, index_of, IsUnchanged, Updates}
 use Rattle.indexmap.proofs.CallerLemmas.{insert_entry-new}
 use Rattle.dsr_ledger.specs.declared.ledger.recording.Recording.{Recording}
 use Rattle.dsr_ledger.specs.Numbered.{AreBelow}
@@ -25,8 +25,10 @@ invariant_of-self c =
     let w = c.new.result in
     let old = get bytes_eq l.recordings in
     let new = get bytes_eq c.insert.new.self in
-    let ok = on_ok_weaker c.insert.result (λ u. u.0) c.insert.ensures.updates in
-    let err = on_err_weaker c.insert.result (λ (e : IsUnchanged l.recordings c.insert.new.self) (q : List ℕ). unchanged l.recordings c.insert.new.self e q) c.insert.ensures.err in
+    let made : Updates bytes_eq l.recordings c.insert.new.self c.args.isrc (Some w) → (q : List ℕ) → new q ≡ cond (bytes_eq c.args.isrc q) (Some w) (old q) = λ u. u.0 in
+    let same : IsUnchanged l.recordings c.insert.new.self → (q : List ℕ) → new q ≡ old q = λ e q. unchanged l.recordings c.insert.new.self e q in
+    let ok = on_ok_weaker c.insert.result made c.insert.ensures.updates in
+    let err = on_err_weaker c.insert.result same c.insert.ensures.err in
     let n = length l.parties.keys in
     let k = length l.summary_keys.keys in
     record {
