@@ -18,8 +18,8 @@ invariant_of-self c =
     let few = ap length c.new.ensures.parts in
     let apart = subst AreApart (sym (keys_pushed ls l)) (apart_more nat_eq same_number (line_keys ls) l.key none r.apart) in
     record {
-      apart = pushed_or (is_ok c.push.result) (λ xs. AreApart (line_keys xs)) c.push.new.self.items ls l c.push.ensures.items r.apart apart;
-      within = pushed_or (is_ok c.push.result) (AreWithin seats) c.push.new.self.items ls l c.push.ensures.items r.within (within_pushed seats ls l r.within (omega arith));
+      apart = pushed_or (is_ok c.push_line.result) (λ xs. AreApart (line_keys xs)) c.push_line.new.lines.items ls l c.push_line.ensures r.apart apart;
+      within = pushed_or (is_ok c.push_line.result) (AreWithin seats) c.push_line.new.lines.items ls l c.push_line.ensures r.within (within_pushed seats ls l r.within (omega arith));
     }
 
 pub returns-clause-grows : goal.returns-clause-grows
@@ -28,7 +28,7 @@ returns-clause-grows c =
     let ls = r.lines.items in
     let l = c.new.result in
     let none : line_in ls l.key ≡ None = ap (line_in ls) c.new.ensures.key ∙ c.requires in
-    let items : c.push.new.self.items ≡ ls ++ l ∷ [] = c.in_ok-push.ensures.items in
+    let items : c.push_line.new.lines.items ≡ ls ++ l ∷ [] = c.in_ok-push_line.ensures in
     subst (LinesGrow (length (seat_numbers r.seats)) ls) (sym items) (grow_pushed (length (seat_numbers r.seats)) ls l none c.new.ensures.tally)
 
 pub returns-clause-there : goal.returns-clause-there
@@ -36,6 +36,6 @@ returns-clause-there c =
     let ls = c.args.self.now.lines.items in
     let l = c.new.result in
     let none : line_in ls l.key ≡ None = ap (line_in ls) c.new.ensures.key ∙ c.requires in
-    let items : c.push.new.self.items ≡ ls ++ l ∷ [] = c.in_ok-push.ensures.items in
+    let items : c.push_line.new.lines.items ≡ ls ++ l ∷ [] = c.in_ok-push_line.ensures in
     let long : length ls ≡ c.len-number.result = search rules in
-    ap (line_in c.push.new.self.items) (sym c.new.ensures.key) ∙ ap (λ xs. line_in xs l.key) items ∙ line_there ls l none ∙ ap Some long
+    ap (line_in c.push_line.new.lines.items) (sym c.new.ensures.key) ∙ ap (λ xs. line_in xs l.key) items ∙ line_there ls l none ∙ ap Some long
