@@ -6,13 +6,14 @@ use Rattle.dsr_ledger.specs.declared.file.FileBooks.{FileBooks}
 use Rattle.dsr_ledger.specs.declared.verdict.Verdict.{Verdict}
 use Rattle.dsr_ledger.specs.declared.verdict.Verdict.TheVariants.{Booked, Rejected}
 use Rattle.dsr_ledger.specs.IdSteps.{is_in}
-use Rattle.dsr_ledger.specs.declared.place.Place.{Place}
+use Rattle.dsr_ledger.specs.declared.ledger.summary_key.SummaryKey.{SummaryKey}
 use Rattle.dsr_ledger.specs.Bookings.{Booking, usage_bookings}
 use Rattle.dsr_ledger.specs.Findings.{rejects_from}
 use Rattle.dsr_ledger.specs.Ranges.{IsInRange}
 use Rattle.dsr_ledger.specs.Summaries.{shown_at, shown_with, place_at}
-use Rattle.dsr_ledger.specs.Tallies.{tally_at, tally_plus, key_tally}
-use Rattle.dsr_ledger.specs.declared.lines.Lines.{Lines}
+use Rattle.dsr_ledger.specs.Tallies.{tally_plus, key_tally}
+use Rattle.dsr_ledger.specs.Recordings.{tally_at}
+use Rattle.dsr_ledger.specs.declared.ledger.recordings.Ledger.{Ledger}
 use Rattle.dsr_ledger.specs.declared.key.Key.{Key}
 
 -- nothing that counts has changed
@@ -32,12 +33,12 @@ pub record IsBlockInRange (b : BlockParts) : Type 0 where
   pub range : AllByRecursion IsInRange b.usages
 
 -- what a block with this verdict adds
-abbrev pub bookings_by : (List ℕ → Option Place) → BlockParts → Verdict → List Booking
+abbrev pub bookings_by : (List ℕ → Option SummaryKey) → BlockParts → Verdict → List Booking
 bookings_by place b Booked = usage_bookings place b.resource.isrc b.works b.usages
 bookings_by place b (Rejected reason) = []
 
 -- one more block with this verdict, but for the identifiers
-pub record TakesBlock (f g : FileBooks) (old new : Lines) (b : BlockParts) (v : Verdict) : Type 0 where
+pub record TakesBlock (f g : FileBooks) (old new : Ledger) (b : BlockParts) (v : Verdict) : Type 0 where
   pub place : g.place ≡ f.place
   pub opening : g.opening ≡ f.opening
   pub standing : g.standing ≡ f.standing

@@ -8,14 +8,14 @@ use Rattle.dsr_ledger.specs.declared.sums.Sums.{Sums}
 use Rattle.dsr_ledger.specs.declared.file.summaries.SummaryState.{SummaryState}
 use Rattle.dsr_ledger.specs.declared.file.summaries.Summaries.{Summaries}
 use Rattle.dsr_ledger.specs.Sums.{int_sum_by}
-use Rattle.dsr_ledger.specs.declared.place.Place.{Place}
+use Rattle.dsr_ledger.specs.declared.ledger.summary_key.SummaryKey.{SummaryKey}
 use Rattle.dsr_ledger.specs.Bookings.{place_of}
 use Rattle.dsr_ledger.specs.Findings.{naming}
 use Rattle.dsr_ledger.specs.Ranges.{SumsFit}
 
 -- what counts of what is kept of a summary: all but the hint
 pub record Shown : Type 0 where
-  pub place : Place
+  pub place : SummaryKey
   pub sums : Sums
 
 abbrev pub shown : SummaryState → Shown
@@ -33,7 +33,7 @@ index_at summaries id = index_of bytes_eq summaries.states id
 abbrev pub shown_at : Summaries → List ℕ → Option Shown
 shown_at summaries id = option_map shown (get bytes_eq summaries.states id)
 
-abbrev pub place_at : Summaries → List ℕ → Option Place
+abbrev pub place_at : Summaries → List ℕ → Option SummaryKey
 place_at summaries id = option_map (λ s. s.place) (shown_at summaries id)
 
 -- with the usages added that name it

@@ -3,7 +3,7 @@ ghost use Rattle.std.specs.Prelude.{◌≡◌, IfOk};
 ghost use Rattle.dsr_ledger.specs.Ranges.{IsInRange, SumsFit};
 ghost use Rattle.dsr_ledger.specs.Summaries.{shown, shown_plus, nothing_found};
 
-use crate::place::Place;
+use crate::ledger::summary_key::SummaryKey;
 use crate::seeded::Seeded;
 use crate::sums::Sums;
 use dsr_cells::{NoMemory, Text};
@@ -14,7 +14,7 @@ use std::alloc::Global;
 /// What is kept of a summary: the key under which its usages count, and the sums of the usages that name it.
 #[derive(Drop)]
 pub struct SummaryState {
-    pub key: Place,
+    pub key: SummaryKey,
     /// The number that the key had last, or any other.
     pub key_hint: u32,
     pub sums: Sums,
@@ -26,7 +26,7 @@ impl SummaryState {
         ensures { IfOk result (λ s. shown s ≡ nothing_found summary.now) }
     {
         Ok(SummaryState {
-            key: Place {
+            key: SummaryKey {
                 territory: summary.territory.copy(alloc)?,
                 use_type: summary.use_type.copy(alloc)?,
                 currency: summary.currency.copy(alloc)?,
