@@ -7,6 +7,7 @@ pub mod KeyLemmas
 pub mod SummaryLemmas
 pub mod ShareLemmas
 pub mod OrderLemmas
+pub mod ListedLemmas
 pub mod PartyLemmas
 pub mod LawLemmas
 pub mod SmallBookings
