@@ -23,7 +23,7 @@ use Rattle.dsr_ledger.specs.Openings.{openings_of, first_of}
 use Rattle.dsr_ledger.specs.Bookings.{Booking, bookings}
 use Rattle.dsr_ledger.specs.Ledger.{ledger}
 use Rattle.dsr_ledger.specs.Reports.{key_of, outcome_of, file_line, report_head, missing, report_of}
-use Rattle.dsr_ledger.specs.Stands.{FileStands, FilesStand, LinesStand}
+use Rattle.dsr_ledger.specs.Stands.{FileStands, FilesStand, LedgerStands}
 use Rattle.dsr_ledger.specs.Books.{IsSmallFile, IsReached, Stands}
 use Rattle.dsr_ledger.specs.Order.{AreOfSmall}
 use Rattle.dsr_ledger.specs.Assembly.{line_kept, is_number_kept, not_in, sums_shown, difference_to, differences_to, differences_kept}
@@ -139,7 +139,7 @@ short_files [] h = tt
 short_files (f ∷ files) h = (record { few = h.0.few; range = h.0.range }, short_files files h.1)
 
 -- the lines of books that are reached are of small bookings
-pub small_lines : (kept : Kept) → length kept.files.items ≤ 64 → IsReached kept → AreOfSmall kept.lines
+pub small_lines : (kept : Kept) → length kept.files.items ≤ 64 → IsReached kept → AreOfSmall kept.ledger
 small_lines kept few r =
     let long = length-stand 1 [] kept.files.items r.files r.stands.each in
     record {
@@ -155,7 +155,7 @@ pub record Assembled (kept : Kept) (numbers : BTreeSet ℕ) (r : Report) : Type 
   pub own : (n : ℕ) → contains nat_cmp numbers n ≡ list_any (is_number_kept n) kept.files.items
   pub missing : r.missing ≡ not_in r.key numbers
   pub differences : r.differences ≡ flat_map differences_kept kept.files.items
-  pub ledger : (bs : List Booking) → LinesStand kept.lines bs → r.ledger ≡ ledger bs
+  pub ledger : (bs : List Booking) → LedgerStands kept.ledger bs → r.ledger ≡ ledger bs
   pub rejects : r.rejects ≡ flat_map (λ f. f.rejects.items) kept.files.items
 
 pub report_is : (kept : Kept) (numbers : BTreeSet ℕ) (r : Report) → Assembled kept numbers r → (files : List File) → Stands kept files → r ≡ report_of files

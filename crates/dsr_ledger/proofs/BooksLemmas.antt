@@ -17,7 +17,8 @@ use Rattle.dsr_ledger.specs.Verdicts.{verdict_in, verdict_after}
 use Rattle.dsr_ledger.specs.Openings.{openings_of}
 use Rattle.dsr_ledger.specs.Summaries.{shown_at, ShownFits}
 use Rattle.dsr_ledger.specs.Ranges.{SumsFit}
-use Rattle.dsr_ledger.specs.Tallies.{Tally, tally_at, key_tally, TallyFits}
+use Rattle.dsr_ledger.specs.Tallies.{Tally, key_tally, TallyFits}
+use Rattle.dsr_ledger.specs.Recordings.{tally_at}
 use Rattle.dsr_ledger.specs.FileSteps.{IsSameFile, IsBlockInRange}
 use Rattle.dsr_ledger.specs.Stands.{FileStands, FilesStand, Took}
 use Rattle.dsr_ledger.specs.Books.{IsSmallFile, IsReached, Stands}
@@ -34,11 +35,11 @@ SumsFit-prop : (n : ℕ) (s : Sums) → IsProp (SumsFit n s)
 SumsFit-prop n s = hlevel props
 
 -- 63 more usages fit
-pub lines_fit_reached : (kept : Kept) → length kept.files.items ≤ 64 → ∥ IsReached kept ∥₁ → (q : Key) → TallyFits 63 (tally_at kept.lines q)
+pub lines_fit_reached : (kept : Kept) → length kept.files.items ≤ 64 → ∥ IsReached kept ∥₁ → (q : Key) → TallyFits 63 (tally_at kept.ledger q)
 lines_fit_reached kept few r q =
     ∥∥₁_elim r (TallyFits-prop _ _) (λ x.
     let long = length-stand 1 [] kept.files.items x.files x.stands.each in
-    lines_fit x.files kept.lines x.stands.lines x.small (omega arith) q)
+    lines_fit x.files kept.ledger x.stands.lines x.small (omega arith) q)
 
 pub summaries_fit_reached : (kept : Kept) (k : ℕ) (f : FileBooks) → ∥ IsReached kept ∥₁ → slice_get kept.files.items k ≡ Some f → (id : List ℕ) → ForSome (shown_at f.summaries id) (ShownFits 63)
 summaries_fit_reached kept k f r is id = λ x e.

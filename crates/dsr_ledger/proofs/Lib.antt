@@ -1,6 +1,12 @@
 pub mod SumLemmas
 pub mod IndexMapLemmas
 pub mod NumberedLemmas
+<<<<<<< HEAD
+=======
+pub mod PlaceByLemmas
+pub mod PartLemmas
+pub mod RecordingLemmas
+>>>>>>> 994155247bf67bc61f370c99bf9b27b29ea2314b
 pub mod TextLemmas
 pub mod OwedLemmas
 pub mod KeyLemmas

@@ -8,7 +8,7 @@ use Rattle.std.proofs.lemmas.List.Folds.{list_any-append}
 use Rattle.dsr_records.specs.declared.record.Summary.{Summary}
 use Rattle.dsr_records.specs.declared.record.Usage.{Usage}
 use Rattle.dsr_records.specs.Blocks.{BlockParts}
-use Rattle.dsr_ledger.specs.declared.lines.Lines.{Lines}
+use Rattle.dsr_ledger.specs.declared.ledger.recordings.Ledger.{Ledger}
 use Rattle.dsr_ledger.specs.declared.file.FileBooks.{FileBooks}
 use Rattle.dsr_ledger.specs.declared.verdict.Verdict.{Verdict}
 use Rattle.dsr_ledger.specs.declared.verdict.Verdict.TheVariants.{Booked, Rejected}
@@ -18,7 +18,8 @@ use Rattle.dsr_ledger.specs.Bookings.{place_of, place_named, block_bookings, ver
 use Rattle.dsr_ledger.specs.Findings.{usages_in, rejects_from}
 use Rattle.dsr_ledger.specs.IdSteps.{is_in}
 use Rattle.dsr_ledger.specs.Summaries.{shown_with, place_at, is_known, found_in, nothing_found}
-use Rattle.dsr_ledger.specs.Tallies.{tally_at, tally_plus, key_tally}
+use Rattle.dsr_ledger.specs.Tallies.{tally_plus, key_tally}
+use Rattle.dsr_ledger.specs.Recordings.{tally_at}
 use Rattle.dsr_ledger.specs.FileSteps.{IsSameFile, TakesBlock, bookings_by}
 use Rattle.dsr_ledger.specs.Stands.{FileStands, Took}
 use Rattle.dsr_ledger.proofs.SummaryLemmas.{known_shown, is_some-map}
@@ -67,7 +68,7 @@ same_bookings os b Booked = refl
 same_bookings os b (Rejected r) = refl
 
 -- a block was taken, and its identifier noted
-pub took : (d : Filed) (f g : FileBooks) (b : BlockParts) (v : Verdict) (seen : Bool) (old new : Lines) → FileStands f d → verdict_by f.standing seen (is_known f.summaries) b ≡ v → seen ≡ is_in f.ids b.id → TakesBlock f g old new b v → ((id : List ℕ) → is_in g.ids id ≡ cond (bytes_eq b.id id) true (is_in f.ids id)) → Took d b v g old new
+pub took : (d : Filed) (f g : FileBooks) (b : BlockParts) (v : Verdict) (seen : Bool) (old new : Ledger) → FileStands f d → verdict_by f.standing seen (is_known f.summaries) b ≡ v → seen ≡ is_in f.ids b.id → TakesBlock f g old new b v → ((id : List ℕ) → is_in g.ids id ≡ cond (bytes_eq b.id id) true (is_in f.ids id)) → Took d b v g old new
 took d f g b v seen old new h judged_so same t ids =
     let is = sym judged_so ∙ ap (λ s. verdict_by f.standing s (is_known f.summaries) b) same ∙ verdict_is f d b h in
     let os = summaries_of d.file.opening in
