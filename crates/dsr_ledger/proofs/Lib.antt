@@ -1,19 +1,19 @@
 pub mod SumLemmas
 pub mod IndexMapLemmas
 pub mod NumberedLemmas
-<<<<<<< HEAD
-=======
 pub mod PlaceByLemmas
 pub mod PartLemmas
 pub mod RecordingLemmas
->>>>>>> 994155247bf67bc61f370c99bf9b27b29ea2314b
 pub mod TextLemmas
 pub mod OwedLemmas
 pub mod KeyLemmas
+pub mod SummaryKeyLemmas
 pub mod SummaryLemmas
 pub mod ShareLemmas
 pub mod OrderLemmas
 pub mod ListedLemmas
+pub mod ReportLemmas
+pub mod PartyLineLemmas
 pub mod PartyLemmas
 pub mod LawLemmas
 pub mod SmallBookings
