@@ -144,7 +144,7 @@ small_lines kept few r =
     let long = length-stand 1 [] kept.files.items r.files r.stands.each in
     record {
       bookings = bookings r.files;
-      stand = r.stands.lines;
+      stand = r.stands.ledger;
       small = bookings_small r.files (omega arith) (short_files r.files r.small);
     }
 
@@ -168,7 +168,7 @@ report_is kept numbers r a files h =
     let lines = a.lines ∙ map_stands line_kept file_line line_stands 1 [] fs files h.each in
     let differences = a.differences ∙ flat_map_stands differences_kept differences_in differences_stand 1 [] fs files h.each in
     let rejects = a.rejects ∙ flat_map_stands (λ f. f.rejects.items) rejects_in (λ f d s. s.rejects) 1 [] fs files h.each in
-    let ledger = a.ledger (bookings files) h.lines in
+    let ledger = a.ledger (bookings files) h.ledger in
     λ i. record {
       key = key i;
       files = lines i;

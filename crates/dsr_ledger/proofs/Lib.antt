@@ -4,6 +4,10 @@ pub mod NumberedLemmas
 pub mod PlaceByLemmas
 pub mod PartLemmas
 pub mod RecordingLemmas
+pub mod LedgerLemmas
+pub mod SeatedLemmas
+pub mod KeepsLemmas
+pub mod PlanLemmas
 pub mod TextLemmas
 pub mod OwedLemmas
 pub mod KeyLemmas
@@ -15,6 +19,7 @@ pub mod ListedLemmas
 pub mod ReportLemmas
 pub mod PartyLineLemmas
 pub mod PartyLemmas
+pub mod WholeLemmas
 pub mod LawLemmas
 pub mod SmallBookings
 pub mod FitLemmas

@@ -1,12 +1,12 @@
 -- What lines keep, when one is made, widened or changed, and when a seat is given.
 use Rattle.std.proofs.Common.{◌≡◌, ℕ, zero, suc, ◌<◌, ◌≤◌, Bool, true, false, cond, List, [], ◌∷◌, ◌++◌, length, length-append, set, get_or, nat_eq, ⊎_elim, refl, sym, ap, subst, ◌∙◌, arith}
-use Rattle.std.specs.Prelude.{Option, None, Some, slice_get}
-use Rattle.std.specs.Option.{option_and_then, option_map_or}
+use Rattle.std.specs.Prelude.{Option, None, Some, Result, Ok, Err, IfOk, slice_get}
+use Rattle.std.specs.Option.{option_and_then, option_map, option_map_or}
 use Rattle.std.specs.Str.{bytes_eq}
 use Rattle.std.proofs.lemmas.List.{length-map, map-append}
 use Rattle.std.proofs.lemmas.Slice.Eq.{bytes_eq-Decides}
 use Rattle.std.proofs.Math.Seq.{map-set_same}
-use Rattle.std.proofs.lemmas.Option.{slice_get_read}
+use Rattle.std.proofs.lemmas.Option.{slice_get-map, slice_get_read}
 use Rattle.dsr_ledger.specs.declared.ledger.line.Line.{Line}
 use Rattle.dsr_ledger.specs.Numbered.{IsNumbered, IsWithNumber, AreApart, AreBelow, read_at, place_in}
 use Rattle.dsr_ledger.specs.Owed.{owed_in}
@@ -158,3 +158,20 @@ lines_seated old new name seats ls within none is number = by (option_and_then (
     by : (o : Option ℕ) → read_at (line_tally new) no_tally ls o ≡ read_at (line_tally old) no_tally ls o
     by None = refl
     by (Some i) = at (slice_get ls i) (λ l e. within i l e)
+
+pub if_ok_weaker : {A E : Type 0} {P Q : A → Type 0} (r : Result A E) → ((x : A) → P x → Q x) → IfOk r P → IfOk r Q
+if_ok_weaker (Ok x) f h = f x h
+if_ok_weaker (Err e) f h = h
+
+pub key_at : (ls : List Line) (i : ℕ) (l : Line) → i < length ls → l ≡ get_or ls i l → slice_get (line_keys ls) i ≡ Some l.key
+key_at ls i l below is = slice_get-map (λ (x : Line). x.key) ls i ∙ ap (option_map (λ (x : Line). x.key)) (slice_get_read ls (length ls) i l refl below is)
+
+pub grow_stay : (seats : ℕ) (ls : List Line) → LinesGrow seats ls ls
+grow_stay seats ls = record { tallies = λ seat number. refl; numbers = λ q i e. e; wide = λ i h. h }
+
+pub grow_twice : (seats : ℕ) (a b c : List Line) → LinesGrow seats a b → LinesGrow seats b c → LinesGrow seats a c
+grow_twice seats a b c g h = record {
+  tallies = λ seat number. h.tallies seat number ∙ g.tallies seat number;
+  numbers = λ q i e. h.numbers q i (g.numbers q i e);
+  wide = λ i e. h.wide i (g.wide i e);
+}

@@ -26,7 +26,6 @@ use Rattle.dsr_ledger.proofs.SummaryLemmas.{known_shown, is_some-map}
 use Rattle.dsr_ledger.proofs.ShownLemmas.{shown_with-append}
 use Rattle.dsr_ledger.proofs.JudgedLemmas.{rejects_more}
 
-
 -- the summaries that are kept are those of the file
 known_is : (f : FileBooks) (d : Filed) → FileStands f d → (id : List ℕ) → is_known f.summaries id ≡ is_summary (summaries_of d.file.opening) id
 known_is f d h id =

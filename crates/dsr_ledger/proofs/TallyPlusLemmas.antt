@@ -14,11 +14,11 @@ use Rattle.dsr_ledger.specs.declared.ledger.summary_key.SummaryKey.{SummaryKey}
 use Rattle.dsr_ledger.specs.Bookings.{Booking, key_under, booked_under, usage_bookings}
 use Rattle.dsr_ledger.specs.Parts.{Part, rounded, parts_of, all_parts, work_parts}
 use Rattle.dsr_ledger.specs.Ledger.{is_at_key, at_key}
-use Rattle.dsr_ledger.specs.Owed.{owed_for, owed_plus}
+use Rattle.dsr_ledger.specs.Owed.{owed_for, owed_plus, parts_size}
 use Rattle.dsr_ledger.specs.Ranges.{IsInRange}
 use Rattle.dsr_ledger.specs.Tallies.{Tally, tally_of, key_tally, tally_plus, tally_with, TallyFits}
 use Rattle.dsr_ledger.proofs.SumLemmas.{int_sum_by-append, abs-int_sum_by, abs-add, add-assoc, add-zero, zero-add}
-use Rattle.dsr_ledger.proofs.OwedLemmas.{or_true, or_false, or-assoc, any_of, owed_plus-assoc, owed_plus-none, owed_for-append, parts_size, size_of}
+use Rattle.dsr_ledger.proofs.OwedLemmas.{or_true, or_false, or-assoc, any_of, owed_plus-assoc, owed_plus-none, owed_for-append, size_of}
 use Rattle.dsr_ledger.proofs.EachLemmas.{each_append, each_filter, each_weaker}
 use Rattle.dsr_ledger.proofs.ShareLemmas.{parts_within}
 

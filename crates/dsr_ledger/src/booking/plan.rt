@@ -163,12 +163,13 @@ impl Plan {
     {
         self.shares.clear();
         self.lines.clear();
-        self.recording = ledger.recording(alloc, isrc)?;
-        plan_works(ledger, alloc, self.recording, works, &mut self.shares)?;
+        let recording = ledger.recording(alloc, isrc)?;
+        self.recording = recording;
+        plan_works(ledger, alloc, recording, works, &mut self.shares)?;
         plan_lines(
             ledger,
             alloc,
-            self.recording,
+            recording,
             summaries,
             self.summaries.as_slice(),
             &mut self.lines,

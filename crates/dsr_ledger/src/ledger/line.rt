@@ -44,16 +44,25 @@ fn share_of(amount: i128, share: u32) -> i128
     }
 }
 
-/// Gives each of so many seats a part. What stands there stays.
-pub fn widen(parts: &mut Vec<Owed>, seats: usize) -> Result<(), NoMemory>
-    requires { length parts.old.items ≤ seats }
-    ensures same { (s : Option ℕ) → owed_in parts.new.items s ≡ owed_in parts.old.items s }
-    ensures within { length parts.new.items ≤ seats }
-    ensures wide { OnOk result (length parts.new.items ≡ seats) }
+/// Takes exactly the memory for so many first parts.
+fn reserve_first(parts: &mut Vec<Owed>, seats: usize) -> Result<(), NoMemory>
+    ensures { parts.new.items ≡ parts.old.items }
 {
     if parts.is_empty() {
         parts.reserve_exact(seats)?;
     }
+    Ok(())
+}
+
+/// Gives each of so many seats a part. What stands there stays.
+pub fn widen(parts: &mut Vec<Owed>, seats: usize) -> Result<(), NoMemory>
+    requires { length parts.old.items ≤ seats }
+    ensures same { (s : Option ℕ) → owed_in parts.new.items s ≡ owed_in parts.old.items s }
+    ensures grows { length parts.old.items ≤ length parts.new.items }
+    ensures within { length parts.new.items ≤ seats }
+    ensures wide { OnOk result (length parts.new.items ≡ seats) }
+{
+    reserve_first(parts, seats)?;
     parts.resize(seats, Owed::nothing())?;
     Ok(())
 }

@@ -1,5 +1,5 @@
 //! A recording: the seats of its parties, and its lines.
-ghost use Rattle.std.specs.Prelude.{◌≡◌, ◌<◌, length, IfSome, Some, slice_get};
+ghost use Rattle.std.specs.Prelude.{◌≡◌, length, nat_eq};
 ghost use Rattle.std.specs.List.{position};
 ghost use Rattle.dsr_ledger.specs.Numbered.{AreApart};
 ghost use Rattle.dsr_ledger.specs.Seats.{seat_numbers};
@@ -22,7 +22,7 @@ pub struct Recording {
 
 /// The first line of a summary key.
 fn first_line(lines: &[Line], key: u32) -> Option<usize>
-    ensures { result ≡ line_in lines.now key }
+    ensures { result ≡ position (λ line. nat_eq key line.key) lines.now }
 {
     lines.iter().position(|line| key == line.key)
 }
@@ -41,7 +41,7 @@ fn find_line(lines: &[Line], key: u32, hint: usize) -> Option<usize>
 }
 
 impl Recording {
-    ghost use Rattle.std.specs.Prelude.{◌≤◌, ◌^◌, ℕ, List, Option, [], IfOk, OnOk, None, if◌then◌else◌, nat_eq, map};
+    ghost use Rattle.std.specs.Prelude.{◌<◌, ◌≤◌, ◌^◌, ℕ, List, Option, Some, None, [], IfOk, OnOk, if◌then◌else◌, map};
     ghost use Rattle.dsr_ledger.specs.Numbered.{IsWithNumber, place_in};
     ghost use Rattle.dsr_ledger.specs.Owed.{parts_size};
     ghost use Rattle.dsr_ledger.specs.Parts.{part_of};
@@ -78,9 +78,6 @@ impl Recording {
         ensures there { IfOk result (λ i. line_in self.new.lines.items key ≡ Some i) }
     {
         let number = self.lines.len();
-        if number < 4 {
-            self.lines.reserve_exact(1)?;
-        }
         self.lines.push(Line::new(alloc, key))?;
         Ok(number)
     }
@@ -97,18 +94,27 @@ impl Recording {
         widen(&mut self.lines[number].parts, seats)
     }
 
-    /// The line of a summary key, which is made where there is none, and has a part for each seat. The line at `hint` is
-    /// looked at first.
+    /// The line of a summary key, which is made where there is none. The line at `hint` is looked at first.
+    fn line_of(&mut self, alloc: Global, key: u32, hint: usize) -> Result<usize, NoMemory>
+        ensures seats { self.new.seats ≡ self.old.seats }
+        ensures grows { LinesGrow (length (seat_numbers self.old.seats)) self.old.lines.items self.new.lines.items }
+        ensures keys { IsWithNumber (line_keys self.old.lines.items) (line_keys self.new.lines.items) key }
+        ensures there { IfOk result (λ i. line_in self.new.lines.items key ≡ Some i) }
+    {
+        if let Some(number) = find_line(self.lines.as_slice(), key, hint) {
+            return Ok(number);
+        }
+        self.add_line(alloc, key)
+    }
+
+    /// The same, where the line has a part for each seat.
     pub fn line(&mut self, alloc: Global, key: u32, hint: usize) -> Result<usize, NoMemory>
         ensures seats { self.new.seats ≡ self.old.seats }
         ensures grows { LinesGrow (length (seat_numbers self.old.seats)) self.old.lines.items self.new.lines.items }
         ensures keys { IsWithNumber (line_keys self.old.lines.items) (line_keys self.new.lines.items) key }
         ensures there { IfOk result (λ i. (line_in self.new.lines.items key ≡ Some i) × IsWide (length (seat_numbers self.old.seats)) self.new.lines.items i) }
     {
-        let number = match find_line(self.lines.as_slice(), key, hint) {
-            Some(number) => number,
-            None => self.add_line(alloc, key)?,
-        };
+        let number = self.line_of(alloc, key, hint)?;
         self.widen(number)?;
         Ok(number)
     }

@@ -83,9 +83,10 @@ impl Ledger {
     fn hinted_seat(&self, recording: usize, name: &Text, hint: usize) -> Option<usize>
         ensures { (isrc : List ℕ) → recording_number self.now isrc ≡ Some recording → IfSome result (λ seat. seat_at self.now isrc name.now ≡ Some seat) }
     {
-        let (_, found) = self.recordings.get_index(recording)?;
+        let (_, found) = self.recordings.as_slice().get_index(recording)?;
         let party = found.seats.as_slice().get(hint)?;
-        if self.parties.as_slice().get(*party as usize)? == name {
+        let named = self.parties.as_slice().get(*party as usize)?;
+        if *named == *name {
             return Some(hint);
         }
         None
@@ -93,7 +94,13 @@ impl Ledger {
 
     /// The seat of a party in a recording, which is given one where it has none. What is kept of each key stays. The seat
     /// `hint` is looked at first.
-    pub fn seat(&mut self, alloc: Global, recording: usize, name: &Text, hint: usize) -> Result<usize, NoMemory>
+    pub fn seat(
+        &mut self,
+        alloc: Global,
+        recording: usize,
+        name: &Text,
+        hint: usize,
+    ) -> Result<usize, NoMemory>
         requires { (isrc : List ℕ) × (recording_number self.old isrc ≡ Some recording) }
         ensures keeps { KeepsSeats self.old self.new }
         ensures there { (isrc : List ℕ) → recording_number self.old isrc ≡ Some recording → IfOk result (λ seat. seat_at self.new isrc name.now ≡ Some seat) }
@@ -110,7 +117,8 @@ impl Ledger {
     fn hinted_key(&self, key: &SummaryKey, hint: u32) -> Option<u32>
         ensures { IfSome result (λ number. key_number self.now key.now ≡ Some number) }
     {
-        if self.summary_keys.as_slice().get(hint as usize)? == key {
+        let numbered = self.summary_keys.as_slice().get(hint as usize)?;
+        if *numbered == *key {
             return Some(hint);
         }
         None
@@ -118,7 +126,12 @@ impl Ledger {
 
     /// The number of a summary key, which is given one where it has none. The key with the number `hint` is looked at
     /// first. So many keys that 32 bits do not count them are more than there is memory for.
-    pub fn summary_key(&mut self, alloc: Global, key: &SummaryKey, hint: u32) -> Result<u32, NoMemory>
+    pub fn summary_key(
+        &mut self,
+        alloc: Global,
+        key: &SummaryKey,
+        hint: u32,
+    ) -> Result<u32, NoMemory>
         ensures keeps { KeepsLines self.old self.new }
         ensures recordings { self.new.recordings ≡ self.old.recordings }
         ensures there { IfOk result (λ number. key_number self.new key.now ≡ Some number) }
@@ -138,7 +151,13 @@ impl Ledger {
 
     /// The line of the summary key with this number in a recording, which is made where there is none, and has a part for
     /// each seat. What is kept of each key stays. The line `hint` is looked at first.
-    pub fn line(&mut self, alloc: Global, recording: usize, number: u32, hint: usize) -> Result<usize, NoMemory>
+    pub fn line(
+        &mut self,
+        alloc: Global,
+        recording: usize,
+        number: u32,
+        hint: usize,
+    ) -> Result<usize, NoMemory>
         requires there { (isrc : List ℕ) × (recording_number self.old isrc ≡ Some recording) }
         requires known { (key : SummaryKey) × (key_number self.old key ≡ Some number) }
         ensures keeps { KeepsLines self.old self.new }

@@ -1,7 +1,6 @@
 //! The seats of a recording's parties.
-ghost use Rattle.std.specs.Prelude.{◌≡◌, [], ◌∷◌, ◌++◌, None, IfOk, OnOk, OnErr, Some, length, slice_get, option_copied};
-ghost use Rattle.dsr_ledger.specs.Numbered.{place_in, AreApart, IsWithNumber};
-ghost use Rattle.dsr_ledger.specs.Seats.{seat_numbers};
+ghost use Rattle.std.specs.Prelude.{◌≡◌};
+ghost use Rattle.dsr_ledger.specs.Numbered.{place_in, AreApart};
 
 use dsr_cells::NoMemory;
 use std::alloc::Global;
@@ -21,6 +20,10 @@ fn first_place(numbers: &[u32], number: u32) -> Option<usize>
 }
 
 impl Seats {
+    ghost use Rattle.std.specs.Prelude.{[], ◌∷◌, ◌++◌, None, Some, IfOk, OnOk, OnErr};
+    ghost use Rattle.dsr_ledger.specs.Numbered.{IsWithNumber};
+    ghost use Rattle.dsr_ledger.specs.Seats.{seat_numbers};
+
     /// No parties.
     pub fn new(alloc: Global) -> Seats
         ensures { seat_numbers result ≡ [] }

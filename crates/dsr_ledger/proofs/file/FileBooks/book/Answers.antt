@@ -23,8 +23,8 @@ returns-else-is_err-clause-ok c = λ d h.
     let same : seen ≡ is_in f.ids b.id = c.was_before.ensures ∙ noted_so n f.ids ids b.id is in
     let noted = λ (q : List ℕ). ap (λ i. is_in i q) c.take-answer.ensures.ids ∙ noted_is n f.ids ids b.id is q in
     let P : Verdict → Type 0 = λ v. verdict_by f.standing seen (is_known f.summaries) b ≡ v in
-    ok_both P _ (λ v. Took d b v g c.args.lines.now c.take-answer.new.lines) c.take-answer.result (λ v judged t.
-    took d f g b v seen c.args.lines.now c.take-answer.new.lines h judged same
+    ok_both P _ (λ v. Took d b v g c.args.ledger.now c.take-answer.new.ledger) c.take-answer.result (λ v judged t.
+    took d f g b v seen c.args.ledger.now c.take-answer.new.ledger h judged same
     (record {
       place = t.place;
       opening = t.opening;
