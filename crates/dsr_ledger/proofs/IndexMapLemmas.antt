@@ -12,7 +12,7 @@ use Rattle.std.proofs.lemmas.Option.{slice_get-map, get_or_from_slice_get}
 use Rattle.indexmap.specs.IndexMap.{IndexMap, keys, get, index_of, with_value_at, IsUnique}
 use Rattle.indexmap.proofs.CallerLemmas.{updates-with_value_at}
 
-each_at : {X : Type 0} (P : X → Type 0) (xs : List X) (i : ℕ) (x : X) → AllByRecursion P xs → slice_get xs i ≡ Some x → P x
+pub each_at : {X : Type 0} (P : X → Type 0) (xs : List X) (i : ℕ) (x : X) → AllByRecursion P xs → slice_get xs i ≡ Some x → P x
 each_at P [] i x all e = absurd (true≢false (sym (ap is_some e)))
 each_at P (y ∷ xs) zero x all e = subst P (ap (λ o. unwrap_or o y) e) all.0
 each_at P (y ∷ xs) (suc i) x all e = each_at P xs i x all.1 e

@@ -12,9 +12,13 @@ pub mod PlanLemmas
 pub mod TextLemmas
 pub mod OwedLemmas
 pub mod KeyLemmas
+pub mod SummaryKeyLemmas
 pub mod SummaryLemmas
 pub mod ShareLemmas
 pub mod OrderLemmas
+pub mod ListedLemmas
+pub mod ReportLemmas
+pub mod PartyLineLemmas
 pub mod PartyLemmas
 pub mod WholeLemmas
 pub mod LawLemmas

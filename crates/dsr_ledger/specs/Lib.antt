@@ -29,4 +29,5 @@ pub mod Openings
 pub mod Books
 pub mod BooksWords
 pub mod Order
+pub mod Listed
 pub mod Assembly

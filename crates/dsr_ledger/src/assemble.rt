@@ -5,6 +5,8 @@ ghost use Rattle.dsr_ledger.specs.Reports.{report_of};
 ghost use Rattle.dsr_ledger.specs.Books.{IsReached, Stands};
 
 pub mod ledger;
+mod lines;
+mod listed;
 
 use crate::assemble::ledger::ledger_lines;
 use crate::differences::differences_of;
