@@ -1,5 +1,5 @@
 -- The lines of the report, recording after recording.
-use Rattle.std.proofs.Common.{◌≡◌, ℕ, zero, suc, ◌<◌, ◌≤◌, Bool, true, false, true≢false, cond, List, [], ◌∷◌, ◌++◌, append_assoc, append-nil, length, refl, sym, ap, ◌∙◌, subst, arith}
+use Rattle.std.proofs.Common.{◌≡◌, ℕ, zero, suc, ◌+◌, ◌<◌, ◌≤◌, take, get_or, Bool, true, false, true≢false, cond, List, [], ◌∷◌, ◌++◌, append_assoc, append-nil, length, refl, sym, ap, ◌∙◌, subst, arith}
 use Rattle.std.specs.Prelude.{Option, None, Some, is_some, slice_get, position, map, filter, unwrap_or, nat_lt, ◌||◌, option_map}
 use Rattle.std.specs.Option.{option_map_or, option_and_then}
 use Rattle.std.specs.List.{IsDistinct, AllByRecursion, list_any}
@@ -14,7 +14,7 @@ use Rattle.std.specs.declared.cmp.Ordering.{Ordering}
 use Rattle.std.specs.declared.cmp.Ordering.TheVariants.{Less, Equal, Greater}
 use Rattle.std.specs.FinMap.Entries.{find}
 use Rattle.std.proofs.lemmas.Bool.{lt-ltb}
-use Rattle.std.proofs.lemmas.List.{map-append, map-id}
+use Rattle.std.proofs.lemmas.List.{map-append, map-id, length-map, take_more}
 use Rattle.std.proofs.lemmas.List.Elements.{filter-append}
 use Rattle.std.proofs.lemmas.Map.Entries.{lookup_from_place}
 use Rattle.std.proofs.lemmas.List.Quantifiers.{position-Some}
@@ -39,6 +39,7 @@ use Rattle.dsr_ledger.specs.Stands.{LedgerStands}
 use Rattle.dsr_ledger.specs.Order.{IsSmall, AreSmall, AreOfSmall}
 use Rattle.dsr_ledger.specs.Listed.{named_places, booked_lines, entries_under, party_in, key_in, HasBookings, IsOfSmallAt, AddsLines, AreListed}
 use Rattle.dsr_ledger.proofs.KeyLemmas.{key_total, key_exact, key_ties}
+use Rattle.dsr_ledger.proofs.SummaryKeyLemmas.{summary_key_total}
 use Rattle.dsr_ledger.proofs.TextLemmas.{text_ties, text_itself, same_text}
 use Rattle.dsr_ledger.proofs.IndexMapLemmas.{each_at}
 use Rattle.dsr_ledger.proofs.OrderLemmas.{in_order_is, strictly_sorted}
@@ -109,13 +110,57 @@ module _ (isrc : List ℕ) where
       ap (λ i. ordering_then (text_cmp i isrc) (summary_key_cmp (summary_key_in q) x.0.now)) own ∙ ap (λ o. ordering_then o (summary_key_cmp (summary_key_in q) x.0.now)) (tied_itself nat_list_cmp_total isrc) in
       λ j. cond (is_eq (tie j)) (Some x.1) (under_found q own xs j)
 
+-- a line of a recording, by its key in order
+module _ (number : SummaryKey → Option ℕ) (ls : List Line) (items : List (Bor SummaryKey × ℕ)) (listed : AreListed summary_key_cmp (place_by number (line_keys ls)) (named_places items)) (i : ℕ) (e : Bor SummaryKey × ℕ) (at : slice_get items i ≡ Some e) where
+  pub own_place : place_by number (line_keys ls) e.0.now ≡ Some e.1
+  own_place =
+      sym (listed.found e.0.now)
+      ∙ own_found summary_key_total (named_places items) i (e.0.now, e.1) listed.order (slice_get-map (λ (x : Bor SummaryKey × ℕ). (x.0.now, x.1)) items i ∙ ap (option_map (λ (x : Bor SummaryKey × ℕ). (x.0.now, x.1))) at)
+
+  pub place_within : e.1 < length ls
+  place_within = let below = place_below number (line_keys ls) e.0.now e.1 own_place in let long = length-map ls (λ (l : Line). l.key) in omega arith
+
+  -- what is kept under the key is what its line has
+  pub own_tally : (seat : List ℕ → Option ℕ) (l : Line) → slice_get ls e.1 ≡ Some l → line_tally seat l ≡ lines_tally seat ls (number e.0.now)
+  own_tally seat l there = sym (line_there seat number ls e.0.now e.1 l own_place there)
+
+-- one more key of a recording
+module _ (bs : List Booking) (isrc : List ℕ) (items : List (Bor SummaryKey × ℕ)) (i : ℕ) (item : Bor SummaryKey × ℕ) (below : i < length items) (is : item ≡ get_or items i item) (old out new : List LedgerLine) (so_far : out ≡ old ++ booked_lines bs (entries_under isrc (take i items))) where
+  abbrev own_key : Key
+  own_key = key_under isrc item.0.now
+
+  abbrev passed : List (Key × ℕ)
+  passed = entries_under isrc (take i items)
+
+  one_more : entries_under isrc (take (i + 1) items) ≡ passed ++ (own_key, item.1) ∷ []
+  one_more =
+      ap (entries_under isrc) (take_more items i item below ∙ ap (λ x. take i items ++ x ∷ []) (sym is))
+      ∙ map-append (λ (e : Bor SummaryKey × ℕ). (key_under isrc e.0.now, e.1)) (take i items) (item ∷ [])
+
+  -- that has a booking
+  pub line_added : (l : LedgerLine) → new ≡ out ++ l ∷ [] → l ≡ line_of own_key (at_key own_key bs) → (key_tally bs own_key).is_booked ≡ true → new ≡ old ++ booked_lines bs (entries_under isrc (take (i + 1) items))
+  line_added l added line has =
+      added
+      ∙ (λ j. so_far j ++ line j ∷ [])
+      ∙ append_assoc old (booked_lines bs passed) (line_of own_key (at_key own_key bs) ∷ [])
+      ∙ ap (λ ls. old ++ ls) (sym (more_kept (λ (e : Key × ℕ). line_of e.0 (at_key e.0 bs)) (λ (e : Key × ℕ). (key_tally bs e.0).is_booked) passed (own_key, item.1) has))
+      ∙ ap (λ es. old ++ booked_lines bs es) (sym one_more)
+
+  -- that has none
+  pub line_passed : new ≡ out → (key_tally bs own_key).is_booked ≡ false → new ≡ old ++ booked_lines bs (entries_under isrc (take (i + 1) items))
+  line_passed same has =
+      same
+      ∙ so_far
+      ∙ ap (λ ls. old ++ ls) (sym (more_left (λ (e : Key × ℕ). line_of e.0 (at_key e.0 bs)) (λ (e : Key × ℕ). (key_tally bs e.0).is_booked) passed (own_key, item.1) has))
+      ∙ ap (λ es. old ++ booked_lines bs es) (sym one_more)
+
 find_append : {K V : Type 0} (R : K → K → Ordering) (q : K) (es fs : List (K × V)) → find R q (es ++ fs) ≡ None → (find R q es ≡ None) × (find R q fs ≡ None)
 find_append R q [] fs none = (refl, none)
-find_append R q (e ∷ es) fs none = by (is_eq (R q e.0)) refl none
+find_append R q (e ∷ es) fs none = by (is_eq (R q e.0)) refl none (λ n. find_append R q es fs n)
   where
-    by : (b : Bool) → is_eq (R q e.0) ≡ b → cond b (Some e.1) (find R q (es ++ fs)) ≡ None → (cond (is_eq (R q e.0)) (Some e.1) (find R q es) ≡ None) × (find R q fs ≡ None)
-    by true t n = absurd (true≢false (ap is_some n))
-    by false t n = let rest = find_append R q es fs n in (ap (λ b. cond b (Some e.1) (find R q es)) t ∙ rest.0, rest.1)
+    by : (b : Bool) → is_eq (R q e.0) ≡ b → cond b (Some e.1) (find R q (es ++ fs)) ≡ None → (find R q (es ++ fs) ≡ None → (find R q es ≡ None) × (find R q fs ≡ None)) → (cond (is_eq (R q e.0)) (Some e.1) (find R q es) ≡ None) × (find R q fs ≡ None)
+    by true t n rest = absurd (true≢false (ap is_some n))
+    by false t n rest = (ap (λ b. cond b (Some e.1) (find R q es)) t ∙ (rest n).0, (rest n).1)
 
 sorted_append : {K : Type 0} (R : K → K → Ordering) (ks ls : List K) → IsStrictlySortedBy R ks → IsStrictlySortedBy R ls → AllByRecursion (λ k. AllByRecursion (λ l. R k l ≡ Less) ls) ks → IsStrictlySortedBy R (ks ++ ls)
 unfolding IsStrictlySortedBy
@@ -171,10 +216,12 @@ module _ (books : Ledger) where
   pub written_step : (isrc : List ℕ) (r : Recording) (rest : List (List ℕ × Recording)) (out new : List LedgerLine) → AreRest books ((isrc, r) ∷ rest) → IsWritten books ((isrc, r) ∷ rest) out → AddsLines parties summary_keys isrc r out new → IsWritten books rest new
   unfolding IsStrictlySortedBy
   written_step isrc r rest out new own was adds =
+      let es = was.entries in
+      let fs = adds.entries in
       record {
         entries = es ++ fs;
         order = subst (IsStrictlySortedBy key_cmp) (sym (map-append (λ (e : Key × ℕ). e.0) es fs)) (sorted_append key_cmp (keys_of es) (keys_of fs) was.order adds.order (cross es was.before));
-        before = all_append _ es fs (tails es was.before) (later fs adds.own);
+        before = all_append (λ (e : Key × ℕ). AllByRecursion (λ x. text_cmp e.0.isrc x.0 ≡ Less) rest) es fs (tails es was.before) (later fs adds.own);
         absent = λ q none missing.
             let parts = find_append key_cmp q es fs none in
             by q parts.0 parts.1 missing (bytes_eq q.isrc isrc) refl;
@@ -184,12 +231,6 @@ module _ (books : Ledger) where
             ∙ sym (both_kept (λ (e : Key × ℕ). line_of e.0 (at_key e.0 bs)) (λ (e : Key × ℕ). (key_tally bs e.0).is_booked) es fs);
       }
     where
-      abbrev es : List (Key × ℕ)
-      es = was.entries
-
-      abbrev fs : List (Key × ℕ)
-      fs = adds.entries
-
       less_than : (a b : Key) → text_cmp a.isrc isrc ≡ Less → b.isrc ≡ isrc → key_cmp a b ≡ Less
       less_than a b less is = ap (λ i. ordering_then (text_cmp a.isrc i) (summary_key_cmp (summary_key_in a) (summary_key_in b))) is ∙ ap (λ o. ordering_then o (summary_key_cmp (summary_key_in a) (summary_key_in b))) less
 
@@ -197,9 +238,9 @@ module _ (books : Ledger) where
       each_less e less [] h = tt
       each_less e less (g ∷ gs) h = (less_than e g.0 less h.0, each_less e less gs h.1)
 
-      cross : (gs : List (Key × ℕ)) → AllByRecursion (λ e. AllByRecursion (λ x. text_cmp e.0.isrc x.0 ≡ Less) ((isrc, r) ∷ rest)) gs → AllByRecursion (λ k. AllByRecursion (λ l. key_cmp k l ≡ Less) (keys_of fs)) (keys_of gs)
+      cross : (gs : List (Key × ℕ)) → AllByRecursion (λ e. AllByRecursion (λ x. text_cmp e.0.isrc x.0 ≡ Less) ((isrc, r) ∷ rest)) gs → AllByRecursion (λ k. AllByRecursion (λ l. key_cmp k l ≡ Less) (keys_of adds.entries)) (keys_of gs)
       cross [] h = tt
-      cross (g ∷ gs) h = (each_less g.0 h.0.0 fs adds.own, cross gs h.1)
+      cross (g ∷ gs) h = (each_less g.0 h.0.0 adds.entries adds.own, cross gs h.1)
 
       tails : (gs : List (Key × ℕ)) → AllByRecursion (λ e. AllByRecursion (λ x. text_cmp e.0.isrc x.0 ≡ Less) ((isrc, r) ∷ rest)) gs → AllByRecursion (λ e. AllByRecursion (λ x. text_cmp e.0.isrc x.0 ≡ Less) rest) gs
       tails [] h = tt
@@ -213,7 +254,7 @@ module _ (books : Ledger) where
       later [] h = tt
       later (g ∷ gs) h = (above g.0.isrc h.0 rest own.order.0, later gs h.1)
 
-      by : (q : Key) → find key_cmp q es ≡ None → find key_cmp q fs ≡ None → lookup (bytes_eq q.isrc) rest ≡ None → (b : Bool) → bytes_eq q.isrc isrc ≡ b → (tally_at books q).is_booked ≡ false
+      by : (q : Key) → find key_cmp q was.entries ≡ None → find key_cmp q adds.entries ≡ None → lookup (bytes_eq q.isrc) rest ≡ None → (b : Bool) → bytes_eq q.isrc isrc ≡ b → (tally_at books q).is_booked ≡ false
       by q none also missing true t =
           let is = same_text q.isrc isrc t in
           not_booked q r (ap (get bytes_eq books.recordings) is ∙ own.own.0) (adds.absent q is also)

@@ -69,7 +69,7 @@ pub fn ledger_line(
     line: &Line,
     seats: &[(&Text, usize)],
 ) -> Result<LedgerLine, NoMemory>
-    requires { ∥ (seat : List ℕ → Option ℕ) × AreSeatsOf seat seats.now × IsOfSmall seat line.now ∥₁ }
+    requires { ∥ ((seat : List ℕ → Option ℕ) × AreSeatsOf seat seats.now × IsOfSmall seat line.now) ∥₁ }
     ensures { (bs : List Booking) (seat : List ℕ → Option ℕ) → AreSeatsOf seat seats.now → line_tally seat line.now ≡ tally_of bs
         → IfOk result (λ l. l ≡ line_of (key_under isrc key.now) bs) }
 {

@@ -21,7 +21,7 @@ unclaimed-requires c =
     let o = r.2 in
     let amount : to_z w128 (of_z w128 line.sums.amount) ≡ amount_sum o.bookings = same ∙ ap (λ t. t.amount) o.tally in
     let owed = λ (q : List ℕ). ap (λ (ps : List Owed). owed_in ps (r.0 q)) c.as_slice.ensures.value ∙ ap (λ t. t.owed q) o.tally in
-    let lines : c.as_slice-unclaimed.result.now ≡ party_lines o.bookings = c.as_slice-unclaimed.ensures ∙ c.in_ok-parties.ensures o.bookings r.0 r.1 owed in
+    let lines : c.as_slice-2.result.now ≡ party_lines o.bookings = c.as_slice-2.ensures ∙ c.in_ok-parties.ensures o.bookings r.0 r.1 owed in
     subst (λ n. n < 2 ^ 127) (λ i. unsigned_abs (sym amount i) + size (sym lines i)) (line_fits o.bookings o.small))
 
 pub returns : goal.returns
@@ -44,5 +44,5 @@ returns c = λ bs seat listed is.
       usages = (usages ∙ ap (λ t. t.usages) is) i;
       amount = total i;
       parties = lines i;
-      unclaimed = (left ∙ c.unclaimed.ensures ∙ (λ j. total j -ℤ int_sum_by (λ p. p.amount) ((c.as_slice-unclaimed.ensures ∙ lines) j)) ∙ unclaimed_is bs) i;
+      unclaimed = (left ∙ c.unclaimed.ensures ∙ (λ j. total j -ℤ int_sum_by (λ p. p.amount) ((c.as_slice-2.ensures ∙ lines) j)) ∙ unclaimed_is bs) i;
     }
