@@ -102,7 +102,6 @@ fn take_message<H: Wait>(
     let Ok(lot) = tap.take_lot(rt) else {
         return Err(closed(k));
     };
-    books.look_ahead(k, lot.events());
     let answer = book_events(books, k, lot.events());
     tap.give_back(rt, lot);
     match answer {

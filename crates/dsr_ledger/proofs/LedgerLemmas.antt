@@ -1,8 +1,9 @@
 -- What the ledger keeps, when a party, a summary key, a recording, a seat or a line is made, or a line is changed.
 use Rattle.std.proofs.Common.{◌≡◌, ℕ, ◌<◌, ◌≤◌, Bool, true, false, true≢false, cond, ◌&&◌, List, [], ◌∷◌, ◌++◌, length, length-append, get_or, nat_eq, ⊎_elim, refl, sym, ap, subst, ◌∙◌, arith}
-use Rattle.std.specs.Prelude.{Option, None, Some, slice_get, option_map}
+use Rattle.std.specs.Prelude.{Option, None, Some, Result, Ok, Err, OnOk, OnErr, slice_get, option_map}
 use Rattle.std.specs.Option.{option_and_then}
 use Rattle.std.specs.List.{position}
+use Rattle.std.specs.Map.{lookup}
 use Rattle.std.specs.Bool.{Decides}
 use Rattle.std.specs.Str.{bytes_eq}
 use Rattle.std.specs.Cmp.Lexicographic.{nat_list_eq_equiv}
@@ -10,7 +11,7 @@ use Rattle.std.proofs.lemmas.Bool.{and_from, and_parts}
 use Rattle.std.proofs.lemmas.List.Quantifiers.{position-Some}
 use Rattle.std.proofs.lemmas.Option.{slice_get-map, get_or_from_slice_get}
 use Rattle.std.proofs.lemmas.Slice.Eq.{bytes_eq-Decides}
-use Rattle.indexmap.specs.IndexMap.{IndexMap, keys, get, index_of, with_value_at, IsUnique}
+use Rattle.indexmap.specs.IndexMap.{IndexMap, keys, get, index_of, with_value_at, IsUnique, IsUnchanged}
 use Rattle.dsr_records.specs.declared.record.Usage.{Usage}
 use Rattle.dsr_ledger.specs.declared.ledger.line.Line.{Line}
 use Rattle.dsr_ledger.specs.declared.ledger.summary_key.SummaryKey.{SummaryKey}
@@ -211,3 +212,12 @@ module _ (isrc : List ℕ) (w : Recording) (old new : List ℕ → Option Record
           ap (λ ls. lines_tally (seat_of party w) ls number) empty ∙ no_lines (seat_of party w) number
           ∙ sym (ap (recording_tally party number) (ap old (sym ((bytes_eq-Decides isrc q).0 e)) ∙ none))
       by false e = refl
+
+pub unchanged : {S : Type 0} (m n : IndexMap (List ℕ) Recording S) → IsUnchanged m n → (q : List ℕ) → get bytes_eq n q ≡ get bytes_eq m q
+unchanged m n e q = ap (λ es. lookup (bytes_eq q) es) e
+
+-- a recording is made, or memory was refused
+pub each_inserted : {A E : Type 0} (r : Result A E) (isrc : List ℕ) (w : Recording) (old new : List ℕ → Option Recording) → OnOk r ((q : List ℕ) → new q ≡ cond (bytes_eq isrc q) (Some w) (old q)) → OnErr r ((q : List ℕ) → new q ≡ old q)
+    → (P : Recording → Type 0) → ((q : List ℕ) (x : Recording) → old q ≡ Some x → P x) → P w → (q : List ℕ) (x : Recording) → new q ≡ Some x → P x
+each_inserted (Ok a) isrc w old new is same P all one = each_made isrc w old new is P all one
+each_inserted (Err e) isrc w old new is same P all one = λ q x at. all q x (sym (same q) ∙ at)

@@ -2,6 +2,7 @@ pub mod SumLemmas
 pub mod IndexMapLemmas
 pub mod NumberedLemmas
 pub mod PlaceByLemmas
+pub mod TieLemmas
 pub mod PartLemmas
 pub mod RecordingLemmas
 pub mod LedgerLemmas

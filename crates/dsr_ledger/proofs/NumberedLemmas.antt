@@ -277,3 +277,12 @@ module _ {K : Type 0} (same : K → K → Bool) (decides : (a b : K) → Decides
   -- the key at a place is not among those before
   pub place_before : (ks : List K) (i : ℕ) (k : K) → Apart ks → slice_get ks i ≡ Some k → place (take i ks) k ≡ None
   place_before ks i k h at = position-before (same k) ks i k (h i k at)
+
+-- what stands at a place
+pub got_or : {X : Type 0} (xs : List X) (i : ℕ) (d : X) → i < length xs → slice_get xs i ≡ Some (get_or xs i d)
+got_or [] i d below = absurd (omega arith)
+got_or (x ∷ xs) zero d below = refl
+got_or (x ∷ xs) (suc i) d below = got_or xs i d (omega arith)
+
+pub got_at : {X : Type 0} (xs : List X) (i : ℕ) (x : X) → i < length xs → x ≡ get_or xs i x → slice_get xs i ≡ Some x
+got_at xs i x below is = got_or xs i x below ∙ ap Some (sym is)

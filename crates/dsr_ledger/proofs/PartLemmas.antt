@@ -1,5 +1,5 @@
 -- What parties are owed at their seats.
-use Rattle.std.proofs.Common.{◌≡◌, ℕ, zero, suc, ◌+◌, ◌<◌, ◌≤◌, List, [], ◌∷◌, ◌++◌, length, take, replicate, refl, ap, arith}
+use Rattle.std.proofs.Common.{◌≡◌, ℕ, zero, suc, ◌+◌, ◌<◌, ◌≤◌, List, [], ◌∷◌, length, take, refl, ap, arith}
 use Rattle.std.specs.Prelude.{ℤ, Option, None, Some, map, slice_get, unsigned_abs}
 use Rattle.std.proofs.lemmas.List.Sums.{sum_by-cons}
 use Rattle.dsr_ledger.specs.declared.owed.Owed.{Owed}
@@ -12,21 +12,6 @@ pub past : (ps : List Owed) (s : ℕ) → length ps ≤ s → owed_in ps (Some s
 past [] s h = refl
 past (p ∷ ps) zero h = absurd (omega arith)
 past (p ∷ ps) (suc s) h = past ps s (omega arith)
-
-nothing_more : (n s : ℕ) → owed_in (replicate n nothing_owed) (Some s) ≡ nothing_owed
-nothing_more zero s = refl
-nothing_more (suc n) zero = refl
-nothing_more (suc n) (suc s) = nothing_more n s
-
--- parts of which nothing is owed are added
-pub owed_wider : (ps : List Owed) (n : ℕ) (s : Option ℕ) → owed_in (ps ++ replicate n nothing_owed) s ≡ owed_in ps s
-owed_wider ps n None = refl
-owed_wider ps n (Some s) = by ps s
-  where
-    by : (ps : List Owed) (s : ℕ) → owed_in (ps ++ replicate n nothing_owed) (Some s) ≡ owed_in ps (Some s)
-    by [] s = nothing_more n s
-    by (p ∷ ps) zero = refl
-    by (p ∷ ps) (suc s) = by ps s
 
 -- the parts before one, and its own, are no more than all
 pub prefix_size : (a : ℤ) (es : List (List ℕ × ℕ)) (i : ℕ) (e : List ℕ × ℕ) → slice_get es i ≡ Some e → parts_size (map (part_of a) (take i es)) + unsigned_abs (rounded (part_of a e)) ≤ parts_size (map (part_of a) es)

@@ -1,6 +1,6 @@
 -- What is planned of one usage of a block.
-use Rattle.std.proofs.Common.{◌≡◌, ℕ, zero, suc, ◌<◌, List, [], ◌∷◌, get_or, length, cond, sym, ap, ◌∙◌, subst, arith}
-use Rattle.std.specs.Prelude.{Option, None, Some, map, slice_get}
+use Rattle.std.proofs.Common.{◌≡◌, ℕ, zero, suc, ◌<◌, List, [], ◌∷◌, get_or, length, cond, refl, sym, ap, ◌∙◌, subst, arith}
+use Rattle.std.specs.Prelude.{Option, None, Some, map, option_map, slice_get}
 use Rattle.std.specs.List.{flat_map}
 use Rattle.std.proofs.lemmas.Option.{get_or_from_slice_get}
 use Rattle.dsr_records.specs.declared.record.Usage.{Usage}
@@ -18,9 +18,10 @@ use Rattle.dsr_ledger.specs.Parts.{part_of, work_parts}
 use Rattle.dsr_ledger.specs.Plans.{IsPlanned}
 use Rattle.dsr_ledger.specs.Recordings.{seat_at, IsLineOf, IsWideAt}
 use Rattle.dsr_ledger.specs.Seated.{AreSeated, shares_of}
-use Rattle.dsr_ledger.specs.Summaries.{index_at, place_at}
+use Rattle.dsr_ledger.specs.Summaries.{Shown, shown_with, index_at, place_at}
 use Rattle.dsr_ledger.specs.Tallies.{Tally, tally_with}
 use Rattle.dsr_ledger.proofs.NumberedLemmas.{not_Some}
+use Rattle.dsr_ledger.proofs.SumLemmas.{add-zero}
 use Rattle.dsr_ledger.proofs.SeatedLemmas.{zip_step, value_at, parts_of_shares}
 
 pub below_of : {X : Type 0} (xs : List X) (i : ℕ) (x : X) → slice_get xs i ≡ Some x → i < length xs
@@ -64,3 +65,8 @@ step_of ledger summaries isrc works us i u plan h at =
       };
       with_parts = λ t q. ap (λ ps. cond (key_eq (key_under isrc z.related.summary_key) q) (tally_with u ps t) t) (parts_of_shares u.amount works);
     }
+
+-- what is kept of a summary, with no usages more
+pub shown_none : (id : List ℕ) (o : Option Shown) → o ≡ option_map (shown_with id []) o
+shown_none id None = refl
+shown_none id (Some s) = λ j. Some (record { place = s.place; sums = record { usages = sym (add-zero s.sums.usages) j; amount = sym (add-zero s.sums.amount) j } })

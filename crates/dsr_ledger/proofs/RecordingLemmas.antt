@@ -175,3 +175,22 @@ grow_twice seats a b c g h = record {
   numbers = λ q i e. h.numbers q i (g.numbers q i e);
   wide = λ i e. h.wide i (g.wide i e);
 }
+
+-- a wide line is there
+pub wide_below : (seats : ℕ) (ls : List Line) (i : ℕ) → IsWide seats ls i → i < length ls
+wide_below seats ls i h = by ls i h.line h.there
+  where
+    by : (ls : List Line) (i : ℕ) (l : Line) → slice_get ls i ≡ Some l → i < length ls
+    by [] i l e = absurd (not_Some l e)
+    by (x ∷ ls) zero l e = omega arith
+    by (x ∷ ls) (suc i) l e = let h = by ls i l e in omega arith
+
+pub wide_here : (seats : ℕ) (ls : List Line) (i : ℕ) (l : Line) → IsWide seats ls i → l ≡ get_or ls i l → length l.parts.items ≡ seats
+wide_here seats ls i l h is =
+    let at = slice_get_read ls (length ls) i l refl (wide_below seats ls i h) is in
+    ap (λ (x : Line). length x.parts.items) (same_Some l h.line (sym at ∙ h.there)) ∙ h.wide
+
+-- a line was pushed, or memory was refused
+pub pushed_or : (b : Bool) (P : List Line → Type 0) (new ls : List Line) (l : Line) → new ≡ cond b (ls ++ l ∷ []) ls → P ls → P (ls ++ l ∷ []) → P new
+pushed_or true P new ls l e old more = subst P (sym e) more
+pushed_or false P new ls l e old more = subst P (sym e) old

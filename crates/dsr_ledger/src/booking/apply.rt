@@ -30,8 +30,10 @@ fn add_usage(ledger: &mut Ledger, summaries: &mut Summaries, plan: &Plan, i: usi
     ensures tallies { (isrc : List ℕ) (works : List WorkParts) (us : List Usage) → IsPlanned ledger.old summaries.old isrc works us plan.now → slice_get us i ≡ Some usage.now
         → (q : Key) → tally_at ledger.new q ≡ tally_plus (tally_at ledger.old q) (key_tally (booked_under isrc works usage.now (place_at summaries.old usage.now.summary_id)) q) }
 {
-    summaries.count(plan.summaries[i], usage);
-    ledger.add(plan.recording, plan.lines[i], usage, plan.shares.as_slice());
+    let summary = plan.summaries[i];
+    let line = plan.lines[i];
+    summaries.count(summary, usage);
+    ledger.add(plan.recording, line, usage, plan.shares.as_slice());
 }
 
 /// Adds the usages of a block to their summaries and to their lines, and to no others.

@@ -10,7 +10,7 @@ ghost use Rattle.dsr_ledger.specs.Seated.{HaveSeats};
 
 use crate::owed::Owed;
 use crate::sums::Sums;
-use dsr_cells::NoMemory;
+use dsr_cells::{Amount, NoMemory};
 use dsr_records::Usage;
 use std::alloc::Global;
 
@@ -79,16 +79,15 @@ fn add_part(parts: &mut Vec<Owed>, seat: usize, amount: i128)
 }
 
 /// Adds the shares of an amount, each at its seat.
-fn add_parts(parts: &mut Vec<Owed>, amount: i128, shares: &[SeatShare])
-    requires small { unsigned_abs amount < 10 ^ 22 }
-    requires seats { (seat : List ℕ → Option ℕ) × (es : List (List ℕ × ℕ)) × HaveSeats seat (length parts.old.items) shares.now es × (parts_size (map (part_of amount) es) ≤ 10 ^ 22)
+fn add_parts(parts: &mut Vec<Owed>, amount: Amount, shares: &[SeatShare])
+    requires { (seat : List ℕ → Option ℕ) × (es : List (List ℕ × ℕ)) × HaveSeats seat (length parts.old.items) shares.now es × (parts_size (map (part_of amount) es) ≤ 10 ^ 22)
         × ((q : List ℕ) → unsigned_abs (owed_in parts.old.items (seat q)).amount + 10 ^ 22 < 2 ^ 127) }
     ensures len { length parts.new.items ≡ length parts.old.items }
     ensures owed { (seat : List ℕ → Option ℕ) (es : List (List ℕ × ℕ)) → HaveSeats seat (length parts.old.items) shares.now es
         → (q : List ℕ) → owed_in parts.new.items (seat q) ≡ owed_plus (owed_in parts.old.items (seat q)) (owed_for q (map (part_of amount) es)) }
 {
     for part in shares {
-        add_part(parts, part.seat, share_of(amount, part.share));
+        add_part(parts, part.seat, share_of(amount.units(), part.share));
     }
 }
 
@@ -125,6 +124,6 @@ impl Line {
     {
         self.is_booked = true;
         self.sums.add(usage);
-        add_parts(&mut self.parts, usage.amount.units(), shares);
+        add_parts(&mut self.parts, usage.amount, shares);
     }
 }

@@ -1,5 +1,5 @@
 //! A recording: the seats of its parties, and its lines.
-ghost use Rattle.std.specs.Prelude.{◌≡◌, length, nat_eq};
+ghost use Rattle.std.specs.Prelude.{◌≡◌, ◌++◌, ◌∷◌, [], is_ok, if◌then◌else◌, length, nat_eq};
 ghost use Rattle.std.specs.List.{position};
 ghost use Rattle.dsr_ledger.specs.Numbered.{AreApart};
 ghost use Rattle.dsr_ledger.specs.Seats.{seat_numbers};
@@ -40,8 +40,27 @@ fn find_line(lines: &[Line], key: u32, hint: usize) -> Option<usize>
     first_line(lines, key)
 }
 
+/// Takes exactly the memory for a first line: most recordings have few.
+fn reserve_first(lines: &mut Vec<Line>) -> Result<(), NoMemory>
+    ensures { lines.new.items ≡ lines.old.items }
+{
+    if lines.is_empty() {
+        lines.reserve_exact(1)?;
+    }
+    Ok(())
+}
+
+/// Puts a line behind the others.
+fn push_line(lines: &mut Vec<Line>, line: Line) -> Result<(), NoMemory>
+    ensures { lines.new.items ≡ (if is_ok result then lines.old.items ++ line ∷ [] else lines.old.items) }
+{
+    reserve_first(lines)?;
+    lines.push(line)?;
+    Ok(())
+}
+
 impl Recording {
-    ghost use Rattle.std.specs.Prelude.{◌<◌, ◌≤◌, ◌^◌, ℕ, List, Option, Some, None, [], IfOk, OnOk, if◌then◌else◌, map};
+    ghost use Rattle.std.specs.Prelude.{◌<◌, ◌≤◌, ◌^◌, ℕ, List, Option, Some, None, IfOk, OnOk, map};
     ghost use Rattle.dsr_ledger.specs.Numbered.{IsWithNumber, place_in};
     ghost use Rattle.dsr_ledger.specs.Owed.{parts_size};
     ghost use Rattle.dsr_ledger.specs.Parts.{part_of};
@@ -61,12 +80,12 @@ impl Recording {
     }
 
     /// The seat of a party, which is given one where it has none. The lines stay.
-    pub fn seat(&mut self, party: u32) -> Result<usize, NoMemory>
+    pub fn seat(&mut self, alloc: Global, party: u32) -> Result<usize, NoMemory>
         ensures lines { self.new.lines ≡ self.old.lines }
         ensures more { IsWithNumber (seat_numbers self.old.seats) (seat_numbers self.new.seats) party }
         ensures there { IfOk result (λ seat. place_in (seat_numbers self.new.seats) party ≡ Some seat) }
     {
-        self.seats.seat(party)
+        self.seats.seat(alloc, party)
     }
 
     /// Makes the line of a summary key that has none.
@@ -78,7 +97,7 @@ impl Recording {
         ensures there { IfOk result (λ i. line_in self.new.lines.items key ≡ Some i) }
     {
         let number = self.lines.len();
-        self.lines.push(Line::new(alloc, key))?;
+        push_line(&mut self.lines, Line::new(alloc, key))?;
         Ok(number)
     }
 
@@ -90,7 +109,7 @@ impl Recording {
         ensures keys { line_keys self.new.lines.items ≡ line_keys self.old.lines.items }
         ensures wide { OnOk result (IsWide (length (seat_numbers self.old.seats)) self.new.lines.items number) }
     {
-        let seats = self.seats.as_slice().len();
+        let seats = self.seats.len();
         widen(&mut self.lines[number].parts, seats)
     }
 

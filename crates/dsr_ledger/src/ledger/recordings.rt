@@ -110,7 +110,7 @@ impl Ledger {
         }
         let party = self.party(alloc, name)?;
         let (_, found) = self.recordings.pair_mut(recording);
-        found.seat(party)
+        found.seat(alloc, party)
     }
 
     /// A number, where it is this summary key's.

@@ -10,9 +10,10 @@ use Rattle.dsr_ledger.specs.Recordings.{tally_at}
 use Rattle.dsr_ledger.specs.Summaries.{Shown, shown_at, shown_with, place_at, ShownFits}
 use Rattle.dsr_ledger.specs.Tallies.{tally_plus, key_tally, TallyFits}
 use Rattle.dsr_ledger.proofs.EachLemmas.{each_append}
-use Rattle.dsr_ledger.proofs.KeepsLemmas.{numbers_twice, planned_stays}
+use Rattle.dsr_ledger.proofs.KeepsLemmas.{numbers_stay, numbers_twice, planned_stays}
+use Rattle.dsr_ledger.proofs.PlanLemmas.{shown_none}
 use Rattle.dsr_ledger.proofs.ShownLemmas.{shown_more, shown_fits_at, same_place}
-use Rattle.dsr_ledger.proofs.TallyPlusLemmas.{tally_more, tally_fits_after, length-usage_bookings, small_usage_bookings}
+use Rattle.dsr_ledger.proofs.TallyPlusLemmas.{tally_more, tally_plus-none, tally_fits_after, length-usage_bookings, small_usage_bookings}
 use Rattle.dsr_ledger.proofs.booking.apply.add_usages.Goals as goal
 
 pub add_usage-requires-clause-planned : goal.add_usage-requires-clause-planned
@@ -48,6 +49,15 @@ add_usage-requires-clause-summaries_fit c id =
     let taken : length us ≤ i = omega (arith, length-take i c.args.usages.now) in
     let P : Option Shown → Type 0 = λ o. ForSome o (ShownFits 1) in
     subst P (sym (c.loop-i.invariant.shown id)) (shown_fits_at (shown_at c.args.summaries.now id) id us i (length c.args.usages.now) 1 taken (omega arith) c.loop-i.invariant.range (c.requires.summaries_fit id))
+
+pub loop-i-init : goal.loop-i-init
+loop-i-init c = record {
+  range = tt;
+  numbers = numbers_stay c.args.ledger.now;
+  index = λ id. refl;
+  shown = λ id. shown_none id (shown_at c.args.summaries.now id);
+  tallies = λ isrc works h q. tally_plus-none (tally_at c.args.ledger.now q);
+}
 
 pub loop-i-preserved : goal.loop-i-preserved
 loop-i-preserved c =

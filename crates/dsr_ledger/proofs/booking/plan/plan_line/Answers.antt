@@ -7,7 +7,7 @@ pub line-requires-clause-there : goal.line-requires-clause-there
 line-requires-clause-there c = (c.requires.there.0, c.summary_key.ensures.keeps.recordings c.requires.there.0 ∙ c.requires.there.1)
 
 pub line-requires-clause-known : goal.line-requires-clause-known
-line-requires-clause-known c = (c.state.result.now.key, c.in_ok-key.ensures.there)
+line-requires-clause-known c = (c.state-state.result.now.key, c.in_ok-key.ensures.there)
 
 pub returns-in_err-line-clause-keeps : goal.returns-in_err-line-clause-keeps
 returns-in_err-line-clause-keeps c = lines_twice c.args.ledger.now c.summary_key.new.self c.line.new.self c.summary_key.ensures.keeps c.line.ensures.keeps
@@ -20,13 +20,13 @@ returns-clause-keeps c = lines_twice c.args.ledger.now c.summary_key.new.self c.
 
 pub returns-clause-lined : goal.returns-clause-lined
 returns-clause-lined c = λ isrc u is named.
-    let there = c.in_ok-line.ensures.there isrc c.state.result.now.key (c.summary_key.ensures.keeps.recordings isrc ∙ is) c.in_ok-key.ensures.there in
+    let there = c.in_ok-line.ensures.there isrc c.state-state.result.now.key (c.summary_key.ensures.keeps.recordings isrc ∙ is) c.in_ok-key.ensures.there in
     record {
       line = c.in_ok-line.line;
       items = c.in_ok-push.ensures.items;
       lined = record {
-        summary_key = c.state.result.now.key;
-        key_is = ap (option_map (λ s. s.place)) (c.keep_hint.ensures.shown u.summary_id ∙ c.state.ensures u.summary_id named);
+        summary_key = c.state-state.result.now.key;
+        key_is = ap (option_map (λ s. s.place)) (c.keep_hint.ensures.shown u.summary_id ∙ c.state-state.ensures u.summary_id named);
         line_is = there.0;
         wide = there.1;
       };

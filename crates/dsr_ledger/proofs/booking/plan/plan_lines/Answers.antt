@@ -1,10 +1,10 @@
 use Rattle.std.proofs.Common.{◌≡◌, suc, ◌+◌, [], ◌∷◌, ◌++◌, take, get_or, length, sym, ap, ◌∙◌, subst, arith, refl}
 use Rattle.std.specs.Prelude.{Some, slice_get}
 use Rattle.std.proofs.lemmas.List.{take_all}
-use Rattle.std.proofs.lemmas.Option.{slice_get_read}
 use Rattle.dsr_records.specs.declared.record.Usage.{Usage}
 use Rattle.dsr_ledger.specs.Lined.{IsLined, AreLined}
 use Rattle.dsr_ledger.specs.Summaries.{index_at, place_at}
+use Rattle.dsr_ledger.proofs.NumberedLemmas.{got_or}
 use Rattle.dsr_ledger.proofs.KeepsLemmas.{lines_twice, summaries_twice, same_places, lined_grows}
 use Rattle.dsr_ledger.proofs.SeatedLemmas.{zip_append, item_at, values_long}
 use Rattle.dsr_ledger.proofs.booking.plan.plan_lines.Goals as goal
@@ -14,8 +14,8 @@ plan_line-requires-clause-there c = (c.requires.there.0, c.loop-number.invariant
 
 pub plan_line-requires-clause-named : goal.plan_line-requires-clause-named
 plan_line-requires-clause-named c =
-    let n = c.number-item.result in
-    let at : slice_get c.args.numbers.now c.loop-number.number-index ≡ Some n = slice_get_read c.args.numbers.now (length c.args.numbers.now) c.loop-number.number-index n refl c.loop-number-test.true c.number-item.is in
+    let n = get_or c.args.numbers.now c.loop-number.number-index 0 in
+    let at : slice_get c.args.numbers.now c.loop-number.number-index ≡ Some n = got_or c.args.numbers.now c.loop-number.number-index 0 c.loop-number-test.true in
     let x = item_at (λ (u : Usage). index_at c.args.summaries.now u.summary_id) c.requires.named.0 c.args.numbers.now c.loop-number.number-index n c.requires.named.1 at in
     (x.0.summary_id, c.loop-number.invariant.same.index x.0.summary_id ∙ x.1.is)
 
@@ -28,9 +28,9 @@ returns-in_err-plan_line-clause-same c = summaries_twice c.args.summaries.now c.
 pub loop-number-preserved : goal.loop-number-preserved
 loop-number-preserved c =
     let i = c.loop-number.number-index in
-    let n = c.number-item.result in
+    let n = get_or c.args.numbers.now c.loop-number.number-index 0 in
     let next : i + 1 ≡ suc i = omega arith in
-    let at : slice_get c.args.numbers.now i ≡ Some n = slice_get_read c.args.numbers.now (length c.args.numbers.now) i n refl c.loop-number-test.true c.number-item.is in
+    let at : slice_get c.args.numbers.now i ≡ Some n = got_or c.args.numbers.now i 0 c.loop-number-test.true in
     let before = c.loop-number.invariant in
     let step = c.plan_line.ensures in
     let was = c.loop-number.ledger in

@@ -7,6 +7,7 @@ use Rattle.dsr_ledger.specs.Ranges.{IsInRange}
 use Rattle.dsr_ledger.specs.Tallies.{tally_plus, key_tally, TallyFits}
 use Rattle.dsr_ledger.specs.Summaries.{shown_with, place_at, index_at}
 use Rattle.dsr_ledger.specs.Plans.{IsPlanned}
+use Rattle.dsr_ledger.specs.Verdicts.{share_total}
 use Rattle.dsr_ledger.proofs.FitLemmas.{fewer_sums, fewer_tallies}
 use Rattle.dsr_ledger.proofs.KeepsLemmas.{same_places}
 use Rattle.dsr_ledger.proofs.file.FileBooks.accept.Goals as goal
@@ -21,7 +22,7 @@ add_usages-requires-clause-planned c =
       c.args.isrc,
       c.as_slice-works.result.now,
       subst (λ us. IsPlanned c.fill.new.ledger c.fill.new.summaries c.args.isrc c.as_slice-works.result.now us c.fill.new.self) (sym usages) (c.in_ok-fill.ensures.planned c.args.block.now.usages c.requires.found),
-      search rules,
+      subst (λ ws. share_total ws ≤ 1000000) (sym works) c.requires.shares,
     )
 
 pub add_usages-requires-clause-ledger_fits : goal.add_usages-requires-clause-ledger_fits

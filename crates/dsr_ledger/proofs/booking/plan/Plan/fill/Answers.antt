@@ -1,4 +1,4 @@
-use Rattle.std.proofs.Common.{◌≡◌, ℕ, List, [], refl, sym, ap, ◌∙◌, subst}
+use Rattle.std.proofs.Common.{rules, ◌≡◌, ℕ, List, [], ◌++◌, refl, sym, ap, ◌∙◌, subst}
 use Rattle.std.specs.Prelude.{Some, map}
 use Rattle.std.proofs.lemmas.Result.{on_ok_weaker}
 use Rattle.dsr_records.specs.declared.record.Usage.{Usage}
@@ -31,10 +31,12 @@ returns-clause-planned c = λ us named.
     let lines = c.plan_lines.ensures.keeps in
     let works = c.in_ok-plan_works.ensures.seated isrc there in
     let at = seats.recordings isrc ∙ there in
+    let empty : c.clear.new.self.items ≡ [] = search rules in
+    let items = works.items ∙ ap (λ l. l ++ works.more) empty in
     on_ok_weaker c.plan_lines.result
     (λ lined. record {
       recording_is = lines.recordings isrc ∙ at;
-      seated = subst (λ ss. AreSeated (seat_at c.plan_lines.new.ledger isrc) ss (shares_of c.args.works.now)) (sym works.items) (
+      seated = subst (λ ss. AreSeated (seat_at c.plan_lines.new.ledger isrc) ss (shares_of c.args.works.now)) (sym items) (
           seated_grows (seat_at c.plan_works.new.ledger isrc) (seat_at c.plan_lines.new.ledger isrc) (λ q i e. lines.seats isrc q ∙ e) works.more (shares_of c.args.works.now) works.seated);
       counted = (λ j. map (λ (u : Usage). c.plan_lines.ensures.same.index u.summary_id j) us) ∙ named;
       lined = lined;

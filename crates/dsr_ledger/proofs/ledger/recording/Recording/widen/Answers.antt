@@ -12,7 +12,7 @@ pub widen-requires : goal.widen-requires
 widen-requires c =
     let r = c.args.self.now in
     let l = c.index_mut.result.now in
-    let many : c.len-seats.result ≡ length (seat_numbers r.seats) = search rules in
+    let many : c.len-seats.result ≡ length (seat_numbers r.seats) = c.len-seats.ensures in
     let one = r.within c.args.number l (slice_get_read r.lines.items (length r.lines.items) c.args.number l refl c.requires c.index_mut.ensures.value) in
     omega arith
 
@@ -21,7 +21,7 @@ invariant_of-self c =
     let r = c.args.self.now in
     let l = c.index_mut.result.now in
     let w : Line = record { key = l.key; is_booked = l.is_booked; sums = l.sums; parts = c.widen.new.parts } in
-    let many : c.len-seats.result ≡ length (seat_numbers r.seats) = search rules in
+    let many : c.len-seats.result ≡ length (seat_numbers r.seats) = c.len-seats.ensures in
     let few = c.widen.ensures.within in
     record {
       apart = subst AreApart (sym (keys_kept r.lines.items c.args.number l w c.index_mut.ensures.value refl)) r.apart;
@@ -33,7 +33,7 @@ returns-clause-grows c =
     let r = c.args.self.now in
     let l = c.index_mut.result.now in
     let w : Line = record { key = l.key; is_booked = l.is_booked; sums = l.sums; parts = c.widen.new.parts } in
-    let many : c.len-seats.result ≡ length (seat_numbers r.seats) = search rules in
+    let many : c.len-seats.result ≡ length (seat_numbers r.seats) = c.len-seats.ensures in
     let few = c.widen.ensures.within in
     let more = c.widen.ensures.grows in
     grow_written (length (seat_numbers r.seats)) r.lines.items c.args.number l w c.requires c.index_mut.ensures.value refl
@@ -50,5 +50,5 @@ returns-clause-wide c =
     let r = c.args.self.now in
     let l = c.index_mut.result.now in
     let w : Line = record { key = l.key; is_booked = l.is_booked; sums = l.sums; parts = c.widen.new.parts } in
-    let many : c.len-seats.result ≡ length (seat_numbers r.seats) = search rules in
+    let many : c.len-seats.result ≡ length (seat_numbers r.seats) = c.len-seats.ensures in
     on_ok_weaker c.widen.result (λ e. record { line = w; there = written_there r.lines.items c.args.number w c.requires; wide = e ∙ many }) c.widen.ensures.wide

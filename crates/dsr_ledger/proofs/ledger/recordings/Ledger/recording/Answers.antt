@@ -5,7 +5,8 @@ use Rattle.std.specs.Map.{keys_of}
 use Rattle.std.specs.Str.{bytes_eq}
 use Rattle.std.proofs.lemmas.List.{map-append, length-map}
 use Rattle.std.proofs.lemmas.Slice.Eq.{bytes_eq-Decides}
-use Rattle.indexmap.specs.IndexMap.{get, keys, index_of}
+use Rattle.std.proofs.lemmas.Result.{on_ok_weaker, on_err_weaker}
+use Rattle.indexmap.specs.IndexMap.{get, keys, index_of, IsUnchanged, Updates}
 use Rattle.indexmap.proofs.CallerLemmas.{insert_entry-new}
 use Rattle.dsr_ledger.specs.declared.ledger.recording.Recording.{Recording}
 use Rattle.dsr_ledger.specs.Numbered.{AreBelow}
@@ -15,19 +16,24 @@ use Rattle.dsr_ledger.specs.Tallies.{line_keys}
 use Rattle.dsr_ledger.specs.Recordings.{party_number, key_number}
 use Rattle.dsr_ledger.proofs.NumberedLemmas.{place_more}
 use Rattle.dsr_ledger.proofs.TextLemmas.{text_itself}
-use Rattle.dsr_ledger.proofs.LedgerLemmas.{none_below, each_made, made_tally}
+use Rattle.dsr_ledger.proofs.LedgerLemmas.{none_below, unchanged, each_inserted, made_tally}
 use Rattle.dsr_ledger.proofs.ledger.recordings.Ledger.recording.Goals as goal
 
 pub invariant_of-self : goal.invariant_of-self
 invariant_of-self c =
     let l = c.args.self.now in
     let w = c.new.result in
-    let is = c.in_ok-insert.ensures.updates.0 in
+    let old = get bytes_eq l.recordings in
+    let new = get bytes_eq c.insert.new.self in
+    let made : Updates bytes_eq l.recordings c.insert.new.self c.args.isrc (Some w) → (q : List ℕ) → new q ≡ cond (bytes_eq c.args.isrc q) (Some w) (old q) = λ u. u.0 in
+    let same : IsUnchanged l.recordings c.insert.new.self → (q : List ℕ) → new q ≡ old q = λ e q. unchanged l.recordings c.insert.new.self e q in
+    let ok = on_ok_weaker c.insert.result made c.insert.ensures.updates in
+    let err = on_err_weaker c.insert.result same c.insert.ensures.err in
     let n = length l.parties.keys in
     let k = length l.summary_keys.keys in
     record {
-      seated = each_made c.args.isrc w (get bytes_eq l.recordings) (get bytes_eq c.insert.new.self) is (λ r. AreBelow n (seat_numbers r.seats)) l.seated (subst (AreBelow n) (sym c.new.ensures.seats) (none_below n));
-      keyed = each_made c.args.isrc w (get bytes_eq l.recordings) (get bytes_eq c.insert.new.self) is (λ r. AreBelow k (line_keys r.lines.items)) l.keyed (subst (λ ls. AreBelow k (line_keys ls)) (sym c.new.ensures.lines) (none_below k));
+      seated = each_inserted c.insert.result c.args.isrc w old new ok err (λ r. AreBelow n (seat_numbers r.seats)) l.seated (subst (AreBelow n) (sym c.new.ensures.seats) (none_below n));
+      keyed = each_inserted c.insert.result c.args.isrc w old new ok err (λ r. AreBelow k (line_keys r.lines.items)) l.keyed (subst (λ ls. AreBelow k (line_keys ls)) (sym c.new.ensures.lines) (none_below k));
     }
 
 pub returns-clause-same : goal.returns-clause-same
