@@ -11,7 +11,6 @@ use Rattle.dsr_ledger.specs.SummaryKeys.{summary_key_in}
 use Rattle.dsr_ledger.specs.Recordings.{seat_of}
 use Rattle.dsr_ledger.specs.Tallies.{line_keys}
 use Rattle.dsr_ledger.specs.Listed.{AreSeatsOf, AreLinesOf, party_in, key_in, entries_under, booked_lines}
-use Rattle.dsr_ledger.proofs.NumberedLemmas.{got_at}
 use Rattle.dsr_ledger.proofs.ReportLemmas.{place_within, own_tally, line_added, line_passed, under_sorted, under_own, under_found, small_at}
 use Rattle.dsr_ledger.proofs.assemble.ledger.add_recording.Goals.{then-line+in_ok-line+in_ok-map_err, else-line}
 use Rattle.dsr_ledger.proofs.assemble.ledger.add_recording.Goals as goal
@@ -49,11 +48,15 @@ ledger_line-requires c =
     let seats =
     subst (AreSeatsOf seat) (sym c.as_slice-then-line.ensures.value) (
     subst (λ ns. AreSeatsOf (place_by (party_in c.args.parties.now) ns) c.in_ok-seats.seats.items) c.as_slice.ensures.value c.in_ok-seats.ensures) in
-    ∥∥₁_map c.requires.small (λ o. (seat, seats, record {
-      bookings = at_key (key_under isrc item.0.now) o.bookings;
-      tally = own_tally number ls items listed i item at seat line there ∙ o.has item.0.now;
-      small = small_at (key_under isrc item.0.now) o.bookings o.small;
-    }))
+    ∥∥₁_map c.requires.small (λ o. (
+      seat,
+      seats,
+      record {
+        bookings = at_key (key_under isrc item.0.now) o.bookings;
+        tally = own_tally number ls items listed i item at seat line there ∙ o.has item.0.now;
+        small = small_at (key_under isrc item.0.now) o.bookings o.small;
+      },
+    ))
 
 pub loop-key-preserved : goal.loop-key-preserved
 loop-key-preserved c = λ bs has.
