@@ -53,9 +53,8 @@ fn book(books: &mut Books, block: &Block) -> Result<bool, NoMemory> {
     Ok(true)
 }
 
-/// Books blocks after a look at all of them, as a collector does with a message: how many the books took.
+/// Books the blocks of a message: how many the books took.
 fn book_message(books: &mut Books, events: &[Event]) -> Result<u64, NoMemory> {
-    books.look_ahead(0, events);
     let mut booked = 0u64;
     for event in events {
         if let EventPart::Block(block) = &event.part {

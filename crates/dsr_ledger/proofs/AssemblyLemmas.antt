@@ -10,7 +10,7 @@ use Rattle.dsr_records.specs.declared.record.Summary.{Summary}
 use Rattle.dsr_records.specs.declared.record.Usage.{Usage}
 use Rattle.dsr_records.specs.declared.record.Head.{Head}
 use Rattle.dsr_file.specs.Openings.{OpeningParts}
-use Rattle.dsr_ledger.specs.declared.founds.Founds.{Founds}
+use Rattle.dsr_ledger.specs.declared.file.summaries.Summaries.{Summaries}
 use Rattle.dsr_ledger.specs.declared.file.FileBooks.{FileBooks}
 use Rattle.dsr_ledger.specs.declared.kept.Kept.{Kept}
 use Rattle.dsr_ledger.specs.declared.report.Report.{Report}
@@ -18,12 +18,12 @@ use Rattle.dsr_ledger.specs.declared.report.ReportKey.{ReportKey}
 use Rattle.dsr_ledger.specs.Sums.{int_sum_by}
 use Rattle.dsr_ledger.specs.Files.{File, Filed, filed, filed_after, standing, summaries_of, first_head}
 use Rattle.dsr_ledger.specs.Findings.{is_ours, ended_whole, usages_in, naming, difference, differs, differences_in, differences, has_number, is_there, missing_for, rejects_in, rejects}
-use Rattle.dsr_ledger.specs.Found.{shown_at, shown_with, nothing_found, found_in}
+use Rattle.dsr_ledger.specs.Summaries.{shown_at, shown_with, nothing_found, found_in}
 use Rattle.dsr_ledger.specs.Openings.{openings_of, first_of}
 use Rattle.dsr_ledger.specs.Bookings.{Booking, bookings}
 use Rattle.dsr_ledger.specs.Ledger.{ledger}
 use Rattle.dsr_ledger.specs.Reports.{key_of, outcome_of, file_line, report_head, missing, report_of}
-use Rattle.dsr_ledger.specs.Stands.{FileStands, FilesStand, LinesStand}
+use Rattle.dsr_ledger.specs.Stands.{FileStands, FilesStand, LedgerStands}
 use Rattle.dsr_ledger.specs.Books.{IsSmallFile, IsReached, Stands}
 use Rattle.dsr_ledger.specs.Order.{AreOfSmall}
 use Rattle.dsr_ledger.specs.Assembly.{line_kept, is_number_kept, not_in, sums_shown, difference_to, differences_to, differences_kept}
@@ -97,7 +97,7 @@ here_too p [] s ss h = ap (λ b. b || list_any p ss) h
 here_too p (t ∷ done) s ss h = elim (p t) as (λ b. (b || list_any p (done ++ s ∷ ss)) ≡ true) [ true ↦ refl | false ↦ here_too p done s ss h ]
 
 -- each summary beside what is kept of it
-differences_found : (place : ℕ) (m : Founds) (us : List Usage) (done ss all : List Summary) → all ≡ done ++ ss → ((id : List ℕ) → shown_at m id ≡ found_in all us id) → map (λ s. difference_to place (sums_shown (shown_at m s.id)) s) ss ≡ map (difference place us) ss
+differences_found : (place : ℕ) (m : Summaries) (us : List Usage) (done ss all : List Summary) → all ≡ done ++ ss → ((id : List ℕ) → shown_at m id ≡ found_in all us id) → map (λ s. difference_to place (sums_shown (shown_at m s.id)) s) ss ≡ map (difference place us) ss
 differences_found place m us done [] all split is = refl
 differences_found place m us done (s ∷ ss) all split is =
     let p : Summary → Bool = λ t. bytes_eq s.id t.id in
@@ -120,8 +120,8 @@ pub differences_stand : (f : FileBooks) (d : Filed) → FileStands f d → diffe
 differences_stand f d s =
     let ss = summaries_of d.file.opening in
     let us = usages_in d.file.blocks in
-    (λ i. if is_ours (s.standing i) && ended_whole (s.outcome i) then differences_to (s.place i) f.founds (summaries_of (s.opening i)) else [])
-    ∙ ap (λ l. if is_ours d.standing && ended_whole d.file.outcome then filter differs l else []) (differences_found d.place f.founds us [] ss ss refl s.founds)
+    (λ i. if is_ours (s.standing i) && ended_whole (s.outcome i) then differences_to (s.place i) f.summaries (summaries_of (s.opening i)) else [])
+    ∙ ap (λ l. if is_ours d.standing && ended_whole d.file.outcome then filter differs l else []) (differences_found d.place f.summaries us [] ss ss refl s.summaries)
     ∙ both_or_none (is_ours d.standing) (ended_whole d.file.outcome) differs (map (difference d.place us) ss)
 
 -- the key, file after file
@@ -139,12 +139,12 @@ short_files [] h = tt
 short_files (f ∷ files) h = (record { few = h.0.few; range = h.0.range }, short_files files h.1)
 
 -- the lines of books that are reached are of small bookings
-pub small_lines : (kept : Kept) → length kept.files.items ≤ 64 → IsReached kept → AreOfSmall kept.lines
+pub small_lines : (kept : Kept) → length kept.files.items ≤ 64 → IsReached kept → AreOfSmall kept.ledger
 small_lines kept few r =
     let long = length-stand 1 [] kept.files.items r.files r.stands.each in
     record {
       bookings = bookings r.files;
-      stand = r.stands.lines;
+      stand = r.stands.ledger;
       small = bookings_small r.files (omega arith) (short_files r.files r.small);
     }
 
@@ -155,7 +155,7 @@ pub record Assembled (kept : Kept) (numbers : BTreeSet ℕ) (r : Report) : Type 
   pub own : (n : ℕ) → contains nat_cmp numbers n ≡ list_any (is_number_kept n) kept.files.items
   pub missing : r.missing ≡ not_in r.key numbers
   pub differences : r.differences ≡ flat_map differences_kept kept.files.items
-  pub ledger : (bs : List Booking) → LinesStand kept.lines bs → r.ledger ≡ ledger bs
+  pub ledger : (bs : List Booking) → LedgerStands kept.ledger bs → r.ledger ≡ ledger bs
   pub rejects : r.rejects ≡ flat_map (λ f. f.rejects.items) kept.files.items
 
 pub report_is : (kept : Kept) (numbers : BTreeSet ℕ) (r : Report) → Assembled kept numbers r → (files : List File) → Stands kept files → r ≡ report_of files
@@ -168,7 +168,7 @@ report_is kept numbers r a files h =
     let lines = a.lines ∙ map_stands line_kept file_line line_stands 1 [] fs files h.each in
     let differences = a.differences ∙ flat_map_stands differences_kept differences_in differences_stand 1 [] fs files h.each in
     let rejects = a.rejects ∙ flat_map_stands (λ f. f.rejects.items) rejects_in (λ f d s. s.rejects) 1 [] fs files h.each in
-    let ledger = a.ledger (bookings files) h.lines in
+    let ledger = a.ledger (bookings files) h.ledger in
     λ i. record {
       key = key i;
       files = lines i;

@@ -15,9 +15,10 @@ use Rattle.dsr_ledger.specs.declared.verdict.Verdict.{Verdict}
 use Rattle.dsr_ledger.specs.Files.{File, Filed, standing, opened, with_block, with_outcome}
 use Rattle.dsr_ledger.specs.Verdicts.{verdict_in, verdict_after}
 use Rattle.dsr_ledger.specs.Openings.{openings_of}
-use Rattle.dsr_ledger.specs.Found.{shown_at, ShownFits}
+use Rattle.dsr_ledger.specs.Summaries.{shown_at, ShownFits}
 use Rattle.dsr_ledger.specs.Ranges.{SumsFit}
-use Rattle.dsr_ledger.specs.Tallies.{Tally, tally_at, key_tally, TallyFits}
+use Rattle.dsr_ledger.specs.Tallies.{Tally, key_tally, TallyFits}
+use Rattle.dsr_ledger.specs.Recordings.{tally_at}
 use Rattle.dsr_ledger.specs.FileSteps.{IsSameFile, IsBlockInRange}
 use Rattle.dsr_ledger.specs.Stands.{FileStands, FilesStand, Took}
 use Rattle.dsr_ledger.specs.Books.{IsSmallFile, IsReached, Stands}
@@ -25,7 +26,7 @@ use Rattle.dsr_ledger.proofs.EachLemmas.{each_append}
 use Rattle.dsr_ledger.proofs.StandLemmas.{stands_same}
 use Rattle.dsr_ledger.proofs.FilesLemmas.{file_at, openings_are, length-stand, stand_push}
 use Rattle.dsr_ledger.proofs.PutLemmas.{lines_took, bookings-opened, bookings-outcome}
-use Rattle.dsr_ledger.proofs.SmallLemmas.{lines_fit, founds_fit}
+use Rattle.dsr_ledger.proofs.SmallLemmas.{lines_fit, summaries_fit}
 
 TallyFits-prop : (n : ℕ) (t : Tally) → IsProp (TallyFits n t)
 TallyFits-prop n t = hlevel props
@@ -34,26 +35,26 @@ SumsFit-prop : (n : ℕ) (s : Sums) → IsProp (SumsFit n s)
 SumsFit-prop n s = hlevel props
 
 -- 63 more usages fit
-pub lines_fit_reached : (kept : Kept) → length kept.files.items ≤ 64 → ∥ IsReached kept ∥₁ → (q : Key) → TallyFits 63 (tally_at kept.lines q)
+pub lines_fit_reached : (kept : Kept) → length kept.files.items ≤ 64 → ∥ IsReached kept ∥₁ → (q : Key) → TallyFits 63 (tally_at kept.ledger q)
 lines_fit_reached kept few r q =
     ∥∥₁_elim r (TallyFits-prop _ _) (λ x.
     let long = length-stand 1 [] kept.files.items x.files x.stands.each in
-    lines_fit x.files kept.lines x.stands.lines x.small (omega arith) q)
+    lines_fit x.files kept.ledger x.stands.ledger x.small (omega arith) q)
 
-pub founds_fit_reached : (kept : Kept) (k : ℕ) (f : FileBooks) → ∥ IsReached kept ∥₁ → slice_get kept.files.items k ≡ Some f → (id : List ℕ) → ForSome (shown_at f.founds id) (ShownFits 63)
-founds_fit_reached kept k f r is id = λ x e.
+pub summaries_fit_reached : (kept : Kept) (k : ℕ) (f : FileBooks) → ∥ IsReached kept ∥₁ → slice_get kept.files.items k ≡ Some f → (id : List ℕ) → ForSome (shown_at f.summaries id) (ShownFits 63)
+summaries_fit_reached kept k f r is id = λ x e.
     ∥∥₁_elim r (SumsFit-prop _ _) (λ y.
     let at = file_at 1 [] kept.files.items y.files k f y.stands.each is in
-    founds_fit f at.filed at.stands (at.own_small y.small) id x e)
+    summaries_fit f at.filed at.stands (at.own_small y.small) id x e)
 
 -- what one file's answer means for the books
 pub record Answered {A : Type 0} (f g : FileBooks) (b : BlockParts) (res : Result Verdict A) (old new : Kept) (k : ℕ) : Type 0 where
   pub at : slice_get old.files.items k ≡ Some f
   pub room : f.blocks < 2 ^ 37
   pub items : new.files.items ≡ set old.files.items k g
-  pub ok : (d : Filed) → FileStands f d → IfOk res (λ v. Took d b v g old.lines new.lines)
+  pub ok : (d : Filed) → FileStands f d → IfOk res (λ v. Took d b v g old.ledger new.ledger)
   pub err : OnErr res (IsSameFile f g)
-  pub same_lines : OnErr res ((q : Key) → tally_at new.lines q ≡ tally_at old.lines q)
+  pub same_ledger : OnErr res ((q : Key) → tally_at new.ledger q ≡ tally_at old.ledger q)
 
 pub answered_stands : {A : Type 0} (f g : FileBooks) (b : BlockParts) (res : Result Verdict A) (old new : Kept) (k : ℕ) → Answered f g b res old new k → (files : List File) → Stands old files → MatchResult res (λ v. (v ≡ verdict_in files k b) × Stands new (with_block files k b)) (λ _. Stands new files)
 answered_stands f g b (Ok v) old new k a files h =
@@ -62,14 +63,14 @@ answered_stands f g b (Ok v) old new k a files h =
       t.is_verdict ∙ ap (λ o. verdict_after o b) (sym at.at),
       record {
         each = subst (λ fs. FilesStand 1 [] fs (with_block files k b)) (sym a.items) (at.change (λ x. x.blocks ++ b ∷ []) (λ x. x.outcome) g t.stands);
-        lines = lines_took files k b v at.filed old.lines new.lines at.at t.is_verdict t.tallies h.lines;
+        ledger = lines_took files k b v at.filed old.ledger new.ledger at.at t.is_verdict t.tallies h.ledger;
       },
     )
 answered_stands f g b (Err x) old new k a files h =
     let at = file_at 1 [] old.files.items files k f h.each a.at in
     record {
       each = subst (λ fs. FilesStand 1 [] fs files) (sym a.items) (at.same g (stands_same f g at.filed at.stands a.err));
-      lines = λ q. a.same_lines q ∙ h.lines q;
+      ledger = λ q. a.same_ledger q ∙ h.ledger q;
     }
 
 pub answered_reached : {A : Type 0} (f g : FileBooks) (b : BlockParts) (res : Result Verdict A) (old new : Kept) (k : ℕ) → Answered f g b res old new k → IsReached old → IsReached new
@@ -89,8 +90,8 @@ answered_reached f g b (Err x) old new k a r = record { files = r.files; stands 
 abbrev pub ended : FileBooks → Outcome → FileBooks
 ended f o = record f { outcome = Some o }
 
-pub stands_ended : (old new : Kept) (files : List File) (k : ℕ) (f : FileBooks) (o : Outcome) → slice_get old.files.items k ≡ Some f → new.files.items ≡ set old.files.items k (ended f o) → new.lines ≡ old.lines → Stands old files → Stands new (with_outcome files k o)
-stands_ended old new files k f o is items lines h =
+pub stands_ended : (old new : Kept) (files : List File) (k : ℕ) (f : FileBooks) (o : Outcome) → slice_get old.files.items k ≡ Some f → new.files.items ≡ set old.files.items k (ended f o) → new.ledger ≡ old.ledger → Stands old files → Stands new (with_outcome files k o)
+stands_ended old new files k f o is items ledger h =
     let at = file_at 1 [] old.files.items files k f h.each is in
     let s = at.stands in
     record {
@@ -101,20 +102,20 @@ stands_ended old new files k f o is items lines h =
             standing = s.standing;
             blocks = s.blocks;
             ids = s.ids;
-            founds = s.founds;
+            summaries = s.summaries;
             rejects = s.rejects;
             outcome = refl;
           }));
-      lines = λ q. ap (λ l. tally_at l q) lines ∙ h.lines q ∙ ap (λ bs. key_tally bs q) (sym (bookings-outcome 1 [] files k o));
+      ledger = λ q. ap (λ l. tally_at l q) ledger ∙ h.ledger q ∙ ap (λ bs. key_tally bs q) (sym (bookings-outcome 1 [] files k o));
     }
 
-pub reached_ended : (old new : Kept) (k : ℕ) (f : FileBooks) (o : Outcome) → slice_get old.files.items k ≡ Some f → new.files.items ≡ set old.files.items k (ended f o) → new.lines ≡ old.lines → IsReached old → IsReached new
-reached_ended old new k f o is items lines r =
+pub reached_ended : (old new : Kept) (k : ℕ) (f : FileBooks) (o : Outcome) → slice_get old.files.items k ≡ Some f → new.files.items ≡ set old.files.items k (ended f o) → new.ledger ≡ old.ledger → IsReached old → IsReached new
+reached_ended old new k f o is items ledger r =
     let at = file_at 1 [] old.files.items r.files k f r.stands.each is in
     let own = at.own_small r.small in
     record {
       files = with_outcome r.files k o;
-      stands = stands_ended old new r.files k f o is items lines r.stands;
+      stands = stands_ended old new r.files k f o is items ledger r.stands;
       small = at.small (λ x. x.blocks) (λ x. Some o) r.small (record { few = own.few; range = own.range });
     }
 
@@ -122,8 +123,8 @@ reached_ended old new k f o is items lines r =
 abbrev pub OpenedAfter : List FileBooks → Option OpeningParts → FileBooks → Type 0
 OpenedAfter fs o f = FileStands f (record { place = length fs + 1; standing = standing (openings_of fs) o; file = opened o })
 
-pub stands_opened : (old new : Kept) (files : List File) (f : FileBooks) (o : Option OpeningParts) → OpenedAfter old.files.items o f → new.files.items ≡ old.files.items ++ f ∷ [] → new.lines ≡ old.lines → Stands old files → Stands new (files ++ opened o ∷ [])
-stands_opened old new files f o one items lines h =
+pub stands_opened : (old new : Kept) (files : List File) (f : FileBooks) (o : Option OpeningParts) → OpenedAfter old.files.items o f → new.files.items ≡ old.files.items ++ f ∷ [] → new.ledger ≡ old.ledger → Stands old files → Stands new (files ++ opened o ∷ [])
+stands_opened old new files f o one items ledger h =
     let same = openings_are 1 [] old.files.items files h.each in
     let place : length old.files.items + 1 ≡ 1 + length old.files.items = omega arith in
     record {
@@ -131,28 +132,28 @@ stands_opened old new files f o one items lines h =
           stand_push 1 [] old.files.items files f (opened o) h.each (
           subst (λ e. FileStands f (record { place = 1 + length old.files.items; standing = standing e o; file = opened o })) same (
           subst (λ m. FileStands f (record { place = m; standing = standing (openings_of old.files.items) o; file = opened o })) place one)));
-      lines = λ q. ap (λ l. tally_at l q) lines ∙ h.lines q ∙ ap (λ bs. key_tally bs q) (sym (bookings-opened 1 [] files o));
+      ledger = λ q. ap (λ l. tally_at l q) ledger ∙ h.ledger q ∙ ap (λ bs. key_tally bs q) (sym (bookings-opened 1 [] files o));
     }
 
-pub reached_opened : (old new : Kept) (b : Bool) (f : FileBooks) (o : Option OpeningParts) → OpenedAfter old.files.items o f → new.files.items ≡ cond b (old.files.items ++ f ∷ []) old.files.items → new.lines ≡ old.lines → IsReached old → IsReached new
-reached_opened old new false f o one items lines r = record {
+pub reached_opened : (old new : Kept) (b : Bool) (f : FileBooks) (o : Option OpeningParts) → OpenedAfter old.files.items o f → new.files.items ≡ cond b (old.files.items ++ f ∷ []) old.files.items → new.ledger ≡ old.ledger → IsReached old → IsReached new
+reached_opened old new false f o one items ledger r = record {
   files = r.files;
-  stands = record { each = subst (λ fs. FilesStand 1 [] fs r.files) (sym items) r.stands.each; lines = λ q. ap (λ l. tally_at l q) lines ∙ r.stands.lines q };
+  stands = record { each = subst (λ fs. FilesStand 1 [] fs r.files) (sym items) r.stands.each; ledger = λ q. ap (λ l. tally_at l q) ledger ∙ r.stands.ledger q };
   small = r.small;
 }
-reached_opened old new true f o one items lines r = record {
+reached_opened old new true f o one items ledger r = record {
   files = r.files ++ opened o ∷ [];
-  stands = stands_opened old new r.files f o one items lines r.stands;
+  stands = stands_opened old new r.files f o one items ledger r.stands;
   small = each_append IsSmallFile r.files (opened o ∷ []) r.small (record { few = omega arith; range = tt }, tt);
 }
 
-pub opened_next : (old new : Kept) (f : FileBooks) (o : Option OpeningParts) (files : List File) → OpenedAfter old.files.items o f → new.files.items ≡ old.files.items ++ f ∷ [] → new.lines ≡ old.lines → Stands old files → (f.standing ≡ standing (map (λ x. x.opening) files) o) × Stands new (files ++ opened o ∷ [])
-opened_next old new f o files one items lines h =
-    (one.standing ∙ ap (λ e. standing e o) (openings_are 1 [] old.files.items files h.each), stands_opened old new files f o one items lines h)
+pub opened_next : (old new : Kept) (f : FileBooks) (o : Option OpeningParts) (files : List File) → OpenedAfter old.files.items o f → new.files.items ≡ old.files.items ++ f ∷ [] → new.ledger ≡ old.ledger → Stands old files → (f.standing ≡ standing (map (λ x. x.opening) files) o) × Stands new (files ++ opened o ∷ [])
+opened_next old new f o files one items ledger h =
+    (one.standing ∙ ap (λ e. standing e o) (openings_are 1 [] old.files.items files h.each), stands_opened old new files f o one items ledger h)
 
 -- where nothing was opened
-pub not_opened : (old new : Kept) (files : List File) → new.files.items ≡ old.files.items → new.lines ≡ old.lines → Stands old files → Stands new files
-not_opened old new files items lines h = record {
+pub not_opened : (old new : Kept) (files : List File) → new.files.items ≡ old.files.items → new.ledger ≡ old.ledger → Stands old files → Stands new files
+not_opened old new files items ledger h = record {
   each = subst (λ fs. FilesStand 1 [] fs files) (sym items) h.each;
-  lines = λ q. ap (λ l. tally_at l q) lines ∙ h.lines q;
+  ledger = λ q. ap (λ l. tally_at l q) ledger ∙ h.ledger q;
 }

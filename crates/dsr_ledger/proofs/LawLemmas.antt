@@ -25,9 +25,8 @@ use Rattle.dsr_ledger.specs.Reports.{report_of}
 use Rattle.dsr_ledger.specs.Laws.{line_bookings, line_parts, exact_sum, AddsUp, IsNear, IsRoundedDown, NoneIsNegative, IsWithin, SharesAddUp, SharesAreNear, SharesAreWithin}
 use Rattle.dsr_ledger.proofs.KeyLemmas.{key_total, key_exact}
 use Rattle.dsr_ledger.proofs.OrderLemmas.{values_in_order, keys_among}
-use Rattle.dsr_ledger.proofs.PartyOrderLemmas.{some_for}
-use Rattle.dsr_ledger.proofs.PartyLemmas.{names_of, lines_are, shares_conserved}
-use Rattle.dsr_ledger.proofs.LinesOrderLemmas.{each_of}
+use Rattle.dsr_ledger.proofs.PartyLemmas.{names_of, lines_are, shares_conserved, some_for}
+use Rattle.dsr_ledger.proofs.EachLemmas.{each_filter}
 use Rattle.dsr_ledger.proofs.ShareLemmas.{unclaimed_not_negative}
 use Rattle.dsr_ledger.proofs.WholeLemmas.{IsWhole, bookings_whole, all_flat, all_of}
 
@@ -122,10 +121,10 @@ key_within : (files : List File) (key : Key) → NoneIsNegative (at_key key (boo
 key_within files key positive =
     let bs = at_key key (bookings files) in
     let up = recursion_from_All (λ (b : Booking). pos 0 ≤ℤ b.usage.amount) bs positive in
-    let whole = each_of IsWhole (is_at_key key) (bookings files) (bookings_whole files) in
+    let whole = each_filter IsWhole (is_at_key key) (bookings files) (bookings_whole files) in
     let P : PartyLine → Type 0 = λ p. IsRoundedDown (filter (is_for p.party) (all_parts bs)) p in (
       unclaimed_not_negative bs (both_of bs up whole),
-      All-from_recursion P (party_lines bs) (each_party P bs (λ n some. down (filter (is_for n) (all_parts bs)) some (each_of IsNotNegative (is_for n) (all_parts bs) (parts_positive bs up)))),
+      All-from_recursion P (party_lines bs) (each_party P bs (λ n some. down (filter (is_for n) (all_parts bs)) some (each_filter IsNotNegative (is_for n) (all_parts bs) (parts_positive bs up)))),
     )
   where
     both_of : (bs : List Booking) → AllByRecursion (λ b. pos 0 ≤ℤ b.usage.amount) bs → AllByRecursion IsWhole bs → AllByRecursion (λ b. (pos 0 ≤ℤ b.usage.amount) × (share_total b.works ≤ 1000000)) bs

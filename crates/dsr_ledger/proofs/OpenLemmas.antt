@@ -10,8 +10,11 @@ use mathlib.Core.Bool.{false≢true}
 use Rattle.dsr_cells.specs.Days.{CivilDay}
 use Rattle.dsr_records.specs.declared.record.Head.{Head}
 use Rattle.dsr_records.specs.declared.record.Summary.{Summary}
-use Rattle.dsr_ledger.specs.Files.{is_same_report, same_day, has_number_of}
-use Rattle.dsr_ledger.specs.Found.{found_in, nothing_found}
+use Rattle.dsr_file.specs.Openings.{OpeningParts}
+use Rattle.dsr_ledger.specs.declared.report.ReportKey.{ReportKey}
+use Rattle.dsr_ledger.specs.Reports.{key_of}
+use Rattle.dsr_ledger.specs.Files.{is_same_report, same_day, has_number_of, first_head}
+use Rattle.dsr_ledger.specs.Summaries.{found_in, nothing_found}
 use Rattle.dsr_ledger.specs.Openings.{first_of, named, openings_of}
 use Rattle.dsr_ledger.specs.declared.file.FileBooks.{FileBooks}
 use Rattle.dsr_ledger.proofs.TextLemmas.{same_text}
@@ -75,3 +78,9 @@ taken_here h (x ∷ fs) (suc i) f below is t = ap (λ b. has_number_of h x.openi
     or_true : (b : Bool) → (b || true) ≡ true
     or_true true = refl
     or_true false = refl
+
+-- the key of the first opening, after one more
+pub key_step : (k : Option ReportKey) (o : Option OpeningParts) (os : List (Option OpeningParts)) → first_of (first_of k (option_map (λ x. key_of x.head) o)) (option_map key_of (first_head os)) ≡ first_of k (option_map key_of (first_head (o ∷ os)))
+key_step (Some x) o os = refl
+key_step None None os = refl
+key_step None (Some x) os = refl

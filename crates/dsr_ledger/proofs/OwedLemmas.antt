@@ -8,10 +8,9 @@ use Rattle.std.proofs.lemmas.Bool.{lt-ltb}
 use Rattle.std.proofs.lemmas.List.Elements.{filter-append}
 use Rattle.std.proofs.lemmas.List.Sums.{sum_by-cons}
 use Rattle.dsr_ledger.specs.declared.owed.Owed.{Owed}
-use Rattle.dsr_ledger.specs.declared.owed.PartNote.{PartNote}
 use Rattle.dsr_ledger.specs.Sums.{int_sum_by}
 use Rattle.dsr_ledger.specs.Parts.{Part, rounded, is_for}
-use Rattle.dsr_ledger.specs.Owed.{owed_of, owed_for, owed_plus, owed_with, AreNoted, notes_size}
+use Rattle.dsr_ledger.specs.Owed.{owed_of, owed_for, owed_plus, owed_with, parts_size}
 use Rattle.dsr_ledger.proofs.SumLemmas.{int_sum_by-append, add-assoc, add-zero, abs-add}
 
 pub or_true : (b : Bool) → (b || true) ≡ true
@@ -64,10 +63,6 @@ owed_of-append xs ys = λ i. record { has_part = any_of xs ys i; amount = int_su
 pub owed_for-append : (q : List ℕ) (xs ys : List Part) → owed_for q (xs ++ ys) ≡ owed_plus (owed_for q xs) (owed_for q ys)
 owed_for-append q xs ys = ap owed_of (filter-append (is_for q) xs ys) ∙ owed_of-append (filter (is_for q) xs) (filter (is_for q) ys)
 
--- how much the parts can move a sum
-abbrev pub parts_size : List Part → ℕ
-parts_size ps = sum_by (λ p. unsigned_abs (rounded p)) ps
-
 pub size_of : (q : List ℕ) (ps : List Part) → unsigned_abs (owed_for q ps).amount ≤ parts_size ps
 size_of q [] = omega arith
 size_of q (x ∷ ps) =
@@ -75,54 +70,6 @@ size_of q (x ∷ ps) =
     let cut = sum_by-cons (λ (p : Part). unsigned_abs (rounded p)) x ps in
     let add = abs-add (rounded x) (int_sum_by rounded (filter (is_for q) ps)) in
     elim (is_for q x) as (λ b. unsigned_abs (int_sum_by rounded (cond b (x ∷ filter (is_for q) ps) (filter (is_for q) ps))) ≤ parts_size (x ∷ ps)) [ true ↦ omega arith | false ↦ omega arith ]
-
-pub length-noted : (seat : List ℕ → Option ℕ) (ns : List PartNote) (qs : List Part) → AreNoted seat ns qs → length ns ≡ length qs
-length-noted seat [] [] h = refl
-length-noted seat [] (q ∷ qs) h = absurd h
-length-noted seat (n ∷ ns) [] h = absurd h
-length-noted seat (n ∷ ns) (q ∷ qs) h = ap suc (length-noted seat ns qs h.1)
-
-pub notes_size-is : (seat : List ℕ → Option ℕ) (ns : List PartNote) (qs : List Part) → AreNoted seat ns qs → notes_size ns ≡ parts_size qs
-notes_size-is seat [] [] h = refl
-notes_size-is seat [] (q ∷ qs) h = absurd h
-notes_size-is seat (n ∷ ns) [] h = absurd h
-notes_size-is seat (n ∷ ns) (q ∷ qs) h =
-    sum_by-cons (λ (x : PartNote). unsigned_abs x.amount) n ns
-    ∙ (λ i. unsigned_abs (h.0.1 i) + notes_size-is seat ns qs h.1 i)
-    ∙ sym (sum_by-cons (λ (p : Part). unsigned_abs (rounded p)) q qs)
-
--- the part of note i
-pub record NotedStep (seat : List ℕ → Option ℕ) (ns : List PartNote) (qs : List Part) (i : ℕ) (n : PartNote) : Type 0 where
-  pub part : Part
-  pub more : take (suc i) qs ≡ take i qs ++ part ∷ []
-  pub seat_is : seat part.party ≡ Some n.seat
-  pub amount_is : n.amount ≡ rounded part
-  pub room : parts_size (take i qs) + unsigned_abs n.amount ≤ notes_size ns
-
-pub noted_step : (seat : List ℕ → Option ℕ) (ns : List PartNote) (qs : List Part) (i : ℕ) (n d : PartNote) → AreNoted seat ns qs → i < length ns → n ≡ get_or ns i d → NotedStep seat ns qs i n
-noted_step seat [] [] i n d h below is = absurd (omega arith)
-noted_step seat [] (q ∷ qs) i n d h below is = absurd h
-noted_step seat (m ∷ ns) [] i n d h below is = absurd h
-noted_step seat (m ∷ ns) (q ∷ qs) zero n d h below is = record {
-  part = q;
-  more = refl;
-  seat_is = h.0.0 ∙ ap (λ x. Some x.seat) (sym is);
-  amount_is = ap (λ x. x.amount) is ∙ h.0.1;
-  room = let cut = sum_by-cons (λ (x : PartNote). unsigned_abs x.amount) m ns in let e = ap (λ x. unsigned_abs x.amount) is in omega arith;
-}
-noted_step seat (m ∷ ns) (q ∷ qs) (suc i) n d h below is =
-    let rest = noted_step seat ns qs i n d h.1 (omega arith) is in
-    let cut = sum_by-cons (λ (x : PartNote). unsigned_abs x.amount) m ns in
-    let here = ap unsigned_abs h.0.1 in
-    let first = sum_by-cons (λ (p : Part). unsigned_abs (rounded p)) q (take i qs) in
-    let room = rest.room in
-    record {
-      part = rest.part;
-      more = ap (λ l. q ∷ l) rest.more;
-      seat_is = rest.seat_is;
-      amount_is = rest.amount_is;
-      room = omega arith;
-    }
 
 -- a part fits
 pub part_fits : (o old : Owed) (q : List ℕ) (ps : List Part) (a : ℤ) (n : ℕ) → o ≡ owed_plus old (owed_for q ps) → parts_size ps + unsigned_abs a ≤ n → unsigned_abs old.amount + n < 2 ^ 127 → FitsSigned w128 (o.amount +ℤ a)

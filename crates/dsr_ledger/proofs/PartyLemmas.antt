@@ -1,6 +1,6 @@
 -- The sums by party, and all parts.
 use Rattle.std.proofs.Common.{◌≡◌, ℕ, ◌+◌, ◌*◌, ◌^◌, ◌<◌, ◌≤◌, zero, suc, take, get_or, List, [], ◌∷◌, length, Bool, true, false, cond, T, true≢false, refl, subst, sym, ◌∙◌, ap, arith}
-use Rattle.std.specs.Prelude.{ℤ, pos, ◌+ℤ◌, ◌-ℤ◌, ◌||◌, ◌&&◌, filter, map, sum_by, unsigned_abs}
+use Rattle.std.specs.Prelude.{ℤ, pos, nat_lt, ◌+ℤ◌, ◌-ℤ◌, ◌||◌, ◌&&◌, filter, map, sum_by, unsigned_abs}
 use Rattle.std.specs.List.{list_any, IsDistinct, AllByRecursion}
 use Rattle.std.specs.Map.{keys_of}
 use Rattle.std.specs.Ordering.{is_eq, is_lt, eq_by_cmp}
@@ -9,7 +9,8 @@ use Rattle.std.specs.declared.cmp.Ordering.TheVariants.{Less, Equal, Greater}
 use Rattle.std.specs.Str.{bytes_eq}
 use Rattle.std.specs.FinMap as finite
 use Rattle.std.specs.FinMap.Entries.{below_all, is_sorted}
-use Rattle.std.specs.Cmp.Lexicographic.{nat_list_cmp_total}
+use Rattle.std.specs.Cmp.Lexicographic.{nat_list_cmp_total, nat_list_eq_equiv}
+use Rattle.std.proofs.lemmas.Bool.{lt-ltb}
 use Rattle.std.proofs.lemmas.Slice.Eq.{bytes_eq-Decides}
 use Rattle.std.proofs.lemmas.Int.{ints, fits_signed_from_abs}
 use Rattle.std.specs.Int.{w128}
@@ -26,7 +27,7 @@ use Rattle.dsr_ledger.specs.Parts.{Part, rounded, parts_of, all_parts, is_for, p
 use Rattle.dsr_ledger.specs.Ledger.{amount_sum, party_lines}
 use Rattle.dsr_ledger.specs.Order.{IsSmall, AreSmall}
 use Rattle.dsr_ledger.proofs.SumLemmas.{int_sum_by-append, zero-add, abs-add}
-use Rattle.dsr_ledger.proofs.OwedLemmas.{parts_size}
+use Rattle.dsr_ledger.specs.Owed.{parts_size}
 use Rattle.dsr_ledger.proofs.TextLemmas.{text_itself, text_ties}
 use Rattle.dsr_ledger.proofs.ShareLemmas.{parts_within}
 use Rattle.dsr_ledger.proofs.OrderLemmas.{any-in_order, values_in_order}
@@ -289,3 +290,14 @@ amount_fits ps i p a below is room =
     let size = taken_size ps i p below is in
     let near : unsigned_abs p.amount < 2 ^ 127 = omega arith in
     fits_signed_from_abs w128 _ near
+
+-- a party has a part where it is among the parts' parties
+pub some_for : (q : List ℕ) (ps : List Part) → nat_lt 0 (length (filter (is_for q) ps)) ≡ list_any (eq_by_cmp text_cmp q) (map (λ p. p.party) ps)
+some_for q [] = refl
+some_for q (p ∷ ps) =
+    let tie : is_for q p ≡ eq_by_cmp text_cmp q p.party = nat_list_eq_equiv.symm p.party q ∙ sym (text_ties q p.party) in
+    elim (is_for q p) as (λ b. nat_lt 0 (length (cond b (p ∷ filter (is_for q) ps) (filter (is_for q) ps))) ≡ (b || list_any (eq_by_cmp text_cmp q) (map (λ p. p.party) ps))) [
+      | true ↦ lt-ltb 0 (suc (length (filter (is_for q) ps))) (omega arith)
+      | false ↦ some_for q ps
+    ]
+    ∙ ap (λ b. b || list_any (eq_by_cmp text_cmp q) (map (λ p. p.party) ps)) tie

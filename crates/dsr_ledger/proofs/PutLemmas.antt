@@ -9,14 +9,15 @@ use Rattle.dsr_file.specs.declared.fault.Outcome.{Outcome}
 use Rattle.dsr_file.specs.Openings.{OpeningParts}
 use Rattle.dsr_ledger.specs.declared.owed.Owed.{Owed}
 use Rattle.dsr_ledger.specs.declared.key.Key.{Key}
-use Rattle.dsr_ledger.specs.declared.lines.Lines.{Lines}
+use Rattle.dsr_ledger.specs.declared.ledger.recordings.Ledger.{Ledger}
 use Rattle.dsr_ledger.specs.declared.verdict.Verdict.{Verdict}
 use Rattle.dsr_ledger.specs.Files.{File, Filed, filed_after, standing, opened, with_block, with_outcome, with_one, summaries_of}
 use Rattle.dsr_ledger.specs.Verdicts.{verdict_of, judged_in}
 use Rattle.dsr_ledger.specs.Bookings.{Booking, verdict_bookings, filed_bookings, bookings}
 use Rattle.dsr_ledger.specs.Owed.{owed_plus}
-use Rattle.dsr_ledger.specs.Tallies.{Tally, tally_at, tally_plus, key_tally}
-use Rattle.dsr_ledger.specs.Stands.{LinesStand}
+use Rattle.dsr_ledger.specs.Tallies.{Tally, tally_plus, key_tally}
+use Rattle.dsr_ledger.specs.Recordings.{tally_at}
+use Rattle.dsr_ledger.specs.Stands.{LedgerStands}
 use Rattle.dsr_ledger.proofs.JudgedLemmas.{judged_more}
 use Rattle.dsr_ledger.proofs.TallyPlusLemmas.{key_tally-append}
 
@@ -100,7 +101,7 @@ put_tally old more new q h =
     ∙ ap (λ s. tally_plus s (key_tally more q)) (sym (ap (λ l. key_tally l q) h.was ∙ key_tally-append h.front h.back q))
 
 -- so the lines stand for the bookings with those of the block
-pub lines_took : (files : List File) (k : ℕ) (b : BlockParts) (v : Verdict) (d : Filed) (old new : Lines) → slice_get (filed_after 1 [] files) k ≡ Some d → v ≡ verdict_of d b → ((q : Key) → tally_at new q ≡ tally_plus (tally_at old q) (key_tally (verdict_bookings (summaries_of d.file.opening) (b, v)) q)) → LinesStand old (bookings files) → LinesStand new (bookings (with_block files k b))
+pub lines_took : (files : List File) (k : ℕ) (b : BlockParts) (v : Verdict) (d : Filed) (old new : Ledger) → slice_get (filed_after 1 [] files) k ≡ Some d → v ≡ verdict_of d b → ((q : Key) → tally_at new q ≡ tally_plus (tally_at old q) (key_tally (verdict_bookings (summaries_of d.file.opening) (b, v)) q)) → LedgerStands old (bookings files) → LedgerStands new (bookings (with_block files k b))
 lines_took files k b v d old new at is tallies h q =
     let m = verdict_bookings (summaries_of d.file.opening) (b, verdict_of d b) in
     tallies q

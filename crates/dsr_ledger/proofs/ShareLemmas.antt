@@ -15,7 +15,7 @@ use Rattle.dsr_ledger.specs.Sums.{int_sum_by}
 use Rattle.dsr_ledger.specs.Bookings.{Booking}
 use Rattle.dsr_ledger.proofs.SumLemmas.{abs-add}
 use Rattle.dsr_ledger.specs.Parts.{Part, rounded, part_of, work_parts, parts_of, left_over, unclaimed}
-use Rattle.dsr_ledger.proofs.OwedLemmas.{parts_size}
+use Rattle.dsr_ledger.specs.Owed.{parts_size}
 
 spread : (a m n : ℕ) → a * (m + n) ≡ a * m + a * n
 spread a m n = omega arith

@@ -10,7 +10,7 @@ use Rattle.dsr_records.specs.declared.record.Usage.{Usage}
 use Rattle.dsr_ledger.specs.Sums.{int_sum_by}
 use Rattle.dsr_ledger.specs.Findings.{naming}
 use Rattle.dsr_ledger.specs.Ranges.{IsInRange, SumsFit}
-use Rattle.dsr_ledger.specs.Found.{Shown, shown_with, ShownFits}
+use Rattle.dsr_ledger.specs.Summaries.{Shown, shown_with, ShownFits}
 use Rattle.dsr_ledger.proofs.SumLemmas.{int_sum_by-append, abs-int_sum_by, abs-add, add-assoc}
 use Rattle.dsr_ledger.proofs.EachLemmas.{each_filter, each_weaker}
 

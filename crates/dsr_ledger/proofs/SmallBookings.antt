@@ -13,7 +13,7 @@ use Rattle.dsr_ledger.specs.declared.verdict.Verdict.{Verdict}
 use Rattle.dsr_ledger.specs.declared.verdict.Verdict.TheVariants.{Booked, Rejected}
 use Rattle.dsr_ledger.specs.Files.{File, Filed, standing, filed, filed_after, summaries_of}
 use Rattle.dsr_ledger.specs.Verdicts.{verdict, judged, judged_in}
-use Rattle.dsr_ledger.specs.declared.place.Place.{Place}
+use Rattle.dsr_ledger.specs.declared.ledger.summary_key.SummaryKey.{SummaryKey}
 use Rattle.dsr_ledger.specs.Bookings.{Booking, booked_under, usage_bookings, block_bookings, place_named, verdict_bookings, filed_bookings, bookings}
 use Rattle.dsr_ledger.specs.Ranges.{IsInRange}
 use Rattle.dsr_ledger.specs.FileSteps.{IsBlockInRange}
@@ -29,11 +29,11 @@ abbrev HasSmallAmount : Booking → Type 0
 HasSmallAmount b = unsigned_abs b.usage.amount < 10 ^ 22
 
 -- no more bookings than usages
-few_under : (isrc : List ℕ) (works : List WorkParts) (u : Usage) (place : Option Place) → length (booked_under isrc works u place) ≤ 1
+few_under : (isrc : List ℕ) (works : List WorkParts) (u : Usage) (place : Option SummaryKey) → length (booked_under isrc works u place) ≤ 1
 few_under isrc works u None = omega arith
 few_under isrc works u (Some place) = omega arith
 
-few_usages : (place : List ℕ → Option Place) (isrc : List ℕ) (works : List WorkParts) (us : List Usage) → length (usage_bookings place isrc works us) ≤ length us
+few_usages : (place : List ℕ → Option SummaryKey) (isrc : List ℕ) (works : List WorkParts) (us : List Usage) → length (usage_bookings place isrc works us) ≤ length us
 few_usages place isrc works [] = omega arith
 few_usages place isrc works (u ∷ us) =
     let f : Usage → List Booking = λ x. booked_under isrc works x (place x.summary_id) in
@@ -79,7 +79,7 @@ few_filed n place earlier (f ∷ files) h =
     summed all one more m k e h g = omega arith
 
 -- the amounts are those of usages
-small_under : (isrc : List ℕ) (works : List WorkParts) (u : Usage) (place : Option Place) → IsInRange u → AllByRecursion HasSmallAmount (booked_under isrc works u place)
+small_under : (isrc : List ℕ) (works : List WorkParts) (u : Usage) (place : Option SummaryKey) → IsInRange u → AllByRecursion HasSmallAmount (booked_under isrc works u place)
 small_under isrc works u None h = tt
 small_under isrc works u (Some place) h = (h.amount, tt)
 

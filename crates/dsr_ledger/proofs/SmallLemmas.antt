@@ -12,7 +12,7 @@ use Rattle.dsr_records.specs.declared.record.Summary.{Summary}
 use Rattle.dsr_records.specs.declared.record.Usage.{Usage}
 use Rattle.dsr_file.specs.Openings.{OpeningParts}
 use Rattle.dsr_ledger.specs.declared.key.Key.{Key}
-use Rattle.dsr_ledger.specs.declared.lines.Lines.{Lines}
+use Rattle.dsr_ledger.specs.declared.ledger.recordings.Ledger.{Ledger}
 use Rattle.dsr_ledger.specs.declared.file.FileBooks.{FileBooks}
 use Rattle.dsr_ledger.specs.declared.verdict.Standing.{Standing}
 use Rattle.dsr_ledger.specs.declared.verdict.Reason.{Reason}
@@ -23,11 +23,12 @@ use Rattle.dsr_ledger.specs.Files.{File, Filed, filed_after, standing, summaries
 use Rattle.dsr_ledger.specs.Verdicts.{first_reason, is_foreign, is_doubled, names_unknown, share_total, verdict_by, verdict, judged}
 use Rattle.dsr_ledger.specs.Bookings.{verdict_bookings, block_bookings, filed_bookings, bookings, place_named}
 use Rattle.dsr_ledger.specs.Findings.{usages_in}
-use Rattle.dsr_ledger.specs.Found.{Shown, shown_at, shown_with, nothing_found, ShownFits}
+use Rattle.dsr_ledger.specs.Summaries.{Shown, shown_at, shown_with, nothing_found, ShownFits}
 use Rattle.dsr_ledger.specs.Ranges.{IsInRange}
-use Rattle.dsr_ledger.specs.Tallies.{tally_at, tally_of, key_tally, TallyFits}
+use Rattle.dsr_ledger.specs.Tallies.{tally_of, key_tally, TallyFits}
+use Rattle.dsr_ledger.specs.Recordings.{tally_at}
 use Rattle.dsr_ledger.specs.FileSteps.{IsBlockInRange}
-use Rattle.dsr_ledger.specs.Stands.{FileStands, LinesStand}
+use Rattle.dsr_ledger.specs.Stands.{FileStands, LedgerStands}
 use Rattle.dsr_ledger.specs.Books.{IsSmallFile}
 use Rattle.dsr_ledger.proofs.EachLemmas.{each_append}
 use Rattle.dsr_ledger.proofs.PutLemmas.{bookings_after}
@@ -98,7 +99,7 @@ small_bookings_after n e (f ∷ files) h =
     each_append IsSmall (filed_bookings own) (flat_map filed_bookings ds) (small_judged_bookings (standing e f.opening) (summaries_of f.opening) [] f.blocks h.0.range) (small_bookings_after (suc n) (e ++ f.opening ∷ []) files h.1))
 
 -- so 63 more usages fit
-pub lines_fit : (files : List File) (lines : Lines) → LinesStand lines (bookings files) → AllByRecursion IsSmallFile files → length files ≤ 64 → (q : Key) → TallyFits 63 (tally_at lines q)
+pub lines_fit : (files : List File) (lines : Ledger) → LedgerStands lines (bookings files) → AllByRecursion IsSmallFile files → length files ≤ 64 → (q : Key) → TallyFits 63 (tally_at lines q)
 lines_fit files lines h small few q =
     let bs = bookings files in
     let many = length-bookings_after 1 [] files small in
@@ -128,10 +129,10 @@ found_fits (Some s) id us i n m few room small u a = λ x e.
     subst (ShownFits m) is (shown_fits_after id us (nothing_found s) i n m few room small (record { usages = omega arith; amount = omega arith }))
 
 -- and so they do in what is found for a file's summaries
-pub founds_fit : (f : FileBooks) (d : Filed) → FileStands f d → IsSmallFile d.file → (id : List ℕ) → ForSome (shown_at f.founds id) (ShownFits 63)
-founds_fit f d h small id =
+pub summaries_fit : (f : FileBooks) (d : Filed) → FileStands f d → IsSmallFile d.file → (id : List ℕ) → ForSome (shown_at f.summaries id) (ShownFits 63)
+summaries_fit f d h small id =
     let P : Option Shown → Type 0 = λ o. ForSome o (ShownFits 63) in
     let many = length-usages_in d.file.blocks small.range in
     let few = small.few in
-    subst P (sym (h.founds id)) (
+    subst P (sym (h.summaries id)) (
     found_fits (find (λ s. bytes_eq id s.id) (summaries_of d.file.opening)) id (usages_in d.file.blocks) (2 ^ 37 * 63) (2 ^ 37 * 63 + 63) 63 (omega arith) (omega arith) (small_usages_in d.file.blocks small.range) (omega arith) (omega arith))

@@ -8,7 +8,7 @@ use Rattle.std.proofs.lemmas.List.Folds.{list_any-append}
 use Rattle.dsr_records.specs.declared.record.Summary.{Summary}
 use Rattle.dsr_records.specs.declared.record.Usage.{Usage}
 use Rattle.dsr_records.specs.Blocks.{BlockParts}
-use Rattle.dsr_ledger.specs.declared.lines.Lines.{Lines}
+use Rattle.dsr_ledger.specs.declared.ledger.recordings.Ledger.{Ledger}
 use Rattle.dsr_ledger.specs.declared.file.FileBooks.{FileBooks}
 use Rattle.dsr_ledger.specs.declared.verdict.Verdict.{Verdict}
 use Rattle.dsr_ledger.specs.declared.verdict.Verdict.TheVariants.{Booked, Rejected}
@@ -17,33 +17,30 @@ use Rattle.dsr_ledger.specs.Verdicts.{has_id, is_summary, verdict_of, verdict_by
 use Rattle.dsr_ledger.specs.Bookings.{place_of, place_named, block_bookings, verdict_bookings}
 use Rattle.dsr_ledger.specs.Findings.{usages_in, rejects_from}
 use Rattle.dsr_ledger.specs.IdSteps.{is_in}
-use Rattle.dsr_ledger.specs.Found.{shown_with, place_at, is_known, found_in, nothing_found}
-use Rattle.dsr_ledger.specs.Tallies.{tally_at, tally_plus, key_tally}
+use Rattle.dsr_ledger.specs.Summaries.{shown_with, place_at, is_known, found_in, nothing_found}
+use Rattle.dsr_ledger.specs.Tallies.{tally_plus, key_tally}
+use Rattle.dsr_ledger.specs.Recordings.{tally_at}
 use Rattle.dsr_ledger.specs.FileSteps.{IsSameFile, TakesBlock, bookings_by}
 use Rattle.dsr_ledger.specs.Stands.{FileStands, Took}
-use Rattle.dsr_ledger.proofs.FoundLemmas.{known_shown}
+use Rattle.dsr_ledger.proofs.SummaryLemmas.{known_shown, is_some-map}
 use Rattle.dsr_ledger.proofs.ShownLemmas.{shown_with-append}
 use Rattle.dsr_ledger.proofs.JudgedLemmas.{rejects_more}
 
-is_some-map : {A B : Type 0} (f : A → B) (o : Option A) → is_some (option_map f o) ≡ is_some o
-is_some-map f None = refl
-is_some-map f (Some x) = refl
-
 -- the summaries that are kept are those of the file
-known_is : (f : FileBooks) (d : Filed) → FileStands f d → (id : List ℕ) → is_known f.founds id ≡ is_summary (summaries_of d.file.opening) id
+known_is : (f : FileBooks) (d : Filed) → FileStands f d → (id : List ℕ) → is_known f.summaries id ≡ is_summary (summaries_of d.file.opening) id
 known_is f d h id =
-    sym (known_shown f.founds id) ∙ ap is_some (h.founds id) ∙ is_some-map _ (find (λ s. bytes_eq id s.id) (summaries_of d.file.opening))
+    sym (known_shown f.summaries id) ∙ ap is_some (h.summaries id) ∙ is_some-map _ (find (λ s. bytes_eq id s.id) (summaries_of d.file.opening))
 
 -- so the verdict is that of the file
-verdict_is : (f : FileBooks) (d : Filed) (b : BlockParts) → FileStands f d → verdict_by f.standing (is_in f.ids b.id) (is_known f.founds) b ≡ verdict_of d b
+verdict_is : (f : FileBooks) (d : Filed) (b : BlockParts) → FileStands f d → verdict_by f.standing (is_in f.ids b.id) (is_known f.summaries) b ≡ verdict_of d b
 verdict_is f d b h = λ i. verdict_by (h.standing i) (h.ids b.id i) (λ id. known_is f d h id i) b
 
 place-found : (id : List ℕ) (us : List Usage) (o : Option Summary) → option_map (λ s. s.place) (option_map (λ s. shown_with id us (nothing_found s)) o) ≡ option_map place_of o
 place-found id us None = refl
 place-found id us (Some s) = refl
 
-places_are : (f : FileBooks) (d : Filed) → FileStands f d → place_at f.founds ≡ place_named (summaries_of d.file.opening)
-places_are f d h = λ i id. (ap (option_map (λ s. s.place)) (h.founds id) ∙ place-found id (usages_in d.file.blocks) (find (λ s. bytes_eq id s.id) (summaries_of d.file.opening))) i
+places_are : (f : FileBooks) (d : Filed) → FileStands f d → place_at f.summaries ≡ place_named (summaries_of d.file.opening)
+places_are f d h = λ i id. (ap (option_map (λ s. s.place)) (h.summaries id) ∙ place-found id (usages_in d.file.blocks) (find (λ s. bytes_eq id s.id) (summaries_of d.file.opening))) i
 
 -- a further usage is found
 found_more : (os : List Summary) (us vs : List Usage) (id : List ℕ) → option_map (shown_with id vs) (found_in os us id) ≡ found_in os (us ++ vs) id
@@ -70,9 +67,9 @@ same_bookings os b Booked = refl
 same_bookings os b (Rejected r) = refl
 
 -- a block was taken, and its identifier noted
-pub took : (d : Filed) (f g : FileBooks) (b : BlockParts) (v : Verdict) (seen : Bool) (old new : Lines) → FileStands f d → verdict_by f.standing seen (is_known f.founds) b ≡ v → seen ≡ is_in f.ids b.id → TakesBlock f g old new b v → ((id : List ℕ) → is_in g.ids id ≡ cond (bytes_eq b.id id) true (is_in f.ids id)) → Took d b v g old new
+pub took : (d : Filed) (f g : FileBooks) (b : BlockParts) (v : Verdict) (seen : Bool) (old new : Ledger) → FileStands f d → verdict_by f.standing seen (is_known f.summaries) b ≡ v → seen ≡ is_in f.ids b.id → TakesBlock f g old new b v → ((id : List ℕ) → is_in g.ids id ≡ cond (bytes_eq b.id id) true (is_in f.ids id)) → Took d b v g old new
 took d f g b v seen old new h judged_so same t ids =
-    let is = sym judged_so ∙ ap (λ s. verdict_by f.standing s (is_known f.founds) b) same ∙ verdict_is f d b h in
+    let is = sym judged_so ∙ ap (λ s. verdict_by f.standing s (is_known f.summaries) b) same ∙ verdict_is f d b h in
     let os = summaries_of d.file.opening in
     let position : f.blocks + 1 ≡ 1 + length d.file.blocks = let e = h.blocks in omega arith in
     record {
@@ -85,8 +82,8 @@ took d f g b v seen old new h judged_so same t ids =
         ids = λ id.
             ids id ∙ (λ i. cond (bytes_eq b.id id) true (h.ids id i)) ∙ or_last (bytes_eq b.id id) (list_any (has_id id) d.file.blocks)
             ∙ sym (list_any-append (has_id id) d.file.blocks (b ∷ []));
-        founds = λ id.
-            t.founds id ∙ ap (option_map (shown_with id b.usages)) (h.founds id) ∙ found_more os (usages_in d.file.blocks) b.usages id
+        summaries = λ id.
+            t.summaries id ∙ ap (option_map (shown_with id b.usages)) (h.summaries id) ∙ found_more os (usages_in d.file.blocks) b.usages id
             ∙ ap (λ us. found_in os us id) (sym (usages_in-push d.file.blocks b));
         rejects = t.rejects ∙ (λ i. h.rejects i ++ rejects_from (h.place i) (position i) ((b, is i) ∷ [])) ∙ sym (rejects_more d b);
         outcome = t.outcome ∙ h.outcome;
@@ -103,7 +100,7 @@ stands_same f g d h t = record {
   standing = t.standing ∙ h.standing;
   blocks = t.blocks ∙ h.blocks;
   ids = λ id. t.ids id ∙ h.ids id;
-  founds = λ id. t.founds id ∙ h.founds id;
+  summaries = λ id. t.summaries id ∙ h.summaries id;
   rejects = t.rejects ∙ h.rejects;
   outcome = t.outcome ∙ h.outcome;
 }

@@ -10,15 +10,15 @@ use Rattle.dsr_records.specs.Works.{WorkParts}
 use Rattle.dsr_ledger.specs.declared.key.Key.{Key}
 use Rattle.dsr_ledger.specs.Verdicts.{share_total}
 use Rattle.dsr_ledger.specs.Keys.{key_eq}
-use Rattle.dsr_ledger.specs.declared.place.Place.{Place}
+use Rattle.dsr_ledger.specs.declared.ledger.summary_key.SummaryKey.{SummaryKey}
 use Rattle.dsr_ledger.specs.Bookings.{Booking, key_under, booked_under, usage_bookings}
 use Rattle.dsr_ledger.specs.Parts.{Part, rounded, parts_of, all_parts, work_parts}
 use Rattle.dsr_ledger.specs.Ledger.{is_at_key, at_key}
-use Rattle.dsr_ledger.specs.Owed.{owed_for, owed_plus}
+use Rattle.dsr_ledger.specs.Owed.{owed_for, owed_plus, parts_size}
 use Rattle.dsr_ledger.specs.Ranges.{IsInRange}
 use Rattle.dsr_ledger.specs.Tallies.{Tally, tally_of, key_tally, tally_plus, tally_with, TallyFits}
 use Rattle.dsr_ledger.proofs.SumLemmas.{int_sum_by-append, abs-int_sum_by, abs-add, add-assoc, add-zero, zero-add}
-use Rattle.dsr_ledger.proofs.OwedLemmas.{or_true, or_false, or-assoc, any_of, owed_plus-assoc, owed_plus-none, owed_for-append, parts_size, size_of}
+use Rattle.dsr_ledger.proofs.OwedLemmas.{or_true, or_false, or-assoc, any_of, owed_plus-assoc, owed_plus-none, owed_for-append, size_of}
 use Rattle.dsr_ledger.proofs.EachLemmas.{each_append, each_filter, each_weaker}
 use Rattle.dsr_ledger.proofs.ShareLemmas.{parts_within}
 
@@ -49,13 +49,13 @@ tally_of-append xs ys = λ i. record {
 pub key_tally-append : (xs ys : List Booking) (q : Key) → key_tally (xs ++ ys) q ≡ tally_plus (key_tally xs q) (key_tally ys q)
 key_tally-append xs ys q = ap tally_of (filter-append (is_at_key q) xs ys) ∙ tally_of-append (at_key q xs) (at_key q ys)
 
-usage_bookings-push : (place : List ℕ → Option Place) (isrc : List ℕ) (works : List WorkParts) (us : List Usage) (u : Usage) → usage_bookings place isrc works (us ++ u ∷ []) ≡ usage_bookings place isrc works us ++ booked_under isrc works u (place u.summary_id)
+usage_bookings-push : (place : List ℕ → Option SummaryKey) (isrc : List ℕ) (works : List WorkParts) (us : List Usage) (u : Usage) → usage_bookings place isrc works (us ++ u ∷ []) ≡ usage_bookings place isrc works us ++ booked_under isrc works u (place u.summary_id)
 usage_bookings-push place isrc works us u =
     let f = λ (x : Usage). booked_under isrc works x (place x.summary_id) in
     flat_map-append f us (u ∷ []) ∙ ap (λ l. flat_map f us ++ l) (append-nil (f u))
 
 -- the tally after one more usage
-pub tally_more : (s t n : Tally) (place : List ℕ → Option Place) (isrc : List ℕ) (works : List WorkParts) (us : List Usage) (u : Usage) (q : Key) → t ≡ tally_plus s (key_tally (usage_bookings place isrc works us) q) → n ≡ tally_plus t (key_tally (booked_under isrc works u (place u.summary_id)) q) → n ≡ tally_plus s (key_tally (usage_bookings place isrc works (us ++ u ∷ [])) q)
+pub tally_more : (s t n : Tally) (place : List ℕ → Option SummaryKey) (isrc : List ℕ) (works : List WorkParts) (us : List Usage) (u : Usage) (q : Key) → t ≡ tally_plus s (key_tally (usage_bookings place isrc works us) q) → n ≡ tally_plus t (key_tally (booked_under isrc works u (place u.summary_id)) q) → n ≡ tally_plus s (key_tally (usage_bookings place isrc works (us ++ u ∷ [])) q)
 tally_more s t n place isrc works us u q was is =
     let old = key_tally (usage_bookings place isrc works us) q in
     let one = key_tally (booked_under isrc works u (place u.summary_id)) q in
@@ -63,7 +63,7 @@ tally_more s t n place isrc works us u q was is =
     ∙ ap (tally_plus s) (sym (ap (λ l. key_tally l q) (usage_bookings-push place isrc works us u) ∙ key_tally-append (usage_bookings place isrc works us) (booked_under isrc works u (place u.summary_id)) q))
 
 -- one usage adds to the tally of its key
-pub tally_with-key : (t : Tally) (isrc : List ℕ) (works : List WorkParts) (u : Usage) (p : Place) (q : Key) → cond (key_eq (key_under isrc p) q) (tally_with u (flat_map (work_parts u.amount) works) t) t ≡ tally_plus t (key_tally (booked_under isrc works u (Some p)) q)
+pub tally_with-key : (t : Tally) (isrc : List ℕ) (works : List WorkParts) (u : Usage) (p : SummaryKey) (q : Key) → cond (key_eq (key_under isrc p) q) (tally_with u (flat_map (work_parts u.amount) works) t) t ≡ tally_plus t (key_tally (booked_under isrc works u (Some p)) q)
 tally_with-key t isrc works u p q =
     let b : Booking = record { key = key_under isrc p; usage = u; works = works } in
     let parts = flat_map (work_parts u.amount) works in
@@ -82,11 +82,11 @@ pub record IsSmall (b : Booking) : Type 0 where
   pub range : IsInRange b.usage
   pub shares : share_total b.works ≤ 1000000
 
-length-booked : (isrc : List ℕ) (works : List WorkParts) (u : Usage) (o : Option Place) → length (booked_under isrc works u o) ≤ 1
+length-booked : (isrc : List ℕ) (works : List WorkParts) (u : Usage) (o : Option SummaryKey) → length (booked_under isrc works u o) ≤ 1
 length-booked isrc works u None = omega arith
 length-booked isrc works u (Some p) = omega arith
 
-pub length-usage_bookings : (place : List ℕ → Option Place) (isrc : List ℕ) (works : List WorkParts) (us : List Usage) → length (usage_bookings place isrc works us) ≤ length us
+pub length-usage_bookings : (place : List ℕ → Option SummaryKey) (isrc : List ℕ) (works : List WorkParts) (us : List Usage) → length (usage_bookings place isrc works us) ≤ length us
 length-usage_bookings place isrc works [] = omega arith
 length-usage_bookings place isrc works (u ∷ us) =
     let f = λ (x : Usage). booked_under isrc works x (place x.summary_id) in
@@ -95,11 +95,11 @@ length-usage_bookings place isrc works (u ∷ us) =
     let cut = ap length (flat_map-cons f u us) ∙ length-append (f u) (flat_map f us) in
     omega arith
 
-small_booked : (isrc : List ℕ) (works : List WorkParts) (u : Usage) (o : Option Place) → share_total works ≤ 1000000 → IsInRange u → AllByRecursion IsSmall (booked_under isrc works u o)
+small_booked : (isrc : List ℕ) (works : List WorkParts) (u : Usage) (o : Option SummaryKey) → share_total works ≤ 1000000 → IsInRange u → AllByRecursion IsSmall (booked_under isrc works u o)
 small_booked isrc works u None h k = tt
 small_booked isrc works u (Some p) h k = (record { range = k; shares = h }, tt)
 
-pub small_usage_bookings : (place : List ℕ → Option Place) (isrc : List ℕ) (works : List WorkParts) (us : List Usage) → share_total works ≤ 1000000 → AllByRecursion IsInRange us → AllByRecursion IsSmall (usage_bookings place isrc works us)
+pub small_usage_bookings : (place : List ℕ → Option SummaryKey) (isrc : List ℕ) (works : List WorkParts) (us : List Usage) → share_total works ≤ 1000000 → AllByRecursion IsInRange us → AllByRecursion IsSmall (usage_bookings place isrc works us)
 small_usage_bookings place isrc works [] h k = tt
 small_usage_bookings place isrc works (u ∷ us) h k =
     let f = λ (x : Usage). booked_under isrc works x (place x.summary_id) in

@@ -16,7 +16,7 @@ use Rattle.dsr_ledger.specs.declared.verdict.Verdict.{Verdict}
 use Rattle.dsr_ledger.specs.declared.verdict.Verdict.TheVariants.{Booked, Rejected}
 use Rattle.dsr_ledger.specs.Files.{File, Filed, filed, summaries_of}
 use Rattle.dsr_ledger.specs.Verdicts.{is_foreign, is_doubled, names_unknown, first_reason, verdict_by, judged, judged_in, share_total}
-use Rattle.dsr_ledger.specs.declared.place.Place.{Place}
+use Rattle.dsr_ledger.specs.declared.ledger.summary_key.SummaryKey.{SummaryKey}
 use Rattle.dsr_ledger.specs.Bookings.{Booking, booked_under, block_bookings, place_named, verdict_bookings, filed_bookings, bookings}
 
 abbrev pub IsWhole : Booking → Type 0
@@ -57,7 +57,7 @@ pub all_of : {X : Type 0} (P : X → Type 0) → ((x : X) → P x) → (xs : Lis
 all_of P each [] = tt
 all_of P each (x ∷ xs) = (each x, all_of P each xs)
 
-under_whole : (isrc : List ℕ) (works : List WorkParts) (u : Usage) (place : Option Place) → share_total works ≤ 1000000 → AllByRecursion IsWhole (booked_under isrc works u place)
+under_whole : (isrc : List ℕ) (works : List WorkParts) (u : Usage) (place : Option SummaryKey) → share_total works ≤ 1000000 → AllByRecursion IsWhole (booked_under isrc works u place)
 under_whole isrc works u None h = tt
 under_whole isrc works u (Some place) h = (h, tt)
 

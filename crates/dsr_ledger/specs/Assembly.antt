@@ -5,14 +5,14 @@ use Rattle.std.specs.BTreeSet.{BTreeSet, contains}
 use Rattle.std.specs.Ordering.{nat_cmp}
 use Rattle.dsr_records.specs.declared.record.Summary.{Summary}
 use Rattle.dsr_ledger.specs.declared.sums.Sums.{Sums}
-use Rattle.dsr_ledger.specs.declared.founds.Founds.{Founds}
+use Rattle.dsr_ledger.specs.declared.file.summaries.Summaries.{Summaries}
 use Rattle.dsr_ledger.specs.declared.file.FileBooks.{FileBooks}
 use Rattle.dsr_ledger.specs.declared.report.ReportKey.{ReportKey}
 use Rattle.dsr_ledger.specs.declared.report.FileLine.{FileLine}
 use Rattle.dsr_ledger.specs.declared.report.Difference.{Difference}
 use Rattle.dsr_ledger.specs.Files.{summaries_of}
 use Rattle.dsr_ledger.specs.Findings.{is_ours, ended_whole, differs, has_number}
-use Rattle.dsr_ledger.specs.Found.{shown_at, Shown}
+use Rattle.dsr_ledger.specs.Summaries.{shown_at, Shown}
 use Rattle.dsr_ledger.specs.Reports.{outcome_of}
 
 -- the line of a file
@@ -50,10 +50,10 @@ difference_to place found s = record {
 }
 
 -- the summaries that state something else than is kept of them
-abbrev pub differences_to : ℕ → Founds → List Summary → List Difference
-differences_to place founds ss = filter differs (map (λ s. difference_to place (sums_shown (shown_at founds s.id)) s) ss)
+abbrev pub differences_to : ℕ → Summaries → List Summary → List Difference
+differences_to place summaries ss = filter differs (map (λ s. difference_to place (sums_shown (shown_at summaries s.id)) s) ss)
 
 -- the differences of a file: none but in a file of ours that ended whole
 abbrev pub differences_kept : FileBooks → List Difference
 differences_kept f =
-    if is_ours f.standing && ended_whole f.outcome then differences_to f.place f.founds (summaries_of f.opening) else []
+    if is_ours f.standing && ended_whole f.outcome then differences_to f.place f.summaries (summaries_of f.opening) else []

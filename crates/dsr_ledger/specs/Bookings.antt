@@ -7,17 +7,17 @@ use Rattle.dsr_records.specs.declared.record.Usage.{Usage}
 use Rattle.dsr_records.specs.Works.{WorkParts}
 use Rattle.dsr_records.specs.Blocks.{BlockParts}
 use Rattle.dsr_ledger.specs.declared.key.Key.{Key}
-use Rattle.dsr_ledger.specs.declared.place.Place.{Place}
+use Rattle.dsr_ledger.specs.declared.ledger.summary_key.SummaryKey.{SummaryKey}
 use Rattle.dsr_ledger.specs.declared.verdict.Verdict.{Verdict}
 use Rattle.dsr_ledger.specs.declared.verdict.Verdict.TheVariants.{Booked, Rejected}
 use Rattle.dsr_ledger.specs.Files.{File, Filed, filed, summaries_of}
 use Rattle.dsr_ledger.specs.Verdicts.{judged_in}
 
 -- the three parts of a key that a summary gives
-abbrev pub place_of : Summary → Place
+abbrev pub place_of : Summary → SummaryKey
 place_of s = record { territory = s.territory; use_type = s.use_type; currency = s.currency }
 
-abbrev pub key_under : List ℕ → Place → Key
+abbrev pub key_under : List ℕ → SummaryKey → Key
 key_under isrc p = record { isrc = isrc; territory = p.territory; use_type = p.use_type; currency = p.currency }
 
 -- one booked usage: the key that it counts under, and the works of its block
@@ -27,16 +27,16 @@ pub record Booking : Type 0 where
   pub works : List WorkParts
 
 -- the place of the summary of this name
-abbrev pub place_named : List Summary → List ℕ → Option Place
+abbrev pub place_named : List Summary → List ℕ → Option SummaryKey
 place_named summaries id = option_map place_of (find (λ s. bytes_eq id s.id) summaries)
 
 -- a usage under the place of its summary
-abbrev pub booked_under : List ℕ → List WorkParts → Usage → Option Place → List Booking
+abbrev pub booked_under : List ℕ → List WorkParts → Usage → Option SummaryKey → List Booking
 booked_under isrc works u None = []
 booked_under isrc works u (Some p) = record { key = key_under isrc p; usage = u; works = works } ∷ []
 
 -- the bookings of usages whose summaries have these places
-abbrev pub usage_bookings : (List ℕ → Option Place) → List ℕ → List WorkParts → List Usage → List Booking
+abbrev pub usage_bookings : (List ℕ → Option SummaryKey) → List ℕ → List WorkParts → List Usage → List Booking
 usage_bookings place isrc works us = flat_map (λ u. booked_under isrc works u (place u.summary_id)) us
 
 -- the bookings of a block that is booked

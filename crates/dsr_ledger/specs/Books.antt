@@ -6,12 +6,12 @@ use Rattle.dsr_ledger.specs.declared.kept.Kept.{Kept}
 use Rattle.dsr_ledger.specs.Files.{File}
 use Rattle.dsr_ledger.specs.Bookings.{bookings}
 use Rattle.dsr_ledger.specs.FileSteps.{IsBlockInRange}
-use Rattle.dsr_ledger.specs.Stands.{FilesStand, LinesStand}
+use Rattle.dsr_ledger.specs.Stands.{FilesStand, LedgerStands}
 
 -- what is kept stands for these files
 pub record Stands (kept : Kept) (files : List File) : Type 0 where
   pub each : FilesStand 1 [] kept.files.items files
-  pub lines : LinesStand kept.lines (bookings files)
+  pub ledger : LedgerStands kept.ledger (bookings files)
 
 -- a file has no more blocks than are allowed, and their numbers are small
 pub record IsSmallFile (file : File) : Type 0 where

@@ -6,13 +6,14 @@ use Rattle.dsr_ledger.specs.declared.file.FileBooks.{FileBooks}
 use Rattle.dsr_ledger.specs.declared.verdict.Verdict.{Verdict}
 use Rattle.dsr_ledger.specs.declared.verdict.Verdict.TheVariants.{Booked, Rejected}
 use Rattle.dsr_ledger.specs.IdSteps.{is_in}
-use Rattle.dsr_ledger.specs.declared.place.Place.{Place}
+use Rattle.dsr_ledger.specs.declared.ledger.summary_key.SummaryKey.{SummaryKey}
 use Rattle.dsr_ledger.specs.Bookings.{Booking, usage_bookings}
 use Rattle.dsr_ledger.specs.Findings.{rejects_from}
 use Rattle.dsr_ledger.specs.Ranges.{IsInRange}
-use Rattle.dsr_ledger.specs.Found.{shown_at, shown_with, place_at}
-use Rattle.dsr_ledger.specs.Tallies.{tally_at, tally_plus, key_tally}
-use Rattle.dsr_ledger.specs.declared.lines.Lines.{Lines}
+use Rattle.dsr_ledger.specs.Summaries.{shown_at, shown_with, place_at}
+use Rattle.dsr_ledger.specs.Tallies.{tally_plus, key_tally}
+use Rattle.dsr_ledger.specs.Recordings.{tally_at}
+use Rattle.dsr_ledger.specs.declared.ledger.recordings.Ledger.{Ledger}
 use Rattle.dsr_ledger.specs.declared.key.Key.{Key}
 
 -- nothing that counts has changed
@@ -22,7 +23,7 @@ pub record IsSameFile (f g : FileBooks) : Type 0 where
   pub standing : g.standing ≡ f.standing
   pub blocks : g.blocks ≡ f.blocks
   pub ids : (id : List ℕ) → is_in g.ids id ≡ is_in f.ids id
-  pub founds : (id : List ℕ) → shown_at g.founds id ≡ shown_at f.founds id
+  pub summaries : (id : List ℕ) → shown_at g.summaries id ≡ shown_at f.summaries id
   pub rejects : g.rejects.items ≡ f.rejects.items
   pub outcome : g.outcome ≡ f.outcome
 
@@ -32,18 +33,18 @@ pub record IsBlockInRange (b : BlockParts) : Type 0 where
   pub range : AllByRecursion IsInRange b.usages
 
 -- what a block with this verdict adds
-abbrev pub bookings_by : (List ℕ → Option Place) → BlockParts → Verdict → List Booking
+abbrev pub bookings_by : (List ℕ → Option SummaryKey) → BlockParts → Verdict → List Booking
 bookings_by place b Booked = usage_bookings place b.resource.isrc b.works b.usages
 bookings_by place b (Rejected reason) = []
 
 -- one more block with this verdict, but for the identifiers
-pub record TakesBlock (f g : FileBooks) (old new : Lines) (b : BlockParts) (v : Verdict) : Type 0 where
+pub record TakesBlock (f g : FileBooks) (old new : Ledger) (b : BlockParts) (v : Verdict) : Type 0 where
   pub place : g.place ≡ f.place
   pub opening : g.opening ≡ f.opening
   pub standing : g.standing ≡ f.standing
   pub blocks : g.blocks ≡ f.blocks + 1
-  pub founds : (id : List ℕ) → shown_at g.founds id ≡ option_map (shown_with id b.usages) (shown_at f.founds id)
+  pub summaries : (id : List ℕ) → shown_at g.summaries id ≡ option_map (shown_with id b.usages) (shown_at f.summaries id)
   pub rejects : g.rejects.items ≡ f.rejects.items ++ rejects_from f.place (f.blocks + 1) ((b, v) ∷ [])
   pub outcome : g.outcome ≡ f.outcome
-  pub tallies : (q : Key) → tally_at new q ≡ tally_plus (tally_at old q) (key_tally (bookings_by (place_at f.founds) b v) q)
+  pub tallies : (q : Key) → tally_at new q ≡ tally_plus (tally_at old q) (key_tally (bookings_by (place_at f.summaries) b v) q)
   pub range : IsBlockInRange b

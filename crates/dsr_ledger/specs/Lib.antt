@@ -11,15 +11,16 @@ pub mod Reports
 pub mod Laws
 -- Words that relate what is kept to them.
 pub mod Numbered
-pub mod LineKeys
-pub mod Places
-pub mod Ranks
+pub mod SummaryKeys
 pub mod Ranges
-pub mod Names
 pub mod Owed
 pub mod Tallies
-pub mod Found
-pub mod Drafts
+pub mod Seats
+pub mod Seated
+pub mod Recordings
+pub mod Summaries
+pub mod Lined
+pub mod Plans
 pub mod Ids
 pub mod IdSteps
 pub mod FileSteps
@@ -28,4 +29,5 @@ pub mod Openings
 pub mod Books
 pub mod BooksWords
 pub mod Order
+pub mod Listed
 pub mod Assembly

@@ -1,12 +1,12 @@
 -- Bookings whose sums fit.
-use Rattle.std.specs.Prelude.{◌≡◌, ◌≤◌, ◌<◌, ◌^◌, List, length, unsigned_abs}
+use Rattle.std.specs.Prelude.{◌≡◌, ℕ, Option, ◌≤◌, ◌<◌, ◌^◌, List, length, unsigned_abs}
 use Rattle.std.specs.List.{AllByRecursion}
-use Rattle.dsr_ledger.specs.declared.line.Line.{Line}
-use Rattle.dsr_ledger.specs.declared.lines.Lines.{Lines}
+use Rattle.dsr_ledger.specs.declared.ledger.line.Line.{Line}
+use Rattle.dsr_ledger.specs.declared.ledger.recordings.Ledger.{Ledger}
 use Rattle.dsr_ledger.specs.Bookings.{Booking}
 use Rattle.dsr_ledger.specs.Verdicts.{share_total}
 use Rattle.dsr_ledger.specs.Tallies.{line_tally, tally_of}
-use Rattle.dsr_ledger.specs.Stands.{LinesStand}
+use Rattle.dsr_ledger.specs.Stands.{LedgerStands}
 
 -- the amount of a booking is small, and the shares of its works are together no more than a whole
 pub record IsSmall (b : Booking) : Type 0 where
@@ -19,13 +19,13 @@ pub record AreSmall (bs : List Booking) : Type 0 where
   pub each : AllByRecursion IsSmall bs
 
 -- what is kept of a line is what some small bookings make
-pub record IsOfSmall (line : Line) : Type 0 where
+pub record IsOfSmall (seat : List ℕ → Option ℕ) (line : Line) : Type 0 where
   pub bookings : List Booking
-  pub tally : line_tally line ≡ tally_of bookings
+  pub tally : line_tally seat line ≡ tally_of bookings
   pub small : AreSmall bookings
 
 -- what is kept of each key is what some small bookings make
-pub record AreOfSmall (lines : Lines) : Type 0 where
+pub record AreOfSmall (ledger : Ledger) : Type 0 where
   pub bookings : List Booking
-  pub stand : LinesStand lines bookings
+  pub stand : LedgerStands ledger bookings
   pub small : AreSmall bookings

@@ -4,7 +4,7 @@ use Rattle.std.specs.List.{list_any}
 use Rattle.dsr_records.specs.Blocks.{BlockParts}
 use Rattle.dsr_file.specs.Openings.{OpeningParts}
 use Rattle.dsr_ledger.specs.declared.key.Key.{Key}
-use Rattle.dsr_ledger.specs.declared.lines.Lines.{Lines}
+use Rattle.dsr_ledger.specs.declared.ledger.recordings.Ledger.{Ledger}
 use Rattle.dsr_ledger.specs.declared.file.FileBooks.{FileBooks}
 use Rattle.dsr_ledger.specs.declared.verdict.Verdict.{Verdict}
 use Rattle.dsr_ledger.specs.Files.{File, Filed, standing, summaries_of, with_one}
@@ -12,8 +12,9 @@ use Rattle.dsr_ledger.specs.Verdicts.{has_id, verdict_of}
 use Rattle.dsr_ledger.specs.Bookings.{Booking, verdict_bookings}
 use Rattle.dsr_ledger.specs.Findings.{usages_in, rejects_in}
 use Rattle.dsr_ledger.specs.IdSteps.{is_in}
-use Rattle.dsr_ledger.specs.Found.{shown_at, found_in}
-use Rattle.dsr_ledger.specs.Tallies.{tally_at, tally_plus, key_tally}
+use Rattle.dsr_ledger.specs.Summaries.{shown_at, found_in}
+use Rattle.dsr_ledger.specs.Tallies.{tally_plus, key_tally}
+use Rattle.dsr_ledger.specs.Recordings.{tally_at}
 use Rattle.dsr_ledger.specs.FileSteps.{IsBlockInRange}
 
 -- what is kept of a file stands for it
@@ -23,7 +24,7 @@ pub record FileStands (f : FileBooks) (d : Filed) : Type 0 where
   pub standing : f.standing ≡ d.standing
   pub blocks : f.blocks ≡ length d.file.blocks
   pub ids : (id : List ℕ) → is_in f.ids id ≡ list_any (has_id id) d.file.blocks
-  pub founds : (id : List ℕ) → shown_at f.founds id ≡ found_in (summaries_of d.file.opening) (usages_in d.file.blocks) id
+  pub summaries : (id : List ℕ) → shown_at f.summaries id ≡ found_in (summaries_of d.file.opening) (usages_in d.file.blocks) id
   pub rejects : f.rejects.items ≡ rejects_in d
   pub outcome : f.outcome ≡ d.file.outcome
 
@@ -36,11 +37,11 @@ FilesStand place earlier (f ∷ fs) (file ∷ files) =
     FileStands f (record { place = place; standing = standing earlier file.opening; file = file }) × FilesStand (suc place) (earlier ++ file.opening ∷ []) fs files
 
 -- what is kept of each key is what the bookings make
-abbrev pub LinesStand : Lines → List Booking → Type 0
-LinesStand lines bs = (key : Key) → tally_at lines key ≡ key_tally bs key
+abbrev pub LedgerStands : Ledger → List Booking → Type 0
+LedgerStands ledger bs = (key : Key) → tally_at ledger key ≡ key_tally bs key
 
--- a block was taken with this verdict: its file stands for one more block, and the lines have its bookings
-pub record Took (d : Filed) (b : BlockParts) (v : Verdict) (g : FileBooks) (old new : Lines) : Type 0 where
+-- a block was taken with this verdict: its file stands for one more block, and the ledger has its bookings
+pub record Took (d : Filed) (b : BlockParts) (v : Verdict) (g : FileBooks) (old new : Ledger) : Type 0 where
   pub is_verdict : v ≡ verdict_of d b
   pub stands : FileStands g (with_one d b)
   pub tallies : (key : Key) → tally_at new key ≡ tally_plus (tally_at old key) (key_tally (verdict_bookings (summaries_of d.file.opening) (b, v)) key)

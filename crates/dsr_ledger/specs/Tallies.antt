@@ -1,22 +1,17 @@
--- What is kept of a ledger line, and what bookings make of it.
-use Rattle.std.specs.Prelude.{ℕ, ◌+◌, ◌*◌, ◌^◌, ◌<◌, ℤ, ◌+ℤ◌, Bool, true, ◌||◌, nat_lt, List, [], length, Option, slice_get, unsigned_abs}
+-- What is kept of a key, and what bookings make of it.
+use Rattle.std.specs.Prelude.{◌≡◌, ℕ, ◌+◌, ◌*◌, ◌^◌, ◌<◌, ◌≤◌, ℤ, ◌+ℤ◌, Bool, true, ◌||◌, nat_lt, List, [], length, map, Option, Some, slice_get, unsigned_abs}
 use Rattle.std.specs.Option.{option_and_then}
-use Rattle.std.specs.BTreeMap.{get}
 use Rattle.dsr_records.specs.declared.record.Usage.{Usage}
 use Rattle.dsr_ledger.specs.declared.key.Key.{Key}
 use Rattle.dsr_ledger.specs.declared.owed.Owed.{Owed}
-use Rattle.dsr_ledger.specs.declared.line.Line.{Line}
-use Rattle.dsr_ledger.specs.declared.lines.Lines.{Lines}
-use Rattle.dsr_ledger.specs.LineKeys.{line_key_cmp}
-use Rattle.dsr_ledger.specs.Places.{number_among}
-use Rattle.dsr_ledger.specs.declared.line_key.LineKey.{LineKey}
+use Rattle.dsr_ledger.specs.declared.ledger.line.Line.{Line}
 use Rattle.dsr_ledger.specs.Bookings.{Booking}
 use Rattle.dsr_ledger.specs.Parts.{Part, all_parts}
 use Rattle.dsr_ledger.specs.Ledger.{at_key, usages_sum, amount_sum}
-use Rattle.dsr_ledger.specs.Numbered.{Grows, read_at}
-use Rattle.dsr_ledger.specs.Owed.{owed_at, owed_for, owed_plus, seat_of}
+use Rattle.dsr_ledger.specs.Numbered.{Grows, read_at, place_in}
+use Rattle.dsr_ledger.specs.Owed.{owed_in, owed_for, owed_plus}
 
--- the sums of a line, and what each party is owed
+-- whether a booking counts, the sums, and what each party is owed
 pub record Tally : Type 0 where
   pub is_booked : Bool
   pub usages : ℤ
@@ -55,32 +50,45 @@ tally_with u parts t = record {
   owed = λ q. owed_plus (t.owed q) (owed_for q parts);
 }
 
-abbrev pub line_tally : Line → Tally
-line_tally l = record { is_booked = l.is_booked; usages = l.sums.usages; amount = l.sums.amount; owed = owed_at l.parties }
-
--- the number of the line that is kept by this key
-abbrev pub line_number : Lines → LineKey → Option ℕ
-line_number lines key = get line_key_cmp lines.numbers key
-
--- the number of a key's line
-abbrev pub number_of : Lines → Key → Option ℕ
-number_of lines key = number_among lines.places lines.numbers key
-
--- what is kept of a key
-abbrev pub tally_at : Lines → Key → Tally
-tally_at lines key = read_at line_tally no_tally lines.lines.items (number_of lines key)
-
--- the number of a party in line i
-abbrev pub seat_in : Lines → ℕ → List ℕ → Option ℕ
-seat_in lines i party = option_and_then (λ l. seat_of l.parties party) (slice_get lines.lines.items i)
-
--- what was numbered keeps its number
-pub record LinesGrow (old new : Lines) : Type 0 where
-  pub numbers : Grows (number_of old) (number_of new)
-  pub seats : (i : ℕ) → Grows (seat_in old i) (seat_in new i)
-
 -- n more usages can be added
 pub record TallyFits (n : ℕ) (t : Tally) : Type 0 where
   pub usages : unsigned_abs t.usages + n * 2 ^ 63 < 2 ^ 127
   pub amount : unsigned_abs t.amount + n * 10 ^ 22 < 2 ^ 127
   pub owed : (q : List ℕ) → unsigned_abs (t.owed q).amount + n * 10 ^ 22 < 2 ^ 127
+
+-- what is kept in a line, where parties have these seats
+abbrev pub line_tally : (List ℕ → Option ℕ) → Line → Tally
+line_tally seat l = record {
+  is_booked = l.is_booked;
+  usages = l.sums.usages;
+  amount = l.sums.amount;
+  owed = λ q. owed_in l.parts.items (seat q);
+}
+
+-- the numbers of the lines' summary keys
+abbrev pub line_keys : List Line → List ℕ
+line_keys ls = map (λ l. l.key) ls
+
+-- the place of the line of a summary key with this number
+abbrev pub line_in : List Line → ℕ → Option ℕ
+line_in ls key = place_in (line_keys ls) key
+
+-- what these lines keep of a summary key that has this number, or none
+abbrev pub lines_tally : (List ℕ → Option ℕ) → List Line → Option ℕ → Tally
+lines_tally seat ls number = read_at (line_tally seat) no_tally ls (option_and_then (line_in ls) number)
+
+-- no line has more parts than there are seats
+abbrev pub AreWithin : ℕ → List Line → Type 0
+AreWithin seats ls = (i : ℕ) (l : Line) → slice_get ls i ≡ Some l → length l.parts.items ≤ seats
+
+-- there is a line at this place, and it has a part for each seat
+pub record IsWide (seats : ℕ) (ls : List Line) (i : ℕ) : Type 0 where
+  pub line : Line
+  pub there : slice_get ls i ≡ Some line
+  pub wide : length line.parts.items ≡ seats
+
+-- lines of which the same is kept: there are more, or some are wider
+pub record LinesGrow (seats : ℕ) (old new : List Line) : Type 0 where
+  pub tallies : (seat : List ℕ → Option ℕ) (number : Option ℕ) → lines_tally seat new number ≡ lines_tally seat old number
+  pub numbers : Grows (line_in old) (line_in new)
+  pub wide : (i : ℕ) → IsWide seats old i → IsWide seats new i

@@ -4,11 +4,15 @@ ghost use Rattle.dsr_ledger.specs.Files.{File};
 ghost use Rattle.dsr_ledger.specs.Reports.{report_of};
 ghost use Rattle.dsr_ledger.specs.Books.{IsReached, Stands};
 
+pub mod ledger;
+mod lines;
+mod listed;
+
+use crate::assemble::ledger::ledger_lines;
 use crate::differences::differences_of;
 use crate::file_lines::file_lines;
 use crate::kept::Kept;
 use crate::missing::{missing_numbers, own_numbers};
-use crate::order::ledger_lines;
 use crate::rejects::key_and_rejects;
 use crate::report::Report;
 use dsr_cells::NoMemory;
@@ -20,14 +24,14 @@ pub fn assemble(alloc: Global, kept: Kept) -> Result<Report, NoMemory>
     requires few { length kept.files.items ≤ 64 }
     ensures { (files : List File) → Stands kept files → IfOk result (λ r. r ≡ report_of files) }
 {
-    let Kept { files, lines } = kept;
+    let Kept { files, ledger } = kept;
     let in_order = files.as_slice();
     let file_lines = file_lines(alloc, in_order)?;
     let numbers = own_numbers(alloc, in_order)?;
     let differences = differences_of(alloc, in_order)?;
     let (key, rejects) = key_and_rejects(alloc, files)?;
     let missing = missing_numbers(alloc, &key, &numbers)?;
-    let ledger = ledger_lines(alloc, lines)?;
+    let ledger = ledger_lines(alloc, ledger)?;
     Ok(Report {
         key,
         files: file_lines,

@@ -3,15 +3,15 @@ ghost use Rattle.std.specs.Prelude.{◌≤◌, length};
 ghost use Rattle.dsr_ledger.specs.Books.{IsReached};
 
 use crate::assemble::assemble;
-use crate::draft::Draft;
+use crate::booking::plan::Plan;
 use crate::kept::Kept;
-use crate::lines::Lines;
+use crate::ledger::recordings::Ledger;
 use crate::open::open_after;
 use crate::report::Report;
 use crate::seeded::Seeded;
 use crate::verdict::{Standing, Verdict};
 use dsr_cells::NoMemory;
-use dsr_file::{Event, Opening, Outcome};
+use dsr_file::{Opening, Outcome};
 use dsr_records::Block;
 use std::alloc::Global;
 
@@ -23,7 +23,7 @@ pub struct Books {
     alloc: Global,
     seeded: Seeded,
     kept: Kept,
-    draft: Draft,
+    plan: Plan,
     ghost most: { files ≤ 64 },
     ghost room: { length kept.files.items ≤ files },
     ghost reached: { ∥ IsReached kept ∥₁ },
@@ -54,16 +54,17 @@ impl Books {
         ensures stands { IfOk result (λ books. Stands books []) }
         ensures count { IfOk result (λ books. files_count books ≡ files) }
     {
+        let seeded = Seeded::with_seed(seed);
         let kept = Kept {
             files: Vec::with_capacity(alloc, files as usize)?,
-            lines: Lines::new(alloc),
+            ledger: Ledger::new(alloc, seeded),
         };
         Ok(Books {
             files,
             alloc,
-            seeded: Seeded::with_seed(seed),
+            seeded,
             kept,
-            draft: Draft::new(alloc),
+            plan: Plan::new(alloc),
         })
     }
 
@@ -123,22 +124,10 @@ impl Books {
             (λ s. (s ≡ standing (map (λ f. f.opening) files) opening) × Stands self.new (files ++ opened opening ∷ []))
             (λ _. Stands self.new files) }
     {
-        let file = open_after(self.kept.files.as_slice(), self.alloc, opening)?;
+        let file = open_after(self.kept.files.as_slice(), self.alloc, self.seeded, opening)?;
         let standing = file.standing;
         self.kept.files.push(file)?;
         Ok(standing)
-    }
-
-    /// Looks at what coming events of file k will want, so that it is near when they are booked. It changes nothing, and
-    /// any events and any k will do.
-    pub fn look_ahead(&mut self, k: u32, events: &[Event])
-        ensures count { files_count self.new ≡ files_count self.old }
-        ensures stands { (files : List File) → Stands self.old files → Stands self.new files }
-    {
-        if let Some(file) = self.kept.files.get(k as usize) {
-            let ahead = &mut self.draft.ahead;
-            ahead.look(&self.kept.lines, &file.founds, events);
-        }
     }
 
     /// Takes a block of file k, and answers its verdict. After want of memory nothing has changed.
@@ -150,7 +139,7 @@ impl Books {
             (λ _. Stands self.new files) }
     {
         let file = &mut self.kept.files[k as usize];
-        file.book(&mut self.kept.lines, &mut self.draft, self.alloc, block)
+        file.book(&mut self.kept.ledger, &mut self.plan, self.alloc, block)
     }
 
     /// Ends file k. This wants no memory.

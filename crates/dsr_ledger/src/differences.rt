@@ -3,11 +3,11 @@ ghost use Rattle.std.specs.Prelude.{◌≡◌, ◌++◌, ◌∷◌, [], ◌&&◌
 ghost use Rattle.std.specs.List.{flat_map};
 ghost use Rattle.std.specs.Ordering.{int_eq};
 ghost use Rattle.dsr_ledger.specs.Findings.{differs};
-ghost use Rattle.dsr_ledger.specs.Found.{shown_at};
+ghost use Rattle.dsr_ledger.specs.Summaries.{shown_at};
 ghost use Rattle.dsr_ledger.specs.Assembly.{sums_shown, difference_to, differences_to, differences_kept};
 
 use crate::file::FileBooks;
-use crate::founds::Founds;
+use crate::file::summaries::Summaries;
 use crate::report::{Difference, Differences};
 use crate::sums::Sums;
 use crate::verdict::Standing;
@@ -17,10 +17,10 @@ use dsr_records::Summary;
 use std::alloc::Global;
 
 /// What is found for a summary.
-fn found_for(founds: &Founds, summary: &Summary) -> Sums
-    ensures { result ≡ sums_shown (shown_at founds.now summary.now.id) }
+fn found_for(summaries: &Summaries, summary: &Summary) -> Sums
+    ensures { result ≡ sums_shown (shown_at summaries.now summary.now.id) }
 {
-    match founds.sums(&summary.id) {
+    match summaries.sums(&summary.id) {
         Some(sums) => sums,
         None => Sums {
             usages: 0,
@@ -65,18 +65,18 @@ fn add_differences(
     differences: &mut Differences,
     alloc: Global,
     place: u32,
-    summaries: &[Summary],
-    founds: &Founds,
+    stated: &[Summary],
+    summaries: &Summaries,
 ) -> Result<(), NoMemory>
-    ensures { OnOk result (differences.new ≡ differences.old ++ differences_to place founds.now summaries.now) }
+    ensures { OnOk result (differences.new ≡ differences.old ++ differences_to place summaries.now stated.now) }
 {
-    for summary in summaries {
+    for summary in stated {
         add_difference(
             differences,
             alloc,
             place,
             summary,
-            found_for(founds, summary),
+            found_for(summaries, summary),
         )?;
     }
     Ok(())
@@ -88,8 +88,8 @@ fn add_file(differences: &mut Differences, alloc: Global, file: &FileBooks) -> R
 {
     match (file.standing, file.outcome, &file.opening) {
         (Standing::Ours, Some(Outcome::Whole), Some(opening)) => {
-            let summaries = opening.summaries.as_slice();
-            add_differences(differences, alloc, file.place, summaries, &file.founds)
+            let stated = opening.summaries.as_slice();
+            add_differences(differences, alloc, file.place, stated, &file.summaries)
         }
         _ => Ok(()),
     }

@@ -3,19 +3,21 @@ ghost use Rattle.std.specs.Prelude.{◌≡◌, ◌+◌, ◌<◌, ◌^◌, ◌≤
 ghost use Rattle.std.specs.Option.{ForSome};
 ghost use Rattle.dsr_ledger.specs.Verdicts.{share_total, verdict_by};
 ghost use Rattle.dsr_ledger.specs.Files.{Filed};
-ghost use Rattle.dsr_ledger.specs.Found.{shown_at, index_at, is_known, ShownFits};
-ghost use Rattle.dsr_ledger.specs.Tallies.{tally_at, TallyFits};
+ghost use Rattle.dsr_ledger.specs.Summaries.{shown_at, index_at, is_known, ShownFits};
+ghost use Rattle.dsr_ledger.specs.Tallies.{TallyFits};
+ghost use Rattle.dsr_ledger.specs.Recordings.{tally_at};
 ghost use Rattle.dsr_ledger.specs.FileSteps.{IsSameFile, TakesBlock};
 ghost use Rattle.dsr_ledger.specs.Stands.{FileStands, Took};
 
-use crate::adding::add_usages;
+pub mod summaries;
+
+use crate::booking::apply::add_usages;
+use crate::booking::plan::Plan;
 use crate::counting::count_usages;
-use crate::draft::Draft;
-use crate::founds::Founds;
+use crate::file::summaries::Summaries;
 use crate::ids::Ids;
 use crate::judge::judge;
-use crate::lines::Lines;
-use crate::noting::note_usages;
+use crate::ledger::recordings::Ledger;
 use crate::report::Reject;
 use crate::verdict::{Reason, Standing, Verdict};
 use dsr_cells::{Isrc, NoMemory};
@@ -34,7 +36,7 @@ pub struct FileBooks {
     pub blocks: u64,
     /// The identifiers of all blocks, whatever their verdicts.
     pub ids: Ids,
-    pub founds: Founds,
+    pub summaries: Summaries,
     pub rejects: Vec<Reject>,
     pub outcome: Option<Outcome>,
 }
@@ -43,8 +45,8 @@ impl FileBooks {
     /// Takes a block that is booked. All growths come first.
     fn accept(
         &mut self,
-        lines: &mut Lines,
-        draft: &mut Draft,
+        ledger: &mut Ledger,
+        plan: &mut Plan,
         alloc: Global,
         block: &Block,
         isrc: Isrc,
@@ -52,36 +54,17 @@ impl FileBooks {
         requires blocks { self.old.blocks + 1 < 2 ^ 64 }
         requires recording { isrc ≡ block.now.resource.isrc }
         requires shares { share_total block.now.works ≤ 1000000 }
-        requires found { map (λ u. index_at self.old.founds u.summary_id) block.now.usages ≡ map Some draft.old.summaries.items }
-        requires lines_fit { (q : _) → TallyFits 63 (tally_at lines.old q) }
-        requires founds_fit { (id : List ℕ) → ForSome (shown_at self.old.founds id) (ShownFits 63) }
+        requires found { map (λ u. index_at self.old.summaries u.summary_id) block.now.usages ≡ map Some plan.old.summaries.items }
+        requires ledger_fits { (q : _) → TallyFits 63 (tally_at ledger.old q) }
+        requires summaries_fit { (id : List ℕ) → ForSome (shown_at self.old.summaries id) (ShownFits 63) }
         ensures ids { self.new.ids ≡ self.old.ids }
         ensures err { OnErr result (IsSameFile self.old self.new) }
-        ensures same_lines { OnErr result ((q : _) → tally_at lines.new q ≡ tally_at lines.old q) }
-        ensures ok { OnOk result (TakesBlock self.old self.new lines.old lines.new block.now Verdict.Booked) }
+        ensures same_ledger { OnErr result ((q : _) → tally_at ledger.new q ≡ tally_at ledger.old q) }
+        ensures ok { OnOk result (TakesBlock self.old self.new ledger.old ledger.new block.now Verdict.Booked) }
     {
-        draft.usages.clear();
-        draft.parts.clear();
-        let usages = block.usages.as_slice();
-        note_usages(
-            lines,
-            alloc,
-            &mut self.founds,
-            isrc,
-            block.works.as_slice(),
-            usages,
-            draft.summaries.as_slice(),
-            draft.ahead.guessed_lines(),
-            &mut draft.usages,
-            &mut draft.parts,
-        )?;
-        add_usages(
-            lines,
-            &mut self.founds,
-            usages,
-            draft.usages.as_slice(),
-            draft.parts.as_slice(),
-        );
+        let works = block.works.as_slice();
+        plan.fill(ledger, alloc, &mut self.summaries, isrc, works)?;
+        add_usages(ledger, &mut self.summaries, plan, block.usages.as_slice());
         self.blocks += 1;
         Ok(())
     }
@@ -89,16 +72,16 @@ impl FileBooks {
     /// Takes a block that is rejected. All growths come first.
     fn reject(
         &mut self,
-        lines: &Lines,
+        ledger: &Ledger,
         alloc: Global,
         block: &Block,
         reason: Reason,
     ) -> Result<(), NoMemory>
         requires blocks { self.old.blocks + 1 < 2 ^ 64 }
-        requires founds_fit { (id : List ℕ) → ForSome (shown_at self.old.founds id) (ShownFits 63) }
+        requires summaries_fit { (id : List ℕ) → ForSome (shown_at self.old.summaries id) (ShownFits 63) }
         ensures ids { self.new.ids ≡ self.old.ids }
         ensures err { OnErr result (IsSameFile self.old self.new) }
-        ensures ok { OnOk result (TakesBlock self.old self.new lines.now lines.now block.now (Verdict.Rejected reason)) }
+        ensures ok { OnOk result (TakesBlock self.old self.new ledger.now ledger.now block.now (Verdict.Rejected reason)) }
     {
         let reject = Reject {
             file: self.place,
@@ -107,7 +90,7 @@ impl FileBooks {
             reason,
         };
         self.rejects.push(reject)?;
-        count_usages(&mut self.founds, block.usages.as_slice());
+        count_usages(&mut self.summaries, block.usages.as_slice());
         self.blocks += 1;
         Ok(())
     }
@@ -115,35 +98,34 @@ impl FileBooks {
     /// Takes a block whose identifier was seen before, or not, and answers its verdict.
     fn take(
         &mut self,
-        lines: &mut Lines,
-        draft: &mut Draft,
+        ledger: &mut Ledger,
+        plan: &mut Plan,
         alloc: Global,
         block: &Block,
         seen: bool,
     ) -> Result<Verdict, NoMemory>
         requires blocks { self.old.blocks + 1 < 2 ^ 64 }
-        requires lines_fit { (q : _) → TallyFits 63 (tally_at lines.old q) }
-        requires founds_fit { (id : List ℕ) → ForSome (shown_at self.old.founds id) (ShownFits 63) }
+        requires ledger_fits { (q : _) → TallyFits 63 (tally_at ledger.old q) }
+        requires summaries_fit { (id : List ℕ) → ForSome (shown_at self.old.summaries id) (ShownFits 63) }
         ensures ids { self.new.ids ≡ self.old.ids }
         ensures err { OnErr result (IsSameFile self.old self.new) }
-        ensures same_lines { OnErr result ((q : _) → tally_at lines.new q ≡ tally_at lines.old q) }
-        ensures verdict { IfOk result (λ v. verdict_by self.old.standing seen (is_known self.old.founds) block.now ≡ v) }
-        ensures ok { IfOk result (λ v. TakesBlock self.old self.new lines.old lines.new block.now v) }
+        ensures same_ledger { OnErr result ((q : _) → tally_at ledger.new q ≡ tally_at ledger.old q) }
+        ensures verdict { IfOk result (λ v. verdict_by self.old.standing seen (is_known self.old.summaries) block.now ≡ v) }
+        ensures ok { IfOk result (λ v. TakesBlock self.old self.new ledger.old ledger.new block.now v) }
     {
         match judge(
             self.standing,
             seen,
-            &self.founds,
+            &self.summaries,
             block,
-            draft.ahead.guessed_summaries(),
-            &mut draft.summaries,
+            &mut plan.summaries,
         )? {
             Ok(isrc) => {
-                self.accept(lines, draft, alloc, block, isrc)?;
+                self.accept(ledger, plan, alloc, block, isrc)?;
                 Ok(Verdict::Booked)
             }
             Err(reason) => {
-                self.reject(lines, alloc, block, reason)?;
+                self.reject(ledger, alloc, block, reason)?;
                 Ok(Verdict::Rejected(reason))
             }
         }
@@ -152,22 +134,21 @@ impl FileBooks {
     /// Takes a block, and answers its verdict. After want of memory nothing that counts has changed.
     pub fn book(
         &mut self,
-        lines: &mut Lines,
-        draft: &mut Draft,
+        ledger: &mut Ledger,
+        plan: &mut Plan,
         alloc: Global,
         block: &Block,
     ) -> Result<Verdict, NoMemory>
         requires blocks { self.old.blocks + 1 < 2 ^ 64 }
-        requires lines_fit { (q : _) → TallyFits 63 (tally_at lines.old q) }
-        requires founds_fit { (id : List ℕ) → ForSome (shown_at self.old.founds id) (ShownFits 63) }
-        ensures ok { (d : Filed) → FileStands self.old d → IfOk result (λ v. Took d block.now v self.new lines.old lines.new) }
+        requires ledger_fits { (q : _) → TallyFits 63 (tally_at ledger.old q) }
+        requires summaries_fit { (id : List ℕ) → ForSome (shown_at self.old.summaries id) (ShownFits 63) }
+        ensures ok { (d : Filed) → FileStands self.old d → IfOk result (λ v. Took d block.now v self.new ledger.old ledger.new) }
         ensures count { OnOk result (self.new.blocks ≡ self.old.blocks + 1) }
         ensures err { OnErr result (IsSameFile self.old self.new) }
-        ensures same_lines { OnErr result ((q : _) → tally_at lines.new q ≡ tally_at lines.old q) }
+        ensures same_ledger { OnErr result ((q : _) → tally_at ledger.new q ≡ tally_at ledger.old q) }
     {
-        draft.ahead.next_block();
         let noted = self.ids.note(alloc, &block.id)?;
-        let answer = self.take(lines, draft, alloc, block, noted.was_before());
+        let answer = self.take(ledger, plan, alloc, block, noted.was_before());
         if answer.is_err() {
             self.ids.forget(&block.id, noted);
         }

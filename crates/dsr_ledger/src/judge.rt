@@ -1,32 +1,36 @@
 //! The verdict of a block.
 ghost use Rattle.std.specs.Prelude.{◌≡◌, ◌≤◌, ℕ, List, sum, nat_lt, not, true, map, Some, OnOk, IfOk, MatchResult};
 ghost use Rattle.std.specs.List.{list_any};
-ghost use Rattle.dsr_ledger.specs.Found.{is_known, index_at};
+ghost use Rattle.dsr_ledger.specs.Summaries.{is_known, index_at};
 ghost use Rattle.dsr_ledger.specs.Verdicts.{names_unknown, share_total, verdict_by};
 
-use crate::ahead::NONE;
-use crate::founds::Founds;
+use crate::file::summaries::Summaries;
 use crate::verdict::{Reason, Standing, Verdict};
 use dsr_cells::{Isrc, NoMemory};
 use dsr_records::{Block, Usage, Work};
 
-/// Finds the summaries of usages. Answers whether each usage names one. Any guesses of their numbers will do.
+/// Finds the numbers of the summaries that usages name. Answers whether each usage names one.
+///
+/// Usages mostly name summaries in file order: the one after the last is tried before any search.
 fn find_summaries(
-    founds: &Founds,
+    summaries: &Summaries,
     usages: &[Usage],
-    guessed: &[usize],
-    summaries: &mut Vec<usize>,
+    numbers: &mut Vec<usize>,
 ) -> Result<bool, NoMemory>
-    ensures known { IfOk result (λ known. known ≡ not (list_any (names_unknown (is_known founds.now)) usages.now)) }
-    ensures found { IfOk result (λ known. known ≡ true → map (λ u. index_at founds.now u.summary_id) usages.now ≡ map Some summaries.new.items) }
+    ensures known { IfOk result (λ known. known ≡ not (list_any (names_unknown (is_known summaries.now)) usages.now)) }
+    ensures found { IfOk result (λ known. known ≡ true → map (λ u. index_at summaries.now u.summary_id) usages.now ≡ map Some numbers.new.items) }
 {
-    summaries.clear();
-    for (i, usage) in usages.iter().enumerate() {
-        let guess = guessed.get(i).copied().unwrap_or(NONE);
-        match founds.index_near(&usage.summary_id, guess) {
-            Some(index) => summaries.push(index)?,
-            None => return Ok(false),
-        }
+    let mut hint = match numbers.as_slice().last() {
+        Some(last) => summaries.next(*last),
+        None => 0,
+    };
+    numbers.clear();
+    for usage in usages {
+        let Some(number) = summaries.index_near(&usage.summary_id, hint) else {
+            return Ok(false);
+        };
+        numbers.push(number)?;
+        hint = summaries.next(number);
     }
     Ok(true)
 }
@@ -49,20 +53,19 @@ fn shares_over(works: &[Work]) -> bool
 }
 
 #[tactic(auto, unfolding(crate::specs::Verdicts::verdict_by))]
-/// The recording of a block that is booked, or why it is rejected. Where it is booked, finds the summaries of its usages.
-/// Any guesses of their numbers will do.
+/// The recording of a block that is booked, or why it is rejected. Where it is booked, finds the numbers of the
+/// summaries that its usages name.
 pub fn judge(
     standing: Standing,
     seen: bool,
-    founds: &Founds,
+    summaries: &Summaries,
     block: &Block,
-    guessed: &[usize],
-    summaries: &mut Vec<usize>,
+    numbers: &mut Vec<usize>,
 ) -> Result<Result<Isrc, Reason>, NoMemory>
     ensures verdict { IfOk result (λ r. MatchResult r
-        (λ isrc. (verdict_by standing seen (is_known founds.now) block.now ≡ Verdict.Booked) × (isrc ≡ block.now.resource.isrc) × (share_total block.now.works ≤ 1000000))
-        (λ reason. verdict_by standing seen (is_known founds.now) block.now ≡ Verdict.Rejected reason)) }
-    ensures found { IfOk result (λ r. OnOk r (map (λ u. index_at founds.now u.summary_id) block.now.usages ≡ map Some summaries.new.items)) }
+        (λ isrc. (verdict_by standing seen (is_known summaries.now) block.now ≡ Verdict.Booked) × (isrc ≡ block.now.resource.isrc) × (share_total block.now.works ≤ 1000000))
+        (λ reason. verdict_by standing seen (is_known summaries.now) block.now ≡ Verdict.Rejected reason)) }
+    ensures found { IfOk result (λ r. OnOk r (map (λ u. index_at summaries.now u.summary_id) block.now.usages ≡ map Some numbers.new.items)) }
 {
     match standing {
         Standing::Foreign => return Ok(Err(Reason::ForeignFile)),
@@ -79,7 +82,7 @@ pub fn judge(
     let Some(isrc) = Isrc::read(isrc) else {
         return Ok(Err(Reason::BadIsrc));
     };
-    if !find_summaries(founds, block.usages.as_slice(), guessed, summaries)? {
+    if !find_summaries(summaries, block.usages.as_slice(), numbers)? {
         return Ok(Err(Reason::UnknownSummary));
     }
     if shares_over(block.works.as_slice()) {

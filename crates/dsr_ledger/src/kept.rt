@@ -2,13 +2,13 @@
 ghost use Rattle.std.specs.Prelude.{◌≡◌, option_map, slice_get};
 
 use crate::file::FileBooks;
-use crate::lines::Lines;
+use crate::ledger::recordings::Ledger;
 
-/// The files that were opened, and the ledger's lines.
+/// The files that were opened, and the ledger.
 #[derive(Drop)]
 pub struct Kept {
     pub files: Vec<FileBooks>,
-    pub lines: Lines,
+    pub ledger: Ledger,
 }
 
 impl Kept {

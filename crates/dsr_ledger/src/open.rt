@@ -2,16 +2,14 @@
 ghost use Rattle.std.specs.Prelude.{◌≡◌, ◌+◌, ◌<◌, ◌≤◌, List, [], ◌∷◌, ◌++◌, ℕ, Some, None, OnOk, IfOk, option_map, length};
 ghost use Rattle.std.specs.List.{list_any};
 ghost use Rattle.dsr_ledger.specs.Files.{opened, is_same_report, has_number_of, is_of_report, first_head, standing, summaries_of};
-ghost use Rattle.dsr_ledger.specs.Found.{shown_at, found_in, nothing_found};
+ghost use Rattle.dsr_ledger.specs.Summaries.{shown_at, found_in, nothing_found};
 ghost use Rattle.dsr_ledger.specs.Stands.{FileStands};
 ghost use Rattle.dsr_ledger.specs.Openings.{openings_of, first_of, named};
 
 use crate::file::FileBooks;
-use crate::found::Found;
-use crate::founds::Founds;
+use crate::file::summaries::Summaries;
 use crate::ids::Ids;
-use crate::place::Place;
-use crate::sums::Sums;
+use crate::seeded::Seeded;
 use crate::verdict::Standing;
 use dsr_cells::NoMemory;
 use dsr_file::Opening;
@@ -83,45 +81,28 @@ fn standing_after(files: &[FileBooks], opening: &Option<Opening>) -> Standing
     }
 }
 
-/// Adds a summary that no usage names so far, unless its name is there.
-fn add_summary(founds: &mut Founds, alloc: Global, summary: &Summary) -> Result<(), NoMemory>
-    ensures { OnOk result ((id : List ℕ) → shown_at founds.new id ≡ first_of (shown_at founds.old id) (option_map nothing_found (named id summary.now))) }
+/// What is kept of these summaries, which no usage names so far.
+fn summaries_of(alloc: Global, seeded: Seeded, stated: &[Summary]) -> Result<Summaries, NoMemory>
+    ensures { IfOk result (λ m. (id : List ℕ) → shown_at m id ≡ found_in stated.now [] id) }
 {
-    let place = Place {
-        territory: summary.territory.copy(alloc)?,
-        use_type: summary.use_type.copy(alloc)?,
-        currency: summary.currency.copy(alloc)?,
-    };
-    let found = Found {
-        id: summary.id.copy(alloc)?,
-        place,
-        guess: 0,
-        sums: Sums {
-            usages: 0,
-            amount: 0,
-        },
-    };
-    founds.add(alloc, found)
-}
-
-/// What is kept of summaries that no usage names so far.
-fn founds_of(alloc: Global, summaries: &[Summary]) -> Result<Founds, NoMemory>
-    ensures { IfOk result (λ m. (id : List ℕ) → shown_at m id ≡ found_in summaries.now [] id) }
-{
-    let mut founds = Founds::with_room(alloc, summaries.len())?;
-    for summary in summaries {
-        add_summary(&mut founds, alloc, summary)?;
+    let mut summaries = Summaries::with_room(alloc, seeded, stated.len())?;
+    for summary in stated {
+        summaries.add(alloc, summary)?;
     }
-    Ok(founds)
+    Ok(summaries)
 }
 
 /// The same, of a file that may have no opening.
-fn founds_for(alloc: Global, opening: &Option<Opening>) -> Result<Founds, NoMemory>
+fn summaries_for(
+    alloc: Global,
+    seeded: Seeded,
+    opening: &Option<Opening>,
+) -> Result<Summaries, NoMemory>
     ensures { IfOk result (λ m. (id : List ℕ) → shown_at m id ≡ found_in (summaries_of opening.now) [] id) }
 {
     match opening {
-        Some(opening) => founds_of(alloc, opening.summaries.as_slice()),
-        None => Ok(Founds::new(alloc)),
+        Some(opening) => summaries_of(alloc, seeded, opening.summaries.as_slice()),
+        None => Ok(Summaries::new(alloc, seeded)),
     }
 }
 
@@ -129,20 +110,21 @@ fn founds_for(alloc: Global, opening: &Option<Opening>) -> Result<Founds, NoMemo
 pub fn open_after(
     files: &[FileBooks],
     alloc: Global,
+    seeded: Seeded,
     opening: Option<Opening>,
 ) -> Result<FileBooks, NoMemory>
     requires { length files.now < 64 }
     ensures { IfOk result (λ f. FileStands f (record { place = length files.now + 1; standing = standing (openings_of files.now) opening; file = opened opening })) }
 {
     let standing = standing_after(files, &opening);
-    let founds = founds_for(alloc, &opening)?;
+    let summaries = summaries_for(alloc, seeded, &opening)?;
     Ok(FileBooks {
         place: files.len() as u32 + 1,
         opening,
         standing,
         blocks: 0,
         ids: Ids::new(alloc),
-        founds,
+        summaries,
         rejects: Vec::new(alloc),
         outcome: None,
     })

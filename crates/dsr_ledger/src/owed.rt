@@ -1,4 +1,4 @@
-//! What a party is owed, and a part that is to be added to it.
+//! What a party is owed.
 ghost use Rattle.std.specs.Prelude.{◌≡◌, ◌+ℤ◌};
 ghost use Rattle.std.specs.Int.{w128};
 ghost use Rattle.std.specs.Int.RustNames.{FitsSigned};
@@ -30,12 +30,4 @@ impl Owed {
         self.has_part = true;
         self.amount += amount;
     }
-}
-
-/// A part that is to be added to what a party is owed.
-#[derive(Clone, Copy, PartialEq, Eq, Drop)]
-pub struct PartNote {
-    /// The party's number in its line.
-    pub seat: usize,
-    pub amount: i128,
 }

@@ -4,7 +4,7 @@ use Rattle.std.specs.Option.{ForSome}
 use Rattle.std.specs.List.{AllByRecursion}
 use Rattle.std.proofs.lemmas.List.{take_more, length-take}
 use Rattle.dsr_ledger.specs.Ranges.{IsInRange}
-use Rattle.dsr_ledger.specs.Found.{Shown, shown_at, shown_with, ShownFits}
+use Rattle.dsr_ledger.specs.Summaries.{Shown, shown_at, shown_with, ShownFits}
 use Rattle.dsr_ledger.proofs.EachLemmas.{each_append}
 use Rattle.dsr_ledger.proofs.ShownLemmas.{shown_more, shown_fits_at}
 use Rattle.dsr_ledger.proofs.counting.count_usages.Goals as goal
@@ -16,7 +16,7 @@ count_one-requires c id =
     let below = c.loop-usage-test.true in
     let taken : length us ≤ i = omega (arith, length-take i c.args.usages.now) in
     let P : Option Shown → Type 0 = λ o. ForSome o (ShownFits 1) in
-    subst P (sym (c.loop-usage.invariant.founds id)) (shown_fits_at (shown_at c.args.founds.now id) id us i (length c.args.usages.now) 1 taken (omega arith) c.loop-usage.invariant.range (c.requires id))
+    subst P (sym (c.loop-usage.invariant.summaries id)) (shown_fits_at (shown_at c.args.summaries.now id) id us i (length c.args.usages.now) 1 taken (omega arith) c.loop-usage.invariant.range (c.requires id))
 
 pub loop-usage-preserved : goal.loop-usage-preserved
 loop-usage-preserved c =
@@ -26,7 +26,7 @@ loop-usage-preserved c =
     let more : take (i + 1) c.args.usages.now ≡ us ++ u ∷ [] = take_more c.args.usages.now i u c.loop-usage-test.true ∙ ap (λ x. us ++ x ∷ []) (sym c.usage-item.is) in
     record {
       range = subst (AllByRecursion IsInRange) (sym more) (each_append IsInRange us (u ∷ []) c.loop-usage.invariant.range (c.count_one.ensures.range, tt));
-      founds = λ id.
-          shown_more id us u (shown_at c.args.founds.now id) (shown_at c.loop-usage.founds id) (shown_at c.count_one.new.founds id) (c.loop-usage.invariant.founds id) (c.count_one.ensures.founds id)
-          ∙ ap (λ l. option_map (shown_with id l) (shown_at c.args.founds.now id)) (sym more);
+      summaries = λ id.
+          shown_more id us u (shown_at c.args.summaries.now id) (shown_at c.loop-usage.summaries id) (shown_at c.count_one.new.summaries id) (c.loop-usage.invariant.summaries id) (c.count_one.ensures.summaries id)
+          ∙ ap (λ l. option_map (shown_with id l) (shown_at c.args.summaries.now id)) (sym more);
     }

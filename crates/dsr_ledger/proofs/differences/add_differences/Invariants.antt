@@ -3,4 +3,4 @@ use Rattle.dsr_ledger.specs.Assembly.{differences_to}
 use Rattle.dsr_ledger.proofs.differences.add_differences.Given as goal
 
 abbrev pub invariant-loop-summary : goal.invariant-loop-summary
-invariant-loop-summary l = l.differences ≡ l.fn.differences ++ differences_to l.place l.founds (take l.summary-index l.summaries)
+invariant-loop-summary l = l.differences ≡ l.fn.differences ++ differences_to l.place l.summaries (take l.summary-index l.stated)

@@ -6,34 +6,34 @@ use Rattle.std.proofs.Math.ListN.{length-set}
 use Rattle.std.specs.Vec.{with_item}
 use Rattle.dsr_ledger.specs.declared.kept.Kept.{Kept}
 use Rattle.dsr_ledger.proofs.FilesLemmas.{open_at}
-use Rattle.dsr_ledger.proofs.BooksLemmas.{lines_fit_reached, founds_fit_reached, Answered, answered_stands, answered_reached}
+use Rattle.dsr_ledger.proofs.BooksLemmas.{lines_fit_reached, summaries_fit_reached, Answered, answered_stands, answered_reached}
 use Rattle.dsr_ledger.proofs.books.Books.book.Goals as goal
 
-pub book-requires-clause-lines_fit : goal.book-requires-clause-lines_fit
-book-requires-clause-lines_fit c =
+pub book-requires-clause-ledger_fits : goal.book-requires-clause-ledger_fits
+book-requires-clause-ledger_fits c =
     let most = c.args.self.now.most in
     let room = c.args.self.now.room in
     lines_fit_reached c.args.self.now.kept (omega arith) c.args.self.now.reached
 
-pub book-requires-clause-founds_fit : goal.book-requires-clause-founds_fit
-book-requires-clause-founds_fit c =
+pub book-requires-clause-summaries_fit : goal.book-requires-clause-summaries_fit
+book-requires-clause-summaries_fit c =
     let f = c.index_mut-file.result.now in
     let at = open_at (λ f. is_some f.opening) c.args.self.now.kept.files.items c.args.k f c.index_mut-file.ensures.value c.requires.opening in
-    founds_fit_reached c.args.self.now.kept c.args.k f c.args.self.now.reached at
+    summaries_fit_reached c.args.self.now.kept c.args.k f c.args.self.now.reached at
 
 pub invariant_of-self : goal.invariant_of-self
 invariant_of-self c =
     let f = c.index_mut-file.result.now in
     let old = c.args.self.now.kept in
     let at = open_at (λ f. is_some f.opening) old.files.items c.args.k f c.index_mut-file.ensures.value c.requires.opening in
-    let new : Kept = record { files = with_item old.files c.args.k c.book.new.self; lines = c.book.new.lines } in
+    let new : Kept = record { files = with_item old.files c.args.k c.book.new.self; ledger = c.book.new.ledger } in
     let a : Answered f c.book.new.self c.args.block.now c.book.result old new c.args.k = record {
       at = at;
       room = subst (λ o. option_map_or (λ f. f.blocks) o 0 < 2 ^ 37) at c.requires.room;
       items = refl;
       ok = c.book.ensures.ok;
       err = c.book.ensures.err;
-      same_lines = c.book.ensures.same_lines;
+      same_ledger = c.book.ensures.same_ledger;
     } in
     let long = length-set old.files.items c.args.k c.book.new.self in
     let room = c.args.self.now.room in
@@ -48,13 +48,13 @@ returns-clause-stands c = λ files h.
     let f = c.index_mut-file.result.now in
     let old = c.args.self.now.kept in
     let at = open_at (λ f. is_some f.opening) old.files.items c.args.k f c.index_mut-file.ensures.value c.requires.opening in
-    let new : Kept = record { files = with_item old.files c.args.k c.book.new.self; lines = c.book.new.lines } in
+    let new : Kept = record { files = with_item old.files c.args.k c.book.new.self; ledger = c.book.new.ledger } in
     let a : Answered f c.book.new.self c.args.block.now c.book.result old new c.args.k = record {
       at = at;
       room = subst (λ o. option_map_or (λ f. f.blocks) o 0 < 2 ^ 37) at c.requires.room;
       items = refl;
       ok = c.book.ensures.ok;
       err = c.book.ensures.err;
-      same_lines = c.book.ensures.same_lines;
+      same_ledger = c.book.ensures.same_ledger;
     } in
     answered_stands f c.book.new.self c.args.block.now c.book.result old new c.args.k a files h

@@ -11,7 +11,7 @@ pub invariant_of-self : goal.invariant_of-self
 invariant_of-self c =
     let f = c.index_mut-file.result.now in
     let old = c.args.self.now.kept in
-    let new : Kept = record { files = with_item old.files c.args.k (ended f c.args.outcome); lines = old.lines } in
+    let new : Kept = record { files = with_item old.files c.args.k (ended f c.args.outcome); ledger = old.ledger } in
     let at = item_at old.files.items c.args.k f c.requires.opened c.index_mut-file.ensures.value in
     let long = length-set old.files.items c.args.k (ended f c.args.outcome) in
     let room = c.args.self.now.room in
@@ -25,6 +25,6 @@ pub returns-clause-stands : goal.returns-clause-stands
 returns-clause-stands c = λ files h.
     let f = c.index_mut-file.result.now in
     let old = c.args.self.now.kept in
-    let new : Kept = record { files = with_item old.files c.args.k (ended f c.args.outcome); lines = old.lines } in
+    let new : Kept = record { files = with_item old.files c.args.k (ended f c.args.outcome); ledger = old.ledger } in
     let at = item_at old.files.items c.args.k f c.requires.opened c.index_mut-file.ensures.value in
     stands_ended old new files c.args.k f c.args.outcome at refl refl h

@@ -14,7 +14,7 @@ pub invariant_of-self : goal.invariant_of-self
 invariant_of-self c =
     let old = c.args.self.now.kept in
     let f = c.in_ok-file.file in
-    let new : Kept = record { files = c.push.new.self; lines = old.lines } in
+    let new : Kept = record { files = c.push.new.self; ledger = old.ledger } in
     let one = subst (λ (fs : List FileBooks). OpenedAfter fs c.args.opening f) c.as_slice.ensures.value c.in_ok-file.ensures in
     let below = c.requires in
     let more = grown (is_ok c.push.result) old.files.items f in
@@ -29,6 +29,6 @@ pub returns-clause-stands : goal.returns-clause-stands
 returns-clause-stands c = λ files h.
     let old = c.args.self.now.kept in
     let f = c.in_ok-file.file in
-    let new : Kept = record { files = c.push.new.self; lines = old.lines } in
+    let new : Kept = record { files = c.push.new.self; ledger = old.ledger } in
     let one = subst (λ (fs : List FileBooks). OpenedAfter fs c.args.opening f) c.as_slice.ensures.value c.in_ok-file.ensures in
     opened_next old new f c.args.opening files one c.in_ok-push.ensures.items refl h

@@ -1,42 +1,61 @@
 use Rattle.std.proofs.Common.{◌≡◌, ◌≤◌, append-nil, length, refl, sym, ap, ◌∙◌, subst, arith}
-use Rattle.std.specs.Prelude.{option_map}
+use Rattle.std.specs.Prelude.{map, option_map}
 use Rattle.std.specs.List.{AllByRecursion}
+use Rattle.dsr_records.specs.declared.record.Usage.{Usage}
 use Rattle.dsr_ledger.specs.Bookings.{usage_bookings}
 use Rattle.dsr_ledger.specs.Ranges.{IsInRange}
-use Rattle.dsr_ledger.specs.Tallies.{tally_plus, key_tally}
-use Rattle.dsr_ledger.specs.Found.{shown_with, place_at}
-use Rattle.dsr_ledger.specs.Drafts.{numbers_in, AreDrafted}
-use Rattle.dsr_ledger.proofs.FitLemmas.{fewer_sums}
+use Rattle.dsr_ledger.specs.Tallies.{tally_plus, key_tally, TallyFits}
+use Rattle.dsr_ledger.specs.Summaries.{shown_with, place_at, index_at}
+use Rattle.dsr_ledger.specs.Plans.{IsPlanned}
+use Rattle.dsr_ledger.specs.Verdicts.{share_total}
+use Rattle.dsr_ledger.proofs.FitLemmas.{fewer_sums, fewer_tallies}
+use Rattle.dsr_ledger.proofs.KeepsLemmas.{same_places}
 use Rattle.dsr_ledger.proofs.file.FileBooks.accept.Goals as goal
 
-pub add_usages-requires-clause-founds_fit : goal.add_usages-requires-clause-founds_fit
-add_usages-requires-clause-founds_fit c = λ id x at.
+pub fill-requires : goal.fill-requires
+fill-requires c = (c.args.block.now.usages, c.requires.found)
+
+pub add_usages-requires-clause-planned : goal.add_usages-requires-clause-planned
+add_usages-requires-clause-planned c =
+    let usages : c.as_slice.result.now ≡ c.args.block.now.usages = c.as_slice.ensures ∙ ap (λ b. b.usages) c.block.view_is in
+    let works : c.as_slice-works.result.now ≡ c.args.block.now.works = c.as_slice-works.ensures ∙ ap (λ b. b.works) c.block.view_is in (
+      c.args.isrc,
+      c.as_slice-works.result.now,
+      subst (λ us. IsPlanned c.fill.new.ledger c.fill.new.summaries c.args.isrc c.as_slice-works.result.now us c.fill.new.self) (sym usages) (c.in_ok-fill.ensures.planned c.args.block.now.usages c.requires.found),
+      subst (λ ws. share_total ws ≤ 1000000) (sym works) c.requires.shares,
+    )
+
+pub add_usages-requires-clause-ledger_fits : goal.add_usages-requires-clause-ledger_fits
+add_usages-requires-clause-ledger_fits c = λ q.
     let room = c.block.invariant in
-    let long = ap length c.as_slice-usages.ensures in
-    fewer_sums 63 (length c.as_slice-usages.result.now) x.sums (omega arith) (c.requires.founds_fit id x (sym (c.in_ok-note_usages.ensures.same_founds id) ∙ at))
+    let long = ap length c.as_slice.ensures in
+    fewer_tallies 63 (length c.as_slice.result.now) _ (omega arith) (subst (TallyFits 63) (sym (c.fill.ensures.tallies q)) (c.requires.ledger_fits q))
+
+pub add_usages-requires-clause-summaries_fit : goal.add_usages-requires-clause-summaries_fit
+add_usages-requires-clause-summaries_fit c = λ id x at.
+    let room = c.block.invariant in
+    let long = ap length c.as_slice.ensures in
+    fewer_sums 63 (length c.as_slice.result.now) x.sums (omega arith) (c.requires.summaries_fit id x (sym (c.fill.ensures.same.shown id) ∙ at))
 
 pub returns-clause-ok : goal.returns-clause-ok
 returns-clause-ok c =
-    let usages : c.as_slice-usages.result.now ≡ c.args.block.now.usages = c.as_slice-usages.ensures ∙ ap (λ b. b.usages) c.block.view_is in
-    let works : c.as_slice.result.now ≡ c.args.block.now.works = c.as_slice.ensures ∙ ap (λ b. b.works) c.block.view_is in
-    let note = c.in_ok-note_usages.ensures in
-    let places : place_at c.note_usages.new.founds ≡ place_at c.args.self.now.founds = λ i id. ap (option_map (λ s. s.place)) (note.same_founds id) i in
-    let noted =
-    subst (AreDrafted (numbers_in c.note_usages.new.lines c.note_usages.new.founds) c.args.isrc c.as_slice.result.now c.as_slice-usages.result.now c.as_slice-3.result.now) (sym c.as_slice-4.ensures.value) (
-    subst (λ ns. AreDrafted (numbers_in c.note_usages.new.lines c.note_usages.new.founds) c.args.isrc c.as_slice.result.now c.as_slice-usages.result.now ns c.note_usages.new.parts.items) (sym c.as_slice-3.ensures.value) note.noted) in
+    let usages : c.as_slice.result.now ≡ c.args.block.now.usages = c.as_slice.ensures ∙ ap (λ b. b.usages) c.block.view_is in
+    let works : c.as_slice-works.result.now ≡ c.args.block.now.works = c.as_slice-works.ensures ∙ ap (λ b. b.works) c.block.view_is in
+    let places = same_places c.args.self.now.summaries c.fill.new.summaries c.fill.ensures.same.shown in
+    let planned = subst (λ us. IsPlanned c.fill.new.ledger c.fill.new.summaries c.args.isrc c.as_slice-works.result.now us c.fill.new.self) (sym usages) (c.in_ok-fill.ensures.planned c.args.block.now.usages c.requires.found) in
     let room = c.block.invariant in
-    let long = ap length c.as_slice-usages.ensures in
-    let few : length c.as_slice-usages.result.now ≤ 63 = omega arith in
+    let long = ap length c.as_slice.ensures in
+    let few : length c.as_slice.result.now ≤ 63 = omega arith in
     record {
       place = refl;
       opening = refl;
       standing = refl;
       blocks = refl;
-      founds = λ id. c.add_usages.ensures.founds id ∙ λ i. option_map (shown_with id (usages i)) (note.same_founds id i);
+      summaries = λ id. c.add_usages.ensures.shown id ∙ λ i. option_map (shown_with id (usages i)) (c.fill.ensures.same.shown id i);
       rejects = sym (append-nil c.args.self.now.rejects.items);
       outcome = refl;
       tallies = λ q.
-          c.add_usages.ensures.lines c.args.isrc c.as_slice.result.now noted q
-          ∙ λ i. tally_plus (note.same q i) (key_tally (usage_bookings (places i) (c.requires.recording i) (works i) (usages i)) q);
+          c.add_usages.ensures.tallies c.args.isrc c.as_slice-works.result.now planned q
+          ∙ λ i. tally_plus (c.fill.ensures.tallies q i) (key_tally (usage_bookings (places i) (c.requires.recording i) (works i) (usages i)) q);
       range = record { few = subst (λ us. length us ≤ 63) usages few; range = subst (AllByRecursion IsInRange) usages c.add_usages.ensures.range };
     }

@@ -1,0 +1,8 @@
+use Rattle.dsr_ledger.proofs.ReportLemmas.{AreRest, IsWritten}
+use Rattle.dsr_ledger.proofs.assemble.ledger.ledger_lines.Given as goal
+
+abbrev pub invariant-loop-isrc : goal.invariant-loop-isrc
+invariant-loop-isrc l = record {
+  rest : AreRest l.fn.books l.isrc-iterator;
+  written : IsWritten l.fn.books l.isrc-iterator l.report;
+}

@@ -1,0 +1,12 @@
+use Rattle.std.proofs.Common.{sym, ap, ◌∙◌}
+use Rattle.std.proofs.lemmas.List.{take_all}
+use Rattle.dsr_ledger.specs.Listed.{named_places}
+use Rattle.dsr_ledger.proofs.PartyLineLemmas.{seat_lines, party_lines_are}
+use Rattle.dsr_ledger.proofs.assemble.lines.party_lines.Goals as goal
+
+pub returns : goal.returns
+returns c = λ bs seat listed is.
+    let ss = c.args.seats.now in
+    c.loop-party.invariant
+    ∙ ap (λ es. seat_lines c.args.parts.now (named_places es)) (take_all c.loop-party.party-index ss c.loop-party-test.false)
+    ∙ party_lines_are c.args.parts.now seat (named_places ss) bs listed is

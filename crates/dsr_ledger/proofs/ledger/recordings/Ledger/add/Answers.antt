@@ -1,0 +1,105 @@
+use Rattle.std.proofs.Common.{◌≡◌, ℕ, List, true, false, cond, ◌&&◌, refl, sym, ap, subst, ◌∙◌, length}
+use Rattle.std.specs.Prelude.{Option, Some, map}
+use Rattle.std.specs.Option.{option_and_then}
+use Rattle.std.specs.List.{position}
+use Rattle.std.specs.Str.{bytes_eq}
+use Rattle.indexmap.specs.IndexMap.{get}
+use Rattle.indexmap.proofs.CallerLemmas.{keys-with_value_at}
+use Rattle.dsr_ledger.specs.declared.ledger.recording.Recording.{Recording}
+use Rattle.dsr_ledger.specs.declared.ledger.summary_key.SummaryKey.{SummaryKey}
+use Rattle.dsr_ledger.specs.Bookings.{key_under}
+use Rattle.dsr_ledger.specs.Numbered.{AreBelow, place_by}
+use Rattle.dsr_ledger.specs.Parts.{part_of}
+use Rattle.dsr_ledger.specs.Seats.{seat_numbers}
+use Rattle.dsr_ledger.specs.SummaryKeys.{summary_key_eq, summary_key_in}
+use Rattle.dsr_ledger.specs.Tallies.{Tally, line_keys, lines_tally, IsWide, tally_with, TallyFits}
+use Rattle.dsr_ledger.specs.Recordings.{party_number, key_number, seat_of, recording_tally, IsLineOf}
+use Rattle.dsr_ledger.proofs.NumberedLemmas.{same_Some}
+use Rattle.dsr_ledger.proofs.LedgerLemmas.{got, each_put, each_related, related, summary_keys_are_numbered, changed_tally, LineHere, line_here, got_here, key_here}
+use Rattle.dsr_ledger.proofs.TextLemmas.{text_itself}
+use Rattle.dsr_ledger.proofs.ledger.recordings.Ledger.add.Goals as goal
+
+pub add-requires-clause-wide : goal.add-requires-clause-wide
+add-requires-clause-wide c =
+    let e = c.pair_mut-found.ensures in
+    let p = c.requires in
+    let v = c.pair_mut-found.result.1.now in
+    p.3.wide v (got_here c.args.self.now.recordings c.args.recording _ v v e.unique e.value p.0 p.3.recording_is)
+
+pub add-requires-clause-fits : goal.add-requires-clause-fits
+add-requires-clause-fits c =
+    let e = c.pair_mut-found.ensures in
+    let l = c.args.self.now in
+    let p = c.requires in
+    let v = c.pair_mut-found.result.1.now in
+    let found = got_here l.recordings c.args.recording _ v v e.unique e.value p.0 p.3.recording_is in
+    let h = line_here l p.0 p.1 p.2 c.args.recording c.args.line c.args.shares.now v p.3 found in
+    let fits = subst (TallyFits 1) (ap (recording_tally (party_number l) (key_number l p.1)) found ∙ ap (λ o. recording_tally (party_number l) o (Some v)) h.number_is) p.4 in
+    (seat_of (party_number l) v, p.2, h.number, h.seats, h.line, fits, p.5)
+
+pub invariant_of-self : goal.invariant_of-self
+invariant_of-self c =
+    let e = c.pair_mut-found.ensures in
+    let l = c.args.self.now in
+    let m = l.recordings in
+    let k = c.pair_mut-found.result.0.now in
+    let v = c.pair_mut-found.result.1.now in
+    let w = c.add.new.self in
+    let at = got m c.args.recording k v w e.unique e.value in
+    record {
+      seated = each_put m c.args.recording k v w e.unique e.value (λ r. AreBelow (length l.parties.keys) (seat_numbers r.seats)) l.seated
+          (subst (λ ss. AreBelow (length l.parties.keys) (seat_numbers ss)) (sym c.add.ensures.seats) (l.seated k v at));
+      keyed = each_put m c.args.recording k v w e.unique e.value (λ r. AreBelow (length l.summary_keys.keys) (line_keys r.lines.items)) l.keyed
+          (subst (AreBelow (length l.summary_keys.keys)) (sym c.add.ensures.keys) (l.keyed k v at));
+    }
+
+pub returns-clause-numbers : goal.returns-clause-numbers
+returns-clause-numbers c =
+    let e = c.pair_mut-found.ensures in
+    let l = c.args.self.now in
+    let m = l.recordings in
+    let k = c.pair_mut-found.result.0.now in
+    let v = c.pair_mut-found.result.1.now in
+    let w = c.add.new.self in
+    let same = c.add.ensures.seats in
+    record {
+      recordings = λ isrc. ap (position (bytes_eq isrc)) (keys-with_value_at m c.args.recording w);
+      seats = λ isrc name.
+          each_related m c.args.recording k v w e.unique e.value
+          (λ (a : Option Recording) b. option_and_then (λ r. seat_of (party_number l) r name) b ≡ option_and_then (λ r. seat_of (party_number l) r name) a)
+          (ap (λ ss. place_by (party_number l) (seat_numbers ss) name) same) (λ o. refl) isrc;
+      lines = λ isrc key.
+          each_related m c.args.recording k v w e.unique e.value
+          (λ (a : Option Recording) b. option_and_then (λ r. place_by (key_number l) (line_keys r.lines.items) key) b ≡ option_and_then (λ r. place_by (key_number l) (line_keys r.lines.items) key) a)
+          (ap (λ ks. place_by (key_number l) ks key) c.add.ensures.keys) (λ o. refl) isrc;
+      wide = λ isrc i.
+          each_related m c.args.recording k v w e.unique e.value
+          (λ (a : Option Recording) b. ((r : Recording) → a ≡ Some r → IsWide (length (seat_numbers r.seats)) r.lines.items i) → (r : Recording) → b ≡ Some r → IsWide (length (seat_numbers r.seats)) r.lines.items i)
+          (λ h r is. subst (λ (x : Recording). IsWide (length (seat_numbers x.seats)) x.lines.items i) (same_Some w r is) (
+          subst (λ ss. IsWide (length (seat_numbers ss)) w.lines.items i) (sym same) (c.add.ensures.wide i (h v refl)))) (λ o h. h) isrc;
+    }
+
+pub returns-clause-tally : goal.returns-clause-tally
+returns-clause-tally c = λ isrc key es is q.
+    let e = c.pair_mut-found.ensures in
+    let l = c.args.self.now in
+    let m = l.recordings in
+    let k = c.pair_mut-found.result.0.now in
+    let v = c.pair_mut-found.result.1.now in
+    let w = c.add.new.self in
+    let party = party_number l in
+    let number = key_number l in
+    let f : Tally → Tally = tally_with c.args.usage.now (map (part_of c.args.usage.now.amount) es) in
+    let found = got_here m c.args.recording k v v e.unique e.value isrc is.recording_is in
+    let h = line_here l isrc key es c.args.recording c.args.line c.args.shares.now v is found in
+    let change = c.add.ensures.tally (seat_of party v) es h.number h.seats h.line in
+    let seat : seat_of party w ≡ seat_of party v = ap (λ ss. place_by party (seat_numbers ss)) c.add.ensures.seats in
+    let own = key_here m c.args.recording k v e.value isrc is.recording_is in
+    related m c.args.recording k v w e.unique e.value
+    (λ x (a : Option Recording) b. (sk : SummaryKey) → recording_tally party (number sk) b ≡ cond (bytes_eq isrc x && summary_key_eq key sk) (f (recording_tally party (number sk) a)) (recording_tally party (number sk) a))
+    (λ sk.
+    changed_tally number (length l.summary_keys.keys) (summary_keys_are_numbered l.summary_keys.keys) party f v w key h.number h.number_is
+    (λ j. ap (λ s. lines_tally s w.lines.items (Some j)) seat ∙ change j) sk
+    ∙ ap (λ b. cond (b && summary_key_eq key sk) (f (recording_tally party (number sk) (Some v))) (recording_tally party (number sk) (Some v))) (sym (ap (bytes_eq isrc) own ∙ text_itself isrc)))
+    (λ x other o sk. ap (λ b. cond (b && summary_key_eq key sk) (f (recording_tally party (number sk) o)) (recording_tally party (number sk) o)) (sym (ap (λ y. bytes_eq y x) (sym own) ∙ other)))
+    q.isrc (summary_key_in q)

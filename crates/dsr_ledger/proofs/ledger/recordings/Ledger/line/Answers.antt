@@ -1,0 +1,80 @@
+use Rattle.std.proofs.Common.{◌≡◌, ℕ, List, refl, sym, ap, subst, ◌∙◌, length}
+use Rattle.std.specs.Prelude.{Option, Some}
+use Rattle.std.specs.Option.{option_and_then}
+use Rattle.std.specs.List.{position}
+use Rattle.std.specs.Str.{bytes_eq}
+use Rattle.indexmap.proofs.CallerLemmas.{keys-with_value_at}
+use Rattle.dsr_ledger.specs.declared.ledger.recording.Recording.{Recording}
+use Rattle.dsr_ledger.specs.declared.ledger.summary_key.SummaryKey.{SummaryKey}
+use Rattle.dsr_ledger.specs.Numbered.{AreBelow, place_in, place_by}
+use Rattle.dsr_ledger.specs.Seats.{seat_numbers}
+use Rattle.dsr_ledger.specs.SummaryKeys.{summary_key_in}
+use Rattle.dsr_ledger.specs.Tallies.{line_keys, IsWide}
+use Rattle.dsr_ledger.specs.Recordings.{party_number, key_number, seat_of, recording_tally}
+use Rattle.dsr_ledger.proofs.NumberedLemmas.{same_Some}
+use Rattle.dsr_ledger.proofs.RecordingLemmas.{below_with, if_ok_weaker}
+use Rattle.dsr_ledger.proofs.LedgerLemmas.{got, put_here, each_put, each_related, summary_keys_are_numbered, grown_tally, grown_lines}
+use Rattle.dsr_ledger.proofs.ledger.recordings.Ledger.line.Goals as goal
+
+pub invariant_of-self : goal.invariant_of-self
+invariant_of-self c =
+    let e = c.pair_mut-found.ensures in
+    let l = c.args.self.now in
+    let m = l.recordings in
+    let k = c.pair_mut-found.result.0.now in
+    let v = c.pair_mut-found.result.1.now in
+    let w = c.line.new.self in
+    let at = got m c.args.recording k v w e.unique e.value in
+    let below = (summary_keys_are_numbered l.summary_keys.keys).below c.requires.known.0 c.args.number c.requires.known.1 in
+    record {
+      seated = each_put m c.args.recording k v w e.unique e.value (λ r. AreBelow (length l.parties.keys) (seat_numbers r.seats)) l.seated
+          (subst (λ ss. AreBelow (length l.parties.keys) (seat_numbers ss)) (sym c.line.ensures.seats) (l.seated k v at));
+      keyed = each_put m c.args.recording k v w e.unique e.value (λ r. AreBelow (length l.summary_keys.keys) (line_keys r.lines.items)) l.keyed
+          (below_with (line_keys v.lines.items) (line_keys w.lines.items) c.args.number (length l.summary_keys.keys) c.line.ensures.keys below (l.keyed k v at));
+    }
+
+pub returns-clause-keeps : goal.returns-clause-keeps
+returns-clause-keeps c =
+    let e = c.pair_mut-found.ensures in
+    let l = c.args.self.now in
+    let m = l.recordings in
+    let k = c.pair_mut-found.result.0.now in
+    let v = c.pair_mut-found.result.1.now in
+    let w = c.line.new.self in
+    let party = party_number l in
+    let same = c.line.ensures.seats in
+    let grow = c.line.ensures.grows in
+    record {
+      tallies = λ q.
+          let number = key_number l (summary_key_in q) in
+          each_related m c.args.recording k v w e.unique e.value (λ (a : Option Recording) b. recording_tally party number b ≡ recording_tally party number a)
+          (grown_tally party number v w same grow) (λ o. refl) q.isrc;
+      recordings = λ isrc. ap (position (bytes_eq isrc)) (keys-with_value_at m c.args.recording w);
+      seats = λ isrc name.
+          each_related m c.args.recording k v w e.unique e.value
+          (λ (a : Option Recording) b. option_and_then (λ r. seat_of party r name) b ≡ option_and_then (λ r. seat_of party r name) a)
+          (ap (λ ss. place_by party (seat_numbers ss) name) same) (λ o. refl) isrc;
+      lines = λ isrc.
+          each_related m c.args.recording k v w e.unique e.value
+          (λ (a : Option Recording) b. (q : SummaryKey) (i : ℕ) → option_and_then (λ r. place_by (key_number l) (line_keys r.lines.items) q) a ≡ Some i → option_and_then (λ r. place_by (key_number l) (line_keys r.lines.items) q) b ≡ Some i)
+          (grown_lines (key_number l) v.lines.items w.lines.items grow.numbers) (λ o q i is. is) isrc;
+      wide = λ isrc i.
+          each_related m c.args.recording k v w e.unique e.value
+          (λ (a : Option Recording) b. ((r : Recording) → a ≡ Some r → IsWide (length (seat_numbers r.seats)) r.lines.items i) → (r : Recording) → b ≡ Some r → IsWide (length (seat_numbers r.seats)) r.lines.items i)
+          (λ h r is. subst (λ (x : Recording). IsWide (length (seat_numbers x.seats)) x.lines.items i) (same_Some w r is) (
+          subst (λ ss. IsWide (length (seat_numbers ss)) w.lines.items i) (sym same) (grow.wide i (h v refl)))) (λ o h. h) isrc;
+    }
+
+pub returns-clause-there : goal.returns-clause-there
+returns-clause-there c = λ isrc key is known.
+    let e = c.pair_mut-found.ensures in
+    let l = c.args.self.now in
+    let w = c.line.new.self in
+    let put = put_here l.recordings c.args.recording _ c.pair_mut-found.result.1.now w e.unique e.value isrc is in
+    if_ok_weaker c.line.result
+    (λ i h. (
+      ap (option_and_then (λ r. place_by (key_number l) (line_keys r.lines.items) key)) put ∙ ap (option_and_then (place_in (line_keys w.lines.items))) known ∙ h.0,
+      λ r found. subst (λ (x : Recording). IsWide (length (seat_numbers x.seats)) x.lines.items i) (same_Some w r (sym put ∙ found)) (
+          subst (λ ss. IsWide (length (seat_numbers ss)) w.lines.items i) (sym c.line.ensures.seats) h.1),
+    ))
+    c.line.ensures.there

@@ -1,0 +1,18 @@
+-- What is planned of a block before anything is added.
+use Rattle.std.specs.Prelude.{◌≡◌, ℕ, List, Some, map}
+use Rattle.dsr_records.specs.declared.record.Usage.{Usage}
+use Rattle.dsr_records.specs.Works.{WorkParts}
+use Rattle.dsr_ledger.specs.declared.booking.plan.Plan.{Plan}
+use Rattle.dsr_ledger.specs.declared.ledger.recordings.Ledger.{Ledger}
+use Rattle.dsr_ledger.specs.declared.file.summaries.Summaries.{Summaries}
+use Rattle.dsr_ledger.specs.Lined.{AreLined}
+use Rattle.dsr_ledger.specs.Recordings.{recording_number, seat_at}
+use Rattle.dsr_ledger.specs.Seated.{AreSeated, shares_of}
+use Rattle.dsr_ledger.specs.Summaries.{index_at, place_at}
+
+-- the recording, the seats of the works' parties, and the summaries and the lines of the usages
+pub record IsPlanned (ledger : Ledger) (summaries : Summaries) (isrc : List ℕ) (works : List WorkParts) (us : List Usage) (plan : Plan) : Type 0 where
+  pub recording_is : recording_number ledger isrc ≡ Some plan.recording
+  pub seated : AreSeated (seat_at ledger isrc) plan.shares.items (shares_of works)
+  pub counted : map (λ u. index_at summaries u.summary_id) us ≡ map Some plan.summaries.items
+  pub lined : AreLined ledger (place_at summaries) isrc us plan.lines.items

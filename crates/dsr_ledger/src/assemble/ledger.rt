@@ -1,0 +1,70 @@
+//! The ledger's lines in their order.
+ghost use Rattle.std.specs.Prelude.{◌≡◌, List, IfOk, OnOk, length};
+ghost use Rattle.std.specs.List.{IsDistinct};
+ghost use Rattle.std.specs.Str.{bytes_eq};
+ghost use Rattle.dsr_ledger.specs.Bookings.{Booking};
+ghost use Rattle.dsr_ledger.specs.Ledger.{ledger};
+ghost use Rattle.dsr_ledger.specs.Numbered.{AreBelow};
+ghost use Rattle.dsr_ledger.specs.Seats.{seat_numbers};
+ghost use Rattle.dsr_ledger.specs.SummaryKeys.{summary_key_eq};
+ghost use Rattle.dsr_ledger.specs.Tallies.{line_keys};
+ghost use Rattle.dsr_ledger.specs.Stands.{LedgerStands};
+ghost use Rattle.dsr_ledger.specs.Order.{AreOfSmall};
+ghost use Rattle.dsr_ledger.specs.Listed.{IsOfSmallAt, AddsLines};
+
+use crate::assemble::lines::ledger_line;
+use crate::assemble::listed::{lines_by_key, seats_by_name};
+use crate::ledger::recording::Recording;
+use crate::ledger::recordings::Ledger;
+use crate::ledger::summary_key::SummaryKey;
+use crate::report::LedgerLines;
+use dsr_cells::{Isrc, Items, NoMemory, Text};
+use std::alloc::Global;
+
+/// Adds the lines of a recording that have a booking, in the order of their summary keys.
+fn add_recording(
+    report: &mut LedgerLines,
+    alloc: Global,
+    parties: &[Text],
+    keys: &[SummaryKey],
+    isrc: Isrc,
+    recording: &Recording,
+) -> Result<(), NoMemory>
+    requires names { IsDistinct bytes_eq parties.now }
+    requires keys { IsDistinct summary_key_eq keys.now }
+    requires seated { AreBelow (length parties.now) (seat_numbers recording.now.seats) }
+    requires keyed { AreBelow (length keys.now) (line_keys recording.now.lines.items) }
+    requires small { ∥ IsOfSmallAt parties.now keys.now isrc recording.now ∥₁ }
+    ensures { OnOk result (AddsLines parties.now keys.now isrc recording.now report.old report.new) }
+{
+    let seats = seats_by_name(alloc, parties, recording.seats.as_slice())?;
+    let order = lines_by_key(alloc, keys, recording.lines.as_slice())?;
+    for (key, place) in order.as_slice() {
+        let line = &recording.lines[*place];
+        if line.is_booked {
+            let line = ledger_line(alloc, isrc, key, line, seats.as_slice())?;
+            report.push(line).map_err(|_line| NoMemory)?;
+        }
+    }
+    Ok(())
+}
+
+/// The lines of all keys that have a booking, in the order of the keys.
+pub fn ledger_lines(alloc: Global, books: Ledger) -> Result<LedgerLines, NoMemory>
+    requires { ∥ AreOfSmall books ∥₁ }
+    ensures { (bs : List Booking) → LedgerStands books bs → IfOk result (λ l. l ≡ ledger bs) }
+{
+    let Ledger {
+        parties,
+        summary_keys,
+        mut recordings,
+    } = books;
+    recordings.sort_unstable_keys()?;
+    let names = parties.as_slice();
+    let keys = summary_keys.as_slice();
+    let mut report = Items::with_room(alloc, recordings.len())?;
+    for (isrc, recording) in recordings {
+        add_recording(&mut report, alloc, names, keys, isrc, &recording)?;
+    }
+    Ok(report)
+}

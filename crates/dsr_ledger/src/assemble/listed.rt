@@ -1,0 +1,67 @@
+//! The seats and the lines of a recording, in the order of what they are called.
+ghost use Rattle.std.specs.Prelude.{◌≡◌, IfOk, length, map};
+ghost use Rattle.std.specs.List.{position, IsDistinct};
+ghost use Rattle.std.specs.Str.{bytes_eq};
+ghost use Rattle.dsr_ledger.specs.Keys.{text_cmp};
+ghost use Rattle.dsr_ledger.specs.SummaryKeys.{summary_key_eq, summary_key_cmp};
+ghost use Rattle.dsr_ledger.specs.Numbered.{place_by, AreApart, AreBelow};
+ghost use Rattle.dsr_ledger.specs.Tallies.{line_keys};
+ghost use Rattle.dsr_ledger.specs.Listed.{AreSeatsOf, AreLinesOf};
+
+use crate::ledger::line::Line;
+use crate::ledger::summary_key::SummaryKey;
+use dsr_cells::{NoMemory, Text};
+use std::alloc::Global;
+use std::cmp::Ordering;
+
+/// The order of two parties: that of the bytes of their names.
+fn by_name(one: &(&Text, usize), other: &(&Text, usize)) -> Ordering
+    ensures { result ≡ text_cmp one.now.0.now other.now.0.now }
+{
+    one.0.cmp(other.0)
+}
+
+/// The order of two lines: that of their summary keys.
+fn by_key(one: &(&SummaryKey, usize), other: &(&SummaryKey, usize)) -> Ordering
+    ensures { result ≡ summary_key_cmp one.now.0.now other.now.0.now }
+{
+    one.0.cmp(other.0)
+}
+
+/// The names of a recording's parties, in the order of their bytes, with the parties' seats.
+pub fn seats_by_name<'a>(
+    alloc: Global,
+    parties: &'a [Text],
+    numbers: &[u32],
+) -> Result<Vec<(&'a Text, usize)>, NoMemory>
+    requires names { IsDistinct bytes_eq parties.now }
+    requires apart { AreApart numbers.now }
+    requires below { AreBelow (length parties.now) numbers.now }
+    ensures { IfOk result (λ seats. AreSeatsOf (place_by (λ q. position (bytes_eq q) parties.now) numbers.now) seats.items) }
+{
+    let mut seats = Vec::with_capacity(alloc, numbers.len())?;
+    for seat in 0..numbers.len() {
+        seats.push((&parties[numbers[seat] as usize], seat))?;
+    }
+    seats.sort_unstable_by(by_name);
+    Ok(seats)
+}
+
+/// The summary keys of a recording's lines, in their order, with the places of the lines.
+pub fn lines_by_key<'a>(
+    alloc: Global,
+    keys: &'a [SummaryKey],
+    lines: &[Line],
+) -> Result<Vec<(&'a SummaryKey, usize)>, NoMemory>
+    requires keys { IsDistinct summary_key_eq keys.now }
+    requires apart { AreApart (line_keys lines.now) }
+    requires below { AreBelow (length keys.now) (line_keys lines.now) }
+    ensures { IfOk result (λ order. AreLinesOf (place_by (λ q. position (summary_key_eq q) keys.now) (line_keys lines.now)) order.items) }
+{
+    let mut order = Vec::with_capacity(alloc, lines.len())?;
+    for line in 0..lines.len() {
+        order.push((&keys[lines[line].key as usize], line))?;
+    }
+    order.sort_unstable_by(by_key);
+    Ok(order)
+}

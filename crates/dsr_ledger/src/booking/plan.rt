@@ -1,0 +1,178 @@
+//! What a block will touch: every growth that its additions will want.
+ghost use Rattle.std.specs.Prelude.{◌≡◌, ℕ, List, [], OnOk, Some, map};
+ghost use Rattle.std.specs.List.{zip};
+ghost use Rattle.dsr_records.specs.declared.record.Usage.{Usage};
+ghost use Rattle.dsr_ledger.specs.Recordings.{tally_at, seat_at, recording_number, KeepsSeats, KeepsLines};
+ghost use Rattle.dsr_ledger.specs.Seated.{shares_of, SeatedMore};
+ghost use Rattle.dsr_ledger.specs.Summaries.{index_at, place_at};
+ghost use Rattle.dsr_ledger.specs.Lined.{AreLined, LinedMore, SameSummaries};
+
+use crate::file::summaries::Summaries;
+use crate::ledger::line::SeatShare;
+use crate::ledger::recordings::Ledger;
+use dsr_cells::{Isrc, NoMemory};
+use dsr_records::Work;
+use std::alloc::Global;
+
+/// What a block will touch. The lists are filled anew for each block.
+#[derive(Drop)]
+pub struct Plan {
+    /// The numbers of the usages' summaries.
+    pub summaries: Vec<usize>,
+    /// The number of the recording.
+    pub recording: usize,
+    /// The shares of all works in a row.
+    pub shares: Vec<SeatShare>,
+    /// The lines of the usages.
+    pub lines: Vec<usize>,
+}
+
+/// The seat after that of the last share. Mostly the next party has it.
+fn next_seat(shares: &[SeatShare]) -> usize {
+    match shares.last() {
+        Some(last) => last.seat.wrapping_add(1),
+        None => 0,
+    }
+}
+
+/// The line after the last one. Mostly the next usage counts there.
+fn next_line(lines: &[usize]) -> usize {
+    match lines.last() {
+        Some(last) => last.wrapping_add(1),
+        None => 0,
+    }
+}
+
+/// Plans the shares of a work.
+fn plan_work(
+    ledger: &mut Ledger,
+    alloc: Global,
+    recording: usize,
+    work: &Work,
+    plan: &mut Vec<SeatShare>,
+) -> Result<(), NoMemory>
+    requires { (isrc : List ℕ) × (recording_number ledger.old isrc ≡ Some recording) }
+    ensures keeps { KeepsSeats ledger.old ledger.new }
+    ensures seated { (isrc : List ℕ) → recording_number ledger.old isrc ≡ Some recording → OnOk result (SeatedMore (seat_at ledger.new isrc) plan.old.items plan.new.items (zip work.now.parties work.now.shares)) }
+{
+    let shares = work.shares.as_slice();
+    for (i, party) in work.parties.as_slice().iter().enumerate() {
+        let seat = ledger.seat(alloc, recording, party, next_seat(plan.as_slice()))?;
+        plan.push(SeatShare {
+            seat,
+            share: shares[i].parts(),
+        })?;
+    }
+    Ok(())
+}
+
+/// Plans the shares of works.
+fn plan_works(
+    ledger: &mut Ledger,
+    alloc: Global,
+    recording: usize,
+    works: &[Work],
+    plan: &mut Vec<SeatShare>,
+) -> Result<(), NoMemory>
+    requires { (isrc : List ℕ) × (recording_number ledger.old isrc ≡ Some recording) }
+    ensures keeps { KeepsSeats ledger.old ledger.new }
+    ensures seated { (isrc : List ℕ) → recording_number ledger.old isrc ≡ Some recording → OnOk result (SeatedMore (seat_at ledger.new isrc) plan.old.items plan.new.items (shares_of works.now)) }
+{
+    for work in works {
+        plan_work(ledger, alloc, recording, work, plan)?;
+    }
+    Ok(())
+}
+
+/// Plans the line of a usage that names the summary with this number.
+fn plan_line(
+    ledger: &mut Ledger,
+    alloc: Global,
+    recording: usize,
+    summaries: &mut Summaries,
+    summary: usize,
+    plan: &mut Vec<usize>,
+) -> Result<(), NoMemory>
+    requires there { (isrc : List ℕ) × (recording_number ledger.old isrc ≡ Some recording) }
+    requires named { (id : List ℕ) × (index_at summaries.old id ≡ Some summary) }
+    ensures keeps { KeepsLines ledger.old ledger.new }
+    ensures same { SameSummaries summaries.old summaries.new }
+    ensures lined { (isrc : List ℕ) (u : Usage) → recording_number ledger.old isrc ≡ Some recording → index_at summaries.old u.summary_id ≡ Some summary
+        → OnOk result (LinedMore ledger.new (place_at summaries.new) isrc u plan.old.items plan.new.items) }
+{
+    let state = summaries.state(summary);
+    let key = ledger.summary_key(alloc, &state.key, state.key_hint)?;
+    let line = ledger.line(alloc, recording, key, next_line(plan.as_slice()))?;
+    summaries.keep_hint(summary, key);
+    plan.push(line)?;
+    Ok(())
+}
+
+/// Plans the lines of usages that name the summaries with these numbers.
+fn plan_lines(
+    ledger: &mut Ledger,
+    alloc: Global,
+    recording: usize,
+    summaries: &mut Summaries,
+    numbers: &[usize],
+    plan: &mut Vec<usize>,
+) -> Result<(), NoMemory>
+    requires empty { plan.old.items ≡ [] }
+    requires there { (isrc : List ℕ) × (recording_number ledger.old isrc ≡ Some recording) }
+    requires named { (us : List Usage) × (map (λ u. index_at summaries.old u.summary_id) us ≡ map Some numbers.now) }
+    ensures keeps { KeepsLines ledger.old ledger.new }
+    ensures same { SameSummaries summaries.old summaries.new }
+    ensures lined { (isrc : List ℕ) (us : List Usage) → recording_number ledger.old isrc ≡ Some recording → map (λ u. index_at summaries.old u.summary_id) us ≡ map Some numbers.now
+        → OnOk result (AreLined ledger.new (place_at summaries.new) isrc us plan.new.items) }
+{
+    for number in numbers {
+        plan_line(ledger, alloc, recording, summaries, *number, plan)?;
+    }
+    Ok(())
+}
+
+impl Plan {
+    ghost use Rattle.dsr_ledger.specs.declared.key.Key.{Key};
+    ghost use Rattle.dsr_ledger.specs.Plans.{IsPlanned};
+
+    /// Empty lists.
+    pub fn new(alloc: Global) -> Plan {
+        Plan {
+            summaries: Vec::new(alloc),
+            recording: 0,
+            shares: Vec::new(alloc),
+            lines: Vec::new(alloc),
+        }
+    }
+
+    /// Plans a block of a recording with these works, the summaries of whose usages are found. What is kept of each key and
+    /// of each summary stays.
+    pub fn fill(
+        &mut self,
+        ledger: &mut Ledger,
+        alloc: Global,
+        summaries: &mut Summaries,
+        isrc: Isrc,
+        works: &[Work],
+    ) -> Result<(), NoMemory>
+        requires { (us : List Usage) × (map (λ u. index_at summaries.old u.summary_id) us ≡ map Some self.old.summaries.items) }
+        ensures tallies { (q : Key) → tally_at ledger.new q ≡ tally_at ledger.old q }
+        ensures same { SameSummaries summaries.old summaries.new }
+        ensures planned { (us : List Usage) → map (λ u. index_at summaries.old u.summary_id) us ≡ map Some self.old.summaries.items
+            → OnOk result (IsPlanned ledger.new summaries.new isrc works.now us self.new) }
+    {
+        self.shares.clear();
+        self.lines.clear();
+        let recording = ledger.recording(alloc, isrc)?;
+        self.recording = recording;
+        plan_works(ledger, alloc, recording, works, &mut self.shares)?;
+        plan_lines(
+            ledger,
+            alloc,
+            recording,
+            summaries,
+            self.summaries.as_slice(),
+            &mut self.lines,
+        )
+    }
+}

@@ -1,0 +1,168 @@
+//! What is kept of a file's summaries.
+ghost use Rattle.std.specs.Prelude.{◌≡◌, IfOk};
+ghost use Rattle.dsr_ledger.specs.Ranges.{IsInRange, SumsFit};
+ghost use Rattle.dsr_ledger.specs.Summaries.{shown, shown_plus, nothing_found};
+
+use crate::ledger::summary_key::SummaryKey;
+use crate::seeded::Seeded;
+use crate::sums::Sums;
+use dsr_cells::{NoMemory, Text};
+use dsr_records::{Summary, Usage};
+use indexmap::IndexMap;
+use std::alloc::Global;
+
+/// What is kept of a summary: the key under which its usages count, and the sums of the usages that name it.
+#[derive(Drop)]
+pub struct SummaryState {
+    pub key: SummaryKey,
+    /// The number that the key had last, or any other.
+    pub key_hint: u32,
+    pub sums: Sums,
+}
+
+impl SummaryState {
+    /// The state of a summary that no usage names so far.
+    pub fn new(alloc: Global, summary: &Summary) -> Result<SummaryState, NoMemory>
+        ensures { IfOk result (λ s. shown s ≡ nothing_found summary.now) }
+    {
+        Ok(SummaryState {
+            key: SummaryKey {
+                territory: summary.territory.copy(alloc)?,
+                use_type: summary.use_type.copy(alloc)?,
+                currency: summary.currency.copy(alloc)?,
+            },
+            key_hint: 0,
+            sums: Sums {
+                usages: 0,
+                amount: 0,
+            },
+        })
+    }
+
+    /// Adds a usage that names the summary.
+    fn count(&mut self, usage: &Usage)
+        requires { SumsFit 1 self.old.sums }
+        ensures shown { shown self.new ≡ shown_plus usage.now (shown self.old) }
+        ensures range { IsInRange usage.now }
+    {
+        self.sums.add(usage);
+    }
+}
+
+/// A file's summaries by their identifiers, numbered in file order.
+#[derive(Drop)]
+pub struct Summaries {
+    pub states: IndexMap<Text, SummaryState, Seeded>,
+}
+
+impl Summaries {
+    ghost use Rattle.std.specs.Prelude.{[], ◌∷◌, ◌<◌, ℕ, List, IfSome, OnOk, None, Some, option_map};
+    ghost use Rattle.std.specs.Option.{ForSome};
+    ghost use Rattle.indexmap.specs.IndexMap.{index_map_len};
+    ghost use Rattle.dsr_ledger.specs.Summaries.{shown_at, shown_with, index_at, ShownFits};
+    ghost use Rattle.dsr_ledger.specs.Openings.{first_of, named};
+
+    /// No summaries.
+    pub fn new(alloc: Global, seeded: Seeded) -> Summaries
+        ensures { (q : List ℕ) → shown_at result q ≡ None }
+    {
+        Summaries {
+            states: IndexMap::with_hasher(alloc, seeded),
+        }
+    }
+
+    /// No summaries, with room for so many.
+    pub fn with_room(alloc: Global, seeded: Seeded, many: usize) -> Result<Summaries, NoMemory>
+        ensures { IfOk result (λ m. (q : List ℕ) → shown_at m q ≡ None) }
+    {
+        Ok(Summaries {
+            states: IndexMap::with_capacity_and_hasher(alloc, many, seeded)?,
+        })
+    }
+
+    /// The number, where it is this summary's.
+    fn hinted(&self, number: usize, id: &Text) -> Option<usize>
+        ensures { IfSome result (λ number. index_at self.now id.now ≡ Some number) }
+    {
+        let (own, _) = self.states.as_slice().get_index(number)?;
+        if *own == *id {
+            return Some(number);
+        }
+        None
+    }
+
+    /// The number of a summary.
+    pub fn index(&self, id: &Text) -> Option<usize>
+        ensures { result ≡ index_at self.now id.now }
+    {
+        self.states.get_index_of(id)
+    }
+
+    /// The same, where `hint` is tried before. Any will do; the number itself is found soonest.
+    pub fn index_near(&self, id: &Text, hint: usize) -> Option<usize>
+        ensures { result ≡ index_at self.now id.now }
+    {
+        if let Some(number) = self.hinted(hint, id) {
+            return Some(number);
+        }
+        self.index(id)
+    }
+
+    /// The number after that of a summary. After the last one, the first comes again.
+    pub fn next(&self, number: usize) -> usize {
+        let next = number.wrapping_add(1);
+        if next < self.states.len() { next } else { 0 }
+    }
+
+    /// The sums of the usages that name a summary.
+    pub fn sums(&self, id: &Text) -> Option<Sums>
+        ensures { result ≡ option_map (λ s. s.sums) (shown_at self.now id.now) }
+    {
+        match self.states.get(id) {
+            Some(state) => Some(state.sums),
+            None => None,
+        }
+    }
+
+    /// What is kept of the summary with this number.
+    pub fn state(&self, number: usize) -> &SummaryState
+        requires { number < index_map_len self.now.states }
+        ensures { (id : List ℕ) → index_at self.now id ≡ Some number → shown_at self.now id ≡ Some (shown result.now) }
+    {
+        &self.states[number]
+    }
+
+    /// Keeps the number of a summary's key as a hint.
+    pub fn keep_hint(&mut self, number: usize, hint: u32)
+        requires { number < index_map_len self.old.states }
+        ensures index { (q : List ℕ) → index_at self.new q ≡ index_at self.old q }
+        ensures shown { (q : List ℕ) → shown_at self.new q ≡ shown_at self.old q }
+    {
+        let (_, state) = self.states.pair_mut(number);
+        state.key_hint = hint;
+    }
+
+    /// Adds a summary that no usage names so far, unless its identifier is there. What is kept of the others stays.
+    pub fn add(&mut self, alloc: Global, summary: &Summary) -> Result<(), NoMemory>
+        ensures { OnOk result ((q : List ℕ) → shown_at self.new q ≡ first_of (shown_at self.old q) (option_map nothing_found (named q summary.now))) }
+    {
+        if self.states.contains_key(&summary.id) {
+            return Ok(());
+        }
+        let state = SummaryState::new(alloc, summary)?;
+        let _none = self.states.insert(summary.id.copy(alloc)?, state)?;
+        Ok(())
+    }
+
+    /// Adds a usage to the summary that it names, which has this number, and to no other.
+    pub fn count(&mut self, number: usize, usage: &Usage)
+        requires there { index_at self.old usage.now.summary_id ≡ Some number }
+        requires fits { ForSome (shown_at self.old usage.now.summary_id) (ShownFits 1) }
+        ensures range { IsInRange usage.now }
+        ensures index { (q : List ℕ) → index_at self.new q ≡ index_at self.old q }
+        ensures shown { (q : List ℕ) → shown_at self.new q ≡ option_map (shown_with q (usage.now ∷ [])) (shown_at self.old q) }
+    {
+        let (_, state) = self.states.pair_mut(number);
+        state.count(usage);
+    }
+}

@@ -1,0 +1,6 @@
+//! The ledger: what is booked of each recording.
+pub mod line;
+pub mod recording;
+pub mod recordings;
+pub mod seats;
+pub mod summary_key;

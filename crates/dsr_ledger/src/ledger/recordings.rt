@@ -1,0 +1,183 @@
+//! The ledger: the parties, the summary keys, and the recordings.
+ghost use Rattle.std.specs.Prelude.{◌≡◌, ℕ, List, Some, length};
+ghost use Rattle.std.specs.Str.{bytes_eq};
+ghost use Rattle.indexmap.specs.IndexMap.{get};
+ghost use Rattle.dsr_ledger.specs.Numbered.{AreBelow};
+ghost use Rattle.dsr_ledger.specs.Seats.{seat_numbers};
+ghost use Rattle.dsr_ledger.specs.Tallies.{line_keys};
+ghost use Rattle.dsr_ledger.specs.declared.ledger.recording.Recording.{Recording};
+
+use crate::ledger::line::SeatShare;
+use crate::ledger::recording::Recording;
+use crate::ledger::summary_key::SummaryKey;
+use crate::seeded::Seeded;
+use dsr_cells::{Isrc, NoMemory, Text};
+use dsr_records::Usage;
+use indexmap::{IndexMap, IndexSet};
+use std::alloc::Global;
+
+/// Each party, each summary key and each recording once. All are numbered in the order in which they came.
+#[derive(Drop)]
+pub struct Ledger {
+    pub parties: IndexSet<Text, Seeded>,
+    pub summary_keys: IndexSet<SummaryKey, Seeded>,
+    pub recordings: IndexMap<Isrc, Recording, Seeded>,
+    ghost seated: { (isrc : List ℕ) (r : Recording) → get bytes_eq recordings isrc ≡ Some r → AreBelow (length parties.keys) (seat_numbers r.seats) },
+    ghost keyed: { (isrc : List ℕ) (r : Recording) → get bytes_eq recordings isrc ≡ Some r → AreBelow (length summary_keys.keys) (line_keys r.lines.items) },
+}
+
+impl Ledger {
+    ghost use Rattle.std.specs.Prelude.{◌≤◌, ◌^◌, Option, IfOk, IfSome, None, map, if◌then◌else◌};
+    ghost use Rattle.dsr_ledger.specs.declared.key.Key.{Key};
+    ghost use Rattle.dsr_ledger.specs.Bookings.{key_under};
+    ghost use Rattle.dsr_ledger.specs.Keys.{key_eq};
+    ghost use Rattle.dsr_ledger.specs.Owed.{parts_size};
+    ghost use Rattle.dsr_ledger.specs.Parts.{part_of};
+    ghost use Rattle.dsr_ledger.specs.Ranges.{IsInRange};
+    ghost use Rattle.dsr_ledger.specs.Tallies.{no_tally, tally_with, TallyFits};
+    ghost use Rattle.dsr_ledger.specs.Recordings.{party_number, key_number, recording_number, tally_at, seat_at, line_at, IsWideAt, KeepsSeats, KeepsLines, SameNumbers, IsLineOf};
+
+    /// No recordings.
+    pub fn new(alloc: Global, seeded: Seeded) -> Ledger
+        ensures { (q : Key) → tally_at result q ≡ no_tally }
+    {
+        Ledger {
+            parties: IndexSet::with_hasher(alloc, seeded),
+            summary_keys: IndexSet::with_hasher(alloc, seeded),
+            recordings: IndexMap::with_hasher(alloc, seeded),
+        }
+    }
+
+    /// The number of a recording, which is made where there is none. What is kept of each key stays.
+    pub fn recording(&mut self, alloc: Global, isrc: Isrc) -> Result<usize, NoMemory>
+        ensures same { (q : Key) → tally_at self.new q ≡ tally_at self.old q }
+        ensures there { IfOk result (λ number. recording_number self.new isrc ≡ Some number) }
+    {
+        if let Some(number) = self.recordings.get_index_of(&isrc) {
+            return Ok(number);
+        }
+        let number = self.recordings.len();
+        self.recordings.insert(isrc, Recording::new(alloc))?;
+        Ok(number)
+    }
+
+    /// The number of a party, which is given one where it has none. So many parties that 32 bits do not count them are more
+    /// than there is memory for.
+    fn party(&mut self, alloc: Global, name: &Text) -> Result<u32, NoMemory>
+        ensures seats { (isrc q : List ℕ) → seat_at self.new isrc q ≡ seat_at self.old isrc q }
+        ensures same { (q : Key) → tally_at self.new q ≡ tally_at self.old q }
+        ensures recordings { self.new.recordings ≡ self.old.recordings }
+        ensures there { IfOk result (λ number. party_number self.new name.now ≡ Some number) }
+    {
+        if let Some(number) = self.parties.get_index_of(name) {
+            return u32::try_from(number).map_err(|_| NoMemory);
+        }
+        let Ok(number) = u32::try_from(self.parties.len()) else {
+            return Err(NoMemory);
+        };
+        self.parties.insert(name.copy(alloc)?)?;
+        Ok(number)
+    }
+
+    /// A seat of a recording, where it is this party's.
+    fn hinted_seat(&self, recording: usize, name: &Text, hint: usize) -> Option<usize>
+        ensures { (isrc : List ℕ) → recording_number self.now isrc ≡ Some recording → IfSome result (λ seat. seat_at self.now isrc name.now ≡ Some seat) }
+    {
+        let (_, found) = self.recordings.as_slice().get_index(recording)?;
+        let party = found.seats.as_slice().get(hint)?;
+        let named = self.parties.as_slice().get(*party as usize)?;
+        if *named == *name {
+            return Some(hint);
+        }
+        None
+    }
+
+    /// The seat of a party in a recording, which is given one where it has none. What is kept of each key stays. The seat
+    /// `hint` is looked at first.
+    pub fn seat(
+        &mut self,
+        alloc: Global,
+        recording: usize,
+        name: &Text,
+        hint: usize,
+    ) -> Result<usize, NoMemory>
+        requires { (isrc : List ℕ) × (recording_number self.old isrc ≡ Some recording) }
+        ensures keeps { KeepsSeats self.old self.new }
+        ensures there { (isrc : List ℕ) → recording_number self.old isrc ≡ Some recording → IfOk result (λ seat. seat_at self.new isrc name.now ≡ Some seat) }
+    {
+        if let Some(seat) = self.hinted_seat(recording, name, hint) {
+            return Ok(seat);
+        }
+        let party = self.party(alloc, name)?;
+        let (_, found) = self.recordings.pair_mut(recording);
+        found.seat(alloc, party)
+    }
+
+    /// A number, where it is this summary key's.
+    fn hinted_key(&self, key: &SummaryKey, hint: u32) -> Option<u32>
+        ensures { IfSome result (λ number. key_number self.now key.now ≡ Some number) }
+    {
+        let numbered = self.summary_keys.as_slice().get(hint as usize)?;
+        if *numbered == *key {
+            return Some(hint);
+        }
+        None
+    }
+
+    /// The number of a summary key, which is given one where it has none. The key with the number `hint` is looked at
+    /// first. So many keys that 32 bits do not count them are more than there is memory for.
+    pub fn summary_key(
+        &mut self,
+        alloc: Global,
+        key: &SummaryKey,
+        hint: u32,
+    ) -> Result<u32, NoMemory>
+        ensures keeps { KeepsLines self.old self.new }
+        ensures recordings { self.new.recordings ≡ self.old.recordings }
+        ensures there { IfOk result (λ number. key_number self.new key.now ≡ Some number) }
+    {
+        if let Some(number) = self.hinted_key(key, hint) {
+            return Ok(number);
+        }
+        if let Some(number) = self.summary_keys.get_index_of(key) {
+            return u32::try_from(number).map_err(|_| NoMemory);
+        }
+        let Ok(number) = u32::try_from(self.summary_keys.len()) else {
+            return Err(NoMemory);
+        };
+        self.summary_keys.insert(key.copy(alloc)?)?;
+        Ok(number)
+    }
+
+    /// The line of the summary key with this number in a recording, which is made where there is none, and has a part for
+    /// each seat. What is kept of each key stays. The line `hint` is looked at first.
+    pub fn line(
+        &mut self,
+        alloc: Global,
+        recording: usize,
+        number: u32,
+        hint: usize,
+    ) -> Result<usize, NoMemory>
+        requires there { (isrc : List ℕ) × (recording_number self.old isrc ≡ Some recording) }
+        requires known { (key : SummaryKey) × (key_number self.old key ≡ Some number) }
+        ensures keeps { KeepsLines self.old self.new }
+        ensures there { (isrc : List ℕ) (key : SummaryKey) → recording_number self.old isrc ≡ Some recording → key_number self.old key ≡ Some number
+            → IfOk result (λ i. (line_at self.new isrc key ≡ Some i) × IsWideAt self.new isrc i) }
+    {
+        let (_, found) = self.recordings.pair_mut(recording);
+        found.line(alloc, number, hint)
+    }
+
+    /// Adds a usage and its parts to a line, and to no other. It takes no memory.
+    pub fn add(&mut self, recording: usize, line: usize, usage: &Usage, shares: &[SeatShare])
+        requires { (isrc : List ℕ) × (key : SummaryKey) × (es : List (List ℕ × ℕ)) × IsLineOf self.old isrc key es recording line shares.now
+            × TallyFits 1 (tally_at self.old (key_under isrc key)) × (parts_size (map (part_of usage.now.amount) es) ≤ 10 ^ 22) }
+        ensures range { IsInRange usage.now }
+        ensures numbers { SameNumbers self.old self.new }
+        ensures tally { (isrc : List ℕ) (key : SummaryKey) (es : List (List ℕ × ℕ)) → IsLineOf self.old isrc key es recording line shares.now
+            → (q : Key) → tally_at self.new q ≡ (if key_eq (key_under isrc key) q then tally_with usage.now (map (part_of usage.now.amount) es) (tally_at self.old q) else tally_at self.old q) }
+    {
+        let (_, found) = self.recordings.pair_mut(recording);
+        found.add(line, usage, shares);
+    }
+}
