@@ -15,23 +15,11 @@ use Rattle.dsr_ledger.specs.Seated.{shares_of}
 use Rattle.dsr_ledger.specs.Summaries.{shown_at, index_at, place_at}
 use Rattle.dsr_ledger.proofs.SeatedLemmas.{zip_weaker, seated_grows}
 
-pub seats_stay : (a : Ledger) → KeepsSeats a a
-seats_stay a = record { tallies = λ q. refl; recordings = λ isrc. refl; seats = λ isrc q i e. e }
-
 pub seats_twice : (a b c : Ledger) → KeepsSeats a b → KeepsSeats b c → KeepsSeats a c
 seats_twice a b c g h = record {
   tallies = λ q. h.tallies q ∙ g.tallies q;
   recordings = λ isrc. h.recordings isrc ∙ g.recordings isrc;
   seats = λ isrc q i e. h.seats isrc q i (g.seats isrc q i e);
-}
-
-pub lines_stay : (a : Ledger) → KeepsLines a a
-lines_stay a = record {
-  tallies = λ q. refl;
-  recordings = λ isrc. refl;
-  seats = λ isrc q. refl;
-  lines = λ isrc k i e. e;
-  wide = λ isrc i h. h;
 }
 
 pub lines_twice : (a b c : Ledger) → KeepsLines a b → KeepsLines b c → KeepsLines a c
@@ -53,9 +41,6 @@ numbers_twice a b c g h = record {
   lines = λ isrc k. h.lines isrc k ∙ g.lines isrc k;
   wide = λ isrc i e. h.wide isrc i (g.wide isrc i e);
 }
-
-pub summaries_stay : (a : Summaries) → SameSummaries a a
-summaries_stay a = record { shown = λ id. refl; index = λ id. refl }
 
 pub summaries_twice : (a b c : Summaries) → SameSummaries a b → SameSummaries b c → SameSummaries a c
 summaries_twice a b c g h = record { shown = λ id. h.shown id ∙ g.shown id; index = λ id. h.index id ∙ g.index id }

@@ -104,14 +104,6 @@ module _ {S : Type 0} (m : IndexMap (List ℕ) Recording S) (i : ℕ) (k : List 
 pub seats_kept : (old new : List ℕ → Option ℕ) (name : List ℕ) (m : ℕ) (r : Recording) → old name ≡ None → ((q : List ℕ) → new q ≡ cond (bytes_eq name q) (Some m) (old q)) → AreBelow m (seat_numbers r.seats) → seat_of new r ≡ seat_of old r
 seats_kept old new name m r none is below = λ j q. by_new_key bytes_eq bytes_eq-Decides old new name m (seat_numbers r.seats) none is below q j
 
--- a summary key that is given a number has a line nowhere
-pub lines_kept : (old new : SummaryKey → Option ℕ) (key : SummaryKey) (m : ℕ) (ls : List Line) → old key ≡ None → ((q : SummaryKey) → new q ≡ cond (summary_key_eq key q) (Some m) (old q)) → AreBelow m (line_keys ls) → (q : SummaryKey) → place_by new (line_keys ls) q ≡ place_by old (line_keys ls) q
-lines_kept old new key m ls none is below q = by_new_key summary_key_eq same_summary_key old new key m (line_keys ls) none is below q
-
--- what is kept of a summary key is what its line keeps
-pub tally_by : (seat : List ℕ → Option ℕ) (ls : List Line) (a b : Option ℕ) → option_and_then (line_in ls) a ≡ option_and_then (line_in ls) b → lines_tally seat ls a ≡ lines_tally seat ls b
-tally_by seat ls a b e = ap (λ o. read_at (line_tally seat) no_tally ls o) e
-
 -- a recording in which a party has a seat that may be new
 module _ (party : List ℕ → Option ℕ) (m : ℕ) (numbered : IsNumbered party m) (v w : Recording) (name : List ℕ) (n : ℕ) (is : party name ≡ Some n) (same : w.lines ≡ v.lines) (more : IsWithNumber (seat_numbers v.seats) (seat_numbers w.seats) n) where
   new_seat : place_in (seat_numbers v.seats) n ≡ None → seat_numbers w.seats ≡ seat_numbers v.seats ++ n ∷ [] → (q : List ℕ) → seat_of party w q ≡ cond (bytes_eq name q) (Some (length (seat_numbers v.seats))) (seat_of party v q)

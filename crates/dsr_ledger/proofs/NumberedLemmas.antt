@@ -14,28 +14,10 @@ same_Some x y e = ap (λ o. unwrap_or o x) e
 pub not_Some : {X : Type 0} (x : X) → None ≡ Some x → ⊥
 not_Some x e = absurd (cc)
 
--- what stands elsewhere than at a place that is written
-pub left_set : {X : Type 0} (ls : List X) (i j : ℕ) (l : X) → (i ≡ j → ⊥) → slice_get (set ls i l) j ≡ slice_get ls j
-left_set [] i j l h = refl
-left_set (x ∷ ls) zero zero l h = absurd (h refl)
-left_set (x ∷ ls) zero (suc j) l h = refl
-left_set (x ∷ ls) (suc i) zero l h = refl
-left_set (x ∷ ls) (suc i) (suc j) l h = left_set ls i j l (λ e. h (ap suc e))
-
 -- what a key has after one was added: the new number, or what it had
 pub either : {X : Type 0} (b : Bool) (x y : X) (o : Option X) → cond b (Some x) o ≡ Some y → ((b ≡ true) × (x ≡ y)) ⊎ ((b ≡ false) × (o ≡ Some y))
 either true x y o e = inl (refl, same_Some x y e)
 either false x y o e = inr (refl, e)
-
--- something is read of each key that has a number
-pub read_some : {V W : Type 0} (read : V → W) (vs : List V) (o : Option ℕ) → ((i : ℕ) → o ≡ Some i → i < length vs) → is_some (read_at (λ v. Some (read v)) None vs o) ≡ is_some o
-read_some {V} read vs None below = refl
-read_some {V} read vs (Some i) below = by vs i (below i refl)
-  where
-    by : (vs : List V) (i : ℕ) → i < length vs → is_some (option_map_or (λ v. Some (read v)) (slice_get vs i) None) ≡ true
-    by [] i h = absurd (omega arith)
-    by (x ∷ vs) zero h = refl
-    by (x ∷ vs) (suc i) h = by vs i (omega arith)
 
 module _ {K : Type 0} (same : K → K → Bool) (decides : (a b : K) → Decides (same a b) (a ≡ b)) where
   pub numbered_more : (old new : K → Option ℕ) (k : K) (n : ℕ) → IsNumbered old n → ((q : K) → new q ≡ cond (same k q) (Some n) (old q)) → IsNumbered new (n + 1)

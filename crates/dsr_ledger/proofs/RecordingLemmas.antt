@@ -110,18 +110,6 @@ within_written seats ls i w all one j x e = by ls i j e (λ k y at. all k y at)
     by (z ∷ ls) (suc i) zero e h = h 0 x e
     by (z ∷ ls) (suc i) (suc j) e h = by ls i j e (λ k y at. h (suc k) y at)
 
-pub within_more : (m n : ℕ) (ls : List Line) → m ≤ n → AreWithin m ls → AreWithin n ls
-within_more m n ls le all i l e = let one = all i l e in omega arith
-
--- a number more, or none
-pub longer : (old new : List ℕ) (n : ℕ) → IsWithNumber old new n → length old ≤ length new
-longer old new n h =
-    ⊎_elim (λ same. let e = ap length same in omega arith) (λ more. let e = ap length more.1 ∙ length-append old (n ∷ []) in omega arith) h
-
-pub apart_with : (old new : List ℕ) (n : ℕ) → IsWithNumber old new n → AreApart old → AreApart new
-apart_with old new n h apart =
-    ⊎_elim (λ same. subst AreApart (sym same) apart) (λ more. subst AreApart (sym more.1) (apart_more nat_eq same_number old n more.0 apart)) h
-
 pub below_with : (old new : List ℕ) (n m : ℕ) → IsWithNumber old new n → n < m → AreBelow m old → AreBelow m new
 below_with old new n m h less below =
     ⊎_elim (λ same. subst (AreBelow m) (sym same) below) (λ more. subst (AreBelow m) (sym more.1) (pushed more.0)) h
@@ -132,9 +120,6 @@ below_with old new n m h less below =
         by : (b : Bool) → nat_eq n k ≡ b → cond b (Some (length old)) (place_in old k) ≡ Some i → k < m
         by true s e = subst (λ x. x < m) ((same_number n k).0 s) less
         by false s e = below k i e
-
-pub below_more : (m n : ℕ) (ns : List ℕ) → m ≤ n → AreBelow m ns → AreBelow n ns
-below_more m n ns le below k i e = let one = below k i e in omega arith
 
 -- a party is given the seat after the last one
 pub lines_seated : (old new : List ℕ → Option ℕ) (name : List ℕ) (seats : ℕ) (ls : List Line) → AreWithin seats ls → old name ≡ None → ((q : List ℕ) → new q ≡ cond (bytes_eq name q) (Some seats) (old q)) → (number : Option ℕ) → lines_tally new ls number ≡ lines_tally old ls number
@@ -165,9 +150,6 @@ if_ok_weaker (Err e) f h = h
 
 pub key_at : (ls : List Line) (i : ℕ) (l : Line) → i < length ls → l ≡ get_or ls i l → slice_get (line_keys ls) i ≡ Some l.key
 key_at ls i l below is = slice_get-map (λ (x : Line). x.key) ls i ∙ ap (option_map (λ (x : Line). x.key)) (slice_get_read ls (length ls) i l refl below is)
-
-pub grow_stay : (seats : ℕ) (ls : List Line) → LinesGrow seats ls ls
-grow_stay seats ls = record { tallies = λ seat number. refl; numbers = λ q i e. e; wide = λ i h. h }
 
 pub grow_twice : (seats : ℕ) (a b c : List Line) → LinesGrow seats a b → LinesGrow seats b c → LinesGrow seats a c
 grow_twice seats a b c g h = record {

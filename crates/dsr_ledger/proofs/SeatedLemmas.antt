@@ -59,9 +59,6 @@ seated_more was is old mid new es fs g h k = record {
   seated = zip_append (IsSeated is) h.more k.more es fs (seated_grows was is g h.more es h.seated) k.seated;
 }
 
-pub seated_none : (seat : List ℕ → Option ℕ) (old : List SeatShare) → SeatedMore seat old old []
-seated_none seat old = record { more = []; items = sym (append-nil old); seated = tt }
-
 -- the next party of a work with its share
 pub next_share : (parties : List (List ℕ)) (shares : List ℕ) (i : ℕ) (p : List ℕ) (s : ℕ) → i < length parties → length parties ≡ length shares → p ≡ get_or parties i p → s ≡ get_or shares i s → take (suc i) (zip parties shares) ≡ take i (zip parties shares) ++ (p, s) ∷ []
 next_share [] shares i p s below even at with_share = absurd (omega arith)
