@@ -1,6 +1,6 @@
-use Rattle.std.proofs.Common.{◌+◌, ◌≤◌, ◌≡◌, length, arith}
+use Rattle.std.proofs.Common.{◌+◌, ◌<◌, ◌≤◌, ◌≡◌, length, arith, refl}
 use Rattle.std.specs.Int.Count.{count_trailing_zeros}
-use Rattle.dsr_records.proofs.Sequences.{utf8_more, utf8_ascii, run_of_16, run_before}
+use Rattle.dsr_records.proofs.Sequences.{utf8_more, utf8_ascii, utf8_end, run_of_16, run_before}
 use Rattle.dsr_records.proofs.scan.utf8.is_quick.Goals as goal
 
 pub loop-at-preserved-then-high-eq0 : goal.loop-at-preserved-then-high-eq0
@@ -39,3 +39,11 @@ loop-at-preserved c =
     let at = c.loop-at.at in
     let char = c.char_len-size-else-bytes-at-lt128.ensures (omega (arith, c.if-size-eq0-2.false)) in
     (char.0, utf8_more b at c.char_len-size-else-bytes-at-lt128.result c.loop-at.invariant.1 char.1)
+
+pub returns-then-ends_in_ascii : goal.returns-then-ends_in_ascii
+returns-then-ends_in_ascii c = λ yes.
+    let b = c.args.bytes.now in
+    let at = c.loop-at.at in
+    let end = c.if-ends_in_ascii.ensures refl in
+    let near : length b < at + 16 = omega (arith, c.loop-at.invariant.0, c.if-bytes-at-ge16.false) in
+    utf8_end b at c.loop-at.invariant.0 near end.0 end.1 c.loop-at.invariant.1
