@@ -14,8 +14,8 @@ const MOST_BLOCKS: u64 = 1 << 37;
 /// How many blocks wait, so that the clock is asked once for all of them.
 const WAITING: usize = 4096;
 
-/// How many blocks are looked at before the first of them is booked, as many as a message of a relay has.
-const AHEAD: usize = 32;
+/// How many events a message of a relay has.
+const MESSAGE: usize = 32;
 
 /// What was measured.
 #[derive(Clone, Copy, Drop)]
@@ -67,7 +67,7 @@ fn book_message(books: &mut Books, events: &[Event]) -> Result<u64, NoMemory> {
 /// Books all blocks: how many the books took.
 fn book_all(books: &mut Books, events: &[Event]) -> Result<u64, NoMemory> {
     let mut booked = 0u64;
-    for message in events.chunks(AHEAD) {
+    for message in events.chunks(MESSAGE) {
         booked = booked.wrapping_add(book_message(books, message)?);
     }
     Ok(booked)
