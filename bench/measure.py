@@ -58,4 +58,5 @@ def main():
               f'{min(kept) / last:8.2f}  {text}')
 
 
-main()
+if __name__ == '__main__':
+    main()
