@@ -32,8 +32,8 @@ fn no_words(rt: HostRuntime) -> Result<(), AllocError> {
         assert!(rt; false);
         return Ok(());
     };
-    assert_eq!(rt; asked.options.capacity, 16);
-    assert_eq!(rt; asked.options.max_reads, 4_194_304);
+    assert_eq!(rt; asked.capacity, 16);
+    assert_eq!(rt; asked.max_reads, 4_194_304);
     assert_eq!(rt; asked.files.len(), 0);
     assert!(rt; asked.layout.is_none());
     Ok(())
@@ -55,8 +55,8 @@ fn the_greatest_numbers_and_names(rt: HostRuntime) -> Result<(), AllocError> {
         assert!(rt; false);
         return Ok(());
     };
-    assert_eq!(rt; asked.options.capacity, 1024);
-    assert_eq!(rt; asked.options.max_reads, 16_777_216);
+    assert_eq!(rt; asked.capacity, 1024);
+    assert_eq!(rt; asked.max_reads, 16_777_216);
     assert!(rt; matches!(&asked.layout, Some(name) if name.as_str() == "L"));
     assert_eq!(rt; asked.files.len(), 2);
     assert!(rt; matches!(asked.files.get(0), Some(name) if name.as_str() == "A"));
