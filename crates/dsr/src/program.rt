@@ -167,9 +167,9 @@ fn options_of<H: Files<File = File>, F: Write>(
     asked: &Asked,
     fault: &mut F,
 ) -> Result<Box<Options>, u8>
-    ensures capacity { IfOk result (λ o. o.capacity ≡ asked.now.capacity) }
-    ensures reads { IfOk result (λ o. o.max_reads ≡ asked.now.max_reads) }
-    ensures layout { asked.now.layout ≡ None → IfOk result (λ o. o.layout ≡ standard_layout) }
+    ensures capacity { IfOk result (λ o. o.value.capacity ≡ asked.now.capacity) }
+    ensures reads { IfOk result (λ o. o.value.max_reads ≡ asked.now.max_reads) }
+    ensures layout { asked.now.layout ≡ None → IfOk result (λ o. o.value.layout ≡ standard_layout) }
 {
     let options = Options {
         capacity: asked.capacity,
