@@ -54,9 +54,9 @@ pub fn watch<H: Clock + Eprint + Copy>(
     let mut watched = Vec::new(alloc);
     for input in inputs {
         let progress = progress.share()?;
-        if watched.push(Watched { input, progress }).is_err() {
+        let Ok(()) = watched.push(Watched { input, progress }) else {
             return Err(NoMemory);
-        }
+        };
     }
     Ok(watched)
 }
