@@ -1,12 +1,11 @@
 -- What a command line asks for. What words say under a command's options is clap's definition.
-use Rattle.std.specs.Prelude.{◌≡◌, ◌≤◌, ℕ, pos, true, List, [], ◌∷◌, Option, Some, None, codes, unwrap_or}
+use Rattle.std.specs.Prelude.{◌≡◌, ◌≤◌, ℕ, Bool, pos, true, false, List, [], ◌∷◌, Option, Some, None, codes, unwrap_or}
 use Rattle.std.specs.Str.Parse.{IsNumeral, digits_value, without_leading_plus}
 use Rattle.clap.specs.Lexer.{usize_max}
 use Rattle.clap.specs.Words.{App, Row, Rule, Text, all_of, fault_of, first_of, matches_of, new_app, new_rule, one_of, with_rule}
 use Rattle.clap.specs.Simple.{on_top}
-use Rattle.clap.specs.declared.builder.action.ArgAction.TheVariants.{Set, Append}
+use Rattle.clap.specs.declared.builder.action.ArgAction.TheVariants.{Set, SetTrue, Append}
 use Rattle.clap.specs.declared.builder.value_parser.ValueParser.TheVariants as vp
-use Rattle.dsr_records.specs.Layouts.{standard_layout}
 use Rattle.dsr.specs.declared.command.Asked.{Asked}
 
 -- an option with one value, and one whose value is a whole number from 1 to the most
@@ -15,6 +14,10 @@ option_rule name = record (new_rule name) { long = Some name; action = Some Set;
 
 abbrev pub number_rule : Text → ℕ → Rule
 number_rule name most = record (option_rule name) { parser = Some (vp.Signed (pos 1) (pos most)) }
+
+-- an option without a value
+abbrev pub flag_rule : Text → Rule
+flag_rule name = record (new_rule name) { long = Some name; action = Some SetTrue }
 
 -- the words that are no options: any number of names
 abbrev pub names_rule : Rule
@@ -28,9 +31,9 @@ unfoldable pub bare_command : App
 bare_command = on_top (λ s. record s { no_binary_name = true; has_version = true }) (new_app (codes "dsr"))
 
 unfoldable pub command_line : App
-command_line = with_rule (with_rule (with_rule (with_rule bare_command
+command_line = with_rule (with_rule (with_rule (with_rule (with_rule bare_command
     (number_rule (codes "capacity") 1024)) (number_rule (codes "max-reads") 16777216))
-    (option_rule (codes "layout"))) names_rule
+    (option_rule (codes "layout"))) (flag_rule (codes "progress"))) names_rule
 
 -- the number is the standard one where none is given, and else the one given
 abbrev pub IsNumberAsked : ℕ → ℕ → Option Text → ℕ → Type 0
@@ -40,10 +43,15 @@ IsNumberAsked standard most (Some text) number = IsNumeral 10 (without_leading_p
     → digits_value 10 (without_leading_plus text) ≤ most
     → number ≡ digits_value 10 (without_leading_plus text)
 
+-- the flag is set where it is given, and where it is not it has its default, which is false
+abbrev pub IsFlagAsked : Option Text → Bool → Type 0
+IsFlagAsked None flag = flag ≡ false
+IsFlagAsked (Some text) flag = (text ≡ codes "true" → flag ≡ true) × (text ≡ codes "false" → flag ≡ false)
+
 -- what the rows of a command line ask for
 pub record IsAskedBy (rows : List Row) (asked : Asked) : Type 0 where
-  pub capacity : IsNumberAsked 16 1024 (one_of (codes "capacity") rows) asked.options.capacity
-  pub reads : IsNumberAsked 4194304 16777216 (one_of (codes "max-reads") rows) asked.options.max_reads
-  pub standard : asked.options.layout ≡ standard_layout
+  pub capacity : IsNumberAsked 16 1024 (one_of (codes "capacity") rows) asked.capacity
+  pub reads : IsNumberAsked 4194304 16777216 (one_of (codes "max-reads") rows) asked.max_reads
   pub files : asked.files ≡ unwrap_or (all_of (codes "FILE") rows) []
   pub layout : asked.layout ≡ first_of (codes "layout") rows
+  pub progress : IsFlagAsked (one_of (codes "progress") rows) asked.progress

@@ -2,7 +2,7 @@
 ghost use Rattle.std.specs.Prelude.{◌≡◌, ◌≤◌, ℕ, IfOk, OnOk, false, [], codes, map, option_map, unwrap_or};
 ghost use Rattle.std.specs.String.{string_bytes};
 ghost use Rattle.clap.specs.Words.{all_of, app_of, fault_of, first_of, found_of, matches_of, one_of, one_text, rows_of, rule_of};
-ghost use Rattle.dsr.specs.CommandLine.{IsAskedBy, IsNumberAsked, bare_command, command_line, names_rule, number_rule, option_rule};
+ghost use Rattle.dsr.specs.CommandLine.{IsAskedBy, IsNumberAsked, IsFlagAsked, bare_command, command_line, names_rule, number_rule, option_rule, flag_rule};
 
 use crate::command::{Asked, CommandFault, Names};
 use clap::error::ErrorKind;
@@ -84,6 +84,17 @@ fn layout_option<'a>(alloc: Global) -> Arg<'a>
         .help("A file that says where the columns of the records stand")
 }
 
+/// `--progress`.
+fn progress_option<'a>(alloc: Global) -> Arg<'a>
+    ensures rule { rule_of result ≡ flag_rule (codes "progress") }
+    ensures local { result.global ≡ false }
+{
+    Arg::new(alloc, "progress")
+        .long("progress")
+        .action(ArgAction::SetTrue)
+        .help("Tells on standard error how far the reading is, at most twice a second")
+}
+
 /// The names of the files.
 fn names_argument<'a>(alloc: Global) -> Arg<'a>
     ensures rule { rule_of result ≡ names_rule }
@@ -116,13 +127,14 @@ fn command<'a>(alloc: Global) -> Result<Command<'a>, AllocError>
         .arg(capacity_option(alloc))?
         .arg(reads_option(alloc))?
         .arg(layout_option(alloc))?
+        .arg(progress_option(alloc))?
         .arg(names_argument(alloc))
 }
 
 /// What the words after the program's name ask for.
 pub fn asked(alloc: Global, words: &[String]) -> Result<Asked, CommandFault>
-    ensures capacity { IfOk result (λ a. (1 ≤ a.options.capacity) × (a.options.capacity ≤ 1024)) }
-    ensures reads { IfOk result (λ a. (1 ≤ a.options.max_reads) × (a.options.max_reads ≤ 16777216)) }
+    ensures capacity { IfOk result (λ a. (1 ≤ a.capacity) × (a.capacity ≤ 1024)) }
+    ensures reads { IfOk result (λ a. (1 ≤ a.max_reads) × (a.max_reads ≤ 16777216)) }
     ensures taken { OnOk result (fault_of command_line (map string_bytes words.now) ≡ []) }
     ensures asked { IfOk result (IsAskedBy (matches_of command_line (map string_bytes words.now))) }
 {
@@ -140,19 +152,17 @@ pub fn asked(alloc: Global, words: &[String]) -> Result<Asked, CommandFault>
 
 /// What the matches of a command line say.
 fn read_matches(alloc: Global, matches: &ArgMatches<'_>) -> Result<Asked, NoMemory>
-    ensures capacity { IfOk result (λ a. (1 ≤ a.options.capacity) × (a.options.capacity ≤ 1024)) }
-    ensures reads { IfOk result (λ a. (1 ≤ a.options.max_reads) × (a.options.max_reads ≤ 16777216)) }
+    ensures capacity { IfOk result (λ a. (1 ≤ a.capacity) × (a.capacity ≤ 1024)) }
+    ensures reads { IfOk result (λ a. (1 ≤ a.max_reads) × (a.max_reads ≤ 16777216)) }
     ensures asked { IfOk result (IsAskedBy (rows_of (found_of matches.now))) }
 {
     let standard = Options::standard();
     Ok(Asked {
-        options: Options {
-            capacity: number_or(matches, "capacity", standard.capacity, 1024),
-            max_reads: number_or(matches, "max-reads", standard.max_reads, 16_777_216),
-            layout: standard.layout,
-        },
+        capacity: number_or(matches, "capacity", standard.capacity, 1024),
+        max_reads: number_or(matches, "max-reads", standard.max_reads, 16_777_216),
         files: read_names(alloc, matches)?,
         layout: read_layout_name(alloc, matches)?,
+        progress: is_set(matches, "progress"),
     })
 }
 
@@ -168,6 +178,13 @@ fn number_or(matches: &ArgMatches<'_>, id: &str, standard: u32, most: u32) -> u3
         Some(number) if 1 <= number && number <= most => number,
         _ => standard,
     }
+}
+
+/// Whether a flag was given.
+fn is_set(matches: &ArgMatches<'_>, id: &str) -> bool
+    ensures { IsFlagAsked (one_text (found_of matches.now) id.now) result }
+{
+    matches.get_flag(id)
 }
 
 /// The names of the files, in the order given.

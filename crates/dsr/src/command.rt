@@ -1,18 +1,22 @@
 //! What a command line asks for.
 use dsr_cells::{Items, Text};
-use dsr_intake::Options;
 
 /// Names of files.
 pub type Names = Items<Text>;
 
-/// What a command line asks for. The options have the standard layout.
+/// What a command line asks for.
 #[derive(Drop)]
 pub struct Asked {
-    pub options: Options,
+    /// How many messages the relay of a file holds at most: 1 to 1,024.
+    pub capacity: u32,
+    /// After how many reads the reading of a file stops: 1 to 16,777,216.
+    pub max_reads: u32,
     /// The report's files, in the order given.
     pub files: Names,
     /// The file that has the layout, where one is named.
     pub layout: Option<Text>,
+    /// Whether progress is to be told on standard error.
+    pub progress: bool,
 }
 
 /// Why a command line asks for no work.

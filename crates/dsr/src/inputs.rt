@@ -6,15 +6,30 @@ use crate::command::Names;
 use dsr_cells::Text;
 use dsr_file::{Failed, FromRead, Source};
 use std::alloc::Global;
-use std::fs::{File, Files};
+use std::fs::{File, Files, OpenFile};
 use std::io::{Read, StdinLock};
 use std::{fs, io};
 
 /// A file, or standard input.
 #[derive(Drop)]
 pub enum InputReader {
+    /// A file that was opened by its name.
     File(File),
+    /// Standard input, which has no name.
     Standard(StdinLock<'static>),
+}
+
+impl InputReader {
+    /// How many bytes it gives in all, where it tells. A pipe does not.
+    fn size(&self) -> Option<u64> {
+        match self {
+            InputReader::File(file) => match file.metadata() {
+                Ok(metadata) if metadata.is_file() => Some(metadata.len()),
+                _ => None,
+            },
+            InputReader::Standard(_) => None,
+        }
+    }
 }
 
 impl Read for InputReader {
@@ -31,6 +46,7 @@ impl Read for InputReader {
 pub struct Input {
     name: Option<Text>,
     source: FromRead<InputReader>,
+    size: Option<u64>,
 }
 
 impl Input {
@@ -39,10 +55,17 @@ impl Input {
         ensures name { result.name ≡ name }
         ensures unfailed { (⟦<Input as Source>⟧.told result).failed ≡ false }
     {
+        let size = reader.size();
         Input {
             name,
             source: FromRead::new(reader),
+            size,
         }
+    }
+
+    /// How many bytes it gives in all, where that is known.
+    pub fn size(&self) -> Option<u64> {
+        self.size
     }
 }
 

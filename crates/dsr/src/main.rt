@@ -5,7 +5,8 @@
 //! 1. `arguments`: what the words of the command line ask for (`command`).
 //! 2. `print`: the help and the version, where they are asked for.
 //! 3. `layout_file`: the layout, where one is named.
-//! 4. `inputs`: a source for each file, or standard input alone.
+//! 4. `inputs`: a source for each file, or standard input alone; `watched` counts what they give, and
+//!    `progress` tells it, where `--progress` asks for that.
 //! 5. `run` of dsr_intake: reads the sources and writes the statement.
 //! 6. `faults`: the line of what went wrong, and the exit status.
 //!
@@ -20,6 +21,8 @@ mod inputs;
 mod layout_file;
 mod print;
 mod program;
+mod progress;
+mod watched;
 
 use std::process::ExitCode;
 

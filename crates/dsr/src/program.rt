@@ -1,21 +1,28 @@
 //! The program's way from its arguments to its exit status.
+ghost use Rattle.std.specs.Prelude.{◌≡◌, false, All, IfOk, None};
+ghost use Rattle.dsr_records.specs.Layouts.{standard_layout};
+
 use crate::arguments::asked;
 use crate::command::{Asked, CommandFault};
 use crate::faults::{
     exit_status, write_bad_layout, write_cannot_open, write_cannot_read, write_fault, write_line,
 };
-use crate::inputs::{OpenError, open_inputs};
+use crate::inputs::{Input, Inputs, OpenError, open_inputs};
 use crate::layout_file::{LayoutReadError, read_layout};
 use crate::print::print_text;
+use crate::watched::watch;
 use dsr_cells::Text;
-use dsr_intake::{Options, RunError, ToWrite, run};
+use dsr_file::Source;
+use dsr_intake::{Options, Outlet, RunError, Status, ToWrite, run};
+use dsr_records::Layout;
 use std::alloc::Global;
 use std::env::Env;
 use std::fs::{File, Files};
-use std::io::{ErrorKind, StdinLock, Write};
+use std::io::{Eprint, ErrorKind, StdinLock, Write};
 use std::random::RandomSource;
 use std::sync::Wait;
 use std::thread::Threads;
+use std::time::Clock;
 use std::{env, fs, io};
 
 /// The status where the command line, a file or the layout is at fault.
@@ -33,6 +40,8 @@ pub fn serve<
         + Threads
         + Wait
         + RandomSource
+        + Clock
+        + Eprint
         + Copy
         + Send
         + 'static,
@@ -45,7 +54,7 @@ pub fn serve<
         Err(status) => return status,
     };
     match asked(alloc, &words) {
-        Ok(asked) => read_and_print(rt, alloc, asked, out, fault),
+        Ok(asked) => read_and_print(rt, alloc, &asked, out, fault),
         Err(CommandFault::Shown(text)) => show(&text, out, fault),
         Err(CommandFault::Refused(text)) => {
             let _ = fault.write_all(text.as_str().as_bytes());
@@ -96,55 +105,101 @@ fn read_and_print<
         + Threads
         + Wait
         + RandomSource
+        + Clock
+        + Eprint
         + Copy
         + Send
         + 'static,
     W: Write + Drop,
     F: Write,
->(rt: &H, alloc: Global, asked: Asked, out: W, fault: &mut F) -> u8 {
-    let Asked {
-        options,
-        files,
-        layout,
-    } = asked;
-    let options = match with_layout(rt, alloc, options, layout, fault) {
+>(rt: &H, alloc: Global, asked: &Asked, out: W, fault: &mut F) -> u8 {
+    let options = match options_of(rt, alloc, asked, fault) {
         Ok(options) => options,
         Err(status) => return status,
     };
-    let mut inputs = match open_inputs(rt, alloc, &files) {
+    let mut inputs = match open_inputs(rt, alloc, &asked.files) {
         Ok(inputs) => inputs,
         Err(OpenError::CannotOpen(name)) => return cannot_open(&name, fault),
         Err(OpenError::Memory) => return no_memory(fault),
     };
     let mut outlet = ToWrite::new(out);
-    let answer = run(rt, alloc, &mut inputs, options, &mut outlet);
+    let answer = if asked.progress {
+        run_watched(rt, alloc, inputs, options, &mut outlet)
+    } else {
+        run(
+            rt,
+            alloc,
+            &mut inputs,
+            Box::into_inner(options),
+            &mut outlet,
+        )
+    };
     if let Err(error) = &answer {
         write_fault(error, fault);
     }
     exit_status(&answer)
 }
 
-/// The options, with the layout of the file that is named.
-fn with_layout<H: Files<File = File>, F: Write>(
+/// Reads the files and writes their statement, and tells on standard error how far the reading is.
+fn run_watched<
+    H: Threads + Wait + RandomSource + Clock + Eprint + Copy + Send + 'static,
+    W: Outlet,
+>(
     rt: &H,
     alloc: Global,
-    options: Options,
-    name: Option<Text>,
+    inputs: Inputs,
+    options: Box<Options>,
+    out: &mut W,
+) -> Result<Status, RunError>
+    requires sources { All (λ i. (⟦<Input as Source>⟧.told i).failed ≡ false) inputs.items }
+    requires outlet { (W.told out.old).failed ≡ false }
+{
+    let Ok(mut watched) = watch(rt, alloc, inputs) else {
+        return Err(RunError::Memory);
+    };
+    run(rt, alloc, &mut watched, Box::into_inner(options), out)
+}
+
+/// The options that a command line asks for. Where it names no layout, theirs is the standard one.
+fn options_of<H: Files<File = File>, F: Write>(
+    rt: &H,
+    alloc: Global,
+    asked: &Asked,
     fault: &mut F,
-) -> Result<Options, u8> {
+) -> Result<Box<Options>, u8>
+    ensures capacity { IfOk result (λ o. o.value.capacity ≡ asked.now.capacity) }
+    ensures reads { IfOk result (λ o. o.value.max_reads ≡ asked.now.max_reads) }
+    ensures layout { asked.now.layout ≡ None → IfOk result (λ o. o.value.layout ≡ standard_layout) }
+{
+    let options = Options {
+        capacity: asked.capacity,
+        max_reads: asked.max_reads,
+        layout: layout_of(rt, alloc, &asked.layout, fault)?,
+    };
+    match Box::new(alloc, options) {
+        Ok(options) => Ok(options),
+        Err(_) => Err(no_memory(fault)),
+    }
+}
+
+/// The layout of the file that is named, or the standard one.
+fn layout_of<H: Files<File = File>, F: Write>(
+    rt: &H,
+    alloc: Global,
+    name: &Option<Text>,
+    fault: &mut F,
+) -> Result<Layout, u8>
+    ensures { name.now ≡ None → IfOk result (λ layout. layout ≡ standard_layout) }
+{
     let Some(name) = name else {
-        return Ok(options);
+        return Ok(Layout::standard());
     };
     let Ok(mut file) = fs::open(rt, name.as_str()) else {
-        return Err(cannot_open(&name, fault));
+        return Err(cannot_open(name, fault));
     };
     match read_layout(alloc, &mut file) {
-        Ok(layout) => Ok(Options {
-            capacity: options.capacity,
-            max_reads: options.max_reads,
-            layout,
-        }),
-        Err(error) => Err(layout_refused(&name, error, fault)),
+        Ok(layout) => Ok(layout),
+        Err(error) => Err(layout_refused(name, error, fault)),
     }
 }
 

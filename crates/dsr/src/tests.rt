@@ -6,6 +6,7 @@ use crate::faults::{
 use crate::inputs::{OpenError, open_inputs};
 use crate::layout_file::{LayoutReadError, read_layout};
 use crate::print::{print_text, write_parts};
+use crate::progress::ProgressLine;
 use dsr_cells::Text;
 use dsr_file::Source;
 use dsr_intake::{IntakeError, Options, RunError, Status, ToWrite, run};
@@ -32,8 +33,8 @@ fn no_words(rt: HostRuntime) -> Result<(), AllocError> {
         assert!(rt; false);
         return Ok(());
     };
-    assert_eq!(rt; asked.options.capacity, 16);
-    assert_eq!(rt; asked.options.max_reads, 4_194_304);
+    assert_eq!(rt; asked.capacity, 16);
+    assert_eq!(rt; asked.max_reads, 4_194_304);
     assert_eq!(rt; asked.files.len(), 0);
     assert!(rt; asked.layout.is_none());
     Ok(())
@@ -55,8 +56,8 @@ fn the_greatest_numbers_and_names(rt: HostRuntime) -> Result<(), AllocError> {
         assert!(rt; false);
         return Ok(());
     };
-    assert_eq!(rt; asked.options.capacity, 1024);
-    assert_eq!(rt; asked.options.max_reads, 16_777_216);
+    assert_eq!(rt; asked.capacity, 1024);
+    assert_eq!(rt; asked.max_reads, 16_777_216);
     assert!(rt; matches!(&asked.layout, Some(name) if name.as_str() == "L"));
     assert_eq!(rt; asked.files.len(), 2);
     assert!(rt; matches!(asked.files.get(0), Some(name) if name.as_str() == "A"));
@@ -205,6 +206,24 @@ fn a_status_for_each_end(rt: HostRuntime) {
         3
     );
     assert_eq!(rt; exit_status(&Err(RunError::Write { written: 0 })), 3);
+}
+
+#[test]
+fn a_line_of_progress(rt: HostRuntime) -> Result<(), AllocError> {
+    let alloc = rt.alloc();
+    let mut line = ProgressLine {
+        done: 3,
+        files: 8,
+        read: 12,
+        size: Some(100),
+        tenths: 15,
+    };
+    let told = format!(in alloc; "{line}")?;
+    assert!(rt; told.as_str() == "dsr: 3 of 8 files, 12 of 100 bytes, 1.5 seconds");
+    line.size = None;
+    let told = format!(in alloc; "{line}")?;
+    assert!(rt; told.as_str() == "dsr: 3 of 8 files, 12 bytes, 1.5 seconds");
+    Ok(())
 }
 
 /// The list of one name.

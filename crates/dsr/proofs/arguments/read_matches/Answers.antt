@@ -1,7 +1,7 @@
 use Rattle.std.proofs.Common.{◌≡◌, ap, subst, codes}
 use Rattle.clap.specs.Words.{found_of, one_text}
 use Rattle.clap.proofs.WalkLemmas.{one_text-rows}
-use Rattle.dsr.specs.CommandLine.{IsNumberAsked}
+use Rattle.dsr.specs.CommandLine.{IsNumberAsked, IsFlagAsked}
 use Rattle.dsr.proofs.arguments.read_matches.Goals as goal
 
 pub returns-clause-asked : goal.returns-clause-asked
@@ -13,7 +13,7 @@ returns-clause-asked c =
           (subst (λ s. IsNumberAsked s 1024 (one_text f (codes "capacity")) c.number_or.result) (ap (λ o. o.capacity) options) c.number_or.ensures.asked);
       reads = subst (λ t. IsNumberAsked 4194304 16777216 t c.number_or-2.result) (one_text-rows f (codes "max-reads"))
           (subst (λ s. IsNumberAsked s 16777216 (one_text f (codes "max-reads")) c.number_or-2.result) (ap (λ o. o.max_reads) options) c.number_or-2.ensures.asked);
-      standard = ap (λ o. o.layout) options;
       files = c.in_ok-read_names.ensures;
       layout = c.in_ok-read_layout_name.ensures;
+      progress = subst (λ t. IsFlagAsked t c.is_set.result) (one_text-rows f (codes "progress")) c.is_set.ensures;
     }

@@ -1,0 +1,143 @@
+//! How far the reading is, on standard error, where `--progress` asks for it.
+use dsr_cells::NoMemory;
+use std::alloc::Global;
+use std::fmt;
+use std::io::Eprint;
+use std::sync::Arc;
+use std::sync::atomic::{AtomicU64, Ordering};
+use std::time::{Clock, Instant};
+
+/// The least time between two lines, in milliseconds.
+const PAUSE: u64 = 500;
+
+/// A line on standard error.
+#[derive(Clone, Copy)]
+pub struct ProgressLine {
+    /// The files that have ended, or whose reads failed.
+    pub done: u64,
+    /// All files.
+    pub files: usize,
+    /// The bytes that were read.
+    pub read: u64,
+    /// The bytes of all files, where that is known.
+    pub size: Option<u64>,
+    /// The time since the run began, in tenths of a second.
+    pub tenths: u64,
+}
+
+impl fmt::Display for ProgressLine {
+    fn fmt<W: fmt::Write>(&self, f: &mut fmt::Formatter<W>) -> fmt::Result {
+        write!(
+            f,
+            "dsr: {} of {} files, {}",
+            self.done, self.files, self.read
+        )?;
+        if let Some(size) = self.size {
+            write!(f, " of {size}")?;
+        }
+        write!(
+            f,
+            " bytes, {}.{} seconds",
+            self.tenths / 10,
+            self.tenths % 10
+        )
+    }
+}
+
+/// What the reading of all files has come to so far. Any thread may add to it at any time.
+#[derive(Drop)]
+struct Counts {
+    /// The bytes that were read.
+    read: AtomicU64,
+    /// The files that have ended, or whose reads failed.
+    done: AtomicU64,
+    /// When the last line was written, in milliseconds since the run began.
+    told: AtomicU64,
+}
+
+/// Counts what is read, and tells it. All sources of a report share one count.
+#[derive(Drop)]
+pub struct Progress<H> {
+    rt: H,
+    began: Instant,
+    files: usize,
+    size: Option<u64>,
+    counts: Arc<Counts, Global>,
+}
+
+impl<H: Clock + Eprint + Copy> Progress<H> {
+    /// The progress of a run over so many files, of so many bytes where that is known, which begins now.
+    pub fn begin(
+        rt: &H,
+        alloc: Global,
+        files: usize,
+        size: Option<u64>,
+    ) -> Result<Progress<H>, NoMemory> {
+        let counts = Counts {
+            read: AtomicU64::new(0),
+            done: AtomicU64::new(0),
+            told: AtomicU64::new(0),
+        };
+        let (Ok(began), Ok(counts)) = (Instant::now(rt), Arc::new(alloc, counts)) else {
+            return Err(NoMemory);
+        };
+        Ok(Progress {
+            rt: *rt,
+            began,
+            files,
+            size,
+            counts,
+        })
+    }
+
+    /// The same progress, for another source.
+    pub fn share(&self) -> Result<Progress<H>, NoMemory> {
+        match Arc::try_clone(&self.counts) {
+            Ok(counts) => Ok(Progress {
+                rt: self.rt,
+                began: self.began,
+                files: self.files,
+                size: self.size,
+                counts,
+            }),
+            Err(_) => Err(NoMemory),
+        }
+    }
+
+    /// Counts a read of so many bytes, 0 at the end, and writes a line where half a second has passed since the last one.
+    pub fn count(&self, bytes: usize) {
+        if bytes == 0 {
+            self.counts.done.fetch_add(1, Ordering::SeqCst);
+        } else {
+            self.counts.read.fetch_add(bytes as u64, Ordering::SeqCst);
+        }
+        let Ok(passed) = self.began.elapsed(&self.rt) else {
+            return;
+        };
+        let seconds = passed.as_secs().saturating_mul(1_000);
+        let now = seconds.saturating_add(passed.subsec_millis() as u64);
+        let told = self.counts.told.load(Ordering::SeqCst);
+        if now >= told.saturating_add(PAUSE) && self.is_our_turn(told, now) {
+            let _ = self.rt.eprintln(self.line(now));
+        }
+    }
+
+    /// Whether no other thread has written a line since the last one that this thread knows of.
+    fn is_our_turn(&self, told: u64, now: u64) -> bool {
+        let told_word = &self.counts.told;
+        told_word
+            .compare_exchange(told, now, Ordering::SeqCst, Ordering::SeqCst)
+            .is_ok()
+    }
+
+    /// The line at this time, in milliseconds since the run began.
+    fn line(&self, now: u64) -> ProgressLine {
+        ProgressLine {
+            done: self.counts.done.load(Ordering::SeqCst),
+            files: self.files,
+            read: self.counts.read.load(Ordering::SeqCst),
+            size: self.size,
+            tenths: now / 100,
+        }
+    }
+}
