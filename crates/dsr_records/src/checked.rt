@@ -10,9 +10,8 @@ ghost use Rattle.dsr_records.specs.Reads.{AnswersRecord, kind_of_record, id_of_r
 ghost use Rattle.dsr_records.specs.Values.{id_of, kind_of, record_by_row, record_of};
 
 use crate::block::Block;
-use crate::borrowed::BorrowedRecord;
 use crate::check::{
-    check_foot, check_head, check_resource, check_summary, check_usage, check_work,
+    RecordLine, check_foot, check_head, check_resource, check_summary, check_usage, check_work,
 };
 use crate::cursor::Cursor;
 use crate::kinds::{Kind, ReadRecordError, RecordFault};
@@ -27,7 +26,7 @@ use std::marker::Model;
 /// A line without a fault, which contracts see as the record that it spells.
 #[derive(Drop)]
 pub struct CheckedLine<'l> {
-    found: BorrowedRecord<'l>,
+    found: RecordLine<'l>,
 }
 
 impl<'l> Model for CheckedLine<'l> {
@@ -45,13 +44,13 @@ impl<'l> CheckedLine<'l> {
         ensures { result ≡ kind_of_record self.now }
     {
         match &self.found {
-            BorrowedRecord::Head(_) => Kind::Head,
-            BorrowedRecord::Summary(_) => Kind::Summary,
-            BorrowedRecord::Resource(_) => Kind::Resource,
-            BorrowedRecord::Work(_) => Kind::Work,
-            BorrowedRecord::Usage(_) => Kind::Usage,
-            BorrowedRecord::Foot(_) => Kind::Foot,
-            BorrowedRecord::Skipped => Kind::Skipped,
+            RecordLine::Head(_) => Kind::Head,
+            RecordLine::Summary(_) => Kind::Summary,
+            RecordLine::Resource(_) => Kind::Resource,
+            RecordLine::Work(_) => Kind::Work,
+            RecordLine::Usage(_) => Kind::Usage,
+            RecordLine::Foot(_) => Kind::Foot,
+            RecordLine::Skipped => Kind::Skipped,
         }
     }
 
@@ -60,10 +59,10 @@ impl<'l> CheckedLine<'l> {
         ensures { option_map (λ i. i.now) result ≡ id_of_record self.now }
     {
         match &self.found {
-            BorrowedRecord::Summary(summary) => Some(summary.id),
-            BorrowedRecord::Resource(resource) => Some(resource.block_id),
-            BorrowedRecord::Work(work) => Some(work.block_id),
-            BorrowedRecord::Usage(usage) => Some(usage.block_id),
+            RecordLine::Summary(summary) => Some(summary.id),
+            RecordLine::Resource(resource) => Some(resource.block_id),
+            RecordLine::Work(work) => Some(work.block_id),
+            RecordLine::Usage(usage) => Some(usage.block_id),
             _ => None,
         }
     }
@@ -74,13 +73,13 @@ impl<'l> CheckedLine<'l> {
         ensures memory { OnErr result (has_texts self.now ≡ true) }
     {
         Ok(match &self.found {
-            BorrowedRecord::Head(head) => Record::Head(head.copy(alloc)?),
-            BorrowedRecord::Summary(summary) => Record::Summary(summary.copy(alloc)?),
-            BorrowedRecord::Resource(resource) => Record::Resource(resource.copy(alloc)?),
-            BorrowedRecord::Work(work) => Record::Work(work.copy(alloc)?),
-            BorrowedRecord::Usage(usage) => Record::Usage(usage.copy(alloc)?),
-            BorrowedRecord::Foot(foot) => Record::Foot(*foot),
-            BorrowedRecord::Skipped => Record::Skipped,
+            RecordLine::Head(head) => Record::Head(head.copy(alloc)?),
+            RecordLine::Summary(summary) => Record::Summary(summary.copy(alloc)?),
+            RecordLine::Resource(resource) => Record::Resource(resource.read(alloc)?),
+            RecordLine::Work(work) => Record::Work(work.read(alloc)?),
+            RecordLine::Usage(usage) => Record::Usage(usage.read(alloc)?),
+            RecordLine::Foot(foot) => Record::Foot(*foot),
+            RecordLine::Skipped => Record::Skipped,
         })
     }
 
@@ -95,10 +94,10 @@ impl<'l> CheckedLine<'l> {
         ensures opened { OnOk result (OpensBlock self.now block.new) }
         ensures memory { OnErr result (has_texts self.now ≡ true) }
     {
-        if let BorrowedRecord::Resource(resource) = &self.found {
-            *block = Block::open(alloc, resource.copy(alloc)?)?;
+        match &self.found {
+            RecordLine::Resource(resource) => block.write_resource(alloc, resource),
+            _ => Ok(()),
         }
-        Ok(())
     }
 
     /// Appends the work or the usage of the line to a block of fewer than 64 records; another record appends
@@ -110,10 +109,8 @@ impl<'l> CheckedLine<'l> {
         ensures memory { OnErr result (has_texts self.now ≡ true) }
     {
         match &self.found {
-            BorrowedRecord::Work(work) => block.push_work(work.copy(alloc)?).map_err(|_| NoMemory),
-            BorrowedRecord::Usage(usage) => block
-                .push_usage(usage.copy(alloc)?)
-                .map_err(|_| NoMemory),
+            RecordLine::Work(work) => block.write_work(alloc, work),
+            RecordLine::Usage(usage) => block.write_usage(alloc, usage),
             _ => Ok(()),
         }
     }
@@ -152,13 +149,13 @@ fn check_row<'l>(row: &Row<'l>, kind: Kind) -> Result<CheckedLine<'l>, RecordFau
     ensures { result ≡ record_by_row row.now kind }
 {
     let found = match kind {
-        Kind::Head => BorrowedRecord::Head(check_head(row)?),
-        Kind::Summary => BorrowedRecord::Summary(check_summary(row)?),
-        Kind::Resource => BorrowedRecord::Resource(check_resource(row)?),
-        Kind::Work => BorrowedRecord::Work(check_work(row)?),
-        Kind::Usage => BorrowedRecord::Usage(check_usage(row)?),
-        Kind::Foot => BorrowedRecord::Foot(check_foot(row)?),
-        Kind::Skipped => BorrowedRecord::Skipped,
+        Kind::Head => RecordLine::Head(check_head(row)?),
+        Kind::Summary => RecordLine::Summary(check_summary(row)?),
+        Kind::Resource => RecordLine::Resource(check_resource(row)?),
+        Kind::Work => RecordLine::Work(check_work(row)?),
+        Kind::Usage => RecordLine::Usage(check_usage(row)?),
+        Kind::Foot => RecordLine::Foot(check_foot(row)?),
+        Kind::Skipped => RecordLine::Skipped,
     };
     Ok(CheckedLine { found })
 }
@@ -184,7 +181,7 @@ pub fn check_line<'l>(layout: &Layout, line: &'l str) -> Result<CheckedLine<'l>,
     match layout.role(name) {
         Some(role) => check_role(cursor, role),
         None if layout.skips(name) => Ok(CheckedLine {
-            found: BorrowedRecord::Skipped,
+            found: RecordLine::Skipped,
         }),
         None => Err(RecordFault::Unknown),
     }
