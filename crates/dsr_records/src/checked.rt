@@ -94,10 +94,10 @@ impl<'l> CheckedLine<'l> {
         ensures opened { OnOk result (OpensBlock self.now block.new) }
         ensures memory { OnErr result (has_texts self.now ≡ true) }
     {
-        match &self.found {
-            RecordLine::Resource(resource) => block.write_resource(alloc, resource),
-            _ => Ok(()),
+        if let RecordLine::Resource(resource) = &self.found {
+            return block.write_resource(alloc, resource);
         }
+        Ok(())
     }
 
     /// Appends the work or the usage of the line to a block of fewer than 64 records; another record appends

@@ -70,7 +70,7 @@ pub(crate) fn check_work<'l>(row: &Row<'l>) -> Result<WorkLine<'l>, RecordFault>
 }
 
 /// Writes the shares of a list cell over the items of a list.
-fn read_shares_into(alloc: Global, cell: &str, shares: &mut Shares) -> Result<(), NoMemory>
+fn read_shares_into(cell: &str, shares: &mut Shares) -> Result<(), NoMemory>
     requires { list_all is_share (raw_parts cell.now) ≡ true }
     ensures { OnOk result (shares.new ≡ shares_of cell.now) }
 {
@@ -95,7 +95,7 @@ impl<'l> WorkLine<'l> {
         ensures refused { OnErr result ((parties.new ≡ []) × (shares.new ≡ [])) }
     {
         if read_texts_into(alloc, self.parties, parties).is_ok()
-            && read_shares_into(alloc, self.shares, shares).is_ok()
+            && read_shares_into(self.shares, shares).is_ok()
         {
             return Ok(());
         }
