@@ -1,5 +1,6 @@
 //! A line whose cells are those of a record, before anything of it is copied.
-ghost use Rattle.std.specs.Prelude.{◌≡◌, ◌==◌, not, count_by, ◌+◌, ◌<◌, [], Ok, Err, IfOk, OnOk, OnErr, MatchResult, true, length, map, nat_lt, slice_get};
+ghost use Rattle.std.specs.Prelude.{◌≡◌, ◌==◌, ◌+◌, ◌<◌, [], not, true, length, map, count_by};
+ghost use Rattle.std.specs.Prelude.{Ok, Err, IfOk, OnOk, OnErr, MatchResult, nat_lt, slice_get};
 ghost use Rattle.std.specs.Option.{option_map, unwrap_or};
 ghost use Rattle.dsr_cells.specs.Cells.{cells};
 ghost use Rattle.dsr_records.specs.Blocks.{OpensBlock, with_member};
@@ -18,6 +19,7 @@ use crate::kinds::{Kind, ReadRecordError, RecordFault};
 use crate::layout::Layout;
 use crate::layout_line::RoleLine;
 use crate::record::Record;
+use crate::rest::Rest;
 use crate::row::Row;
 use dsr_cells::NoMemory;
 use std::alloc::Global;
@@ -68,6 +70,10 @@ impl<'l> CheckedLine<'l> {
     }
 
     /// The record. A FOOT and a skipped record take no memory.
+    ///
+    /// # Errors
+    ///
+    /// `NoMemory`: no memory was left for the record's texts.
     pub fn read(&self, alloc: Global) -> Result<Record, NoMemory>
         ensures value { IfOk result (λ r. r ≡ self.now) }
         ensures memory { OnErr result (has_texts self.now ≡ true) }
@@ -83,12 +89,11 @@ impl<'l> CheckedLine<'l> {
         })
     }
 
-    /// Writes the block of the line's resource over a block, so far without works and usages. Where memory is
-    /// refused, any block is left.
+    /// Writes the block of the line's resource over a block, so far without works and usages.
     ///
     /// # Errors
     ///
-    /// `NoMemory`: no memory was left for the block's texts.
+    /// `NoMemory`: no memory was left for the block's texts, and any block is left.
     pub fn open_block(&self, alloc: Global, block: &mut Block) -> Result<(), NoMemory>
         requires resource { kind_of_record self.now ≡ kinds.Resource }
         ensures opened { OnOk result (OpensBlock self.now block.new) }
@@ -100,8 +105,12 @@ impl<'l> CheckedLine<'l> {
         Ok(())
     }
 
-    /// Appends the work or the usage of the line to a block of fewer than 64 records; another record appends
-    /// nothing. Want of memory changes nothing.
+    /// Appends the work or the usage of the line to a block of fewer than 64 records; another
+    /// record appends nothing.
+    ///
+    /// # Errors
+    ///
+    /// `NoMemory`: no memory was left for the record's texts, and the block is unchanged.
     pub fn append_to(&self, alloc: Global, block: &mut Block) -> Result<(), NoMemory>
         requires room { 1 + length block.old.works + length block.old.usages < 64 }
         ensures added { OnOk result (block.new ≡ with_member block.old self.now) }
@@ -127,13 +136,24 @@ fn has_others(bytes: &[u8], count: usize) -> bool
         .is_some()
 }
 
-/// Whether a line has more than 64 cells. It has not where more than all but 64 of its bytes are other ones than TABs, which
-/// the first few bytes of a line mostly tell.
+/// Whether a line has more than 64 cells, by its bytes: it has not where more than all but 64 of
+/// them are other ones than TABs.
 #[tactic(auto, using(crate::proofs::Tabs::many_cells))]
-fn has_many_cells(line: &str) -> bool
+#[inline(never)]
+fn counts_many_cells(line: &str) -> bool
     ensures { result ≡ nat_lt 64 (length (cells line.now)) }
 {
     line.len() >= 64 && !has_others(line.as_bytes(), line.len() - 64)
+}
+
+/// Whether a line has more than 64 cells. The TABs among its first bytes mostly tell that it has
+/// not.
+#[inline(always)]
+fn has_many_cells(line: &str, whole: &Rest<'_>) -> bool
+    requires { whole.now.text.now ≡ line.now }
+    ensures { result ≡ nat_lt 64 (length (cells line.now)) }
+{
+    whole.may_have_more(64) && counts_many_cells(line)
 }
 
 /// The record type of a line: its first cell.
@@ -145,6 +165,7 @@ fn record_type<'l>(cursor: &mut Cursor<'l>) -> &'l str
 }
 
 /// Checks the cells of a kind's columns: the line's record, not yet copied, or the first fault.
+#[inline(always)]
 fn check_row<'l>(row: &Row<'l>, kind: Kind) -> Result<CheckedLine<'l>, RecordFault>
     ensures { result ≡ record_by_row row.now kind }
 {
@@ -161,6 +182,7 @@ fn check_row<'l>(row: &Row<'l>, kind: Kind) -> Result<CheckedLine<'l>, RecordFau
 }
 
 /// Checks the cells of a line by the layout line of its record type.
+#[inline(always)]
 fn check_role<'l>(cursor: Cursor<'l>, role: &RoleLine) -> Result<CheckedLine<'l>, RecordFault>
     ensures { result ≡ record_by_row (map (cell_in cursor.entry) role.now.positions) role.now.kind }
 {
@@ -170,13 +192,20 @@ fn check_role<'l>(cursor: Cursor<'l>, role: &RoleLine) -> Result<CheckedLine<'l>
 }
 
 /// Checks a line by a layout: its record, not yet copied, or its first fault. It takes no memory.
+///
+/// # Errors
+///
+/// `Many`: the line has more than 64 cells. `Unknown`: the layout does not have its record type.
+/// `Missing` and `Bad`: the first such column, in the order of the columns. `Uneven`: a work has
+/// other numbers of parties and of shares.
 pub fn check_line<'l>(layout: &Layout, line: &'l str) -> Result<CheckedLine<'l>, RecordFault>
     ensures { result ≡ record_of layout.now line.now }
 {
-    if has_many_cells(line) {
+    let whole = Rest::of(line);
+    if has_many_cells(line, &whole) {
         return Err(RecordFault::Many);
     }
-    let mut cursor = Cursor::at(line);
+    let mut cursor = Cursor::at(line, whole);
     let name = record_type(&mut cursor);
     match layout.role(name) {
         Some(role) => check_role(cursor, role),
@@ -188,20 +217,30 @@ pub fn check_line<'l>(layout: &Layout, line: &'l str) -> Result<CheckedLine<'l>,
 }
 
 /// The kind of a line by a layout, or its first fault.
+///
+/// # Errors
+///
+/// The fault that `check_line` tells.
 pub fn check_record(layout: &Layout, line: &str) -> Result<Kind, RecordFault>
     ensures { result ≡ kind_of layout.now line.now }
 {
     Ok(check_line(layout, line)?.kind())
 }
 
-/// The identifier of a line: that of a summary, or that of the block of a resource, a work or a usage.
+/// The identifier of a line: that of a summary, or that of the block of a resource, a work or a
+/// usage. A faulty line has none, nor has another record.
 pub fn record_id<'l>(layout: &Layout, line: &'l str) -> Option<&'l str>
     ensures { option_map (λ i. i.now) result ≡ id_of layout.now line.now }
 {
     check_line(layout, line).ok()?.id()
 }
 
-/// The record of a line by a layout, or its first fault. All cells are checked before memory is taken.
+/// The record of a line by a layout, or its first fault. All cells are checked before memory is
+/// taken.
+///
+/// # Errors
+///
+/// `Fault`: the fault that `check_line` tells. `Memory`: no memory was left for the record's texts.
 pub fn read_record(alloc: Global, layout: &Layout, line: &str) -> Result<Record, ReadRecordError>
     ensures { AnswersRecord (record_of layout.now line.now) result }
 {

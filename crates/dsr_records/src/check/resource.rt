@@ -39,7 +39,8 @@ impl<'l> Model for ResourceLine<'l> {
 /// The resource of a row.
 #[inline(always)]
 pub(crate) fn check_resource<'l>(row: &Row<'l>) -> Result<ResourceLine<'l>, RecordFault>
-    ensures { MatchResult result (λ r. record_by_row row.now kinds.Resource ≡ Ok (records.Resource r))
+    ensures { MatchResult result
+        (λ r. record_by_row row.now kinds.Resource ≡ Ok (records.Resource r))
         (λ fault. record_by_row row.now kinds.Resource ≡ Err fault) }
 {
     Ok(ResourceLine {
