@@ -3,7 +3,7 @@ use Rattle.std.proofs.lemmas.Bool.{le-ltb, lt-leb}
 use Rattle.std.proofs.lemmas.List.Splits.{length-slice_split}
 use Rattle.std.proofs.lemmas.List.Sums.{count_by-le-length}
 use Rattle.dsr_cells.specs.Cells.{cells}
-use Rattle.dsr_records.proofs.checked.has_many_cells.Goals as goal
+use Rattle.dsr_records.proofs.checked.counts_many_cells.Goals as goal
 
 pub returns-else-line-ge64 : goal.returns-else-line-ge64
 returns-else-line-ge64 c =
