@@ -2,7 +2,8 @@
 ghost use Rattle.std.specs.Prelude.{◌≡◌, ◌==◌, not, count_by, ◌+◌, ◌<◌, [], Ok, Err, IfOk, OnOk, OnErr, MatchResult, true, length, map, nat_lt, slice_get};
 ghost use Rattle.std.specs.Option.{option_map, unwrap_or};
 ghost use Rattle.dsr_cells.specs.Cells.{cells};
-ghost use Rattle.dsr_records.specs.Blocks.{with_member};
+ghost use Rattle.dsr_records.specs.Blocks.{OpensBlock, with_member};
+ghost use Rattle.dsr_records.specs.declared.kinds.Kind.TheVariants as kinds;
 ghost use Rattle.dsr_records.specs.Checked.{record_seen};
 ghost use Rattle.dsr_records.specs.Records.{cell_in};
 ghost use Rattle.dsr_records.specs.Reads.{AnswersRecord, kind_of_record, id_of_record, has_texts};
@@ -81,6 +82,23 @@ impl<'l> CheckedLine<'l> {
             BorrowedRecord::Foot(foot) => Record::Foot(*foot),
             BorrowedRecord::Skipped => Record::Skipped,
         })
+    }
+
+    /// Writes the block of the line's resource over a block, so far without works and usages. Where memory is
+    /// refused, any block is left.
+    ///
+    /// # Errors
+    ///
+    /// `NoMemory`: no memory was left for the block's texts.
+    pub fn open_block(&self, alloc: Global, block: &mut Block) -> Result<(), NoMemory>
+        requires resource { kind_of_record self.now ≡ kinds.Resource }
+        ensures opened { OnOk result (OpensBlock self.now block.new) }
+        ensures memory { OnErr result (has_texts self.now ≡ true) }
+    {
+        if let BorrowedRecord::Resource(resource) = &self.found {
+            *block = Block::open(alloc, resource.copy(alloc)?)?;
+        }
+        Ok(())
     }
 
     /// Appends the work or the usage of the line to a block of fewer than 64 records; another record appends
