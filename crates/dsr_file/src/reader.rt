@@ -231,7 +231,7 @@ impl FileReader {
         let mut closed = None;
         let step = self
             .grammar
-            .line(self.alloc, &self.layout, self.cutter.line(), &mut closed);
+            .line(self.alloc, &self.layout, self.cutter.line(), &mut self.spare, &mut closed);
         self.cutter.clear();
         self.answer(number, step, closed, event);
     }
@@ -253,7 +253,7 @@ impl FileReader {
         let mut closed = None;
         let step = self
             .grammar
-            .line(self.alloc, &self.layout, line, &mut closed);
+            .line(self.alloc, &self.layout, line, &mut self.spare, &mut closed);
         self.answer(number, step, closed, event);
     }
 
@@ -445,7 +445,7 @@ impl FileReader {
         let mut closed = None;
         let step = self
             .grammar
-            .line(self.alloc, &self.layout, self.cutter.line(), &mut closed);
+            .line(self.alloc, &self.layout, self.cutter.line(), &mut self.spare, &mut closed);
         match step {
             Step::Good => {
                 let outcome = self.grammar.outcome(Ending::Whole);
