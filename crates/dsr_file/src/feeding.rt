@@ -39,8 +39,12 @@ pub(crate) fn feed<S: Sink>(file: &mut FileReader, piece: &[u8], sink: &mut S) -
     ensures open { ending_told file.new ≡ None }
     ensures used { OnOk result (bytes_used file.new ≤ bytes_used file.old + length piece.now) }
     ensures name { S.name sink.new ≡ S.name sink.old }
-    ensures fed { OnOk result ((layout : LayoutTable) (b : List ℕ) → Stands layout file.old b (S.list sink.old) → Fed layout file.new b piece.now (S.list sink.new)) }
-    ensures refused { IfErr result (λ e. (layout : LayoutTable) (b : List ℕ) → Stands layout file.old b (S.list sink.old) → FedSome layout b piece.now (S.list sink.new ++ e ∷ [])) }
+    ensures fed { OnOk result ((layout : LayoutTable) (b : List ℕ)
+        → Stands layout file.old b (S.list sink.old)
+        → Fed layout file.new b piece.now (S.list sink.new)) }
+    ensures refused { IfErr result (λ e. (layout : LayoutTable) (b : List ℕ)
+        → Stands layout file.old b (S.list sink.old)
+        → FedSome layout b piece.now (S.list sink.new ++ e ∷ [])) }
 {
     let mut used = 0;
     loop {
@@ -62,8 +66,12 @@ pub(crate) fn finish_all<S: Sink>(
     requires open { ending_told file.old ≡ None }
     requires known { IsKnown file.old (S.list sink.old) }
     ensures name { S.name sink.new ≡ S.name sink.old }
-    ensures all { IfOk result (λ o. (layout : LayoutTable) (b : List ℕ) → Stands layout file.old b (S.list sink.old) → HasEvents layout b (Some ending) (S.list sink.new) × EndsWith (S.list sink.new) o) }
-    ensures refused { IfErr result (λ e. (layout : LayoutTable) (b : List ℕ) → Stands layout file.old b (S.list sink.old) → BeginsEvents layout b (Some ending) (S.list sink.new ++ e ∷ [])) }
+    ensures all { IfOk result (λ o. (layout : LayoutTable) (b : List ℕ)
+        → Stands layout file.old b (S.list sink.old)
+        → HasEvents layout b (Some ending) (S.list sink.new) × EndsWith (S.list sink.new) o) }
+    ensures refused { IfErr result (λ e. (layout : LayoutTable) (b : List ℕ)
+        → Stands layout file.old b (S.list sink.old)
+        → BeginsEvents layout b (Some ending) (S.list sink.new ++ e ∷ [])) }
 {
     loop {
         match file.finish(ending) {

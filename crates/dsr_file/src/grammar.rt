@@ -105,7 +105,8 @@ impl Grammar {
         requires lines { self.old.lines < 2 ^ 40 - 1 }
         requires free { IsFree self.old.stage line.now }
         requires member { IsMember line.now }
-        ensures steps { (ls : List Reading) → Keeps self.old ls → RecordSteps ls line.now result None self.new }
+        ensures steps { (ls : List Reading) → Keeps self.old ls
+            → RecordSteps ls line.now result None self.new }
         ensures counts { self.new.lines ≤ self.old.lines + 1 }
     {
         match self.stage.add_member(alloc, line) {
@@ -123,7 +124,8 @@ impl Grammar {
         requires free { IsFree self.old.stage item }
         requires other { IsOther item }
         requires none { closed.old ≡ None }
-        ensures steps { (ls : List Reading) → Keeps self.old ls → RecordSteps ls item result closed.new self.new }
+        ensures steps { (ls : List Reading) → Keeps self.old ls
+            → RecordSteps ls item result closed.new self.new }
         ensures counts { self.new.lines ≤ self.old.lines + 1 }
     {
         let foot = foot_in(&item);
@@ -172,7 +174,8 @@ impl Grammar {
     ) -> Step
         requires lines { self.old.lines < 2 ^ 40 - 1 }
         requires none { closed.old ≡ None }
-        ensures steps { (ls : List Reading) → Keeps self.old ls → IsRecord line.now → LineSteps ls (Holds line.now) result closed.new self.new }
+        ensures steps { (ls : List Reading) → Keeps self.old ls → IsRecord line.now
+            → LineSteps ls (Holds line.now) result closed.new self.new }
         ensures counts { self.new.lines ≤ self.old.lines + 1 }
     {
         if let Some(fault) = self.stage.fault(line.kind(), line.id()) {
@@ -196,7 +199,8 @@ impl Grammar {
         requires free { IsFree self.old.stage line.now }
         requires other { IsOther line.now }
         requires none { closed.old ≡ None }
-        ensures steps { (ls : List Reading) → Keeps self.old ls → RecordSteps ls line.now result closed.new self.new }
+        ensures steps { (ls : List Reading) → Keeps self.old ls
+            → RecordSteps ls line.now result closed.new self.new }
         ensures counts { self.new.lines ≤ self.old.lines + 1 }
     {
         match line.read(alloc) {
@@ -207,7 +211,8 @@ impl Grammar {
 
     fn skip_line(&mut self)
         requires { self.old.lines < 2 ^ 40 - 1 }
-        ensures steps { (ls : List Reading) → Keeps self.old ls → LineSteps ls SkippedLine Step.Good None self.new }
+        ensures steps { (ls : List Reading) → Keeps self.old ls
+            → LineSteps ls SkippedLine Step.Good None self.new }
         ensures lines { self.new.lines ≡ self.old.lines + 1 }
     {
         self.lines += 1;
@@ -216,7 +221,8 @@ impl Grammar {
 
     fn skip_record(&mut self)
         requires { self.old.lines < 2 ^ 40 - 1 }
-        ensures steps { (ls : List Reading) → Keeps self.old ls → LineSteps ls (Holds the.Skipped) Step.Good None self.new }
+        ensures steps { (ls : List Reading) → Keeps self.old ls
+            → LineSteps ls (Holds the.Skipped) Step.Good None self.new }
         ensures lines { self.new.lines ≡ self.old.lines + 1 }
     {
         self.lines += 1;
@@ -234,7 +240,8 @@ impl Grammar {
     ) -> Step
         requires lines { self.old.lines < 2 ^ 40 - 1 }
         requires none { closed.old ≡ None }
-        ensures steps { (ls : List Reading) → Keeps self.old ls → LineSteps ls (of_utf8 layout.now text.now) result closed.new self.new }
+        ensures steps { (ls : List Reading) → Keeps self.old ls
+            → LineSteps ls (of_utf8 layout.now text.now) result closed.new self.new }
         ensures counts { self.new.lines ≤ self.old.lines + 1 }
     {
         if is_skipped(text) {
@@ -257,7 +264,8 @@ impl Grammar {
     ) -> Step
         requires lines { self.old.lines < 2 ^ 40 - 1 }
         requires none { closed.old ≡ None }
-        ensures steps { (ls : List Reading) → Keeps self.old ls → LineSteps ls (Holds line.now) result closed.new self.new }
+        ensures steps { (ls : List Reading) → Keeps self.old ls
+            → LineSteps ls (Holds line.now) result closed.new self.new }
         ensures counts { self.new.lines ≤ self.old.lines + 1 }
     {
         match line.kind() {
@@ -281,7 +289,8 @@ impl Grammar {
         requires lines { self.old.lines < 2 ^ 40 - 1 }
         requires none { closed.old ≡ None }
         requires short { length line.now ≤ 8192 }
-        ensures steps { (ls : List Reading) → Keeps self.old ls → LineSteps ls (reading layout.now line.now) result closed.new self.new }
+        ensures steps { (ls : List Reading) → Keeps self.old ls
+            → LineSteps ls (reading layout.now line.now) result closed.new self.new }
         ensures counts { self.new.lines ≤ self.old.lines + 1 }
     {
         match text_of(strip_return(line)) {

@@ -98,7 +98,8 @@ impl FileReader {
     /// How many bytes were used.
     pub fn given(&self) -> u64
         ensures used { result ≡ bytes_used self.now }
-        ensures bytes { (layout : LayoutTable) (b : List ℕ) (es : List Placed) → Stands layout self.now b es → result ≡ length b }
+        ensures bytes { (layout : LayoutTable) (b : List ℕ) (es : List Placed)
+            → Stands layout self.now b es → result ≡ length b }
     {
         self.given
     }
@@ -106,7 +107,8 @@ impl FileReader {
     /// Whether Ended was given.
     pub fn done(&self) -> bool
         ensures phase { IsTrue result ↔ IsDone self.now }
-        ensures ended { (layout : LayoutTable) (b : List ℕ) (es : List Placed) → Stands layout self.now b es → (IsTrue result ↔ (has_ended es ≡ true)) }
+        ensures ended { (layout : LayoutTable) (b : List ℕ) (es : List Placed)
+            → Stands layout self.now b es → (IsTrue result ↔ (has_ended es ≡ true)) }
     {
         self.phase.is_done()
     }
@@ -171,7 +173,9 @@ impl FileReader {
         requires reading { self.old.phase ≡ phases.Reading }
         requires room { self.old.place + 1 ≤ self.old.given }
         requires none { event.old ≡ None }
-        ensures stands { (layout : LayoutTable) (b : List ℕ) (es : List Placed) → AtAnswer layout self.old line step closed b es → Stands layout self.new b (es ++ option_to_list event.new) }
+        ensures stands { (layout : LayoutTable) (b : List ℕ) (es : List Placed)
+            → AtAnswer layout self.old line step closed b es
+            → Stands layout self.new b (es ++ option_to_list event.new) }
         ensures same { SameText self.old self.new }
         ensures reading { IfNone event.new (self.new.phase ≡ phases.Reading) }
     {
@@ -223,7 +227,9 @@ impl FileReader {
         requires none { event.old ≡ None }
         requires room { self.old.place + 1 ≤ self.old.given }
         requires lines { self.old.grammar.lines + 1 ≤ self.old.given }
-        ensures stands { (layout : LayoutTable) (b : List ℕ) (es : List Placed) → AtLine layout self.old self.old.cutter.bytes.items b es → Stands layout self.new b (es ++ option_to_list event.new) }
+        ensures stands { (layout : LayoutTable) (b : List ℕ) (es : List Placed)
+            → AtLine layout self.old self.old.cutter.bytes.items b es
+            → Stands layout self.new b (es ++ option_to_list event.new) }
         ensures same { SameText self.old self.new }
         ensures reading { IfNone event.new (self.new.phase ≡ phases.Reading) }
     {
@@ -245,7 +251,9 @@ impl FileReader {
         requires short { length line.now ≤ 8192 }
         requires cleared { self.old.cutter.bytes.items ≡ [] }
         requires settled { self.old.cutter.fresh ≡ false }
-        ensures stands { (layout : LayoutTable) (b : List ℕ) (es : List Placed) → AtLine layout self.old line.now b es → Stands layout self.new b (es ++ option_to_list event.new) }
+        ensures stands { (layout : LayoutTable) (b : List ℕ) (es : List Placed)
+            → AtLine layout self.old line.now b es
+            → Stands layout self.new b (es ++ option_to_list event.new) }
         ensures same { SameText self.old self.new }
         ensures reading { IfNone event.new (self.new.phase ≡ phases.Reading) }
     {
@@ -261,10 +269,12 @@ impl FileReader {
     fn long_line(&mut self) -> Event
         requires reading { self.old.phase ≡ phases.Reading }
         requires room { self.old.place + 1 ≤ self.old.given }
-        ensures event { result ≡ ended self.old.place (Outcome.Fault (self.old.grammar.lines + 1) FileFault.LongLine) }
+        ensures event { result ≡ ended self.old.place (Outcome.Fault (self.old.grammar.lines + 1)
+            FileFault.LongLine) }
         ensures place { self.new.place ≡ self.old.place + 1 }
         ensures same { SameText self.old self.new }
-        ensures done { self.new.phase ≡ phases.Done (Outcome.Fault (self.old.grammar.lines + 1) FileFault.LongLine) }
+        ensures done { self.new.phase ≡ phases.Done (Outcome.Fault (self.old.grammar.lines + 1)
+            FileFault.LongLine) }
     {
         let line = self.grammar.lines + 1;
         self.end(Outcome::Fault {
@@ -281,7 +291,9 @@ impl FileReader {
         requires room { self.old.place + 1 ≤ self.old.given }
         requires lines { self.old.grammar.lines + 1 ≤ self.old.given }
         requires here { FitsCut cut used.now self.old.cutter }
-        ensures stands { (layout : LayoutTable) (b : List ℕ) (es : List Placed) → AtCut layout self.old cut b used.now es → Stands layout self.new (b ++ used.now) (es ++ option_to_list event.new) }
+        ensures stands { (layout : LayoutTable) (b : List ℕ) (es : List Placed)
+            → AtCut layout self.old cut b used.now es
+            → Stands layout self.new (b ++ used.now) (es ++ option_to_list event.new) }
         ensures same { SameText self.old self.new }
         ensures reading { IfNone event.new (self.new.phase ≡ phases.Reading) }
     {
@@ -301,7 +313,9 @@ impl FileReader {
         requires none { event.old ≡ None }
         ensures some { 0 < result }
         ensures bound { result ≤ length piece.now }
-        ensures stands { (layout : LayoutTable) (b : List ℕ) (es : List Placed) → Stands layout self.old b es → Stands layout self.new (b ++ take result piece.now) (es ++ option_to_list event.new) }
+        ensures stands { (layout : LayoutTable) (b : List ℕ) (es : List Placed)
+            → Stands layout self.old b es
+            → Stands layout self.new (b ++ take result piece.now) (es ++ option_to_list event.new) }
         ensures given { self.new.given ≡ self.old.given + result }
         ensures ending { self.new.ending ≡ self.old.ending }
         ensures reading { IfNone event.new (self.new.phase ≡ phases.Reading) }
@@ -317,7 +331,10 @@ impl FileReader {
         requires reading { self.old.phase ≡ phases.Reading }
         requires room { self.old.given + length piece.now ≤ 2 ^ 36 }
         ensures bound { result.0 ≤ length piece.now }
-        ensures stands { (layout : LayoutTable) (b : List ℕ) (es : List Placed) → Stands layout self.old b es → Stands layout self.new (b ++ take result.0 piece.now) (es ++ option_to_list result.1) }
+        ensures stands { (layout : LayoutTable) (b : List ℕ) (es : List Placed)
+            → Stands layout self.old b es
+            → Stands layout self.new (b ++ take result.0 piece.now) (es ++ option_to_list result.1)
+            }
         ensures ending { self.new.ending ≡ self.old.ending }
         ensures reading { IfNone result.1 (self.new.phase ≡ phases.Reading) }
         ensures whole { IfNone result.1 (result.0 ≡ length piece.now) }
@@ -341,19 +358,27 @@ impl FileReader {
         requires room { bytes_used self.old + length piece.now ≤ 2 ^ 36 }
 
         // The reader stands for the bytes used and the events given.
-        ensures stands { (layout : LayoutTable) (b : List ℕ) (es : List Placed) → Stands layout self.old b es → Stands layout self.new (b ++ take result.0 piece.now) (es ++ option_to_list result.1) }
+        ensures stands { (layout : LayoutTable) (b : List ℕ) (es : List Placed)
+            → Stands layout self.old b es
+            → Stands layout self.new (b ++ take result.0 piece.now) (es ++ option_to_list result.1)
+            }
         // These events are the first that the bytes have; without an event, all.
-        ensures begins { (layout : LayoutTable) (b : List ℕ) (es : List Placed) → Stands layout self.new b es → BeginsEvents layout b None es }
-        ensures all { IfNone result.1 ((layout : LayoutTable) (b : List ℕ) (es : List Placed) → Stands layout self.new b es → HasEvents layout b None es) }
+        ensures begins { (layout : LayoutTable) (b : List ℕ) (es : List Placed)
+            → Stands layout self.new b es → BeginsEvents layout b None es }
+        ensures all { IfNone result.1 ((layout : LayoutTable) (b : List ℕ) (es : List Placed)
+            → Stands layout self.new b es → HasEvents layout b None es) }
         // Where an event of the bytes used so far waits, no byte more is used.
-        ensures waiting { (layout : LayoutTable) (b : List ℕ) (es : List Placed) → Stands layout self.old b es → HasEvents layout b None es ⊎ (result.0 ≡ 0) }
+        ensures waiting { (layout : LayoutTable) (b : List ℕ) (es : List Placed)
+            → Stands layout self.old b es → HasEvents layout b None es ⊎ (result.0 ≡ 0) }
         // Without an event the whole piece was used, unless Ended was given.
         ensures bound { result.0 ≤ length piece.now }
         ensures whole { IfNone result.1 ((result.0 ≡ length piece.now) ⊎ IsDone self.new) }
-        ensures done { IsDone self.old → (result.0 ≡ 0) × (result.1 ≡ None) × (self.new ≡ self.old) }
+        ensures done { IsDone self.old
+            → (result.0 ≡ 0) × (result.1 ≡ None) × (self.new ≡ self.old) }
         ensures used { bytes_used self.new ≡ bytes_used self.old + result.0 }
         ensures open { ending_told self.new ≡ None }
-        ensures progress { OnSome result.1 (events_left self.new < result.0 + events_left self.old) }
+        ensures progress { OnSome result.1 (events_left self.new < result.0 + events_left self.old)
+            }
     {
         match self.phase {
             Phase::Reading => self.read(piece),
@@ -366,10 +391,15 @@ impl FileReader {
     pub fn finish(&mut self, ending: Ending) -> Option<Event>
         ensures ending { ending_told self.new ≡ Some (first_ending self.old ending) }
         ensures used { bytes_used self.new ≡ bytes_used self.old }
-        ensures stands { (layout : LayoutTable) (b : List ℕ) (es : List Placed) → Stands layout self.old b es → Stands layout self.new b (es ++ option_to_list result) }
+        ensures stands { (layout : LayoutTable) (b : List ℕ) (es : List Placed)
+            → Stands layout self.old b es → Stands layout self.new b (es ++ option_to_list result) }
         // The events given are the first of the text's; without an event, all.
-        ensures begins { (layout : LayoutTable) (b : List ℕ) (es : List Placed) → Stands layout self.new b es → BeginsEvents layout b (Some (first_ending self.old ending)) es }
-        ensures all { IfNone result ((layout : LayoutTable) (b : List ℕ) (es : List Placed) → Stands layout self.new b es → HasEvents layout b (Some (first_ending self.old ending)) es) }
+        ensures begins { (layout : LayoutTable) (b : List ℕ) (es : List Placed)
+            → Stands layout self.new b es
+            → BeginsEvents layout b (Some (first_ending self.old ending)) es }
+        ensures all { IfNone result ((layout : LayoutTable) (b : List ℕ) (es : List Placed)
+            → Stands layout self.new b es
+            → HasEvents layout b (Some (first_ending self.old ending)) es) }
         ensures done { IfNone result (IsDone self.new) }
         ensures progress { OnSome result (events_left self.new < events_left self.old) }
     {
@@ -386,8 +416,12 @@ impl FileReader {
         ensures ending { self.new.ending ≡ Some (first_ending self.old ending) }
         ensures phase { self.new.phase ≡ self.old.phase }
         ensures used { self.new.given ≡ self.old.given }
-        ensures ended { self.old.phase ≢ phases.Reading → (layout : LayoutTable) (b : List ℕ) (es : List Placed) → Stands layout self.old b es → Stands layout self.new b es }
-        ensures reading { self.old.phase ≡ phases.Reading → (layout : LayoutTable) (b : List ℕ) (es : List Placed) → Stands layout self.old b es → AtEnd layout self.new ending b es }
+        ensures ended { self.old.phase ≢ phases.Reading
+            → (layout : LayoutTable) (b : List ℕ) (es : List Placed)
+            → Stands layout self.old b es → Stands layout self.new b es }
+        ensures reading { self.old.phase ≡ phases.Reading
+            → (layout : LayoutTable) (b : List ℕ) (es : List Placed)
+            → Stands layout self.old b es → AtEnd layout self.new ending b es }
     {
         if self.ending.is_none() {
             self.ending = Some(ending);
@@ -397,7 +431,8 @@ impl FileReader {
     /// Ends behind the last piece.
     fn finish_lines(&mut self, ending: Ending) -> Event
         requires reading { self.old.phase ≡ phases.Reading }
-        ensures stands { (layout : LayoutTable) (b : List ℕ) (es : List Placed) → AtEnd layout self.old ending b es → Stands layout self.new b (es ++ result ∷ []) }
+        ensures stands { (layout : LayoutTable) (b : List ℕ) (es : List Placed)
+            → AtEnd layout self.old ending b es → Stands layout self.new b (es ++ result ∷ []) }
         ensures left { left self.new.phase < 2 }
         ensures same { SameText self.old self.new }
     {
@@ -409,7 +444,9 @@ impl FileReader {
 
     fn finish_whole(&mut self) -> Event
         requires reading { self.old.phase ≡ phases.Reading }
-        ensures stands { (layout : LayoutTable) (b : List ℕ) (es : List Placed) → AtEnd layout self.old Ending.Whole b es → Stands layout self.new b (es ++ result ∷ []) }
+        ensures stands { (layout : LayoutTable) (b : List ℕ) (es : List Placed)
+            → AtEnd layout self.old Ending.Whole b es
+            → Stands layout self.new b (es ++ result ∷ []) }
         ensures left { left self.new.phase < 2 }
         ensures same { SameText self.old self.new }
     {
@@ -424,7 +461,8 @@ impl FileReader {
     fn no_line(&mut self, ending: Ending) -> Event
         requires reading { self.old.phase ≡ phases.Reading }
         requires none { ending ≡ Ending.Whole → length self.old.cutter.bytes.items ≡ 0 }
-        ensures stands { (layout : LayoutTable) (b : List ℕ) (es : List Placed) → AtEnd layout self.old ending b es → Stands layout self.new b (es ++ result ∷ []) }
+        ensures stands { (layout : LayoutTable) (b : List ℕ) (es : List Placed)
+            → AtEnd layout self.old ending b es → Stands layout self.new b (es ++ result ∷ []) }
         ensures left { left self.new.phase < 2 }
         ensures same { SameText self.old self.new }
     {
@@ -436,7 +474,9 @@ impl FileReader {
     fn last_line(&mut self) -> Event
         requires reading { self.old.phase ≡ phases.Reading }
         requires some { 0 < length self.old.cutter.bytes.items }
-        ensures stands { (layout : LayoutTable) (b : List ℕ) (es : List Placed) → AtEnd layout self.old Ending.Whole b es → Stands layout self.new b (es ++ result ∷ []) }
+        ensures stands { (layout : LayoutTable) (b : List ℕ) (es : List Placed)
+            → AtEnd layout self.old Ending.Whole b es
+            → Stands layout self.new b (es ++ result ∷ []) }
         ensures left { left self.new.phase < 2 }
         ensures same { SameText self.old self.new }
     {
