@@ -235,9 +235,13 @@ impl FileReader {
     {
         let number = self.grammar.lines + 1;
         let mut closed = None;
-        let step = self
-            .grammar
-            .line(self.alloc, &self.layout, self.cutter.line(), &mut self.spare, &mut closed);
+        let step = self.grammar.line(
+            self.alloc,
+            &self.layout,
+            self.cutter.line(),
+            &mut self.spare,
+            &mut closed,
+        );
         self.cutter.clear();
         self.answer(number, step, closed, event);
     }
@@ -259,9 +263,7 @@ impl FileReader {
     {
         let number = self.grammar.lines + 1;
         let mut closed = None;
-        let step = self
-            .grammar
-            .line(self.alloc, &self.layout, line, &mut self.spare, &mut closed);
+        let step = self.grammar.line(self.alloc, &self.layout, line, &mut self.spare, &mut closed);
         self.answer(number, step, closed, event);
     }
 
@@ -333,8 +335,7 @@ impl FileReader {
         ensures bound { result.0 ≤ length piece.now }
         ensures stands { (layout : LayoutTable) (b : List ℕ) (es : List Placed)
             → Stands layout self.old b es
-            → Stands layout self.new (b ++ take result.0 piece.now) (es ++ option_to_list result.1)
-            }
+            → Stands layout self.new (b ++ take result.0 piece.now) (es ++ option_to_list result.1) }
         ensures ending { self.new.ending ≡ self.old.ending }
         ensures reading { IfNone result.1 (self.new.phase ≡ phases.Reading) }
         ensures whole { IfNone result.1 (result.0 ≡ length piece.now) }
@@ -360,8 +361,7 @@ impl FileReader {
         // The reader stands for the bytes used and the events given.
         ensures stands { (layout : LayoutTable) (b : List ℕ) (es : List Placed)
             → Stands layout self.old b es
-            → Stands layout self.new (b ++ take result.0 piece.now) (es ++ option_to_list result.1)
-            }
+            → Stands layout self.new (b ++ take result.0 piece.now) (es ++ option_to_list result.1) }
         // These events are the first that the bytes have; without an event, all.
         ensures begins { (layout : LayoutTable) (b : List ℕ) (es : List Placed)
             → Stands layout self.new b es → BeginsEvents layout b None es }
@@ -377,8 +377,7 @@ impl FileReader {
             → (result.0 ≡ 0) × (result.1 ≡ None) × (self.new ≡ self.old) }
         ensures used { bytes_used self.new ≡ bytes_used self.old + result.0 }
         ensures open { ending_told self.new ≡ None }
-        ensures progress { OnSome result.1 (events_left self.new < result.0 + events_left self.old)
-            }
+        ensures progress { OnSome result.1 (events_left self.new < result.0 + events_left self.old) }
     {
         match self.phase {
             Phase::Reading => self.read(piece),
@@ -483,9 +482,13 @@ impl FileReader {
         let line = self.grammar.lines + 1;
         self.phase = Phase::Done(Outcome::Whole);
         let mut closed = None;
-        let step = self
-            .grammar
-            .line(self.alloc, &self.layout, self.cutter.line(), &mut self.spare, &mut closed);
+        let step = self.grammar.line(
+            self.alloc,
+            &self.layout,
+            self.cutter.line(),
+            &mut self.spare,
+            &mut closed,
+        );
         match step {
             Step::Good => {
                 let outcome = self.grammar.outcome(Ending::Whole);
