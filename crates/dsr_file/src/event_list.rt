@@ -34,7 +34,11 @@ impl EventList {
         }
     }
 
-    /// Appends an event, or hands it back where memory is refused.
+    /// Appends an event.
+    ///
+    /// # Errors
+    ///
+    /// The event itself, where memory is refused; the list stays as it was.
     pub fn push(&mut self, event: Event) -> Result<(), Event>
         ensures { MatchResult result (λ _. self.new ≡ self.old ++ event ∷ [])
             (λ back. (back ≡ event) × (self.new ≡ self.old)) }

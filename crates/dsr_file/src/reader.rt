@@ -63,6 +63,10 @@ impl FileReader {
     ghost use Rattle.dsr_file.specs.declared.reader.Phase.TheVariants as phases;
 
     /// A reader that was given nothing. It keeps the allocator and a copy of the layout.
+    ///
+    /// # Errors
+    ///
+    /// `NoMemory`: there is no room for the longest line.
     pub fn new(alloc: Global, layout: &Layout) -> Result<FileReader, NoMemory>
         ensures stands { IfOk result (λ r. Stands layout.now r [] []) }
         ensures open { IfOk result (λ r. ending_told r ≡ None) }

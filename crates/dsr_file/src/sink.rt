@@ -16,8 +16,11 @@ pub trait Sink {
 
     ghost name: { Self → Self.Name };
 
-    /// Adds the event to the list, or hands it back and changes nothing. The list with the event
-    /// is a run of some text.
+    /// Adds the event to the list. The list with the event is a run of some text.
+    ///
+    /// # Errors
+    ///
+    /// The event itself, where the sink does not take it; nothing changes then.
     fn put(&mut self, event: Event) -> Result<(), Event>
         requires { IsSomeRun (list self.old ++ event ∷ []) }
         ensures added { OnOk result (list self.new ≡ list self.old ++ event ∷ []) }
