@@ -14,10 +14,10 @@
 //! [`laws`] says what holds of the relays of all files together.
 #![tactic(auto)]
 
+mod batch;
 mod channel;
 mod feed;
 pub mod laws;
-mod lot;
 mod memory;
 mod name;
 mod open;
@@ -25,9 +25,9 @@ mod rule;
 mod settled;
 mod tap;
 
+pub use batch::Batch;
 pub use channel::Closed;
 pub use feed::Feed;
-pub use lot::Lot;
 pub use name::Name;
 pub use open::{RelayError, open_relay};
 pub use settled::Settled;

@@ -325,29 +325,29 @@ fn one_of_forty_is_taken(rt: HostRuntime) -> Result<(), Fail> {
     Ok(())
 }
 
-/// Takes a lot and gives it back, and answers how many events it has, or none where the feed is gone.
-fn takes_lot<R: Wait>(rt: &R, tap: &mut Tap) -> Option<usize>
+/// Takes a batch and gives it back, and answers how many events it has, or none where the feed is gone.
+fn takes_batch<R: Wait>(rt: &R, tap: &mut Tap) -> Option<usize>
     requires { has_ended tap.old.taken ≡ false }
     ensures { tap.new.name ≡ tap.old.name }
 {
-    let Ok(lot) = tap.take_lot(rt) else {
+    let Ok(batch) = tap.take_batch(rt) else {
         return None;
     };
-    let count = lot.events().len();
-    tap.give_back(rt, lot);
+    let count = batch.events().len();
+    tap.give_back(rt, batch);
     Some(count)
 }
 
 #[test]
-fn lots_of_forty(rt: HostRuntime) -> Result<(), Fail> {
+fn batches_of_forty(rt: HostRuntime) -> Result<(), Fail> {
     let (mut feed, mut tap) = relay(rt.alloc(), 2)?;
     assert!(rt; send_blocks(&rt, rt.alloc(), &mut feed, 39));
     assert!(rt; flushes(&rt, &mut feed));
     assert!(rt; takes_opened(&rt, &mut tap));
     assert!(rt; !tap.ended());
-    assert_eq!(rt; takes_lot(&rt, &mut tap), Some(31));
+    assert_eq!(rt; takes_batch(&rt, &mut tap), Some(31));
     assert!(rt; !tap.ended());
-    assert_eq!(rt; takes_lot(&rt, &mut tap), Some(8));
+    assert_eq!(rt; takes_batch(&rt, &mut tap), Some(8));
     let settled = tap.take_in(feed);
     assert_eq!(rt; (settled.taken, settled.left), (40, 0));
     Ok(())
@@ -463,9 +463,9 @@ fn are_right(events: &[Event], first: u64) -> bool {
     true
 }
 
-/// Takes the events of a file of blocks by lots, and answers how many were the right ones, up to the first lot that was
+/// Takes the events of a file of blocks by batches, and answers how many were the right ones, up to the first batch that was
 /// not.
-fn take_lots<R: Wait>(rt: &R, tap: &mut Tap) -> u64
+fn take_batches<R: Wait>(rt: &R, tap: &mut Tap) -> u64
     ensures { tap.new.name ≡ tap.old.name }
 {
     let mut taken = 0u64;
@@ -473,25 +473,25 @@ fn take_lots<R: Wait>(rt: &R, tap: &mut Tap) -> u64
         if tap.ended() {
             return taken;
         }
-        let Ok(lot) = tap.take_lot(rt) else {
+        let Ok(batch) = tap.take_batch(rt) else {
             return taken;
         };
-        if !are_right(lot.events(), taken) {
+        if !are_right(batch.events(), taken) {
             return taken;
         }
-        taken = taken.wrapping_add(lot.events().len() as u64);
-        tap.give_back(rt, lot);
+        taken = taken.wrapping_add(batch.events().len() as u64);
+        tap.give_back(rt, batch);
     }
     taken
 }
 
 #[test]
-fn lots_through_one_place(rt: HostRuntime) -> Result<(), Fail> {
+fn batches_through_one_place(rt: HostRuntime) -> Result<(), Fail> {
     let alloc: Global = rt.alloc();
     let (feed, mut tap) = relay(alloc, 1)?;
     let promise = SameRelay(Snapshot::of(&feed));
     let sender = thread::spawn_with(&rt, promise, move || send_file(&rt, alloc, feed, 2000))?;
-    assert_eq!(rt; take_lots(&rt, &mut tap), 2002);
+    assert_eq!(rt; take_batches(&rt, &mut tap), 2002);
     assert!(rt; tap.ended());
     let settled = tap.take_in(sender.join(&rt));
     assert_eq!(rt; (settled.taken, settled.left), (2002, 0));
@@ -533,7 +533,7 @@ fn passes_block<R: Wait>(rt: &R, alloc: Global, feed: &mut Feed, tap: &mut Tap) 
     if !flushes(rt, feed) || tap.ended() {
         return false;
     }
-    takes_lot(rt, tap) == Some(1)
+    takes_batch(rt, tap) == Some(1)
 }
 
 /// Sends and takes so many blocks, one after another. Answers whether all of that went well.
@@ -584,7 +584,7 @@ fn a_file_goes_through_or_no_memory(rt: HostRuntime) {
     let Ok(sender) = thread::spawn(&rt, move || send_file(&rt, alloc, feed, 70)) else {
         return;
     };
-    let taken = take_lots(&rt, &mut tap);
+    let taken = take_batches(&rt, &mut tap);
     assert!(rt; tap.ended());
     let feed = sender.join(&rt);
     assert_eq!(rt; taken, feed.sent_count());
