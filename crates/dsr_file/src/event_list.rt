@@ -4,6 +4,7 @@ ghost use Rattle.std.specs.Option.{option_map};
 
 use crate::event::Event;
 use crate::sink::Sink;
+use dsr_records::Block;
 use std::alloc::Global;
 use std::collections::VecDeque;
 use std::marker::Model;
@@ -73,5 +74,10 @@ impl Sink for EventList {
 
     fn put(&mut self, event: Event) -> Result<(), Event> {
         self.push(event)
+    }
+
+    /// None: the list keeps what was put.
+    fn spare(&mut self) -> Option<Block> {
+        None
     }
 }

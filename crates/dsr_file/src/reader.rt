@@ -11,7 +11,7 @@ use crate::event::{Event, EventPart};
 use crate::fault::{Ending, FileFault, Outcome};
 use crate::grammar::{Grammar, Step};
 use dsr_cells::NoMemory;
-use dsr_records::Layout;
+use dsr_records::{Block, Layout};
 use std::alloc::Global;
 
 /// How far a reader has come.
@@ -48,6 +48,8 @@ pub struct FileReader {
     place: u64,
     phase: Phase,
     ending: Option<Ending>,
+    /// Its memory serves for the next block.
+    spare: Option<Block>,
     ghost lines_given: { grammar.lines ≤ given + allowance phase },
     ghost given_small: { given ≤ 2 ^ 36 },
     ghost place_small: { place ≤ given + allowance phase },
@@ -75,7 +77,22 @@ impl FileReader {
             place: 0,
             phase: Phase::Reading,
             ending: None,
+            spare: None,
         })
+    }
+
+    /// Gives the reader a block whose memory it may use again; the value of the block is lost.
+    pub fn reuse(&mut self, block: Block)
+        // The reader stands for what it stood for.
+        ensures stands { (layout : LayoutTable) (b : List ℕ) (es : List Placed)
+            → Stands layout self.old b es → Stands layout self.new b es }
+        ensures stood { (layout : LayoutTable) (b : List ℕ) (es : List Placed)
+            → Stands layout self.new b es → Stands layout self.old b es }
+        ensures used { bytes_used self.new ≡ bytes_used self.old }
+        ensures left { events_left self.new ≡ events_left self.old }
+        ensures ending { ending_told self.new ≡ ending_told self.old }
+    {
+        self.spare = Some(block);
     }
 
     /// How many bytes were used.

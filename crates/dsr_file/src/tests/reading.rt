@@ -213,6 +213,10 @@ impl Sink for Few {
         }
         self.events.push(event)
     }
+
+    fn spare(&mut self) -> Option<Block> {
+        None
+    }
 }
 
 /// The place of the event that a sink of so many events hands back.
