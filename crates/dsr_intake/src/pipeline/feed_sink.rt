@@ -2,6 +2,7 @@
 ghost use Rattle.std.specs.Prelude.{◌≡◌};
 
 use dsr_file::{Event, Sink};
+use dsr_records::Block;
 use dsr_relay::{Feed, Name};
 use std::marker::Model;
 use std::sync::Wait;
@@ -64,5 +65,10 @@ impl<'a, H: Wait> Sink for FeedSink<'a, H> {
         self.feed.send(self.rt, event)?;
         send_large_batch(self.rt, &mut self.feed);
         Ok(())
+    }
+
+    /// A block that came back from the collector.
+    fn spare(&mut self) -> Option<Block> {
+        self.feed.spare()
     }
 }
