@@ -5,9 +5,8 @@
 //! was written over can be handed to the reader, who writes the next one into its memory.
 ghost use Rattle.std.specs.Prelude.{◌≡◌, ◌∷◌, ◌++◌, [], MatchOption, MatchResult, IfOk};
 
-use dsr_cells::{NoMemory, Text};
+use dsr_cells::NoMemory;
 use dsr_file::{Event, EventPart};
-use dsr_records::Block;
 use std::alloc::Global;
 use std::marker::Model;
 use std::mem;
@@ -48,31 +47,9 @@ impl Model for Batch {
 fn event_bytes(event: &Event) -> usize {
     match &event.part {
         EventPart::Opened(_) => 0,
-        EventPart::Block(block) => block_bytes(block),
+        EventPart::Block(block) => block.bytes(),
         EventPart::Ended(_) => 0,
     }
-}
-
-fn texts_bytes(texts: &[Text]) -> usize {
-    let mut bytes = 0usize;
-    for text in texts {
-        bytes = bytes.saturating_add(24).saturating_add(text.as_str().len());
-    }
-    bytes
-}
-
-/// How many bytes the lists of a block have: 24 for each text and as many as it has, and 4 for each share.
-pub(crate) fn block_bytes(block: &Block) -> usize {
-    let titles = texts_bytes(block.resource.titles.as_slice());
-    let artists = texts_bytes(block.resource.artists.as_slice());
-    let mut bytes = titles.saturating_add(artists);
-    for work in block.works.as_slice() {
-        let shares = work.shares.len().saturating_mul(4);
-        bytes = bytes
-            .saturating_add(texts_bytes(work.parties.as_slice()))
-            .saturating_add(shares);
-    }
-    bytes
 }
 
 impl Batch {

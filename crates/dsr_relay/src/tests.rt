@@ -603,7 +603,7 @@ fn a_large_block_that_came_back_is_freed(rt: HostRuntime) -> Result<(), Fail> {
     assert!(rt; send_opened(&rt, alloc, &mut feed));
     assert_eq!(rt; feed.batch_bytes(), 0);
     assert!(rt; send_large_block(&rt, alloc, &mut feed));
-    assert_eq!(rt; feed.batch_bytes(), 5600);
+    assert_eq!(rt; feed.batch_bytes(), 5688);
     assert!(rt; flushes(&rt, &mut feed));
     assert_eq!(rt; feed.batch_bytes(), 0);
     assert_eq!(rt; takes_batch(&rt, &mut tap), Some(2));
