@@ -1,11 +1,11 @@
 //! The events that go through a relay at once.
 //!
-//! A batch lies in memory for 32 events, which goes round: the feed fills it, and the tap gives it back. An event is written
-//! over the stale one that stands in its slot, so that nothing is freed and nothing is taken for it, and a block that was
-//! written over is handed to the reader, who writes the next one into its memory.
+//! A batch lies in memory for 32 events, which goes round: the feed fills it, and the tap gives it back. An event is
+//! written over the stale one that stands in its slot, so that nothing is freed and nothing is taken for it. A block that
+//! was written over can be handed to the reader, who writes the next one into its memory.
 ghost use Rattle.std.specs.Prelude.{◌≡◌, ◌∷◌, ◌++◌, [], MatchOption, MatchResult, IfOk};
 
-use dsr_cells::NoMemory;
+use dsr_cells::{NoMemory, Text};
 use dsr_file::{Event, EventPart};
 use dsr_records::Block;
 use std::alloc::Global;
@@ -53,11 +53,24 @@ fn event_bytes(event: &Event) -> usize {
     }
 }
 
-/// How many bytes a block has.
-pub(crate) fn block_bytes(block: &Block) -> usize {
+fn texts_bytes(texts: &[Text]) -> usize {
     let mut bytes = 0usize;
+    for text in texts {
+        bytes = bytes.saturating_add(24).saturating_add(text.as_str().len());
+    }
+    bytes
+}
+
+/// How many bytes the lists of a block have: 24 for each text and as many as it has, and 4 for each share.
+pub(crate) fn block_bytes(block: &Block) -> usize {
+    let titles = texts_bytes(block.resource.titles.as_slice());
+    let artists = texts_bytes(block.resource.artists.as_slice());
+    let mut bytes = titles.saturating_add(artists);
     for work in block.works.as_slice() {
-        bytes = bytes.saturating_add(work.parties.len().saturating_mul(28));
+        let shares = work.shares.len().saturating_mul(4);
+        bytes = bytes
+            .saturating_add(texts_bytes(work.parties.as_slice()))
+            .saturating_add(shares);
     }
     bytes
 }
@@ -105,15 +118,15 @@ impl Batch {
         &self.slots.as_slice()[..self.count][self.out..]
     }
 
-    /// How many bytes the records of the events have: 24 for each text and the bytes of it that lie beyond, and 4 for each
-    /// share.
+    /// How many bytes the records of the events have.
     pub(crate) fn bytes(&self) -> usize {
         self.bytes
     }
 
     /// Appends an event, and answers the stale one that it was written over, or hands it back where there is no room.
     pub(crate) fn push(&mut self, event: Event) -> Result<Option<Event>, Event>
-        ensures { MatchResult result (λ _. self.new ≡ self.old ++ event ∷ []) (λ back. (back ≡ event) × (self.new ≡ self.old)) }
+        ensures { MatchResult result (λ _. self.new ≡ self.old ++ event ∷ [])
+            (λ back. (back ≡ event) × (self.new ≡ self.old)) }
     {
         let bytes = event_bytes(&event);
         let over = if self.count < self.slots.len() {
@@ -131,7 +144,8 @@ impl Batch {
 
     /// Takes the first event out.
     pub(crate) fn take_first(&mut self) -> Option<Event>
-        ensures { MatchOption result ((self.old ≡ []) × (self.new ≡ [])) (λ e. self.old ≡ e ∷ self.new) }
+        ensures { MatchOption result ((self.old ≡ []) × (self.new ≡ []))
+            (λ e. self.old ≡ e ∷ self.new) }
     {
         if self.out == self.count {
             return None;
@@ -143,7 +157,8 @@ impl Batch {
 
     /// Takes the last event out.
     pub(crate) fn take_last(&mut self) -> Option<Event>
-        ensures { MatchOption result ((self.old ≡ []) × (self.new ≡ [])) (λ e. self.old ≡ self.new ++ e ∷ []) }
+        ensures { MatchOption result ((self.old ≡ []) × (self.new ≡ []))
+            (λ e. self.old ≡ self.new ++ e ∷ []) }
     {
         if self.out == self.count {
             return None;

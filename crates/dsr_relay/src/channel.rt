@@ -18,6 +18,10 @@ use std::sync::Wait;
 pub struct Closed;
 
 /// Puts the batch as a message at the back of the channel, and begins the next one, or leaves everything as it was.
+///
+/// # Errors
+///
+/// `Closed`: the other end is gone.
 pub fn send_out<R: Wait>(
     rt: &R,
     sender: &RuledSender<Batch, Log, InOrder>,
@@ -27,11 +31,14 @@ pub fn send_out<R: Wait>(
 ) -> Result<(), Closed>
     requires next { next ≡ [] }
     requires seat { IsSeatAt (sends_on sender.now) pass.old }
-    requires knows { view pass.old ≡ Sends (out_of (view pass.old)) (ruled_capacity (sends_on sender.now)) }
+    requires knows { view pass.old
+        ≡ Sends (out_of (view pass.old)) (ruled_capacity (sends_on sender.now)) }
     requires size { IsMessage batch.old }
     requires orderly { IsOrderly (events_of (out_of (view pass.old)) ++ batch.old) }
     ensures seat { IsSeatAt (sends_on sender.now) pass.new }
-    ensures sent { OnOk result ((view pass.new ≡ Sends (out_of (view pass.old) ++ batch.old ∷ []) (ruled_capacity (sends_on sender.now))) × (batch.new ≡ [])) }
+    ensures sent { OnOk result ((view pass.new
+        ≡ Sends (out_of (view pass.old) ++ batch.old ∷ []) (ruled_capacity (sends_on sender.now)))
+        × (batch.new ≡ [])) }
     ensures closed { OnErr result ((view pass.new ≡ view pass.old) × (batch.new ≡ batch.old)) }
 {
     let message = mem::replace(batch, next);
@@ -54,8 +61,10 @@ pub fn take_next<R: Wait>(
     requires knows { view pass.old ≡ Takes (received_of (view pass.old)) }
     ensures seat { IsSeatAt (receives_on receiver.now) pass.new }
     ensures none { IfNone result (view pass.new ≡ view pass.old) }
-    ensures taken { IfSome result (λ m. view pass.new ≡ Takes (received_of (view pass.old) ++ m ∷ [])) }
-    ensures orderly { OnSome result (IsOrderly (events_of (received_of (view pass.new))) × AreMessages (received_of (view pass.new))) }
+    ensures taken { IfSome result (λ m. view pass.new
+        ≡ Takes (received_of (view pass.old) ++ m ∷ [])) }
+    ensures orderly { OnSome result (IsOrderly (events_of (received_of (view pass.new)))
+        × AreMessages (received_of (view pass.new))) }
 {
     receiver.recv_as::<Received, R>(rt, pass).ok()
 }

@@ -1,5 +1,6 @@
 //! The end that takes.
-ghost use Rattle.std.specs.Prelude.{◌≡◌, ◌+◌, ◌*◌, ◌<◌, ◌≤◌, true, false, [], ◌∷◌, ◌++◌, length, IfSome, IfNone, IfOk, OnErr};
+ghost use Rattle.std.specs.Prelude.{◌≡◌, ◌+◌, ◌*◌, ◌<◌, ◌≤◌, true, false, [], ◌∷◌, ◌++◌, length};
+ghost use Rattle.std.specs.Prelude.{IfSome, IfNone, IfOk, OnErr};
 ghost use Rattle.dsr_file.specs.Orderly.{IsOrderly, has_ended};
 
 use crate::batch::Batch;
@@ -38,13 +39,20 @@ impl Model for Tap {
 }
 
 impl Tap {
-    /// Takes the next event. Where there is none yet, the call waits; where the feed is gone and nothing is left it may answer `Closed`,
-    /// and then nothing has changed.
+    /// Takes the next event. Where there is none yet, the call waits.
+    ///
+    /// # Errors
+    ///
+    /// `Closed`: the feed is gone and nothing is left. Nothing has changed.
     pub fn take<R: Wait>(&mut self, rt: &R) -> Result<Event, Closed>
         requires { has_ended self.old.taken ≡ false }
-        ensures taken { IfOk result (λ e. self.new ≡ record self.old { taken = self.old.taken ++ e ∷ []; held = self.new.held }) }
+        ensures taken { IfOk result (λ e. self.new ≡ record self.old {
+          taken = self.old.taken ++ e ∷ [];
+          held = self.new.held;
+        }) }
         ensures place { IfOk result (λ e. e.place ≡ length self.old.taken) }
-        ensures held { IfOk result (λ e. 0 < length self.old.held → self.old.held ≡ e ∷ self.new.held) }
+        ensures held { IfOk result (λ e. 0 < length self.old.held
+            → self.old.held ≡ e ∷ self.new.held) }
         ensures closed { OnErr result ((self.new ≡ self.old) × (self.old.held ≡ [])) }
         ensures orderly { IsOrderly self.new.taken }
     {
@@ -60,7 +68,10 @@ impl Tap {
     /// Takes the next event of the last message.
     fn take_held(&mut self) -> Option<Event>
         requires { has_ended self.old.taken ≡ false }
-        ensures taken { IfSome result (λ e. self.new ≡ record self.old { taken = self.old.taken ++ e ∷ []; held = self.new.held }) }
+        ensures taken { IfSome result (λ e. self.new ≡ record self.old {
+          taken = self.old.taken ++ e ∷ [];
+          held = self.new.held;
+        }) }
         ensures place { IfSome result (λ e. e.place ≡ length self.old.taken) }
         ensures held { IfSome result (λ e. self.old.held ≡ e ∷ self.new.held) }
         ensures none { IfNone result ((self.new ≡ self.old) × (self.old.held ≡ [])) }
@@ -76,7 +87,10 @@ impl Tap {
     fn take_first<R: Wait>(&mut self, rt: &R) -> Result<Event, Closed>
         requires going { has_ended self.old.taken ≡ false }
         requires none_held { self.old.held ≡ [] }
-        ensures taken { IfOk result (λ e. self.new ≡ record self.old { taken = self.old.taken ++ e ∷ []; held = self.new.held }) }
+        ensures taken { IfOk result (λ e. self.new ≡ record self.old {
+          taken = self.old.taken ++ e ∷ [];
+          held = self.new.held;
+        }) }
         ensures place { IfOk result (λ e. e.place ≡ length self.old.taken) }
         ensures closed { OnErr result (self.new ≡ self.old) }
         ensures orderly { IsOrderly self.new.taken }
@@ -103,12 +117,18 @@ impl Tap {
         self.returns.give(rt, used);
     }
 
-    /// Takes what is held of the last message, or else the next message. Where there is none yet, the call waits; where the
-    /// feed is gone and nothing is left it may answer `Closed`, and then nothing has changed. A batch is given back before the
-    /// next one is taken: the feed has no other memory for what comes.
+    /// Takes what is held of the last message, or else the next message. Where there is none yet, the call waits. A batch is
+    /// given back before the next one is taken: the feed has no other memory for what comes.
+    ///
+    /// # Errors
+    ///
+    /// `Closed`: the feed is gone and nothing is left. Nothing has changed.
     pub fn take_batch<R: Wait>(&mut self, rt: &R) -> Result<Batch, Closed>
         requires { has_ended self.old.taken ≡ false }
-        ensures taken { IfOk result (λ b. self.new ≡ record self.old { taken = self.old.taken ++ b; held = [] }) }
+        ensures taken { IfOk result (λ b. self.new ≡ record self.old {
+          taken = self.old.taken ++ b;
+          held = [];
+        }) }
         ensures held { IfOk result (λ b. 0 < length self.old.held → b ≡ self.old.held) }
         ensures some { IfOk result (λ b. 0 < length b) }
         ensures few { IfOk result (λ b. length b ≤ 32) }
@@ -145,7 +165,10 @@ impl Tap {
     fn take_message<R: Wait>(&mut self, rt: &R) -> Result<Batch, Closed>
         requires going { has_ended self.old.taken ≡ false }
         requires none_held { self.old.held ≡ [] }
-        ensures taken { IfOk result (λ b. self.new ≡ record self.old { taken = self.old.taken ++ b; held = [] }) }
+        ensures taken { IfOk result (λ b. self.new ≡ record self.old {
+          taken = self.old.taken ++ b;
+          held = [];
+        }) }
         ensures some { IfOk result (λ b. 0 < length b) }
         ensures few { IfOk result (λ b. length b ≤ 32) }
         ensures closed { OnErr result (self.new ≡ self.old) }
