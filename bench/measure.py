@@ -10,9 +10,21 @@ command.
 """
 import os
 import shlex
+import shutil
 import statistics
 import sys
+import tempfile
 import time
+
+
+def peak(words, given):
+    """The megabytes of one run at its peak. Without the command `time` this is at least what this process takes."""
+    timer = shutil.which('time')
+    if timer is None:
+        return run(words, given)[1] / 1024
+    with tempfile.NamedTemporaryFile('r') as said:
+        run([timer, '-q', '-f', '%M', '-o', said.name] + words, given)
+        return int(said.read().split()[-1]) / 1024
 
 
 def run(words, given):
@@ -46,16 +58,17 @@ def main():
         spread = [word for part in parts for word in (files if part == '{}' else [part])]
         spread[0] = os.path.abspath(spread[0]) if os.path.exists(spread[0]) else spread[0]
         commands.append((text, spread, None if takes else files[0]))
-    memory = [run(spread, given)[1] for _, spread, given in commands]
+    memory = [peak(spread, given) for _, spread, given in commands]
     seconds = [[] for _ in commands]
     for _ in range(repeats):
         for kept, (_, spread, given) in zip(seconds, commands):
             kept.append(run(spread, given)[0])
     last = min(seconds[-1])
     print(f'{"median s":>9} {"least s":>9} {"MB/s":>7} {"peak MB":>8} {"by last":>8}  command   ({megabytes:.1f} MB)')
-    for kept, peak, (text, _, _) in zip(seconds, memory, commands):
-        print(f'{statistics.median(kept):9.3f} {min(kept):9.3f} {megabytes / min(kept):7.1f} {peak / 1024:8.1f} '
+    for kept, most, (text, _, _) in zip(seconds, memory, commands):
+        print(f'{statistics.median(kept):9.3f} {min(kept):9.3f} {megabytes / min(kept):7.1f} {most:8.1f} '
               f'{min(kept) / last:8.2f}  {text}')
 
 
-main()
+if __name__ == '__main__':
+    main()

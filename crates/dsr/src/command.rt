@@ -8,6 +8,7 @@ pub type Names = Items<Text>;
 /// What a command line asks for. The options have the standard layout.
 #[derive(Drop)]
 pub struct Asked {
+    /// How the intake goes about the files.
     pub options: Options,
     /// The report's files, in the order given.
     pub files: Names,

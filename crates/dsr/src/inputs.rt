@@ -13,7 +13,9 @@ use std::{fs, io};
 /// A file, or standard input.
 #[derive(Drop)]
 pub enum InputReader {
+    /// A file that was opened by its name.
     File(File),
+    /// Standard input, which has no name.
     Standard(StdinLock<'static>),
 }
 

@@ -1,17 +1,29 @@
-//! Measures the reader alone: it reads a report file on standard input, drops its events and prints how many there were.
+//! Measures the reader alone: it reads a report file on standard input, gives the memory of its
+//! blocks back and prints how many events there were.
 #![tactic(auto)]
 
 ghost use Rattle.std.specs.Prelude.{◌≡◌, ◌+◌, ◌≤◌, ◌^◌, None, length};
-ghost use Rattle.dsr_file.specs.Standing.{bytes_used, ending_told};
+ghost use Rattle.dsr_file.specs.Standing.{bytes_used, ending_told, events_left};
 
-use dsr_file::{Ending, FileReader};
+use dsr_file::{Ending, Event, EventPart, FileReader};
 use dsr_records::Layout;
 use std::io::{self, Read};
 
 /// The most bytes that one reader takes.
 const MOST: u64 = 1 << 36;
 
-/// Gives a piece to the reader and drops what comes of it: how many events there were.
+/// Lets the reader use the memory of a block again.
+fn give_back(file: &mut FileReader, event: Event)
+    ensures open { ending_told file.new ≡ ending_told file.old }
+    ensures used { bytes_used file.new ≡ bytes_used file.old }
+    ensures left { events_left file.new ≡ events_left file.old }
+{
+    if let EventPart::Block(block) = event.part {
+        file.reuse(block);
+    }
+}
+
+/// Gives a piece to the reader and gives back what comes of it: how many events there were.
 fn feed(file: &mut FileReader, piece: &[u8]) -> u64
     requires open { ending_told file.old ≡ None }
     requires room { bytes_used file.old + length piece.now ≤ 2 ^ 36 }
@@ -22,9 +34,10 @@ fn feed(file: &mut FileReader, piece: &[u8]) -> u64
     for _ in 0..u64::MAX {
         let (more, event) = file.take(&piece[used..]);
         used += more;
-        if event.is_none() {
+        let Some(event) = event else {
             break;
-        }
+        };
+        give_back(file, event);
         events = events.wrapping_add(1);
     }
     events

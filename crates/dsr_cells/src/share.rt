@@ -2,6 +2,7 @@
 ghost use Rattle.std.specs.Prelude.{◌≡◌, ◌≤◌};
 ghost use Rattle.dsr_cells.specs.Numbers.{share_of};
 
+use crate::inline::InlineItems;
 use crate::number::read_decimal;
 use std::marker::Model;
 
@@ -23,6 +24,17 @@ impl Model for Share {
     ghost invariant = { λ a. a.parts ≤ 1_000_000 };
 
     ghost inverse = { λ n. record { parts = n } };
+}
+
+/// A list of shares, of which the first four lie in place.
+pub type Shares = InlineItems<Share, 4>;
+
+impl Default for Share {
+    ghost is_default = { λ share. share ≡ 0 };
+
+    fn default() -> Share {
+        Share { parts: 0 }
+    }
 }
 
 impl Share {

@@ -4,6 +4,7 @@ ghost use Rattle.std.specs.Option.{option_map};
 
 use crate::event::Event;
 use crate::sink::Sink;
+use dsr_records::Block;
 use std::alloc::Global;
 use std::collections::VecDeque;
 use std::marker::Model;
@@ -33,9 +34,14 @@ impl EventList {
         }
     }
 
-    /// Appends an event, or hands it back where memory is refused.
+    /// Appends an event.
+    ///
+    /// # Errors
+    ///
+    /// The event itself, where memory is refused; the list stays as it was.
     pub fn push(&mut self, event: Event) -> Result<(), Event>
-        ensures { MatchResult result (λ _. self.new ≡ self.old ++ event ∷ []) (λ back. (back ≡ event) × (self.new ≡ self.old)) }
+        ensures { MatchResult result (λ _. self.new ≡ self.old ++ event ∷ [])
+            (λ back. (back ≡ event) × (self.new ≡ self.old)) }
     {
         self.events
             .push_back(event)
@@ -58,7 +64,8 @@ impl EventList {
 
     /// Takes the front event: none where the list is empty.
     pub fn next(&mut self) -> Option<Event>
-        ensures { MatchOption result ((self.old ≡ []) × (self.new ≡ [])) (λ event. self.old ≡ event ∷ self.new) }
+        ensures { MatchOption result ((self.old ≡ []) × (self.new ≡ []))
+            (λ event. self.old ≡ event ∷ self.new) }
     {
         self.events.pop_front()
     }
@@ -73,5 +80,10 @@ impl Sink for EventList {
 
     fn put(&mut self, event: Event) -> Result<(), Event> {
         self.push(event)
+    }
+
+    /// None: the list keeps what was put.
+    fn spare(&mut self) -> Option<Block> {
+        None
     }
 }

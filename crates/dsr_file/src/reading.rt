@@ -29,6 +29,10 @@ pub enum ReadFileError {
 
 /// Reads a file by a layout and puts its events into an empty sink. The answer is the outcome that was put last.
 /// It makes `max_reads` reads at most, each of 4,096 bytes at most, and none after the file has ended.
+///
+/// # Errors
+///
+/// [`ReadFileError`]: no memory for a reader, or an event that the sink handed back.
 pub fn read_file<R: Source, S: Sink>(
     alloc: Global,
     layout: &Layout,

@@ -17,6 +17,10 @@ use dsr_records::Layout;
 use std::alloc::Global;
 
 /// All events of the text with these bytes and this ending.
+///
+/// # Errors
+///
+/// `NoMemory`: no memory was left for the events, or for what they hold.
 pub fn whole_events(
     alloc: Global,
     layout: &Layout,

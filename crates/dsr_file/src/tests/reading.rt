@@ -9,7 +9,7 @@ use crate::{
     Ending, Event, EventList, Failed, FileReader, FromRead, Outcome, ReadCount, ReadFileError,
     Sink, Source, read_file, whole_events,
 };
-use dsr_records::Layout;
+use dsr_records::{Block, Layout};
 use std::alloc::{AllocError, Global};
 
 /// A source that gives a text in pieces of one size, and then fails or ends.
@@ -212,6 +212,10 @@ impl Sink for Few {
             return Err(event);
         }
         self.events.push(event)
+    }
+
+    fn spare(&mut self) -> Option<Block> {
+        None
     }
 }
 

@@ -2,9 +2,24 @@
 ghost use Rattle.std.specs.Prelude.{◌≡◌};
 
 use dsr_file::{Event, Sink};
+use dsr_records::Block;
 use dsr_relay::{Feed, Name};
 use std::marker::Model;
 use std::sync::Wait;
+
+/// How many bytes of records may wait in a batch before it goes out.
+const MOST_WAITING: usize = 64 * 1024;
+
+/// Sends the batch out where its records have many bytes, so that what waits in a relay is bounded in bytes too. Where the
+/// tap is gone the batch may stay.
+fn send_large_batch<H: Wait>(rt: &H, feed: &mut Feed)
+    ensures sent { feed.new.sent ≡ feed.old.sent }
+    ensures name { feed.new.name ≡ feed.old.name }
+{
+    if feed.batch_bytes() > MOST_WAITING {
+        let _ = feed.flush(rt);
+    }
+}
 
 /// A sink that sends each event on a feed. Contracts see it as the feed: its list is what was sent, its name the relay's.
 #[derive(Drop)]
@@ -47,6 +62,13 @@ impl<'a, H: Wait> Sink for FeedSink<'a, H> {
 
     /// Sends the event; it may come back once the tap is gone.
     fn put(&mut self, event: Event) -> Result<(), Event> {
-        self.feed.send(self.rt, event)
+        self.feed.send(self.rt, event)?;
+        send_large_batch(self.rt, &mut self.feed);
+        Ok(())
+    }
+
+    /// A block that came back from the collector.
+    fn spare(&mut self) -> Option<Block> {
+        self.feed.spare()
     }
 }

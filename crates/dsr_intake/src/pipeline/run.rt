@@ -20,6 +20,11 @@ use std::sync::Wait;
 use std::thread::Threads;
 
 /// Reads the files, and writes their statement.
+///
+/// # Errors
+///
+/// `Intake` and `Memory`: nothing was written or flushed. `Write`: exactly so many first bytes of the
+/// statement are out, and the outlet has failed.
 pub fn run<
     R: Source + Send + Drop + 'static,
     W: Outlet,

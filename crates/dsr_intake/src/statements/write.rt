@@ -17,6 +17,10 @@ const AHEAD: usize = 16;
 const LINE_ROOM: usize = 256;
 
 /// The bytes of the statement.
+///
+/// # Errors
+///
+/// `NoMemory`: there is no memory for them.
 pub fn statement(alloc: Global, report: &Report) -> Result<Vec<u8>, NoMemory>
     ensures { IfOk result (λ v. v.items ≡ statement_of report.now) }
 {
