@@ -11,6 +11,10 @@ pub trait Outlet {
     ghost told: { Self → Written };
 
     /// Takes the first bytes of a piece that is not empty, and tells how many.
+    ///
+    /// # Errors
+    ///
+    /// `Failed`: the write failed, and no byte of the piece was taken.
     fn write(&mut self, piece: &[u8]) -> Result<usize, Failed>
         requires { 0 < length piece.now }
         ensures count { IfOk result (λ n. (0 < n) × (n ≤ length piece.now)) }
@@ -24,6 +28,10 @@ pub trait Outlet {
             (λ _. (told self.new).unflushed ≡ (told self.old).unflushed) };
 
     /// Passes on what it took.
+    ///
+    /// # Errors
+    ///
+    /// `Failed`: the flush failed. The bytes are still held.
     fn flush(&mut self) -> Result<(), Failed>
         ensures bytes { Keeps (told self.old).contents (told self.new).contents }
         ensures failed { MatchResult result

@@ -38,6 +38,10 @@ impl Books {
     ghost use Rattle.dsr_ledger.specs.BooksWords.{Stands, files_count, opened_count, has_opening_at, ended_at, blocks_at, CanBook, CanEnd, AllEnded};
 
     /// New books of a report in so many files, from 1 to 64, of which none is open, with a fixed seed.
+    ///
+    /// # Errors
+    ///
+    /// `NoMemory`: no memory was left for the files.
     pub fn new(alloc: Global, files: u32) -> Result<Books, NoMemory>
         requires some { 1 ≤ files }
         requires most { files ≤ 64 }
@@ -48,6 +52,10 @@ impl Books {
     }
 
     /// The same, with this seed for the hashes of identifiers and names. No report depends on the seed.
+    ///
+    /// # Errors
+    ///
+    /// `NoMemory`: no memory was left for the files.
     pub fn with_seed(alloc: Global, files: u32, seed: u64) -> Result<Books, NoMemory>
         requires some { 1 ≤ files }
         requires most { files ≤ 64 }
@@ -116,7 +124,11 @@ impl Books {
         }
     }
 
-    /// Opens the next file in the order given, and answers how it stands. After want of memory nothing has changed.
+    /// Opens the next file in the order given, and answers how it stands.
+    ///
+    /// # Errors
+    ///
+    /// `NoMemory`: no memory was left for the file, and nothing has changed.
     pub fn open_next(&mut self, opening: Option<Opening>) -> Result<Standing, NoMemory>
         requires { opened_count self.old < files_count self.old }
         ensures count { files_count self.new ≡ files_count self.old }
@@ -130,7 +142,11 @@ impl Books {
         Ok(standing)
     }
 
-    /// Takes a block of file k, and answers its verdict. After want of memory nothing has changed.
+    /// Takes a block of file k, and answers its verdict.
+    ///
+    /// # Errors
+    ///
+    /// `NoMemory`: no memory was left for the block, and nothing has changed.
     pub fn book(&mut self, k: u32, block: &Block) -> Result<Verdict, NoMemory>
         requires { CanBook self.old k }
         ensures count { files_count self.new ≡ files_count self.old }
@@ -143,6 +159,10 @@ impl Books {
     }
 
     /// Ends file k. This wants no memory.
+    ///
+    /// # Errors
+    ///
+    /// None: the answer is always Ok.
     pub fn end_file(&mut self, k: u32, outcome: Outcome) -> Result<(), NoMemory>
         requires { CanEnd self.old k }
         ensures ends { IsOk result }
@@ -155,7 +175,11 @@ impl Books {
     }
 
     /// The report of the files, which all ended. Its texts are moved out of the books, but for the identifiers in its
-    /// differences. After want of memory the books are gone.
+    /// differences.
+    ///
+    /// # Errors
+    ///
+    /// `NoMemory`: no memory was left for the report, and the books are gone.
     pub fn into_report(self) -> Result<Report, NoMemory>
         requires { AllEnded self }
         ensures { (files : List File) → Stands self files → IfOk result (λ r. r ≡ report_of files) }

@@ -6,9 +6,13 @@ use dsr_file::Outcome;
 /// Which report it is.
 #[derive(Drop)]
 pub struct ReportKey {
+    /// MessageId, which all files of a report share: 1 to 64 bytes of printable ASCII.
     pub message_id: Text,
+    /// NumberOfFiles: 1 to 9,999.
     pub number_of_files: u32,
+    /// UsageStartDate.
     pub first_day: Day,
+    /// UsageEndDate, not before the first day.
     pub last_day: Day,
 }
 
@@ -17,9 +21,11 @@ pub struct ReportKey {
 pub struct FileLine {
     /// The number that its opening gives it, where it has one.
     pub number: Option<u32>,
+    /// Whether it counts, and why not.
     pub standing: Standing,
     /// How many blocks were taken from it.
     pub blocks: u64,
+    /// How it ended.
     pub outcome: Outcome,
 }
 
@@ -28,29 +34,41 @@ pub struct FileLine {
 pub struct Difference {
     /// The file's place in the order given, from 1.
     pub file: u32,
+    /// SummaryRecordId: 1 to 32 bytes of printable ASCII.
     pub summary_id: Text,
+    /// The usages that the summary states.
     pub stated_usages: i64,
+    /// The usages of the records that name it.
     pub found_usages: i128,
-    /// In units of 10^-10, as every amount of a report.
+    /// The amount that the summary states, in units of 10^-10, as every amount of a report.
     pub stated_amount: i128,
+    /// The amount of the records that name it.
     pub found_amount: i128,
 }
 
 /// What a party has of a ledger line's amount.
 #[derive(Drop)]
 pub struct PartyLine {
+    /// The name of the party, as the works spell it.
     pub party: Text,
+    /// What the party is owed, in units of 10^-10 of the line's currency.
     pub amount: i128,
 }
 
 /// The sums of the booked usages of a recording under a territory, a use type and a currency.
 #[derive(Drop)]
 pub struct LedgerLine {
+    /// The recording (ISO 3901).
     pub isrc: Isrc,
+    /// Territory of the summaries that the usages name.
     pub territory: Text,
+    /// UseType of these summaries.
     pub use_type: Text,
+    /// Currency of these summaries (ISO 4217).
     pub currency: Text,
+    /// How often the recording was used.
     pub usages: i128,
+    /// What is paid for it, in units of 10^-10 of the currency.
     pub amount: i128,
     /// The parties that have a part, by the bytes of their names.
     pub parties: Parties,
@@ -65,7 +83,9 @@ pub struct Reject {
     pub file: u32,
     /// The block's place among the file's blocks, from 1.
     pub position: u64,
+    /// BlockId: 1 to 32 bytes of printable ASCII.
     pub block_id: Text,
+    /// Why it does not count.
     pub reason: Reason,
 }
 
@@ -92,9 +112,14 @@ pub type Rejects = Items<Reject>;
 pub struct Report {
     /// That of the first file that has an opening.
     pub key: Option<ReportKey>,
+    /// How each file stands.
     pub files: FileLines,
+    /// The numbers of the report's files that were not given.
     pub missing: Numbers,
+    /// The summaries whose numbers are not those of their usages.
     pub differences: Differences,
+    /// What is owed, and to whom.
     pub ledger: LedgerLines,
+    /// The blocks that were left out.
     pub rejects: Rejects,
 }

@@ -35,6 +35,8 @@ pub enum Reason {
 /// What is said of a block.
 #[derive(Clone, Copy, PartialEq, Eq)]
 pub enum Verdict {
+    /// Its usages count.
     Booked,
+    /// Nothing of it counts, for this reason.
     Rejected(Reason),
 }

@@ -242,6 +242,11 @@ fn take_all<H: Wait>(rt: &H, books: &mut Books, taps: &mut Vec<Tap>) -> Result<(
 }
 
 /// Takes what the taps have, and reports it.
+///
+/// # Errors
+///
+/// - `CollectError::Memory`: no memory was left for the books or the report, or for the sender of an event.
+/// - `CollectError::Closed`: the relay of this tap closed before the file had ended.
 pub fn collect<H: Wait + RandomSource>(
     rt: &H,
     alloc: Global,

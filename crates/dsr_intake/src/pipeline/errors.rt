@@ -4,6 +4,7 @@ use thiserror::Error;
 /// Why there is no report. The first four are found before anything is read.
 #[derive(Debug, Clone, Copy, PartialEq, Eq, Error)]
 pub enum IntakeError {
+    /// There is no reader.
     #[error("no files")]
     NoFiles,
     /// There are more than 64 files.

@@ -21,6 +21,7 @@ pub enum Step {
 /// What comes after the text.
 #[derive(Clone, Copy)]
 pub enum After {
+    /// The end of the file.
     End,
     /// A read that fails.
     Failure,
@@ -31,6 +32,7 @@ pub enum After {
 /// When a reader waits for another one.
 #[derive(Clone, Copy)]
 pub enum Wait {
+    /// It never waits.
     Never,
     /// Before its first read, until the other one has begun one.
     First,
