@@ -22,7 +22,7 @@ use Rattle.dsr_ledger.specs.SummaryKeys.{summary_key_eq}
 use Rattle.dsr_ledger.specs.Tallies.{Tally, no_tally, line_tally, lines_tally, line_keys, line_in, AreWithin, IsWide, LinesGrow}
 use Rattle.dsr_ledger.specs.Recordings.{party_number, key_number, seat_of, seat_at, recording_tally, IsLineOf}
 use Rattle.dsr_ledger.specs.Seated.{AreSeated, HaveSeats}
-use Rattle.dsr_ledger.specs.declared.ledger.line.SeatShare.{SeatShare}
+use Rattle.dsr_ledger.specs.declared.ledger.parts.SeatShare.{SeatShare}
 use Rattle.dsr_ledger.specs.declared.ledger.recordings.Ledger.{Ledger}
 use Rattle.dsr_ledger.proofs.IndexMapLemmas.{own_value, key_is, written, written_here}
 use Rattle.dsr_ledger.proofs.NumberedLemmas.{same_Some, not_Some, place_more, grows_more, places_are_numbered}
@@ -129,7 +129,7 @@ module _ (party : List ℕ → Option ℕ) (m : ℕ) (numbered : IsNumbered part
       more
 
 -- a recording whose lines grow
-pub grown_tally : (party : List ℕ → Option ℕ) (number : Option ℕ) (v w : Recording) → w.seats ≡ v.seats → LinesGrow (length (seat_numbers v.seats)) v.lines.items w.lines.items → recording_tally party number (Some w) ≡ recording_tally party number (Some v)
+pub grown_tally : (party : List ℕ → Option ℕ) (number : Option ℕ) (v w : Recording) → w.seats ≡ v.seats → LinesGrow v.lines.items w.lines.items → recording_tally party number (Some w) ≡ recording_tally party number (Some v)
 grown_tally party number v w same grow = ap (λ ss. lines_tally (place_by party (seat_numbers ss)) w.lines.items number) same ∙ grow.tallies (seat_of party v) number
 
 pub grown_lines : (number : SummaryKey → Option ℕ) (old new : List Line) → Grows (line_in old) (line_in new) → Grows (place_by number (line_keys old)) (place_by number (line_keys new))
@@ -186,6 +186,23 @@ line_here ledger isrc key es recording line shares r h found =
 pub party_tally : (old new : List ℕ → Option ℕ) (name : List ℕ) (m : ℕ) (number : Option ℕ) → old name ≡ None → ((q : List ℕ) → new q ≡ cond (bytes_eq name q) (Some m) (old q)) → (o : Option Recording) → ((r : Recording) → o ≡ Some r → AreBelow m (seat_numbers r.seats)) → recording_tally new number o ≡ recording_tally old number o
 party_tally old new name m number none is None below = refl
 party_tally old new name m number none is (Some r) below = ap (λ seat. lines_tally seat r.lines.items number) (seats_kept old new name m r none is (below r refl))
+
+pub party_seats : (old new : List ℕ → Option ℕ) (name : List ℕ) (m : ℕ) → old name ≡ None → ((q : List ℕ) → new q ≡ cond (bytes_eq name q) (Some m) (old q)) → (q : List ℕ) (o : Option Recording) → ((r : Recording) → o ≡ Some r → AreBelow m (seat_numbers r.seats)) → option_and_then (λ r. seat_of new r q) o ≡ option_and_then (λ r. seat_of old r q) o
+party_seats old new name m none is q None below = refl
+party_seats old new name m none is q (Some r) below = ap (λ seat. seat q) (seats_kept old new name m r none is (below r refl))
+
+-- a summary key that is given a number has a line nowhere
+module _ (old new : SummaryKey → Option ℕ) (key : SummaryKey) (m : ℕ) (none : old key ≡ None) (is : (q : SummaryKey) → new q ≡ cond (summary_key_eq key q) (Some m) (old q)) (q : SummaryKey) where
+  key_places : (r : Recording) → AreBelow m (line_keys r.lines.items) → place_by new (line_keys r.lines.items) q ≡ place_by old (line_keys r.lines.items) q
+  key_places r below = by_new_key summary_key_eq same_summary_key old new key m (line_keys r.lines.items) none is below q
+
+  pub key_line : (o : Option Recording) → ((r : Recording) → o ≡ Some r → AreBelow m (line_keys r.lines.items)) → option_and_then (λ r. place_by new (line_keys r.lines.items) q) o ≡ option_and_then (λ r. place_by old (line_keys r.lines.items) q) o
+  key_line None below = refl
+  key_line (Some r) below = key_places r (below r refl)
+
+  pub key_kept : (party : List ℕ → Option ℕ) (o : Option Recording) → ((r : Recording) → o ≡ Some r → AreBelow m (line_keys r.lines.items)) → recording_tally party (new q) o ≡ recording_tally party (old q) o
+  key_kept party None below = refl
+  key_kept party (Some r) below = ap (read_at (line_tally (seat_of party r)) no_tally r.lines.items) (key_places r (below r refl))
 
 -- a recording is made
 module _ (isrc : List ℕ) (w : Recording) (old new : List ℕ → Option Recording) (is : (q : List ℕ) → new q ≡ cond (bytes_eq isrc q) (Some w) (old q)) where

@@ -3,6 +3,8 @@ pub mod IndexMapLemmas
 pub mod NumberedLemmas
 pub mod PlaceByLemmas
 pub mod TieLemmas
+pub mod IndexLemmas
+pub mod ItemLemmas
 pub mod PartLemmas
 pub mod RecordingLemmas
 pub mod LedgerLemmas
@@ -18,6 +20,7 @@ pub mod ShareLemmas
 pub mod OrderLemmas
 pub mod ListedLemmas
 pub mod ReportLemmas
+pub mod PartyPlaceLemmas
 pub mod PartyLineLemmas
 pub mod PartyLemmas
 pub mod WholeLemmas

@@ -7,7 +7,7 @@ use Rattle.std.proofs.lemmas.Int.{fits_signed_from_abs}
 use Rattle.std.proofs.lemmas.Bool.{lt-ltb}
 use Rattle.std.proofs.lemmas.List.Elements.{filter-append}
 use Rattle.std.proofs.lemmas.List.Sums.{sum_by-cons}
-use Rattle.dsr_ledger.specs.declared.owed.Owed.{Owed}
+use Rattle.dsr_ledger.specs.Owed.{Owed}
 use Rattle.dsr_ledger.specs.Sums.{int_sum_by}
 use Rattle.dsr_ledger.specs.Parts.{Part, rounded, is_for}
 use Rattle.dsr_ledger.specs.Owed.{owed_of, owed_for, owed_plus, owed_with, parts_size}

@@ -8,7 +8,7 @@ use Rattle.dsr_records.specs.Works.{WorkParts}
 use Rattle.dsr_ledger.specs.declared.booking.plan.Plan.{Plan}
 use Rattle.dsr_ledger.specs.declared.file.summaries.Summaries.{Summaries}
 use Rattle.dsr_ledger.specs.declared.key.Key.{Key}
-use Rattle.dsr_ledger.specs.declared.ledger.line.SeatShare.{SeatShare}
+use Rattle.dsr_ledger.specs.declared.ledger.parts.SeatShare.{SeatShare}
 use Rattle.dsr_ledger.specs.declared.ledger.recordings.Ledger.{Ledger}
 use Rattle.dsr_ledger.specs.declared.ledger.summary_key.SummaryKey.{SummaryKey}
 use Rattle.dsr_ledger.specs.Bookings.{key_under}
@@ -46,7 +46,7 @@ pub record StepOf (ledger : Ledger) (summaries : Summaries) (isrc : List ℕ) (w
 pub step_of : (ledger : Ledger) (summaries : Summaries) (isrc : List ℕ) (works : List WorkParts) (us : List Usage) (i : ℕ) (u : Usage) (plan : Plan) → IsPlanned ledger summaries isrc works us plan → slice_get us i ≡ Some u → StepOf ledger summaries isrc works i u plan
 step_of ledger summaries isrc works us i u plan h at =
     let v = value_at (λ (x : Usage). index_at summaries x.summary_id) us plan.summaries.items i u h.counted at in
-    let z = zip_step (λ (x : Usage) n. IsLined ledger isrc (place_at summaries x.summary_id) n) us plan.lines.items i u h.lined at in
+    let z = zip_step (λ (x : Usage) n. IsLined ledger isrc plan.shares.items (place_at summaries x.summary_id) n) us plan.lines.items i u h.lined at in
     record {
       summary_below = below_of plan.summaries.items i v.0 v.1.value;
       line_below = below_of plan.lines.items i z.other z.there;
@@ -60,7 +60,7 @@ step_of ledger summaries isrc works us i u plan h at =
       line_of = λ n is shares same. record {
         recording_is = h.recording_is;
         line_is = z.related.line_is ∙ ap Some (sym is);
-        wide = subst (λ x. IsWideAt ledger isrc x) (sym is) z.related.wide;
+        wide = subst (λ ss. IsWideAt ledger isrc ss n) (sym same) (subst (λ x. IsWideAt ledger isrc plan.shares.items x) (sym is) z.related.wide);
         seated = subst (λ ss. AreSeated (seat_at ledger isrc) ss (shares_of works)) (sym same) h.seated;
       };
       with_parts = λ t q. ap (λ ps. cond (key_eq (key_under isrc z.related.summary_key) q) (tally_with u ps t) t) (parts_of_shares u.amount works);

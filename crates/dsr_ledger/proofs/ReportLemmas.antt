@@ -171,7 +171,7 @@ sorted_append {K} R (k ∷ ks) ls s t h = (above ks s.0, sorted_append R ks ls s
     above [] a = h.0
     above (m ∷ ms) a = (a.0, above ms a.1)
 
-all_append : {X : Type 0} (P : X → Type 0) (xs ys : List X) → AllByRecursion P xs → AllByRecursion P ys → AllByRecursion P (xs ++ ys)
+pub all_append : {X : Type 0} (P : X → Type 0) (xs ys : List X) → AllByRecursion P xs → AllByRecursion P ys → AllByRecursion P (xs ++ ys)
 all_append P [] ys a b = b
 all_append P (x ∷ xs) ys a b = (a.0, all_append P xs ys a.1 b)
 

@@ -6,12 +6,12 @@ use Rattle.std.proofs.lemmas.List.{map-append}
 use Rattle.std.proofs.lemmas.List.Concat.{flat_map-cons}
 use Rattle.dsr_records.specs.declared.record.Usage.{Usage}
 use Rattle.dsr_records.specs.Works.{WorkParts}
-use Rattle.dsr_ledger.specs.declared.ledger.line.SeatShare.{SeatShare}
+use Rattle.dsr_ledger.specs.declared.ledger.parts.SeatShare.{SeatShare}
 use Rattle.dsr_ledger.specs.declared.ledger.recordings.Ledger.{Ledger}
 use Rattle.dsr_ledger.specs.Numbered.{Grows}
 use Rattle.dsr_ledger.specs.Parts.{Part, part_of, rounded, work_parts}
 use Rattle.dsr_ledger.specs.Owed.{parts_size}
-use Rattle.dsr_ledger.specs.Seated.{IsSeated, AreSeated, SeatedMore, shares_of}
+use Rattle.dsr_ledger.specs.Seated.{IsSeated, AreSeated, AreSeatsBelow, SeatedMore, shares_of}
 use Rattle.dsr_ledger.proofs.NumberedLemmas.{same_Some, not_Some}
 
 module _ {A B : Type 0} (R : A → B → Type 0) where
@@ -50,6 +50,12 @@ zip_weaker R S f (x ∷ xs) (u ∷ us) h = (f x u h.0, zip_weaker R S f xs us h.
 
 pub seated_grows : (old new : List ℕ → Option ℕ) → Grows old new → (ss : List SeatShare) (es : List (List ℕ × ℕ)) → AreSeated old ss es → AreSeated new ss es
 seated_grows old new g ss es h = zip_weaker (IsSeated old) (IsSeated new) (λ s e k. (g e.0 s.seat k.0, k.1)) ss es h
+
+-- shares at seats below n
+pub seats_below : (seat : List ℕ → Option ℕ) (n : ℕ) → ((q : List ℕ) (i : ℕ) → seat q ≡ Some i → i < n) → (ss : List SeatShare) (es : List (List ℕ × ℕ)) → AreSeated seat ss es → AreSeatsBelow n ss
+seats_below seat n below [] es h = tt
+seats_below seat n below (s ∷ ss) [] h = absurd h
+seats_below seat n below (s ∷ ss) (e ∷ es) h = (below e.0 s.seat h.0.0, seats_below seat n below ss es h.1)
 
 -- a further row of shares
 pub seated_more : (was is : List ℕ → Option ℕ) (old mid new : List SeatShare) (es fs : List (List ℕ × ℕ)) → Grows was is → SeatedMore was old mid es → SeatedMore is mid new fs → SeatedMore is old new (es ++ fs)

@@ -11,12 +11,13 @@ pub mod Reports
 pub mod Laws
 -- Words that relate what is kept to them.
 pub mod Numbered
+pub mod Indexes
 pub mod SummaryKeys
 pub mod Ranges
 pub mod Owed
-pub mod Tallies
 pub mod Seats
 pub mod Seated
+pub mod Tallies
 pub mod Recordings
 pub mod Summaries
 pub mod Lined

@@ -2,6 +2,7 @@
 use Rattle.std.specs.Prelude.{◌≡◌, ℕ, List, [], ◌∷◌, ◌++◌, Option, Some}
 use Rattle.std.specs.List.{AllZip}
 use Rattle.dsr_records.specs.declared.record.Usage.{Usage}
+use Rattle.dsr_ledger.specs.declared.ledger.parts.SeatShare.{SeatShare}
 use Rattle.dsr_ledger.specs.declared.ledger.summary_key.SummaryKey.{SummaryKey}
 use Rattle.dsr_ledger.specs.declared.ledger.recordings.Ledger.{Ledger}
 use Rattle.dsr_ledger.specs.declared.file.summaries.Summaries.{Summaries}
@@ -13,19 +14,19 @@ pub record SameSummaries (old new : Summaries) : Type 0 where
   pub shown : (id : List ℕ) → shown_at new id ≡ shown_at old id
   pub index : (id : List ℕ) → index_at new id ≡ index_at old id
 
--- the line of the recording under which a usage counts whose summary has this key; it has a part for each seat
-pub record IsLined (ledger : Ledger) (isrc : List ℕ) (key : Option SummaryKey) (i : ℕ) : Type 0 where
+-- the line of the recording under which a usage counts whose summary has this key; it has a part for the seat of each share
+pub record IsLined (ledger : Ledger) (isrc : List ℕ) (shares : List SeatShare) (key : Option SummaryKey) (i : ℕ) : Type 0 where
   pub summary_key : SummaryKey
   pub key_is : key ≡ Some summary_key
   pub line_is : line_at ledger isrc summary_key ≡ Some i
-  pub wide : IsWideAt ledger isrc i
+  pub wide : IsWideAt ledger isrc shares i
 
 -- a line for each usage, where summaries have these keys
-abbrev pub AreLined : Ledger → (List ℕ → Option SummaryKey) → List ℕ → List Usage → List ℕ → Type 0
-AreLined ledger key isrc us is = AllZip (λ u i. IsLined ledger isrc (key u.summary_id) i) us is
+abbrev pub AreLined : Ledger → (List ℕ → Option SummaryKey) → List ℕ → List SeatShare → List Usage → List ℕ → Type 0
+AreLined ledger key isrc shares us is = AllZip (λ u i. IsLined ledger isrc shares (key u.summary_id) i) us is
 
 -- a line for one more usage
-pub record LinedMore (ledger : Ledger) (key : List ℕ → Option SummaryKey) (isrc : List ℕ) (u : Usage) (old new : List ℕ) : Type 0 where
+pub record LinedMore (ledger : Ledger) (key : List ℕ → Option SummaryKey) (isrc : List ℕ) (shares : List SeatShare) (u : Usage) (old new : List ℕ) : Type 0 where
   pub line : ℕ
   pub items : new ≡ old ++ line ∷ []
-  pub lined : IsLined ledger isrc (key u.summary_id) line
+  pub lined : IsLined ledger isrc shares (key u.summary_id) line

@@ -1,4 +1,4 @@
--- The seats and the lines of a recording, in the order of what they are called.
+-- The parts of a line and the lines of a recording, in the order of what they are called.
 use Rattle.std.specs.Prelude.{◌≡◌, ℕ, List, ◌++◌, Option, None, position, map, filter}
 use Rattle.std.specs.Str.{bytes_eq}
 use Rattle.std.specs.List.{AllByRecursion}
@@ -29,9 +29,9 @@ pub record AreListed {K : Type 0} (cmp : K → K → Ordering) (place : K → Op
   pub order : IsStrictlySortedBy cmp (keys_of es)
   pub found : (q : K) → find cmp q es ≡ place q
 
--- the parties of a recording by the bytes of their names, with their seats
-abbrev pub AreSeatsOf : (List ℕ → Option ℕ) → List (Bor (List ℕ) × ℕ) → Type 0
-AreSeatsOf seat es = AreListed text_cmp seat (named_places es)
+-- the parties of a line by the bytes of their names, with the places of their parts
+abbrev pub ArePartsOf : (List ℕ → Option ℕ) → List (Bor (List ℕ) × ℕ) → Type 0
+ArePartsOf place es = AreListed text_cmp place (named_places es)
 
 -- the summary keys of a recording in their order, with the places of their lines
 abbrev pub AreLinesOf : (SummaryKey → Option ℕ) → List (Bor SummaryKey × ℕ) → Type 0

@@ -1,9 +1,15 @@
 -- What parties are owed.
-use Rattle.std.specs.Prelude.{ℕ, ℤ, pos, true, false, ◌+ℤ◌, List, Option, ◌||◌, nat_lt, length, filter, sum_by, unsigned_abs}
-use Rattle.dsr_ledger.specs.declared.owed.Owed.{Owed}
+use Rattle.std.specs.Prelude.{◌≡◌, ℕ, ℤ, pos, Bool, true, false, ◌+ℤ◌, List, Option, ◌||◌, nat_lt, length, filter, map, sum_by, unsigned_abs}
+use Rattle.std.specs.Option.{option_and_then}
+use Rattle.dsr_ledger.specs.declared.ledger.parts.SeatPart.{SeatPart}
 use Rattle.dsr_ledger.specs.Sums.{int_sum_by}
-use Rattle.dsr_ledger.specs.Numbered.{read_at}
+use Rattle.dsr_ledger.specs.Numbered.{Grows, read_at, place_in}
 use Rattle.dsr_ledger.specs.Parts.{Part, rounded, is_for}
+
+-- whether a party has a part, and the sum of its parts
+pub record Owed : Type 0 where
+  pub has_part : Bool
+  pub amount : ℤ
 
 abbrev pub nothing_owed : Owed
 nothing_owed = record { has_part = false; amount = pos 0 }
@@ -26,6 +32,27 @@ owed_for party ps = owed_of (filter (is_for party) ps)
 abbrev pub parts_size : List Part → ℕ
 parts_size ps = sum_by (λ p. unsigned_abs (rounded p)) ps
 
+-- what a part keeps
+abbrev pub owed_kept : SeatPart → Owed
+owed_kept p = record { has_part = p.has_part; amount = p.amount }
+
+-- the seats that have a part
+abbrev pub part_seats : List SeatPart → List ℕ
+part_seats ps = map (λ p. p.seat) ps
+
+-- what the part at a place keeps
+abbrev pub owed_at_place : List SeatPart → Option ℕ → Owed
+owed_at_place ps place = read_at owed_kept nothing_owed ps place
+
+-- the place of a seat's part
+abbrev pub part_in : List SeatPart → ℕ → Option ℕ
+part_in ps seat = place_in (part_seats ps) seat
+
 -- what the party at a seat is owed
-abbrev pub owed_in : List Owed → Option ℕ → Owed
-owed_in parts seat = read_at (λ o. o) nothing_owed parts seat
+abbrev pub owed_in : List SeatPart → Option ℕ → Owed
+owed_in ps seat = owed_at_place ps (option_and_then (part_in ps) seat)
+
+-- parts of which the same is owed: there may be more
+pub record PartsGrow (old new : List SeatPart) : Type 0 where
+  pub owed : (seat : Option ℕ) → owed_in new seat ≡ owed_in old seat
+  pub places : Grows (part_in old) (part_in new)

@@ -15,4 +15,4 @@ pub record IsPlanned (ledger : Ledger) (summaries : Summaries) (isrc : List ℕ)
   pub recording_is : recording_number ledger isrc ≡ Some plan.recording
   pub seated : AreSeated (seat_at ledger isrc) plan.shares.items (shares_of works)
   pub counted : map (λ u. index_at summaries u.summary_id) us ≡ map Some plan.summaries.items
-  pub lined : AreLined ledger (place_at summaries) isrc us plan.lines.items
+  pub lined : AreLined ledger (place_at summaries) isrc plan.shares.items us plan.lines.items

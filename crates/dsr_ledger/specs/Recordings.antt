@@ -1,5 +1,5 @@
 -- What the ledger keeps of each key.
-use Rattle.std.specs.Prelude.{◌≡◌, ℕ, List, length, Option, None, Some}
+use Rattle.std.specs.Prelude.{◌≡◌, ℕ, List, Option, None, Some}
 use Rattle.std.specs.Option.{option_and_then}
 use Rattle.std.specs.List.{position}
 use Rattle.std.specs.Str.{bytes_eq}
@@ -8,7 +8,7 @@ use Rattle.dsr_ledger.specs.declared.key.Key.{Key}
 use Rattle.dsr_ledger.specs.declared.ledger.summary_key.SummaryKey.{SummaryKey}
 use Rattle.dsr_ledger.specs.declared.ledger.recording.Recording.{Recording}
 use Rattle.dsr_ledger.specs.declared.ledger.recordings.Ledger.{Ledger}
-use Rattle.dsr_ledger.specs.declared.ledger.line.SeatShare.{SeatShare}
+use Rattle.dsr_ledger.specs.declared.ledger.parts.SeatShare.{SeatShare}
 use Rattle.dsr_ledger.specs.Numbered.{Grows, place_by}
 use Rattle.dsr_ledger.specs.Seated.{AreSeated}
 use Rattle.dsr_ledger.specs.Seats.{seat_numbers}
@@ -48,9 +48,9 @@ seat_at ledger isrc name = option_and_then (λ r. seat_of (party_number ledger) 
 abbrev pub line_at : Ledger → List ℕ → SummaryKey → Option ℕ
 line_at ledger isrc key = option_and_then (λ r. place_by (key_number ledger) (line_keys r.lines.items) key) (get bytes_eq ledger.recordings isrc)
 
--- line i of the recording with this ISRC has a part for each seat
-abbrev pub IsWideAt : Ledger → List ℕ → ℕ → Type 0
-IsWideAt ledger isrc i = (r : Recording) → get bytes_eq ledger.recordings isrc ≡ Some r → IsWide (length (seat_numbers r.seats)) r.lines.items i
+-- line i of the recording with this ISRC has a part for the seat of each of these shares
+abbrev pub IsWideAt : Ledger → List ℕ → List SeatShare → ℕ → Type 0
+IsWideAt ledger isrc shares i = (r : Recording) → get bytes_eq ledger.recordings isrc ≡ Some r → IsWide shares r.lines.items i
 
 -- the same is kept of each key, and what has a number or a seat keeps it
 pub record KeepsSeats (old new : Ledger) : Type 0 where
@@ -64,18 +64,18 @@ pub record KeepsLines (old new : Ledger) : Type 0 where
   pub recordings : (isrc : List ℕ) → recording_number new isrc ≡ recording_number old isrc
   pub seats : (isrc name : List ℕ) → seat_at new isrc name ≡ seat_at old isrc name
   pub lines : (isrc : List ℕ) → Grows (line_at old isrc) (line_at new isrc)
-  pub wide : (isrc : List ℕ) (i : ℕ) → IsWideAt old isrc i → IsWideAt new isrc i
+  pub wide : (isrc : List ℕ) (shares : List SeatShare) (i : ℕ) → IsWideAt old isrc shares i → IsWideAt new isrc shares i
 
 -- recordings, seats and lines are numbered as they were, and wide lines stay wide
 pub record SameNumbers (old new : Ledger) : Type 0 where
   pub recordings : (isrc : List ℕ) → recording_number new isrc ≡ recording_number old isrc
   pub seats : (isrc name : List ℕ) → seat_at new isrc name ≡ seat_at old isrc name
   pub lines : (isrc : List ℕ) (key : SummaryKey) → line_at new isrc key ≡ line_at old isrc key
-  pub wide : (isrc : List ℕ) (i : ℕ) → IsWideAt old isrc i → IsWideAt new isrc i
+  pub wide : (isrc : List ℕ) (shares : List SeatShare) (i : ℕ) → IsWideAt old isrc shares i → IsWideAt new isrc shares i
 
 -- a recording, a line in it, which is wide, and shares at the seats of their parties
 pub record IsLineOf (ledger : Ledger) (isrc : List ℕ) (key : SummaryKey) (es : List (List ℕ × ℕ)) (recording line : ℕ) (shares : List SeatShare) : Type 0 where
   pub recording_is : recording_number ledger isrc ≡ Some recording
   pub line_is : line_at ledger isrc key ≡ Some line
-  pub wide : IsWideAt ledger isrc line
+  pub wide : IsWideAt ledger isrc shares line
   pub seated : AreSeated (seat_at ledger isrc) shares es

@@ -1,9 +1,11 @@
 -- The shares of works, at the seats of their parties.
-use Rattle.std.specs.Prelude.{◌≡◌, ℕ, List, ◌++◌, Option, Some}
-use Rattle.std.specs.List.{flat_map, zip, AllZip}
+use Rattle.std.specs.Prelude.{◌≡◌, ℕ, ◌<◌, List, ◌++◌, Option, Some}
+use Rattle.std.specs.List.{flat_map, zip, AllByRecursion, AllZip}
 use Rattle.dsr_records.specs.Works.{WorkParts}
-use Rattle.dsr_ledger.specs.declared.ledger.line.SeatShare.{SeatShare}
+use Rattle.dsr_ledger.specs.declared.ledger.parts.SeatPart.{SeatPart}
+use Rattle.dsr_ledger.specs.declared.ledger.parts.SeatShare.{SeatShare}
 use Rattle.dsr_ledger.specs.Numbered.{IsNumbered}
+use Rattle.dsr_ledger.specs.Owed.{part_in}
 
 -- each party of the works with its share
 abbrev pub shares_of : List WorkParts → List (List ℕ × ℕ)
@@ -27,3 +29,16 @@ pub record SeatedMore (seat : List ℕ → Option ℕ) (old new : List SeatShare
 pub record HaveSeats (seat : List ℕ → Option ℕ) (n : ℕ) (ss : List SeatShare) (es : List (List ℕ × ℕ)) : Type 0 where
   pub numbered : IsNumbered seat n
   pub seated : AreSeated seat ss es
+
+-- the seats are below n
+abbrev pub AreSeatsBelow : ℕ → List SeatShare → Type 0
+AreSeatsBelow n ss = AllByRecursion (λ s. s.seat < n) ss
+
+-- the seat of a share has a part
+pub record HasPart (ps : List SeatPart) (s : SeatShare) : Type 0 where
+  pub place : ℕ
+  pub there : part_in ps s.seat ≡ Some place
+
+-- the seats of all shares have parts
+abbrev pub HaveParts : List SeatShare → List SeatPart → Type 0
+HaveParts ss ps = AllByRecursion (HasPart ps) ss

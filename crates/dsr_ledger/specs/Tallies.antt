@@ -3,13 +3,14 @@ use Rattle.std.specs.Prelude.{◌≡◌, ℕ, ◌+◌, ◌*◌, ◌^◌, ◌<◌
 use Rattle.std.specs.Option.{option_and_then}
 use Rattle.dsr_records.specs.declared.record.Usage.{Usage}
 use Rattle.dsr_ledger.specs.declared.key.Key.{Key}
-use Rattle.dsr_ledger.specs.declared.owed.Owed.{Owed}
+use Rattle.dsr_ledger.specs.declared.ledger.parts.SeatShare.{SeatShare}
 use Rattle.dsr_ledger.specs.declared.ledger.line.Line.{Line}
 use Rattle.dsr_ledger.specs.Bookings.{Booking}
 use Rattle.dsr_ledger.specs.Parts.{Part, all_parts}
 use Rattle.dsr_ledger.specs.Ledger.{at_key, usages_sum, amount_sum}
-use Rattle.dsr_ledger.specs.Numbered.{Grows, read_at, place_in}
-use Rattle.dsr_ledger.specs.Owed.{owed_in, owed_for, owed_plus}
+use Rattle.dsr_ledger.specs.Numbered.{AreBelow, Grows, read_at, place_in}
+use Rattle.dsr_ledger.specs.Owed.{Owed, owed_in, owed_for, owed_plus, part_seats}
+use Rattle.dsr_ledger.specs.Seated.{HaveParts}
 
 -- whether a booking counts, the sums, and what each party is owed
 pub record Tally : Type 0 where
@@ -62,7 +63,7 @@ line_tally seat l = record {
   is_booked = l.is_booked;
   usages = l.sums.usages;
   amount = l.sums.amount;
-  owed = λ q. owed_in l.parts.items (seat q);
+  owed = λ q. owed_in l.parts.items.items (seat q);
 }
 
 -- the numbers of the lines' summary keys
@@ -77,18 +78,18 @@ line_in ls key = place_in (line_keys ls) key
 abbrev pub lines_tally : (List ℕ → Option ℕ) → List Line → Option ℕ → Tally
 lines_tally seat ls number = read_at (line_tally seat) no_tally ls (option_and_then (line_in ls) number)
 
--- no line has more parts than there are seats
+-- the parts of all lines are those of so many seats
 abbrev pub AreWithin : ℕ → List Line → Type 0
-AreWithin seats ls = (i : ℕ) (l : Line) → slice_get ls i ≡ Some l → length l.parts.items ≤ seats
+AreWithin seats ls = (i : ℕ) (l : Line) → slice_get ls i ≡ Some l → AreBelow seats (part_seats l.parts.items.items)
 
--- there is a line at this place, and it has a part for each seat
-pub record IsWide (seats : ℕ) (ls : List Line) (i : ℕ) : Type 0 where
+-- there is a line at this place, and the seats of all these shares have parts in it
+pub record IsWide (shares : List SeatShare) (ls : List Line) (i : ℕ) : Type 0 where
   pub line : Line
   pub there : slice_get ls i ≡ Some line
-  pub wide : length line.parts.items ≡ seats
+  pub wide : HaveParts shares line.parts.items.items
 
 -- lines of which the same is kept: there are more, or some are wider
-pub record LinesGrow (seats : ℕ) (old new : List Line) : Type 0 where
+pub record LinesGrow (old new : List Line) : Type 0 where
   pub tallies : (seat : List ℕ → Option ℕ) (number : Option ℕ) → lines_tally seat new number ≡ lines_tally seat old number
   pub numbers : Grows (line_in old) (line_in new)
-  pub wide : (i : ℕ) → IsWide seats old i → IsWide seats new i
+  pub wide : (shares : List SeatShare) (i : ℕ) → IsWide shares old i → IsWide shares new i

@@ -1,5 +1,7 @@
 //! The ledger: what is booked of each recording.
+pub mod index;
 pub mod line;
+pub mod parts;
 pub mod recording;
 pub mod recordings;
 pub mod seats;

@@ -16,7 +16,6 @@ pub mod laws;
 mod ledger;
 mod missing;
 mod open;
-mod owed;
 mod rejects;
 mod report;
 mod seeded;

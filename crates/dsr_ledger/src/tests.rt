@@ -2,6 +2,7 @@
 //! A call that is refused memory is made once more, so each test passes also where any one growth is refused.
 mod books;
 mod making;
+mod many;
 mod parties;
 mod shown;
 mod texts;

@@ -13,7 +13,7 @@ ghost use Rattle.dsr_ledger.specs.Order.{AreOfSmall};
 ghost use Rattle.dsr_ledger.specs.Listed.{IsOfSmallAt, AddsLines};
 
 use crate::assemble::lines::ledger_line;
-use crate::assemble::listed::{lines_by_key, seats_by_name};
+use crate::assemble::listed::lines_by_key;
 use crate::ledger::recording::Recording;
 use crate::ledger::recordings::Ledger;
 use crate::ledger::summary_key::SummaryKey;
@@ -37,12 +37,12 @@ fn add_recording(
     requires small { ∥ IsOfSmallAt parties.now keys.now isrc recording.now ∥₁ }
     ensures { OnOk result (AddsLines parties.now keys.now isrc recording.now report.old report.new) }
 {
-    let seats = seats_by_name(alloc, parties, recording.seats.as_slice())?;
+    let numbers = recording.seats.as_slice();
     let order = lines_by_key(alloc, keys, recording.lines.as_slice())?;
     for (key, place) in order.as_slice() {
         let line = &recording.lines[*place];
         if line.is_booked {
-            let line = ledger_line(alloc, isrc, key, line, seats.as_slice())?;
+            let line = ledger_line(alloc, isrc, key, line, parties, numbers)?;
             report.push(line).map_err(|_line| NoMemory)?;
         }
     }
@@ -62,7 +62,7 @@ pub fn ledger_lines(alloc: Global, books: Ledger) -> Result<LedgerLines, NoMemor
     recordings.sort_unstable_keys()?;
     let names = parties.as_slice();
     let keys = summary_keys.as_slice();
-    let mut report = Items::with_room(alloc, recordings.len())?;
+    let mut report = Items::from(Vec::with_capacity(alloc, recordings.len())?);
     for (isrc, recording) in recordings {
         add_recording(&mut report, alloc, names, keys, isrc, &recording)?;
     }

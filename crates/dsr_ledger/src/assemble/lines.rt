@@ -1,46 +1,52 @@
 //! A ledger line of the report, from what is kept of it.
-ghost use Rattle.std.specs.Prelude.{◌≡◌, ◌++◌, ◌+◌, ◌^◌, ◌<◌, ◌-ℤ◌, ℕ, List, Option, Some, IfOk, sum_by, unsigned_abs};
+ghost use Rattle.std.specs.Prelude.{◌≡◌, ◌+◌, ◌^◌, ◌<◌, ◌-ℤ◌, ℕ, List, Option, Some, IfOk, length, sum_by, unsigned_abs};
+ghost use Rattle.std.specs.List.{IsDistinct};
+ghost use Rattle.std.specs.Str.{bytes_eq};
 ghost use Rattle.dsr_ledger.specs.Sums.{int_sum_by};
 ghost use Rattle.dsr_ledger.specs.Bookings.{Booking, key_under};
 ghost use Rattle.dsr_ledger.specs.Parts.{all_parts};
 ghost use Rattle.dsr_ledger.specs.Ledger.{party_lines, line_of};
-ghost use Rattle.dsr_ledger.specs.Owed.{owed_in, owed_for};
+ghost use Rattle.dsr_ledger.specs.Numbered.{place_by, AreApart, AreBelow};
+ghost use Rattle.dsr_ledger.specs.Owed.{owed_at_place, owed_for, part_seats};
 ghost use Rattle.dsr_ledger.specs.Tallies.{line_tally, tally_of};
 ghost use Rattle.dsr_ledger.specs.Order.{IsOfSmall};
-ghost use Rattle.dsr_ledger.specs.Listed.{AreSeatsOf};
+ghost use Rattle.dsr_ledger.specs.Listed.{ArePartsOf, party_in};
 
+use crate::assemble::listed::parts_by_name;
 use crate::ledger::line::Line;
+use crate::ledger::parts::SeatPart;
 use crate::ledger::summary_key::SummaryKey;
-use crate::owed::Owed;
 use crate::report::{LedgerLine, PartyLine};
 use dsr_cells::{Isrc, Items, NoMemory, Text};
 use std::alloc::Global;
 
-/// What the party at a seat is owed. Seats past the last part have none.
-fn owed_at(parts: &[Owed], seat: usize) -> Owed
-    ensures { result ≡ owed_in parts.now (Some seat) }
+/// The part at a place, and one of which nothing is owed past the last.
+fn part_at(parts: &[SeatPart], place: usize) -> SeatPart
+    ensures has_part { result.has_part ≡ (owed_at_place parts.now (Some place)).has_part }
+    ensures amount { result.amount ≡ (owed_at_place parts.now (Some place)).amount }
 {
-    match parts.get(seat) {
-        Some(owed) => *owed,
-        None => Owed::nothing(),
+    match parts.get(place) {
+        Some(part) => *part,
+        None => SeatPart::new(0),
     }
 }
 
 /// The lines of the parties that have a part, by the bytes of their names.
 fn party_lines(
     alloc: Global,
-    seats: &[(&Text, usize)],
-    parts: &[Owed],
+    names: &[(&Text, usize)],
+    parts: &[SeatPart],
 ) -> Result<Items<PartyLine>, NoMemory>
-    ensures { (bs : List Booking) (seat : List ℕ → Option ℕ) → AreSeatsOf seat seats.now → ((q : List ℕ) → owed_in parts.now (seat q) ≡ owed_for q (all_parts bs))
+    ensures { (bs : List Booking) (place : List ℕ → Option ℕ) → ArePartsOf place names.now
+        → ((q : List ℕ) → owed_at_place parts.now (place q) ≡ owed_for q (all_parts bs))
         → IfOk result (λ lines. lines ≡ party_lines bs) }
 {
-    let mut lines = Items::with_room(alloc, seats.len())?;
-    for (party, seat) in seats {
-        let owed = owed_at(parts, *seat);
-        if owed.has_part {
+    let mut lines = Items::from(Vec::with_capacity(alloc, names.len())?);
+    for (party, place) in names {
+        let part = part_at(parts, *place);
+        if part.has_part {
             let party = party.copy(alloc)?;
-            let amount = owed.amount;
+            let amount = part.amount;
             lines
                 .push(PartyLine { party, amount })
                 .map_err(|_line| NoMemory)?;
@@ -61,20 +67,28 @@ fn unclaimed(amount: i128, parties: &[PartyLine]) -> i128
     left
 }
 
-/// The line of a recording and a summary key, with its parties by the bytes of their names.
+/// The line of a recording and a summary key, with its parties by the bytes of their names. The numbers
+/// of the recording's parties are given by their seats.
 pub fn ledger_line(
     alloc: Global,
     isrc: Isrc,
     key: &SummaryKey,
     line: &Line,
-    seats: &[(&Text, usize)],
+    parties: &[Text],
+    numbers: &[u32],
 ) -> Result<LedgerLine, NoMemory>
-    requires { ∥ ((seat : List ℕ → Option ℕ) × AreSeatsOf seat seats.now × IsOfSmall seat line.now) ∥₁ }
-    ensures { (bs : List Booking) (seat : List ℕ → Option ℕ) → AreSeatsOf seat seats.now → line_tally seat line.now ≡ tally_of bs
+    requires names { IsDistinct bytes_eq parties.now }
+    requires apart { AreApart numbers.now }
+    requires below { AreBelow (length parties.now) numbers.now }
+    requires within { AreBelow (length numbers.now) (part_seats line.now.parts.items.items) }
+    requires small { ∥ IsOfSmall (place_by (party_in parties.now) numbers.now) line.now ∥₁ }
+    ensures { (bs : List Booking) → line_tally (place_by (party_in parties.now) numbers.now) line.now ≡ tally_of bs
         → IfOk result (λ l. l ≡ line_of (key_under isrc key.now) bs) }
 {
     let key = key.copy(alloc)?;
-    let parties = party_lines(alloc, seats, line.parts.as_slice())?;
+    let parts = line.parts.as_slice();
+    let names = parts_by_name(alloc, parties, numbers, parts)?;
+    let parties = party_lines(alloc, names.as_slice(), parts)?;
     let amount = line.sums.amount;
     Ok(LedgerLine {
         isrc,

@@ -1,14 +1,16 @@
-//! The seats and the lines of a recording, in the order of what they are called.
+//! The parts of a line and the lines of a recording, in the order of what they are called.
 ghost use Rattle.std.specs.Prelude.{◌≡◌, IfOk, length, map};
 ghost use Rattle.std.specs.List.{position, IsDistinct};
 ghost use Rattle.std.specs.Str.{bytes_eq};
 ghost use Rattle.dsr_ledger.specs.Keys.{text_cmp};
 ghost use Rattle.dsr_ledger.specs.SummaryKeys.{summary_key_eq, summary_key_cmp};
 ghost use Rattle.dsr_ledger.specs.Numbered.{place_by, AreApart, AreBelow};
+ghost use Rattle.dsr_ledger.specs.Owed.{part_seats};
 ghost use Rattle.dsr_ledger.specs.Tallies.{line_keys};
-ghost use Rattle.dsr_ledger.specs.Listed.{AreSeatsOf, AreLinesOf};
+ghost use Rattle.dsr_ledger.specs.Listed.{ArePartsOf, AreLinesOf};
 
 use crate::ledger::line::Line;
+use crate::ledger::parts::SeatPart;
 use crate::ledger::summary_key::SummaryKey;
 use dsr_cells::{NoMemory, Text};
 use std::alloc::Global;
@@ -28,23 +30,30 @@ fn by_key(one: &(&SummaryKey, usize), other: &(&SummaryKey, usize)) -> Ordering
     one.0.cmp(other.0)
 }
 
-/// The names of a recording's parties, in the order of their bytes, with the parties' seats.
-pub fn seats_by_name<'a>(
+/// The names of the parties that have these parts, in the order of their bytes, with the places of the
+/// parts. The parties' numbers are given by their seats.
+pub fn parts_by_name<'a>(
     alloc: Global,
     parties: &'a [Text],
     numbers: &[u32],
+    parts: &[SeatPart],
 ) -> Result<Vec<(&'a Text, usize)>, NoMemory>
     requires names { IsDistinct bytes_eq parties.now }
     requires apart { AreApart numbers.now }
     requires below { AreBelow (length parties.now) numbers.now }
-    ensures { IfOk result (λ seats. AreSeatsOf (place_by (λ q. position (bytes_eq q) parties.now) numbers.now) seats.items) }
+    requires seats_apart { AreApart (part_seats parts.now) }
+    requires seats_below { AreBelow (length numbers.now) (part_seats parts.now) }
+    ensures { IfOk result (λ names. ArePartsOf
+        (place_by (place_by (λ q. position (bytes_eq q) parties.now) numbers.now) (part_seats parts.now))
+        names.items) }
 {
-    let mut seats = Vec::with_capacity(alloc, numbers.len())?;
-    for seat in 0..numbers.len() {
-        seats.push((&parties[numbers[seat] as usize], seat))?;
+    let mut names = Vec::with_capacity(alloc, parts.len())?;
+    for (place, part) in parts.iter().enumerate() {
+        let number = numbers[part.seat as usize];
+        names.push((&parties[number as usize], place))?;
     }
-    seats.sort_unstable_by(by_name);
-    Ok(seats)
+    names.sort_unstable_by(by_name);
+    Ok(names)
 }
 
 /// The summary keys of a recording's lines, in their order, with the places of the lines.

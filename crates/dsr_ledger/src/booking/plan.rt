@@ -3,12 +3,12 @@ ghost use Rattle.std.specs.Prelude.{◌≡◌, ℕ, List, [], OnOk, Some, map};
 ghost use Rattle.std.specs.List.{zip};
 ghost use Rattle.dsr_records.specs.declared.record.Usage.{Usage};
 ghost use Rattle.dsr_ledger.specs.Recordings.{tally_at, seat_at, recording_number, KeepsSeats, KeepsLines};
-ghost use Rattle.dsr_ledger.specs.Seated.{shares_of, SeatedMore};
+ghost use Rattle.dsr_ledger.specs.Seated.{shares_of, AreSeated, SeatedMore};
 ghost use Rattle.dsr_ledger.specs.Summaries.{index_at, place_at};
 ghost use Rattle.dsr_ledger.specs.Lined.{AreLined, LinedMore, SameSummaries};
 
 use crate::file::summaries::Summaries;
-use crate::ledger::line::SeatShare;
+use crate::ledger::parts::SeatShare;
 use crate::ledger::recordings::Ledger;
 use dsr_cells::{Isrc, NoMemory};
 use dsr_records::Work;
@@ -30,7 +30,7 @@ pub struct Plan {
 /// The seat after that of the last share. Mostly the next party has it.
 fn next_seat(shares: &[SeatShare]) -> usize {
     match shares.last() {
-        Some(last) => last.seat.wrapping_add(1),
+        Some(last) => (last.seat as usize).wrapping_add(1),
         None => 0,
     }
 }
@@ -43,7 +43,8 @@ fn next_line(lines: &[usize]) -> usize {
     }
 }
 
-/// Plans the shares of a work.
+/// Plans the shares of a work. So many seats that 32 bits do not count them are more than there is
+/// memory for.
 fn plan_work(
     ledger: &mut Ledger,
     alloc: Global,
@@ -57,7 +58,8 @@ fn plan_work(
 {
     let shares = work.shares.as_slice();
     for (i, party) in work.parties.as_slice().iter().enumerate() {
-        let seat = ledger.seat(alloc, recording, party, next_seat(plan.as_slice()))?;
+        let number = ledger.seat(alloc, recording, party, next_seat(plan.as_slice()))?;
+        let seat = u32::try_from(number).map_err(|_| NoMemory)?;
         plan.push(SeatShare {
             seat,
             share: shares[i].parts(),
@@ -84,49 +86,56 @@ fn plan_works(
     Ok(())
 }
 
-/// Plans the line of a usage that names the summary with this number.
+/// Plans the line of a usage that names the summary with this number, and the parts of these shares
+/// in it.
 fn plan_line(
     ledger: &mut Ledger,
     alloc: Global,
     recording: usize,
+    shares: &[SeatShare],
     summaries: &mut Summaries,
     summary: usize,
     plan: &mut Vec<usize>,
 ) -> Result<(), NoMemory>
-    requires there { (isrc : List ℕ) × (recording_number ledger.old isrc ≡ Some recording) }
+    requires there { (isrc : List ℕ) × (es : List (List ℕ × ℕ)) × (recording_number ledger.old isrc ≡ Some recording)
+        × AreSeated (seat_at ledger.old isrc) shares.now es }
     requires named { (id : List ℕ) × (index_at summaries.old id ≡ Some summary) }
     ensures keeps { KeepsLines ledger.old ledger.new }
     ensures same { SameSummaries summaries.old summaries.new }
     ensures lined { (isrc : List ℕ) (u : Usage) → recording_number ledger.old isrc ≡ Some recording → index_at summaries.old u.summary_id ≡ Some summary
-        → OnOk result (LinedMore ledger.new (place_at summaries.new) isrc u plan.old.items plan.new.items) }
+        → OnOk result (LinedMore ledger.new (place_at summaries.new) isrc shares.now u plan.old.items plan.new.items) }
 {
     let state = summaries.state(summary);
     let key = ledger.summary_key(alloc, &state.key, state.key_hint)?;
-    let line = ledger.line(alloc, recording, key, next_line(plan.as_slice()))?;
+    let hint = next_line(plan.as_slice());
+    let line = ledger.line(alloc, recording, key, hint, shares)?;
     summaries.keep_hint(summary, key);
     plan.push(line)?;
     Ok(())
 }
 
-/// Plans the lines of usages that name the summaries with these numbers.
+/// Plans the lines of usages that name the summaries with these numbers, and the parts of these shares
+/// in them.
 fn plan_lines(
     ledger: &mut Ledger,
     alloc: Global,
     recording: usize,
+    shares: &[SeatShare],
     summaries: &mut Summaries,
     numbers: &[usize],
     plan: &mut Vec<usize>,
 ) -> Result<(), NoMemory>
     requires empty { plan.old.items ≡ [] }
-    requires there { (isrc : List ℕ) × (recording_number ledger.old isrc ≡ Some recording) }
+    requires there { (isrc : List ℕ) × (es : List (List ℕ × ℕ)) × (recording_number ledger.old isrc ≡ Some recording)
+        × AreSeated (seat_at ledger.old isrc) shares.now es }
     requires named { (us : List Usage) × (map (λ u. index_at summaries.old u.summary_id) us ≡ map Some numbers.now) }
     ensures keeps { KeepsLines ledger.old ledger.new }
     ensures same { SameSummaries summaries.old summaries.new }
     ensures lined { (isrc : List ℕ) (us : List Usage) → recording_number ledger.old isrc ≡ Some recording → map (λ u. index_at summaries.old u.summary_id) us ≡ map Some numbers.now
-        → OnOk result (AreLined ledger.new (place_at summaries.new) isrc us plan.new.items) }
+        → OnOk result (AreLined ledger.new (place_at summaries.new) isrc shares.now us plan.new.items) }
 {
     for number in numbers {
-        plan_line(ledger, alloc, recording, summaries, *number, plan)?;
+        plan_line(ledger, alloc, recording, shares, summaries, *number, plan)?;
     }
     Ok(())
 }
@@ -170,6 +179,7 @@ impl Plan {
             ledger,
             alloc,
             recording,
+            self.shares.as_slice(),
             summaries,
             self.summaries.as_slice(),
             &mut self.lines,

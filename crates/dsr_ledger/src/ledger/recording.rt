@@ -1,35 +1,55 @@
 //! A recording: the seats of its parties, and its lines.
-ghost use Rattle.std.specs.Prelude.{◌≡◌, ◌++◌, ◌∷◌, [], is_ok, if◌then◌else◌, length, nat_eq};
+ghost use Rattle.std.specs.Prelude.{◌≡◌, ◌<◌, OnOk, nat_eq, take, length};
+ghost use Rattle.std.specs.Vec.{vec_len, vec_capacity};
 ghost use Rattle.std.specs.List.{position};
-ghost use Rattle.dsr_ledger.specs.Numbered.{AreApart};
+ghost use Rattle.dsr_ledger.specs.Indexes.{AreIndexed};
+ghost use Rattle.dsr_ledger.specs.Numbered.{AreApart, place_in};
 ghost use Rattle.dsr_ledger.specs.Seats.{seat_numbers};
 ghost use Rattle.dsr_ledger.specs.Tallies.{line_in, line_keys, AreWithin};
 
-use crate::ledger::line::{Line, SeatShare, widen};
+use crate::ledger::index::{FEW, Index};
+use crate::ledger::line::Line;
+use crate::ledger::parts::{SeatShare, widen};
 use crate::ledger::seats::Seats;
 use dsr_cells::NoMemory;
 use dsr_records::Usage;
 use std::alloc::Global;
 
-/// The parties of a recording, each at its seat, and its lines: one for each summary key, in the order in which they came.
+/// The parties of a recording, each at its seat, and its lines: one for each summary key, in the order
+/// in which they came.
 #[derive(Drop)]
 pub struct Recording {
     pub seats: Seats,
     pub lines: Vec<Line>,
+    /// The places of the lines behind the first few, by the numbers of their summary keys.
+    pub index: Index,
     ghost apart: { AreApart (line_keys lines.items) },
+    ghost indexed: { AreIndexed (line_keys lines.items) index },
     ghost within: { AreWithin (length (seat_numbers seats)) lines.items },
 }
 
-/// The first line of a summary key.
+/// The line of a summary key among the first few.
 fn first_line(lines: &[Line], key: u32) -> Option<usize>
-    ensures { result ≡ position (λ line. nat_eq key line.key) lines.now }
+    ensures { result ≡ position (λ line. nat_eq key line.key) (take 16 lines.now) }
 {
-    lines.iter().position(|line| key == line.key)
+    lines.iter().take(FEW).position(|line| key == line.key)
+}
+
+/// The line of a summary key, among the first few or by the index.
+fn look_up(lines: &[Line], index: &Index, key: u32) -> Option<usize>
+    requires { AreIndexed (line_keys lines.now) index.now }
+    ensures { result ≡ line_in lines.now key }
+{
+    if let Some(number) = first_line(lines, key) {
+        return Some(number);
+    }
+    index.get(key)
 }
 
 /// The line of a summary key. The line at `hint` is looked at first.
-fn find_line(lines: &[Line], key: u32, hint: usize) -> Option<usize>
-    requires { AreApart (line_keys lines.now) }
+fn find_line(lines: &[Line], index: &Index, key: u32, hint: usize) -> Option<usize>
+    requires apart { AreApart (line_keys lines.now) }
+    requires indexed { AreIndexed (line_keys lines.now) index.now }
     ensures { result ≡ line_in lines.now key }
 {
     if let Some(line) = lines.get(hint) {
@@ -37,35 +57,28 @@ fn find_line(lines: &[Line], key: u32, hint: usize) -> Option<usize>
             return Some(hint);
         }
     }
-    first_line(lines, key)
+    look_up(lines, index, key)
 }
 
-/// Takes exactly the memory for a first line: most recordings have few.
-fn reserve_first(lines: &mut Vec<Line>) -> Result<(), NoMemory>
-    ensures { lines.new.items ≡ lines.old.items }
+/// Takes the memory for one more line, and exactly that for a first one: most recordings have few.
+fn reserve_line(lines: &mut Vec<Line>) -> Result<(), NoMemory>
+    ensures items { lines.new.items ≡ lines.old.items }
+    ensures room { OnOk result (vec_len lines.new < vec_capacity lines.new) }
 {
     if lines.is_empty() {
         lines.reserve_exact(1)?;
     }
-    Ok(())
-}
-
-/// Puts a line behind the others.
-fn push_line(lines: &mut Vec<Line>, line: Line) -> Result<(), NoMemory>
-    ensures { lines.new.items ≡ (if is_ok result then lines.old.items ++ line ∷ [] else lines.old.items) }
-{
-    reserve_first(lines)?;
-    lines.push(line)?;
+    lines.reserve(1)?;
     Ok(())
 }
 
 impl Recording {
-    ghost use Rattle.std.specs.Prelude.{◌<◌, ◌≤◌, ◌^◌, ℕ, List, Option, Some, None, IfOk, OnOk, map};
-    ghost use Rattle.dsr_ledger.specs.Numbered.{IsWithNumber, place_in};
+    ghost use Rattle.std.specs.Prelude.{◌≤◌, ◌^◌, ℕ, List, Option, Some, None, [], IfOk, map, if◌then◌else◌};
+    ghost use Rattle.dsr_ledger.specs.Numbered.{IsWithNumber};
     ghost use Rattle.dsr_ledger.specs.Owed.{parts_size};
     ghost use Rattle.dsr_ledger.specs.Parts.{part_of};
     ghost use Rattle.dsr_ledger.specs.Ranges.{IsInRange};
-    ghost use Rattle.dsr_ledger.specs.Seated.{HaveSeats};
+    ghost use Rattle.dsr_ledger.specs.Seated.{HaveSeats, AreSeatsBelow};
     ghost use Rattle.dsr_ledger.specs.Tallies.{lines_tally, tally_with, LinesGrow, IsWide, TallyFits};
 
     /// No parties, and no lines.
@@ -76,6 +89,7 @@ impl Recording {
         Recording {
             seats: Seats::new(alloc),
             lines: Vec::new(alloc),
+            index: Index::new(alloc),
         }
     }
 
@@ -92,63 +106,80 @@ impl Recording {
     fn add_line(&mut self, alloc: Global, key: u32) -> Result<usize, NoMemory>
         requires { line_in self.old.lines.items key ≡ None }
         ensures seats { self.new.seats ≡ self.old.seats }
-        ensures grows { LinesGrow (length (seat_numbers self.old.seats)) self.old.lines.items self.new.lines.items }
+        ensures grows { LinesGrow self.old.lines.items self.new.lines.items }
         ensures keys { IsWithNumber (line_keys self.old.lines.items) (line_keys self.new.lines.items) key }
         ensures there { IfOk result (λ i. line_in self.new.lines.items key ≡ Some i) }
     {
+        reserve_line(&mut self.lines)?;
         let number = self.lines.len();
-        push_line(&mut self.lines, Line::new(alloc, key))?;
+        self.index.add(alloc, key, number)?;
+        self.lines.push(Line::new(alloc, key))?;
         Ok(number)
     }
 
-    /// Gives each seat a part in a line.
-    fn widen(&mut self, number: usize) -> Result<(), NoMemory>
-        requires { number < length self.old.lines.items }
+    /// Gives the seat of each share a part in a line.
+    fn widen(&mut self, alloc: Global, number: usize, shares: &[SeatShare]) -> Result<(), NoMemory>
+        requires there { number < length self.old.lines.items }
+        requires below { AreSeatsBelow (length (seat_numbers self.old.seats)) shares.now }
         ensures seats { self.new.seats ≡ self.old.seats }
-        ensures grows { LinesGrow (length (seat_numbers self.old.seats)) self.old.lines.items self.new.lines.items }
+        ensures grows { LinesGrow self.old.lines.items self.new.lines.items }
         ensures keys { line_keys self.new.lines.items ≡ line_keys self.old.lines.items }
-        ensures wide { OnOk result (IsWide (length (seat_numbers self.old.seats)) self.new.lines.items number) }
+        ensures wide { OnOk result (IsWide shares.now self.new.lines.items number) }
     {
-        let seats = self.seats.len();
-        widen(&mut self.lines[number].parts, seats)
+        widen(&mut self.lines[number].parts, alloc, shares)
     }
 
-    /// The line of a summary key, which is made where there is none. The line at `hint` is looked at first.
+    /// The line of a summary key, which is made where there is none. The line at `hint` is looked at
+    /// first.
     fn line_of(&mut self, alloc: Global, key: u32, hint: usize) -> Result<usize, NoMemory>
         ensures seats { self.new.seats ≡ self.old.seats }
-        ensures grows { LinesGrow (length (seat_numbers self.old.seats)) self.old.lines.items self.new.lines.items }
+        ensures grows { LinesGrow self.old.lines.items self.new.lines.items }
         ensures keys { IsWithNumber (line_keys self.old.lines.items) (line_keys self.new.lines.items) key }
         ensures there { IfOk result (λ i. line_in self.new.lines.items key ≡ Some i) }
     {
-        if let Some(number) = find_line(self.lines.as_slice(), key, hint) {
+        if let Some(number) = find_line(self.lines.as_slice(), &self.index, key, hint) {
             return Ok(number);
         }
         self.add_line(alloc, key)
     }
 
-    /// The same, where the line has a part for each seat.
-    pub fn line(&mut self, alloc: Global, key: u32, hint: usize) -> Result<usize, NoMemory>
+    /// The same, where the line has a part for the seat of each share.
+    pub fn line(
+        &mut self,
+        alloc: Global,
+        key: u32,
+        hint: usize,
+        shares: &[SeatShare],
+    ) -> Result<usize, NoMemory>
+        requires { AreSeatsBelow (length (seat_numbers self.old.seats)) shares.now }
         ensures seats { self.new.seats ≡ self.old.seats }
-        ensures grows { LinesGrow (length (seat_numbers self.old.seats)) self.old.lines.items self.new.lines.items }
+        ensures grows { LinesGrow self.old.lines.items self.new.lines.items }
         ensures keys { IsWithNumber (line_keys self.old.lines.items) (line_keys self.new.lines.items) key }
-        ensures there { IfOk result (λ i. (line_in self.new.lines.items key ≡ Some i) × IsWide (length (seat_numbers self.old.seats)) self.new.lines.items i) }
+        ensures there { IfOk result (λ i. (line_in self.new.lines.items key ≡ Some i)
+            × IsWide shares.now self.new.lines.items i) }
     {
         let number = self.line_of(alloc, key, hint)?;
-        self.widen(number)?;
+        self.widen(alloc, number, shares)?;
         Ok(number)
     }
 
     /// Adds a usage and its parts to a line, and to no other.
     pub fn add(&mut self, number: usize, usage: &Usage, shares: &[SeatShare])
-        requires wide { IsWide (length (seat_numbers self.old.seats)) self.old.lines.items number }
-        requires fits { (seat : List ℕ → Option ℕ) × (es : List (List ℕ × ℕ)) × (key : ℕ) × HaveSeats seat (length (seat_numbers self.old.seats)) shares.now es × (line_in self.old.lines.items key ≡ Some number)
-            × TallyFits 1 (lines_tally seat self.old.lines.items (Some key)) × (parts_size (map (part_of usage.now.amount) es) ≤ 10 ^ 22) }
+        requires wide { IsWide shares.now self.old.lines.items number }
+        requires fits { (n : ℕ) × (seat : List ℕ → Option ℕ) × (es : List (List ℕ × ℕ)) × (key : ℕ)
+            × HaveSeats seat n shares.now es × (line_in self.old.lines.items key ≡ Some number)
+            × TallyFits 1 (lines_tally seat self.old.lines.items (Some key))
+            × (parts_size (map (part_of usage.now.amount) es) ≤ 10 ^ 22) }
         ensures range { IsInRange usage.now }
         ensures seats { self.new.seats ≡ self.old.seats }
         ensures keys { line_keys self.new.lines.items ≡ line_keys self.old.lines.items }
-        ensures wide { (i : ℕ) → IsWide (length (seat_numbers self.old.seats)) self.old.lines.items i → IsWide (length (seat_numbers self.old.seats)) self.new.lines.items i }
-        ensures tally { (seat : List ℕ → Option ℕ) (es : List (List ℕ × ℕ)) (key : ℕ) → HaveSeats seat (length (seat_numbers self.old.seats)) shares.now es → line_in self.old.lines.items key ≡ Some number
-            → (k : ℕ) → lines_tally seat self.new.lines.items (Some k) ≡ (if nat_eq key k then tally_with usage.now (map (part_of usage.now.amount) es) (lines_tally seat self.old.lines.items (Some k)) else lines_tally seat self.old.lines.items (Some k)) }
+        ensures wide { (ss : _) (i : ℕ) → IsWide ss self.old.lines.items i
+            → IsWide ss self.new.lines.items i }
+        ensures tally { (n : ℕ) (seat : List ℕ → Option ℕ) (es : List (List ℕ × ℕ)) (key : ℕ)
+            → HaveSeats seat n shares.now es → line_in self.old.lines.items key ≡ Some number
+            → (k : ℕ) → lines_tally seat self.new.lines.items (Some k) ≡ (if nat_eq key k
+            then tally_with usage.now (map (part_of usage.now.amount) es) (lines_tally seat self.old.lines.items (Some k))
+            else lines_tally seat self.old.lines.items (Some k)) }
     {
         self.lines[number].add(usage, shares);
     }

@@ -7,7 +7,7 @@ ghost use Rattle.dsr_ledger.specs.Seats.{seat_numbers};
 ghost use Rattle.dsr_ledger.specs.Tallies.{line_keys};
 ghost use Rattle.dsr_ledger.specs.declared.ledger.recording.Recording.{Recording};
 
-use crate::ledger::line::SeatShare;
+use crate::ledger::parts::SeatShare;
 use crate::ledger::recording::Recording;
 use crate::ledger::summary_key::SummaryKey;
 use crate::seeded::Seeded;
@@ -34,6 +34,7 @@ impl Ledger {
     ghost use Rattle.dsr_ledger.specs.Owed.{parts_size};
     ghost use Rattle.dsr_ledger.specs.Parts.{part_of};
     ghost use Rattle.dsr_ledger.specs.Ranges.{IsInRange};
+    ghost use Rattle.dsr_ledger.specs.Seated.{AreSeated};
     ghost use Rattle.dsr_ledger.specs.Tallies.{no_tally, tally_with, TallyFits};
     ghost use Rattle.dsr_ledger.specs.Recordings.{party_number, key_number, recording_number, tally_at, seat_at, line_at, IsWideAt, KeepsSeats, KeepsLines, SameNumbers, IsLineOf};
 
@@ -150,22 +151,24 @@ impl Ledger {
     }
 
     /// The line of the summary key with this number in a recording, which is made where there is none, and has a part for
-    /// each seat. What is kept of each key stays. The line `hint` is looked at first.
+    /// the seat of each share. What is kept of each key stays. The line `hint` is looked at first.
     pub fn line(
         &mut self,
         alloc: Global,
         recording: usize,
         number: u32,
         hint: usize,
+        shares: &[SeatShare],
     ) -> Result<usize, NoMemory>
-        requires there { (isrc : List ℕ) × (recording_number self.old isrc ≡ Some recording) }
+        requires there { (isrc : List ℕ) × (es : List (List ℕ × ℕ)) × (recording_number self.old isrc ≡ Some recording)
+            × AreSeated (seat_at self.old isrc) shares.now es }
         requires known { (key : SummaryKey) × (key_number self.old key ≡ Some number) }
         ensures keeps { KeepsLines self.old self.new }
         ensures there { (isrc : List ℕ) (key : SummaryKey) → recording_number self.old isrc ≡ Some recording → key_number self.old key ≡ Some number
-            → IfOk result (λ i. (line_at self.new isrc key ≡ Some i) × IsWideAt self.new isrc i) }
+            → IfOk result (λ i. (line_at self.new isrc key ≡ Some i) × IsWideAt self.new isrc shares.now i) }
     {
         let (_, found) = self.recordings.pair_mut(recording);
-        found.line(alloc, number, hint)
+        found.line(alloc, number, hint, shares)
     }
 
     /// Adds a usage and its parts to a line, and to no other. It takes no memory.

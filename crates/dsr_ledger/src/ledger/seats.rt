@@ -1,65 +1,27 @@
 //! The seats of a recording's parties.
-ghost use Rattle.std.specs.Prelude.{◌≡◌, ◌<◌, ◌≤◌, ℕ, List, IfOk, OnOk, OnErr, Some, length, nat_eq, if◌then◌else◌};
-ghost use Rattle.std.specs.BTreeMap.{get};
-ghost use Rattle.std.specs.Ordering.{nat_cmp};
+ghost use Rattle.std.specs.Prelude.{◌≡◌, IfOk, OnOk, OnErr, Some, length, take};
+ghost use Rattle.dsr_ledger.specs.Indexes.{AreIndexed};
 ghost use Rattle.dsr_ledger.specs.Numbered.{place_in, AreApart};
 
+use crate::ledger::index::{FEW, Index};
 use dsr_cells::NoMemory;
 use std::alloc::Global;
-use std::collections::BTreeMap;
-
-/// Up to so many parties are found by going over them; more have an index.
-const FEW: usize = 16;
 
 /// The numbers of a recording's parties, each at its seat: once, in the order in which they came.
 #[derive(Drop)]
 pub struct Seats {
     pub numbers: Vec<u32>,
-    /// The seats by the numbers, once the parties are more than a few.
-    pub index: BTreeMap<u32, usize>,
+    /// The seats behind the first few, by the numbers of their parties.
+    pub index: Index,
     ghost apart: { AreApart numbers.items },
-    ghost indexed: { 16 < length numbers.items → (q : ℕ) → get nat_cmp index q ≡ place_in numbers.items q },
+    ghost indexed: { AreIndexed numbers.items index },
 }
 
-/// The first place of a number.
+/// The place of a number among the first few.
 fn first_place(numbers: &[u32], number: u32) -> Option<usize>
-    ensures { result ≡ place_in numbers.now number }
+    ensures { result ≡ place_in (take 16 numbers.now) number }
 {
-    numbers.iter().position(|one| number == *one)
-}
-
-/// The index of these numbers.
-fn index_of(alloc: Global, numbers: &[u32]) -> Result<BTreeMap<u32, usize>, NoMemory>
-    requires { AreApart numbers.now }
-    ensures { IfOk result (λ index. (q : ℕ) → get nat_cmp index q ≡ place_in numbers.now q) }
-{
-    let mut index = BTreeMap::new(alloc);
-    for (seat, number) in numbers.iter().enumerate() {
-        index.insert(*number, seat)?;
-    }
-    Ok(index)
-}
-
-/// Gives one more number its seat in the index, where they become or are more than a few.
-fn index_more(
-    index: &mut BTreeMap<u32, usize>,
-    alloc: Global,
-    numbers: &[u32],
-    number: u32,
-) -> Result<(), NoMemory>
-    requires apart { AreApart numbers.now }
-    requires indexed { 16 < length numbers.now → (q : ℕ) → get nat_cmp index.old q ≡ place_in numbers.now q }
-    ensures more { OnOk result (16 ≤ length numbers.now → (q : ℕ) → get nat_cmp index.new q ≡ (if nat_eq number q then Some (length numbers.now) else place_in numbers.now q)) }
-    ensures same { OnErr result (16 < length numbers.now → (q : ℕ) → get nat_cmp index.new q ≡ place_in numbers.now q) }
-{
-    if numbers.len() < FEW {
-        return Ok(());
-    }
-    if numbers.len() == FEW {
-        *index = index_of(alloc, numbers)?;
-    }
-    index.insert(number, numbers.len())?;
-    Ok(())
+    numbers.iter().take(FEW).position(|one| number == *one)
 }
 
 impl Seats {
@@ -73,7 +35,7 @@ impl Seats {
     {
         Seats {
             numbers: Vec::new(alloc),
-            index: BTreeMap::new(alloc),
+            index: Index::new(alloc),
         }
     }
 
@@ -96,10 +58,10 @@ impl Seats {
     fn find(&self, party: u32) -> Option<usize>
         ensures { result ≡ place_in (seat_numbers self.now) party }
     {
-        if self.numbers.len() > FEW {
-            return self.index.get(&party).copied();
+        if let Some(seat) = first_place(self.numbers.as_slice(), party) {
+            return Some(seat);
         }
-        first_place(self.numbers.as_slice(), party)
+        self.index.get(party)
     }
 
     /// Gives a party that has no seat the next one.
@@ -109,7 +71,7 @@ impl Seats {
         ensures err { OnErr result (seat_numbers self.new ≡ seat_numbers self.old) }
     {
         self.numbers.reserve(1)?;
-        index_more(&mut self.index, alloc, self.numbers.as_slice(), party)?;
+        self.index.add(alloc, party, self.numbers.len())?;
         self.numbers.push(party)?;
         Ok(())
     }

@@ -6,11 +6,13 @@ use Rattle.std.proofs.lemmas.List.{take_all}
 use Rattle.std.proofs.lemmas.Option.{slice_get-get_or}
 use Rattle.dsr_ledger.specs.Bookings.{key_under}
 use Rattle.dsr_ledger.specs.Ledger.{at_key}
-use Rattle.dsr_ledger.specs.Numbered.{place_by}
+use Rattle.dsr_ledger.specs.Numbered.{AreApart, AreBelow, place_by}
+use Rattle.dsr_ledger.specs.Order.{IsOfSmall}
+use Rattle.dsr_ledger.specs.Owed.{part_seats}
 use Rattle.dsr_ledger.specs.SummaryKeys.{summary_key_in}
 use Rattle.dsr_ledger.specs.Recordings.{seat_of}
-use Rattle.dsr_ledger.specs.Tallies.{line_keys}
-use Rattle.dsr_ledger.specs.Listed.{AreSeatsOf, AreLinesOf, party_in, key_in, entries_under, booked_lines}
+use Rattle.dsr_ledger.specs.Tallies.{line_keys, line_tally, tally_of}
+use Rattle.dsr_ledger.specs.Listed.{AreLinesOf, party_in, key_in, entries_under, booked_lines}
 use Rattle.dsr_ledger.proofs.ReportLemmas.{place_within, own_tally, line_added, line_passed, under_sorted, under_own, under_found, small_at}
 use Rattle.dsr_ledger.proofs.assemble.ledger.add_recording.Goals.{then-line+in_ok-line+in_ok-map_err, else-line}
 use Rattle.dsr_ledger.proofs.assemble.ledger.add_recording.Goals as goal
@@ -24,15 +26,20 @@ index-line-requires c =
     let ls = c.args.recording.now.lines.items in
     let at : slice_get items i ≡ Some item = slice_get-get_or items i item c.loop-key-test.true ∙ ap Some (sym c.loop-key-item.is) in
     let listed =
-    subst (λ xs. AreLinesOf (place_by number (line_keys xs)) items) c.as_slice-2.ensures.value (
-    subst (AreLinesOf (place_by number (line_keys c.as_slice-2.result.now))) (sym c.as_slice-key-items.ensures.value) c.in_ok-order.ensures) in
+    subst (λ xs. AreLinesOf (place_by number (line_keys xs)) items) c.as_slice.ensures.value (
+    subst (AreLinesOf (place_by number (line_keys c.as_slice.result.now))) (sym c.as_slice-key-items.ensures.value) c.in_ok-order.ensures) in
     let long : length ls ≡ vec_len c.args.recording.now.lines = search rules in
     subst (λ n. item.1 < n) long (place_within number ls items listed i item at)
 
-pub ledger_line-requires : goal.ledger_line-requires
-ledger_line-requires c =
+pub ledger_line-requires-clause-apart : goal.ledger_line-requires-clause-apart
+ledger_line-requires-clause-apart c = subst AreApart (sym c.as_slice-numbers.ensures.value) c.as_slice-numbers.ensures.apart
+
+pub ledger_line-requires-clause-below : goal.ledger_line-requires-clause-below
+ledger_line-requires-clause-below c = subst (AreBelow (length c.args.parties.now)) (sym c.as_slice-numbers.ensures.value) c.requires.seated
+
+pub ledger_line-requires-clause-within : goal.ledger_line-requires-clause-within
+ledger_line-requires-clause-within c =
     let r = c.args.recording.now in
-    let isrc = c.args.isrc in
     let items = c.as_slice-key-items.result.now in
     let i = c.loop-key.key-index in
     let item = c.loop-key-item.result in
@@ -41,22 +48,33 @@ ledger_line-requires c =
     let line = c.index-line.result.now in
     let at : slice_get items i ≡ Some item = slice_get-get_or items i item c.loop-key-test.true ∙ ap Some (sym c.loop-key-item.is) in
     let listed =
-    subst (λ xs. AreLinesOf (place_by number (line_keys xs)) items) c.as_slice-2.ensures.value (
-    subst (AreLinesOf (place_by number (line_keys c.as_slice-2.result.now))) (sym c.as_slice-key-items.ensures.value) c.in_ok-order.ensures) in
+    subst (λ xs. AreLinesOf (place_by number (line_keys xs)) items) c.as_slice.ensures.value (
+    subst (AreLinesOf (place_by number (line_keys c.as_slice.result.now))) (sym c.as_slice-key-items.ensures.value) c.in_ok-order.ensures) in
     let there : slice_get ls item.1 ≡ Some line = slice_get-get_or ls item.1 line (place_within number ls items listed i item at) ∙ ap Some (sym c.index-line.ensures) in
-    let seat : List ℕ → Option ℕ = seat_of (party_in c.args.parties.now) r in
-    let seats =
-    subst (AreSeatsOf seat) (sym c.as_slice-then-line.ensures.value) (
-    subst (λ ns. AreSeatsOf (place_by (party_in c.args.parties.now) ns) c.in_ok-seats.seats.items) c.as_slice.ensures.value c.in_ok-seats.ensures) in
-    ∥∥₁_map c.requires.small (λ o. (
-      seat,
-      seats,
-      record {
-        bookings = at_key (key_under isrc item.0.now) o.bookings;
-        tally = own_tally number ls items listed i item at seat line there ∙ o.has item.0.now;
-        small = small_at (key_under isrc item.0.now) o.bookings o.small;
-      },
-    ))
+    subst (λ ns. AreBelow (length ns) (part_seats line.parts.items.items)) (sym c.as_slice-numbers.ensures.value) (r.within item.1 line there)
+
+pub ledger_line-requires-clause-small : goal.ledger_line-requires-clause-small
+ledger_line-requires-clause-small c =
+    let isrc = c.args.isrc in
+    let r = c.args.recording.now in
+    let items = c.as_slice-key-items.result.now in
+    let i = c.loop-key.key-index in
+    let item = c.loop-key-item.result in
+    let number = key_in c.args.keys.now in
+    let ls = r.lines.items in
+    let line = c.index-line.result.now in
+    let at : slice_get items i ≡ Some item = slice_get-get_or items i item c.loop-key-test.true ∙ ap Some (sym c.loop-key-item.is) in
+    let listed =
+    subst (λ xs. AreLinesOf (place_by number (line_keys xs)) items) c.as_slice.ensures.value (
+    subst (AreLinesOf (place_by number (line_keys c.as_slice.result.now))) (sym c.as_slice-key-items.ensures.value) c.in_ok-order.ensures) in
+    let there : slice_get ls item.1 ≡ Some line = slice_get-get_or ls item.1 line (place_within number ls items listed i item at) ∙ ap Some (sym c.index-line.ensures) in
+    let party = party_in c.args.parties.now in
+    ∥∥₁_map c.requires.small (λ o.
+    subst (λ ns. IsOfSmall (place_by party ns) line) (sym c.as_slice-numbers.ensures.value) (record {
+      bookings = at_key (key_under isrc item.0.now) o.bookings;
+      tally = own_tally number ls items listed i item at (seat_of party r) line there ∙ o.has item.0.now;
+      small = small_at (key_under isrc item.0.now) o.bookings o.small;
+    }))
 
 pub loop-key-preserved : goal.loop-key-preserved
 loop-key-preserved c = λ bs has.
@@ -70,23 +88,21 @@ loop-key-preserved c = λ bs has.
     let line = c.index-line.result.now in
     let at : slice_get items i ≡ Some item = slice_get-get_or items i item c.loop-key-test.true ∙ ap Some (sym c.loop-key-item.is) in
     let listed =
-    subst (λ xs. AreLinesOf (place_by number (line_keys xs)) items) c.as_slice-2.ensures.value (
-    subst (AreLinesOf (place_by number (line_keys c.as_slice-2.result.now))) (sym c.as_slice-key-items.ensures.value) c.in_ok-order.ensures) in
+    subst (λ xs. AreLinesOf (place_by number (line_keys xs)) items) c.as_slice.ensures.value (
+    subst (AreLinesOf (place_by number (line_keys c.as_slice.result.now))) (sym c.as_slice-key-items.ensures.value) c.in_ok-order.ensures) in
     let there : slice_get ls item.1 ≡ Some line = slice_get-get_or ls item.1 line (place_within number ls items listed i item at) ∙ ap Some (sym c.index-line.ensures) in
-    let seat : List ℕ → Option ℕ = seat_of (party_in c.args.parties.now) r in
-    let tally = own_tally number ls items listed i item at seat line there ∙ has item.0.now in
+    let party = party_in c.args.parties.now in
+    let tally = own_tally number ls items listed i item at (seat_of party r) line there ∙ has item.0.now in
     let key = key_under isrc item.0.now in
     let old = c.args.report.now in
     let out = c.loop-key.report in
     let so_far = c.loop-key.invariant bs has in
     elim c.if-line.branch [
       | then-line+in_ok-line+in_ok-map_err w ↦
-          let seats =
-          subst (AreSeatsOf seat) (sym w.as_slice-then-line.ensures.value) (
-          subst (λ ns. AreSeatsOf (place_by (party_in c.args.parties.now) ns) c.in_ok-seats.seats.items) c.as_slice.ensures.value c.in_ok-seats.ensures) in
+          let own = subst (λ ns. line_tally (place_by party ns) line ≡ tally_of (at_key key bs)) (sym c.as_slice-numbers.ensures.value) tally in
           let l = w.in_ok-line.line in
           let pushed : w.push.new.self ≡ out ++ l ∷ [] = search rules in
-          line_added bs isrc items i item c.loop-key-test.true c.loop-key-item.is old out c.if-line.report so_far l (w.report-is ∙ pushed) (w.in_ok-line.ensures (at_key key bs) seat seats tally) (sym (ap (λ t. t.is_booked) tally) ∙ w.if-line.true)
+          line_added bs isrc items i item c.loop-key-test.true c.loop-key-item.is old out c.if-line.report so_far l (w.report-is ∙ pushed) (w.in_ok-line.ensures (at_key key bs) own) (sym (ap (λ t. t.is_booked) tally) ∙ w.if-line.true)
       | else-line w ↦ line_passed bs isrc items i item c.loop-key-test.true c.loop-key-item.is old out c.if-line.report so_far w.report-is (sym (ap (λ t. t.is_booked) tally) ∙ w.if-line.false)
     ]
 
@@ -96,8 +112,8 @@ returns c =
     let items = c.as_slice-key-items.result.now in
     let number = key_in c.args.keys.now in
     let listed =
-    subst (λ xs. AreLinesOf (place_by number (line_keys xs)) items) c.as_slice-2.ensures.value (
-    subst (AreLinesOf (place_by number (line_keys c.as_slice-2.result.now))) (sym c.as_slice-key-items.ensures.value) c.in_ok-order.ensures) in
+    subst (λ xs. AreLinesOf (place_by number (line_keys xs)) items) c.as_slice.ensures.value (
+    subst (AreLinesOf (place_by number (line_keys c.as_slice.result.now))) (sym c.as_slice-key-items.ensures.value) c.in_ok-order.ensures) in
     record {
       entries = entries_under isrc items;
       order = under_sorted isrc items listed.order;

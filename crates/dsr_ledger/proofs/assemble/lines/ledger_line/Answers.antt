@@ -1,39 +1,53 @@
 use Rattle.std.proofs.Math.Logic.{∥∥₁_elim}
 use Rattle.std.proofs.Props.{props}
-use Rattle.std.proofs.Common.{◌≡◌, List, ℕ, to_z, of_z, rules, sym, ◌∙◌, ap, subst, ◌+◌, ◌<◌, ◌^◌}
-use Rattle.std.specs.Prelude.{sum_by, unsigned_abs, ◌-ℤ◌}
+use Rattle.std.proofs.Common.{◌≡◌, List, ℕ, length, to_z, of_z, rules, sym, ◌∙◌, ap, subst, ◌+◌, ◌<◌, ◌^◌}
+use Rattle.std.specs.Prelude.{Option, sum_by, unsigned_abs, ◌-ℤ◌}
 use Rattle.std.specs.Int.{w128}
+use Rattle.dsr_ledger.specs.declared.ledger.parts.SeatPart.{SeatPart}
 use Rattle.dsr_ledger.specs.Ledger.{line_of, party_lines, amount_sum}
-use Rattle.dsr_ledger.specs.Owed.{owed_in, owed_for}
-use Rattle.dsr_ledger.specs.Parts.{all_parts}
+use Rattle.dsr_ledger.specs.Listed.{ArePartsOf, party_in}
+use Rattle.dsr_ledger.specs.Numbered.{AreApart, AreBelow, place_by}
+use Rattle.dsr_ledger.specs.Owed.{owed_in, owed_at_place, part_seats}
 use Rattle.dsr_ledger.specs.Sums.{int_sum_by}
-use Rattle.dsr_ledger.specs.declared.owed.Owed.{Owed}
 use Rattle.dsr_ledger.specs.declared.report.PartyLine.{PartyLine}
 use Rattle.dsr_ledger.proofs.PartyLemmas.{line_fits, unclaimed_is}
 use Rattle.dsr_ledger.proofs.assemble.lines.ledger_line.Goals as goal
 
+pub parts_by_name-requires-clause-seats_apart : goal.parts_by_name-requires-clause-seats_apart
+parts_by_name-requires-clause-seats_apart c = subst (λ ps. AreApart (part_seats ps)) (sym c.as_slice-parts.ensures.value) c.as_slice-parts.ensures.apart
+
+pub parts_by_name-requires-clause-seats_below : goal.parts_by_name-requires-clause-seats_below
+parts_by_name-requires-clause-seats_below c = subst (λ ps. AreBelow (length c.args.numbers.now) (part_seats ps)) (sym c.as_slice-parts.ensures.value) c.requires.within
+
 pub unclaimed-requires : goal.unclaimed-requires
 unclaimed-requires c =
     let line = c.args.line.now in
+    let seat : List ℕ → Option ℕ = place_by (party_in c.args.parties.now) c.args.numbers.now in
+    let ps : List SeatPart = c.as_slice-parts.result.now in
+    let place : List ℕ → Option ℕ = place_by seat (part_seats ps) in
+    let listed : ArePartsOf place c.as_slice.result.now = subst (ArePartsOf place) (sym c.as_slice.ensures.value) c.in_ok-names.ensures in
     let same : to_z w128 (of_z w128 line.sums.amount) ≡ line.sums.amount = search rules in
-    let size : List PartyLine → ℕ = λ ps. sum_by (λ p. unsigned_abs p.amount) ps in
-    ∥∥₁_elim c.requires (hlevel props) (λ r.
-    let o = r.2 in
+    let size : List PartyLine → ℕ = λ ls. sum_by (λ p. unsigned_abs p.amount) ls in
+    ∥∥₁_elim c.requires.small (hlevel props) (λ o.
     let amount : to_z w128 (of_z w128 line.sums.amount) ≡ amount_sum o.bookings = same ∙ ap (λ t. t.amount) o.tally in
-    let owed = λ (q : List ℕ). ap (λ (ps : List Owed). owed_in ps (r.0 q)) c.as_slice.ensures.value ∙ ap (λ t. t.owed q) o.tally in
-    let lines : c.as_slice-2.result.now ≡ party_lines o.bookings = c.as_slice-2.ensures ∙ c.in_ok-parties.ensures o.bookings r.0 r.1 owed in
+    let owed = λ (q : List ℕ). ap (λ (xs : List SeatPart). owed_in xs (seat q)) c.as_slice-parts.ensures.value ∙ ap (λ t. t.owed q) o.tally in
+    let lines : c.as_slice-2.result.now ≡ party_lines o.bookings = c.as_slice-2.ensures ∙ c.in_ok-parties.ensures o.bookings place listed owed in
     subst (λ n. n < 2 ^ 127) (λ i. unsigned_abs (sym amount i) + size (sym lines i)) (line_fits o.bookings o.small))
 
 pub returns : goal.returns
 unfolding line_of
-returns c = λ bs seat listed is.
+returns c = λ bs is.
     let line = c.args.line.now in
     let key = c.args.key.now in
+    let seat : List ℕ → Option ℕ = place_by (party_in c.args.parties.now) c.args.numbers.now in
+    let ps : List SeatPart = c.as_slice-parts.result.now in
+    let place : List ℕ → Option ℕ = place_by seat (part_seats ps) in
+    let listed : ArePartsOf place c.as_slice.result.now = subst (ArePartsOf place) (sym c.as_slice.ensures.value) c.in_ok-names.ensures in
     let usages : to_z w128 (of_z w128 line.sums.usages) ≡ line.sums.usages = search rules in
     let amount : to_z w128 (of_z w128 line.sums.amount) ≡ line.sums.amount = search rules in
     let left : to_z w128 (of_z w128 c.unclaimed.result) ≡ c.unclaimed.result = search rules in
-    let owed = λ (q : List ℕ). ap (λ (ps : List Owed). owed_in ps (seat q)) c.as_slice.ensures.value ∙ ap (λ t. t.owed q) is in
-    let lines : c.in_ok-parties.parties ≡ party_lines bs = c.in_ok-parties.ensures bs seat listed owed in
+    let owed = λ (q : List ℕ). ap (λ (xs : List SeatPart). owed_in xs (seat q)) c.as_slice-parts.ensures.value ∙ ap (λ t. t.owed q) is in
+    let lines : c.in_ok-parties.parties ≡ party_lines bs = c.in_ok-parties.ensures bs place listed owed in
     let total = amount ∙ ap (λ t. t.amount) is in
     let own = c.in_ok-key.ensures in
     λ i. record {

@@ -3,14 +3,18 @@ use Rattle.std.specs.Prelude.{Some, slice_get}
 use Rattle.std.proofs.lemmas.List.{take_all}
 use Rattle.dsr_records.specs.declared.record.Usage.{Usage}
 use Rattle.dsr_ledger.specs.Lined.{IsLined, AreLined}
+use Rattle.dsr_ledger.specs.Recordings.{seat_at}
 use Rattle.dsr_ledger.specs.Summaries.{index_at, place_at}
 use Rattle.dsr_ledger.proofs.NumberedLemmas.{got_or}
 use Rattle.dsr_ledger.proofs.KeepsLemmas.{lines_twice, summaries_twice, same_places, lined_grows}
-use Rattle.dsr_ledger.proofs.SeatedLemmas.{zip_append, item_at, values_long}
+use Rattle.dsr_ledger.proofs.SeatedLemmas.{zip_append, item_at, values_long, seated_grows}
 use Rattle.dsr_ledger.proofs.booking.plan.plan_lines.Goals as goal
 
 pub plan_line-requires-clause-there : goal.plan_line-requires-clause-there
-plan_line-requires-clause-there c = (c.requires.there.0, c.loop-number.invariant.keeps.recordings c.requires.there.0 ∙ c.requires.there.1)
+plan_line-requires-clause-there c =
+    let p = c.requires.there in
+    let keeps = c.loop-number.invariant.keeps in
+    (p.0, p.1, keeps.recordings p.0 ∙ p.2, seated_grows (seat_at c.args.ledger.now p.0) (seat_at c.loop-number.ledger p.0) (λ q i e. keeps.seats p.0 q ∙ e) c.args.shares.now p.1 p.3)
 
 pub plan_line-requires-clause-named : goal.plan_line-requires-clause-named
 plan_line-requires-clause-named c =
@@ -35,6 +39,7 @@ loop-number-preserved c =
     let step = c.plan_line.ensures in
     let was = c.loop-number.ledger in
     let is = c.plan_line.new.ledger in
+    let ss = c.args.shares.now in
     record {
       keeps = lines_twice c.args.ledger.now was is before.keeps step.keeps;
       same = summaries_twice c.args.summaries.now c.loop-number.summaries c.plan_line.new.summaries before.same step.same;
@@ -43,14 +48,14 @@ loop-number-preserved c =
           let one = c.in_ok-plan_line.ensures.lined isrc x.0 (before.keeps.recordings isrc ∙ there) (before.same.index x.0.summary_id ∙ x.1.is) in
           let places = same_places c.loop-number.summaries c.plan_line.new.summaries step.same.shown in
           let key = place_at c.plan_line.new.summaries in
-          let all = subst (λ p. AreLined is p isrc (take i us) c.loop-number.plan.items) (sym places) (lined_grows was is isrc (place_at c.loop-number.summaries) (step.keeps.lines isrc) (step.keeps.wide isrc) (take i us) c.loop-number.plan.items (before.lined isrc us there named)) in
-          subst (λ l. AreLined is key isrc l c.plan_line.new.plan.items) (sym (ap (λ m. take m us) next ∙ x.1.more)) (
-          subst (λ l. AreLined is key isrc (take i us ++ x.0 ∷ []) l) (sym one.items) (
-          zip_append (λ (u : Usage) k. IsLined is isrc (key u.summary_id) k) (take i us) (x.0 ∷ []) c.loop-number.plan.items (one.line ∷ []) all (one.lined, tt)));
+          let all = subst (λ p. AreLined is p isrc ss (take i us) c.loop-number.plan.items) (sym places) (lined_grows was is isrc ss (place_at c.loop-number.summaries) (step.keeps.lines isrc) (step.keeps.wide isrc ss) (take i us) c.loop-number.plan.items (before.lined isrc us there named)) in
+          subst (λ l. AreLined is key isrc ss l c.plan_line.new.plan.items) (sym (ap (λ m. take m us) next ∙ x.1.more)) (
+          subst (λ l. AreLined is key isrc ss (take i us ++ x.0 ∷ []) l) (sym one.items) (
+          zip_append (λ (u : Usage) k. IsLined is isrc ss (key u.summary_id) k) (take i us) (x.0 ∷ []) c.loop-number.plan.items (one.line ∷ []) all (one.lined, tt)));
     }
 
 pub returns-clause-lined : goal.returns-clause-lined
 returns-clause-lined c = λ isrc us there named.
     let long = values_long (λ (u : Usage). index_at c.args.summaries.now u.summary_id) us c.args.numbers.now named in
     let test = c.loop-number-test.false in
-    subst (λ l. AreLined c.loop-number.ledger (place_at c.loop-number.summaries) isrc l c.loop-number.plan.items) (take_all c.loop-number.number-index us (omega arith)) (c.loop-number.invariant.lined isrc us there named)
+    subst (λ l. AreLined c.loop-number.ledger (place_at c.loop-number.summaries) isrc c.args.shares.now l c.loop-number.plan.items) (take_all c.loop-number.number-index us (omega arith)) (c.loop-number.invariant.lined isrc us there named)

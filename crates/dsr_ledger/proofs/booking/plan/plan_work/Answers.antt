@@ -1,4 +1,5 @@
-use Rattle.std.proofs.Common.{◌≡◌, suc, ◌+◌, [], ◌∷◌, ◌++◌, take, get_or, length, sym, ap, ◌∙◌, subst, arith}
+use Rattle.std.specs.Prelude.{Some}
+use Rattle.std.proofs.Common.{rules, ◌≡◌, suc, ◌+◌, [], ◌∷◌, ◌++◌, take, get_or, length, sym, ap, ◌∙◌, subst, arith}
 use Rattle.std.specs.List.{zip}
 use Rattle.std.proofs.lemmas.List.{take_all}
 use Rattle.std.proofs.lemmas.Slice.Zip.{length-zip}
@@ -10,6 +11,9 @@ use Rattle.dsr_ledger.proofs.booking.plan.plan_work.Goals as goal
 
 pub seat-requires : goal.seat-requires
 seat-requires c = (c.requires.0, c.loop-i.invariant.keeps.recordings c.requires.0 ∙ c.requires.1)
+
+pub returns-in_err-number-clause-keeps : goal.returns-in_err-number-clause-keeps
+returns-in_err-number-clause-keeps c = seats_twice c.args.ledger.now c.loop-i.ledger c.seat.new.self c.loop-i.invariant.keeps c.seat.ensures.keeps
 
 pub returns-in_err-seat-clause-keeps : goal.returns-in_err-seat-clause-keeps
 returns-in_err-seat-clause-keeps c = seats_twice c.args.ledger.now c.loop-i.ledger c.seat.new.self c.loop-i.invariant.keeps c.seat.ensures.keeps
@@ -36,7 +40,8 @@ loop-i-preserved c =
     record {
       keeps = seats_twice c.args.ledger.now c.loop-i.ledger c.seat.new.self before.keeps c.seat.ensures.keeps;
       seated = λ isrc is.
-          let there = c.in_ok-seat.ensures.there isrc (before.keeps.recordings isrc ∙ is) in
+          let same : c.in_ok-seat.seat ≡ c.in_ok-number.number = search rules in
+          let there = c.in_ok-number.ensures.there isrc (before.keeps.recordings isrc ∙ is) ∙ ap Some (sym same) in
           subst (SeatedMore (seat_at c.seat.new.self isrc) c.args.plan.now.items c.push.new.self.items) (ap (λ l. l ++ (p, s) ∷ []) was ∙ sym seen) (
           seated_more (seat_at c.loop-i.ledger isrc) (seat_at c.seat.new.self isrc) c.args.plan.now.items c.loop-i.plan.items c.push.new.self.items (take i (zip w.parties w.shares)) ((p, s) ∷ []) (c.seat.ensures.keeps.seats isrc) (before.seated isrc is)
           (record { more = record { seat = c.in_ok-seat.seat; share = c.parts.result } ∷ []; items = c.in_ok-push.ensures.items; seated = ((there, c.parts.ensures.value), tt) }));

@@ -1,10 +1,8 @@
-use Rattle.std.proofs.Common.{◌≡◌, ◌<◌, get_or, ap, sym, ◌∙◌, length, nat_eq, rules}
-use Rattle.std.specs.Prelude.{Some, slice_get}
-use Rattle.std.specs.List.{position}
+use Rattle.std.proofs.Common.{◌≡◌, ◌<◌, get_or, ap, sym, ◌∙◌, length, rules}
+use Rattle.std.specs.Prelude.{Some}
 use Rattle.dsr_ledger.specs.declared.ledger.line.Line.{Line}
-use Rattle.dsr_ledger.specs.Tallies.{line_keys}
-use Rattle.dsr_ledger.proofs.NumberedLemmas.{position-map}
-use Rattle.dsr_ledger.proofs.RecordingLemmas.{key_at}
+use Rattle.dsr_ledger.proofs.ItemLemmas.{number_at_place}
+use Rattle.dsr_ledger.proofs.RecordingLemmas.{key_of}
 use Rattle.dsr_ledger.proofs.ledger.recording.find_line.Goals as goal
 
 pub returns-then-line-key : goal.returns-then-line-key
@@ -15,7 +13,4 @@ returns-then-line-key c =
     let below : i < length ls = search rules in
     let at : l ≡ get_or ls i l = search rules in
     let same : l.key ≡ c.args.key = search rules in
-    sym (c.requires i c.args.key (key_at ls i l below at ∙ ap Some same))
-
-pub returns : goal.returns
-returns c = c.first_line.ensures ∙ position-map (nat_eq c.args.key) (λ (l : Line). l.key) c.args.lines.now
+    sym (c.requires.apart i c.args.key (number_at_place key_of ls i l below at ∙ ap Some same))

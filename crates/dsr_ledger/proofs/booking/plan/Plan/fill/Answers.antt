@@ -4,7 +4,8 @@ use Rattle.std.proofs.lemmas.Result.{on_ok_weaker}
 use Rattle.dsr_records.specs.declared.record.Usage.{Usage}
 use Rattle.dsr_ledger.specs.Recordings.{seat_at}
 use Rattle.dsr_ledger.specs.Seated.{AreSeated, shares_of}
-use Rattle.dsr_ledger.specs.Summaries.{index_at}
+use Rattle.dsr_ledger.specs.Lined.{AreLined}
+use Rattle.dsr_ledger.specs.Summaries.{index_at, place_at}
 use Rattle.dsr_ledger.proofs.SeatedLemmas.{seated_grows}
 use Rattle.dsr_ledger.proofs.booking.plan.Plan.fill.Goals as goal
 
@@ -12,10 +13,16 @@ pub plan_works-requires : goal.plan_works-requires
 plan_works-requires c = (c.args.isrc, c.in_ok-recording.ensures.there)
 
 pub plan_lines-requires-clause-there : goal.plan_lines-requires-clause-there
-plan_lines-requires-clause-there c = (c.args.isrc, c.plan_works.ensures.keeps.recordings c.args.isrc ∙ c.in_ok-recording.ensures.there)
+plan_lines-requires-clause-there c =
+    let isrc = c.args.isrc in
+    let there = c.in_ok-recording.ensures.there in
+    let works = c.in_ok-plan_works.ensures.seated isrc there in
+    let empty : c.clear.new.self.items ≡ [] = search rules in
+    let items = c.as_slice.ensures.value ∙ works.items ∙ ap (λ l. l ++ works.more) empty in
+    (isrc, shares_of c.args.works.now, c.plan_works.ensures.keeps.recordings isrc ∙ there, subst (λ ss. AreSeated (seat_at c.plan_works.new.ledger isrc) ss (shares_of c.args.works.now)) (sym items) works.seated)
 
 pub plan_lines-requires-clause-named : goal.plan_lines-requires-clause-named
-plan_lines-requires-clause-named c = (c.requires.0, c.requires.1 ∙ ap (map Some) (sym c.as_slice.ensures.value))
+plan_lines-requires-clause-named c = (c.requires.0, c.requires.1 ∙ ap (map Some) (sym c.as_slice-2.ensures.value))
 
 pub returns-in_err-plan_works-clause-tallies : goal.returns-in_err-plan_works-clause-tallies
 returns-in_err-plan_works-clause-tallies c = λ q. c.plan_works.ensures.keeps.tallies q ∙ c.recording.ensures.same q
@@ -39,6 +46,6 @@ returns-clause-planned c = λ us named.
       seated = subst (λ ss. AreSeated (seat_at c.plan_lines.new.ledger isrc) ss (shares_of c.args.works.now)) (sym items) (
           seated_grows (seat_at c.plan_works.new.ledger isrc) (seat_at c.plan_lines.new.ledger isrc) (λ q i e. lines.seats isrc q ∙ e) works.more (shares_of c.args.works.now) works.seated);
       counted = (λ j. map (λ (u : Usage). c.plan_lines.ensures.same.index u.summary_id j) us) ∙ named;
-      lined = lined;
+      lined = subst (λ ss. AreLined c.plan_lines.new.ledger (place_at c.plan_lines.new.summaries) isrc ss us c.plan_lines.new.plan.items) c.as_slice.ensures.value lined;
     })
-    (c.plan_lines.ensures.lined isrc us at (named ∙ ap (map Some) (sym c.as_slice.ensures.value)))
+    (c.plan_lines.ensures.lined isrc us at (named ∙ ap (map Some) (sym c.as_slice-2.ensures.value)))

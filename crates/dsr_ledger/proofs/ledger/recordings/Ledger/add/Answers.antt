@@ -35,7 +35,7 @@ add-requires-clause-fits c =
     let found = got_here l.recordings c.args.recording _ v v e.unique e.value p.0 p.3.recording_is in
     let h = line_here l p.0 p.1 p.2 c.args.recording c.args.line c.args.shares.now v p.3 found in
     let fits = subst (TallyFits 1) (ap (recording_tally (party_number l) (key_number l p.1)) found ∙ ap (λ o. recording_tally (party_number l) o (Some v)) h.number_is) p.4 in
-    (seat_of (party_number l) v, p.2, h.number, h.seats, h.line, fits, p.5)
+    (length (seat_numbers v.seats), seat_of (party_number l) v, p.2, h.number, h.seats, h.line, fits, p.5)
 
 pub invariant_of-self : goal.invariant_of-self
 invariant_of-self c =
@@ -72,11 +72,10 @@ returns-clause-numbers c =
           each_related m c.args.recording k v w e.unique e.value
           (λ (a : Option Recording) b. option_and_then (λ r. place_by (key_number l) (line_keys r.lines.items) key) b ≡ option_and_then (λ r. place_by (key_number l) (line_keys r.lines.items) key) a)
           (ap (λ ks. place_by (key_number l) ks key) c.add.ensures.keys) (λ o. refl) isrc;
-      wide = λ isrc i.
+      wide = λ isrc ss i.
           each_related m c.args.recording k v w e.unique e.value
-          (λ (a : Option Recording) b. ((r : Recording) → a ≡ Some r → IsWide (length (seat_numbers r.seats)) r.lines.items i) → (r : Recording) → b ≡ Some r → IsWide (length (seat_numbers r.seats)) r.lines.items i)
-          (λ h r is. subst (λ (x : Recording). IsWide (length (seat_numbers x.seats)) x.lines.items i) (same_Some w r is) (
-          subst (λ ss. IsWide (length (seat_numbers ss)) w.lines.items i) (sym same) (c.add.ensures.wide i (h v refl)))) (λ o h. h) isrc;
+          (λ (a : Option Recording) b. ((r : Recording) → a ≡ Some r → IsWide ss r.lines.items i) → (r : Recording) → b ≡ Some r → IsWide ss r.lines.items i)
+          (λ h r is. subst (λ (x : Recording). IsWide ss x.lines.items i) (same_Some w r is) (c.add.ensures.wide ss i (h v refl))) (λ o h. h) isrc;
     }
 
 pub returns-clause-tally : goal.returns-clause-tally
@@ -92,7 +91,7 @@ returns-clause-tally c = λ isrc key es is q.
     let f : Tally → Tally = tally_with c.args.usage.now (map (part_of c.args.usage.now.amount) es) in
     let found = got_here m c.args.recording k v v e.unique e.value isrc is.recording_is in
     let h = line_here l isrc key es c.args.recording c.args.line c.args.shares.now v is found in
-    let change = c.add.ensures.tally (seat_of party v) es h.number h.seats h.line in
+    let change = c.add.ensures.tally (length (seat_numbers v.seats)) (seat_of party v) es h.number h.seats h.line in
     let seat : seat_of party w ≡ seat_of party v = ap (λ ss. place_by party (seat_numbers ss)) c.add.ensures.seats in
     let own = key_here m c.args.recording k v e.value isrc is.recording_is in
     related m c.args.recording k v w e.unique e.value

@@ -10,11 +10,25 @@ use Rattle.dsr_ledger.specs.Numbered.{AreBelow, place_in, place_by}
 use Rattle.dsr_ledger.specs.Seats.{seat_numbers}
 use Rattle.dsr_ledger.specs.SummaryKeys.{summary_key_in}
 use Rattle.dsr_ledger.specs.Tallies.{line_keys, IsWide}
-use Rattle.dsr_ledger.specs.Recordings.{party_number, key_number, seat_of, recording_tally}
+use Rattle.dsr_ledger.specs.Recordings.{party_number, key_number, seat_of, seat_at, recording_tally}
+use Rattle.dsr_ledger.specs.Seated.{AreSeated}
 use Rattle.dsr_ledger.proofs.NumberedLemmas.{same_Some}
 use Rattle.dsr_ledger.proofs.RecordingLemmas.{below_with, if_ok_weaker}
-use Rattle.dsr_ledger.proofs.LedgerLemmas.{got, put_here, each_put, each_related, summary_keys_are_numbered, grown_tally, grown_lines}
+use Rattle.dsr_ledger.proofs.LedgerLemmas.{got, got_here, put_here, each_put, each_related, parties_are_numbered, summary_keys_are_numbered, grown_tally, grown_lines}
+use Rattle.dsr_ledger.proofs.PlaceByLemmas.{by_numbered}
+use Rattle.dsr_ledger.proofs.SeatedLemmas.{seats_below}
 use Rattle.dsr_ledger.proofs.ledger.recordings.Ledger.line.Goals as goal
+
+pub line-requires : goal.line-requires
+line-requires c =
+    let e = c.pair_mut-found.ensures in
+    let l = c.args.self.now in
+    let v = c.pair_mut-found.result.1.now in
+    let p = c.requires.there in
+    let found = got_here l.recordings c.args.recording _ v v e.unique e.value p.0 p.2 in
+    let seat : seat_at l p.0 ≡ seat_of (party_number l) v = λ j name. option_and_then (λ (x : Recording). seat_of (party_number l) x name) (found j) in
+    let numbered = by_numbered (party_number l) (length l.parties.keys) (seat_numbers v.seats) (parties_are_numbered l.parties.keys) in
+    seats_below (seat_of (party_number l) v) (length (seat_numbers v.seats)) numbered.below c.args.shares.now p.1 (subst (λ s. AreSeated s c.args.shares.now p.1) seat p.3)
 
 pub invariant_of-self : goal.invariant_of-self
 invariant_of-self c =
@@ -58,11 +72,10 @@ returns-clause-keeps c =
           each_related m c.args.recording k v w e.unique e.value
           (λ (a : Option Recording) b. (q : SummaryKey) (i : ℕ) → option_and_then (λ r. place_by (key_number l) (line_keys r.lines.items) q) a ≡ Some i → option_and_then (λ r. place_by (key_number l) (line_keys r.lines.items) q) b ≡ Some i)
           (grown_lines (key_number l) v.lines.items w.lines.items grow.numbers) (λ o q i is. is) isrc;
-      wide = λ isrc i.
+      wide = λ isrc ss i.
           each_related m c.args.recording k v w e.unique e.value
-          (λ (a : Option Recording) b. ((r : Recording) → a ≡ Some r → IsWide (length (seat_numbers r.seats)) r.lines.items i) → (r : Recording) → b ≡ Some r → IsWide (length (seat_numbers r.seats)) r.lines.items i)
-          (λ h r is. subst (λ (x : Recording). IsWide (length (seat_numbers x.seats)) x.lines.items i) (same_Some w r is) (
-          subst (λ ss. IsWide (length (seat_numbers ss)) w.lines.items i) (sym same) (grow.wide i (h v refl)))) (λ o h. h) isrc;
+          (λ (a : Option Recording) b. ((r : Recording) → a ≡ Some r → IsWide ss r.lines.items i) → (r : Recording) → b ≡ Some r → IsWide ss r.lines.items i)
+          (λ h r is. subst (λ (x : Recording). IsWide ss x.lines.items i) (same_Some w r is) (grow.wide ss i (h v refl))) (λ o h. h) isrc;
     }
 
 pub returns-clause-there : goal.returns-clause-there
@@ -74,7 +87,6 @@ returns-clause-there c = λ isrc key is known.
     if_ok_weaker c.line.result
     (λ i h. (
       ap (option_and_then (λ r. place_by (key_number l) (line_keys r.lines.items) key)) put ∙ ap (option_and_then (place_in (line_keys w.lines.items))) known ∙ h.0,
-      λ r found. subst (λ (x : Recording). IsWide (length (seat_numbers x.seats)) x.lines.items i) (same_Some w r (sym put ∙ found)) (
-          subst (λ ss. IsWide (length (seat_numbers ss)) w.lines.items i) (sym c.line.ensures.seats) h.1),
+      λ r found. subst (λ (x : Recording). IsWide c.args.shares.now x.lines.items i) (same_Some w r (sym put ∙ found)) h.1,
     ))
     c.line.ensures.there

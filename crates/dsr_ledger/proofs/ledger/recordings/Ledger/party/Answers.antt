@@ -8,8 +8,18 @@ use Rattle.dsr_ledger.specs.SummaryKeys.{summary_key_in}
 use Rattle.dsr_ledger.specs.Recordings.{party_number, key_number}
 use Rattle.dsr_ledger.proofs.NumberedLemmas.{place_more}
 use Rattle.dsr_ledger.proofs.TextLemmas.{text_itself}
-use Rattle.dsr_ledger.proofs.LedgerLemmas.{party_tally}
+use Rattle.dsr_ledger.proofs.LedgerLemmas.{party_tally, party_seats}
 use Rattle.dsr_ledger.proofs.ledger.recordings.Ledger.party.Goals as goal
+
+pub returns-clause-seats : goal.returns-clause-seats
+returns-clause-seats c = λ isrc q.
+    let l = c.args.self.now in
+    let ks = l.parties.keys in
+    let name = c.args.name.now in
+    let none : party_number l name ≡ None = search rules in
+    let all : c.insert.new.self.keys ≡ ks ++ name ∷ [] = search rules in
+    party_seats (party_number l) (λ x. position (bytes_eq x) c.insert.new.self.keys) name (length ks) none
+    (λ x. ap (position (bytes_eq x)) all ∙ place_more bytes_eq bytes_eq-Decides ks name x none) q (get bytes_eq l.recordings isrc) (l.seated isrc)
 
 pub returns-clause-same : goal.returns-clause-same
 returns-clause-same c = λ q.

@@ -1,11 +1,31 @@
-use Rattle.std.proofs.Common.{rules, ◌≡◌, ◌++◌, ◌∷◌, [], refl, ap, ◌∙◌, cond, length}
-use Rattle.std.specs.Prelude.{None, Some}
+use Rattle.std.proofs.Common.{rules, ◌≡◌, ℕ, ◌++◌, ◌∷◌, [], refl, ap, ◌∙◌, cond, length}
+use Rattle.std.specs.Prelude.{Option, None, Some}
 use Rattle.std.specs.List.{position}
-use Rattle.dsr_ledger.specs.SummaryKeys.{summary_key_eq}
-use Rattle.dsr_ledger.specs.Recordings.{key_number}
+use Rattle.std.specs.Str.{bytes_eq}
+use Rattle.indexmap.specs.IndexMap.{get}
+use Rattle.dsr_ledger.specs.declared.ledger.summary_key.SummaryKey.{SummaryKey}
+use Rattle.dsr_ledger.specs.SummaryKeys.{summary_key_eq, summary_key_in}
+use Rattle.dsr_ledger.specs.Recordings.{party_number, key_number}
 use Rattle.dsr_ledger.proofs.NumberedLemmas.{place_more}
-use Rattle.dsr_ledger.proofs.LedgerLemmas.{same_summary_key}
+use Rattle.dsr_ledger.proofs.LedgerLemmas.{same_summary_key, key_line, key_kept}
 use Rattle.dsr_ledger.proofs.ledger.recordings.Ledger.summary_key.Goals as goal
+
+pub returns-clause-keeps : goal.returns-clause-keeps
+returns-clause-keeps c =
+    let l = c.args.self.now in
+    let ks = l.summary_keys.keys in
+    let key = c.args.key.now in
+    let none : key_number l key ≡ None = search rules in
+    let all : c.insert.new.self.keys ≡ ks ++ key ∷ [] = search rules in
+    let new : SummaryKey → Option ℕ = λ x. position (summary_key_eq x) c.insert.new.self.keys in
+    let is : (x : SummaryKey) → new x ≡ cond (summary_key_eq key x) (Some (length ks)) (key_number l x) = λ x. ap (position (summary_key_eq x)) all ∙ place_more summary_key_eq same_summary_key ks key x none in
+    record {
+      tallies = λ q. key_kept (key_number l) new key (length ks) none is (summary_key_in q) (party_number l) (get bytes_eq l.recordings q.isrc) (l.keyed q.isrc);
+      recordings = λ isrc. refl;
+      seats = λ isrc name. refl;
+      lines = λ isrc k i e. key_line (key_number l) new key (length ks) none is k (get bytes_eq l.recordings isrc) (l.keyed isrc) ∙ e;
+      wide = λ isrc ss i h. h;
+    }
 
 pub returns-clause-there : goal.returns-clause-there
 returns-clause-there c =

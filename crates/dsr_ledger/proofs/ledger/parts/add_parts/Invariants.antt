@@ -1,0 +1,13 @@
+use Rattle.std.proofs.Common.{◌≡◌, ℕ, List, take}
+use Rattle.std.specs.Prelude.{Option, map}
+use Rattle.dsr_ledger.specs.Owed.{owed_in, owed_plus, owed_for, part_seats}
+use Rattle.dsr_ledger.specs.Parts.{part_of}
+use Rattle.dsr_ledger.specs.Seated.{HaveSeats}
+use Rattle.dsr_ledger.proofs.ledger.parts.add_parts.Given as goal
+
+abbrev pub invariant-loop-share : goal.invariant-loop-share
+invariant-loop-share l = record {
+  seats : part_seats l.parts.items ≡ part_seats l.fn.parts.items;
+  owed : (n : ℕ) (seat : List ℕ → Option ℕ) (es : List (List ℕ × ℕ)) → HaveSeats seat n l.shares es
+      → (q : List ℕ) → owed_in l.parts.items (seat q) ≡ owed_plus (owed_in l.fn.parts.items (seat q)) (owed_for q (map (part_of l.amount) (take l.share-index es)));
+}

@@ -1,0 +1,266 @@
+//! The parts of a line: what the parties at seats have of it.
+ghost use Rattle.std.specs.Prelude.{◌≡◌, ◌≤◌, ◌<◌, ◌+◌, ◌^◌, ◌+ℤ◌, ◌*ℤ◌, pos, ℕ, List, Option, None, Some, [], ◌∷◌, ◌++◌, IfOk, OnOk, OnErr, length, map, nat_eq, take, unsigned_abs, if◌then◌else◌};
+ghost use Rattle.std.specs.List.{position};
+ghost use Rattle.std.specs.Int.{w128};
+ghost use Rattle.std.specs.Int.RustNames.{FitsSigned, int_div};
+ghost use Rattle.std.specs.Str.{bytes_eq};
+ghost use Rattle.dsr_ledger.specs.Indexes.{AreIndexed};
+ghost use Rattle.dsr_ledger.specs.Numbered.{IsNumbered, AreApart, AreBelow, place_in, place_by};
+ghost use Rattle.dsr_ledger.specs.Owed.{nothing_owed, owed_with, owed_kept, owed_at_place, owed_in, owed_plus, owed_for, part_seats, part_in, parts_size, PartsGrow};
+ghost use Rattle.dsr_ledger.specs.Parts.{part_of};
+ghost use Rattle.dsr_ledger.specs.Seated.{HaveSeats, HasPart, HaveParts, AreSeatsBelow};
+
+use crate::ledger::index::{FEW, Index};
+use dsr_cells::{Amount, NoMemory};
+use std::alloc::Global;
+
+/// A party's share of a work, at the seat of the party.
+#[derive(Clone, Copy, PartialEq, Eq, Drop)]
+pub struct SeatShare {
+    pub seat: u32,
+    /// In parts of 1,000,000.
+    pub share: u32,
+}
+
+/// What the party at a seat has of a line: whether it has a part, and the sum of its parts.
+#[derive(Clone, Copy, PartialEq, Eq, Drop)]
+pub struct SeatPart {
+    pub seat: u32,
+    pub has_part: bool,
+    pub amount: i128,
+}
+
+impl SeatPart {
+    /// No part so far.
+    pub fn new(seat: u32) -> SeatPart
+        ensures seat { result.seat ≡ seat }
+        ensures owed { owed_kept result ≡ nothing_owed }
+    {
+        SeatPart {
+            seat,
+            has_part: false,
+            amount: 0,
+        }
+    }
+
+    /// Adds a part.
+    pub fn add(&mut self, amount: i128)
+        requires { FitsSigned w128 (self.old.amount +ℤ amount) }
+        ensures seat { self.new.seat ≡ self.old.seat }
+        ensures owed { owed_kept self.new ≡ owed_with amount (owed_kept self.old) }
+    {
+        self.has_part = true;
+        self.amount += amount;
+    }
+}
+
+/// The parts of a line, one for each seat that has one, in the order in which they came.
+#[derive(Drop)]
+pub struct Parts {
+    pub items: Vec<SeatPart>,
+    /// The places of the parts behind the first few, by their seats.
+    pub index: Index,
+    ghost apart: { AreApart (part_seats items.items) },
+    ghost indexed: { AreIndexed (part_seats items.items) index },
+}
+
+/// A share of an amount, in units, rounded toward zero.
+fn share_of(amount: i128, share: u32) -> i128
+    requires { unsigned_abs amount < 10 ^ 22 }
+    ensures { result ≡ int_div (amount *ℤ pos share) (pos 1000000) }
+{
+    let product = amount * i128::from(share);
+    match i64::try_from(product) {
+        Ok(product) => i128::from(product / 1_000_000),
+        Err(_) => product / 1_000_000,
+    }
+}
+
+/// The place of a seat's part among the first few.
+fn first_place(parts: &[SeatPart], seat: u32) -> Option<usize>
+    ensures { result ≡ position (λ part. nat_eq seat part.seat) (take 16 parts.now) }
+{
+    parts.iter().take(FEW).position(|part| seat == part.seat)
+}
+
+/// The place of a seat's part, among the first few or by the index.
+fn look_up(parts: &[SeatPart], index: &Index, seat: u32) -> Option<usize>
+    requires { AreIndexed (part_seats parts.now) index.now }
+    ensures { result ≡ part_in parts.now seat }
+{
+    if let Some(place) = first_place(parts, seat) {
+        return Some(place);
+    }
+    index.get(seat)
+}
+
+/// The place of a seat's part. The part at `hint` is looked at first.
+fn find_part(parts: &[SeatPart], index: &Index, seat: u32, hint: usize) -> Option<usize>
+    requires apart { AreApart (part_seats parts.now) }
+    requires indexed { AreIndexed (part_seats parts.now) index.now }
+    ensures { result ≡ part_in parts.now seat }
+{
+    if let Some(part) = parts.get(hint) {
+        if part.seat == seat {
+            return Some(hint);
+        }
+    }
+    look_up(parts, index, seat)
+}
+
+/// How many of these seats are above all before them: all parties, where they come in the order of
+/// their seats.
+fn rising_seats(shares: &[SeatShare]) -> usize {
+    let mut rising = 0usize;
+    let mut next = 0u32;
+    for share in shares {
+        if share.seat >= next {
+            rising = rising.wrapping_add(1);
+            next = share.seat.wrapping_add(1);
+        }
+    }
+    rising
+}
+
+/// Adds a part at a place.
+fn add_part(parts: &mut Vec<SeatPart>, place: usize, amount: i128)
+    requires below { place < length parts.old.items }
+    requires fits { FitsSigned w128 ((owed_at_place parts.old.items (Some place)).amount +ℤ amount) }
+    ensures seats { part_seats parts.new.items ≡ part_seats parts.old.items }
+    ensures part { (place_of : List ℕ → Option ℕ) (party : List ℕ)
+        → IsNumbered place_of (length parts.old.items) → place_of party ≡ Some place
+        → (q : List ℕ) → owed_at_place parts.new.items (place_of q)
+        ≡ (if bytes_eq party q then owed_with amount (owed_at_place parts.old.items (place_of q))
+        else owed_at_place parts.old.items (place_of q)) }
+{
+    parts[place].add(amount);
+}
+
+/// Adds the share of an amount to the part of its seat, and answers the place behind that. The part at
+/// `hint` is looked at first.
+fn add_share(
+    parts: &mut Vec<SeatPart>,
+    index: &Index,
+    amount: Amount,
+    share: &SeatShare,
+    hint: usize,
+) -> usize
+    requires apart { AreApart (part_seats parts.old.items) }
+    requires indexed { AreIndexed (part_seats parts.old.items) index.now }
+    requires has_part { HasPart parts.old.items share.now }
+    requires fits { FitsSigned w128 ((owed_in parts.old.items (Some share.now.seat)).amount
+        +ℤ int_div (amount *ℤ pos share.now.share) (pos 1000000)) }
+    ensures seats { part_seats parts.new.items ≡ part_seats parts.old.items }
+    ensures part { (n : ℕ) (seat : List ℕ → Option ℕ) (party : List ℕ)
+        → IsNumbered seat n → seat party ≡ Some share.now.seat
+        → (q : List ℕ) → owed_in parts.new.items (seat q) ≡ (if bytes_eq party q
+        then owed_with (int_div (amount *ℤ pos share.now.share) (pos 1000000)) (owed_in parts.old.items (seat q))
+        else owed_in parts.old.items (seat q)) }
+{
+    let Some(place) = find_part(parts.as_slice(), index, share.seat, hint) else {
+        return hint;
+    };
+    add_part(parts, place, share_of(amount.units(), share.share));
+    place.wrapping_add(1)
+}
+
+/// Adds the shares of an amount, each to the part of its seat.
+fn add_parts(parts: &mut Vec<SeatPart>, index: &Index, amount: Amount, shares: &[SeatShare])
+    requires apart { AreApart (part_seats parts.old.items) }
+    requires indexed { AreIndexed (part_seats parts.old.items) index.now }
+    requires wide { HaveParts shares.now parts.old.items }
+    requires fits { (n : ℕ) × (seat : List ℕ → Option ℕ) × (es : List (List ℕ × ℕ))
+        × HaveSeats seat n shares.now es × (parts_size (map (part_of amount) es) ≤ 10 ^ 22)
+        × ((q : List ℕ) → unsigned_abs (owed_in parts.old.items (seat q)).amount + 10 ^ 22 < 2 ^ 127) }
+    ensures seats { part_seats parts.new.items ≡ part_seats parts.old.items }
+    ensures owed { (n : ℕ) (seat : List ℕ → Option ℕ) (es : List (List ℕ × ℕ))
+        → HaveSeats seat n shares.now es → (q : List ℕ) → owed_in parts.new.items (seat q)
+        ≡ owed_plus (owed_in parts.old.items (seat q)) (owed_for q (map (part_of amount) es)) }
+{
+    let mut next = 0;
+    for share in shares {
+        next = add_share(parts, index, amount, share, next);
+    }
+}
+
+impl Parts {
+    /// No parts.
+    pub fn new(alloc: Global) -> Parts
+        ensures { result.items.items ≡ [] }
+    {
+        Parts {
+            items: Vec::new(alloc),
+            index: Index::new(alloc),
+        }
+    }
+
+    /// The parts, in the order in which they came.
+    pub fn as_slice(&self) -> &[SeatPart]
+        ensures value { result.now ≡ self.now.items.items }
+        ensures apart { AreApart (part_seats self.now.items.items) }
+    {
+        self.items.as_slice()
+    }
+
+    /// Gives a seat that has no part one, of which nothing is owed.
+    fn push(&mut self, alloc: Global, seat: u32) -> Result<(), NoMemory>
+        requires { part_in self.old.items.items seat ≡ None }
+        ensures ok { OnOk result (PartsGrow self.old.items.items self.new.items.items) }
+        ensures seats { OnOk result (part_seats self.new.items.items
+            ≡ part_seats self.old.items.items ++ seat ∷ []) }
+        ensures err { OnErr result (self.new.items.items ≡ self.old.items.items) }
+    {
+        self.items.reserve(1)?;
+        self.index.add(alloc, seat, self.items.len())?;
+        self.items.push(SeatPart::new(seat))?;
+        Ok(())
+    }
+
+    /// The place of a seat's part. Where it has none it is given one, of which nothing is owed. The
+    /// part at `hint` is looked at first.
+    fn place(&mut self, alloc: Global, seat: u32, hint: usize) -> Result<usize, NoMemory>
+        ensures grows { PartsGrow self.old.items.items self.new.items.items }
+        ensures below { (n : ℕ) → seat < n → AreBelow n (part_seats self.old.items.items)
+            → AreBelow n (part_seats self.new.items.items) }
+        ensures there { IfOk result (λ place. part_in self.new.items.items seat ≡ Some place) }
+    {
+        if let Some(place) = find_part(self.items.as_slice(), &self.index, seat, hint) {
+            return Ok(place);
+        }
+        let place = self.items.len();
+        self.push(alloc, seat)?;
+        Ok(place)
+    }
+
+    /// Adds the shares of an amount, each to the part of its seat.
+    pub fn add(&mut self, amount: Amount, shares: &[SeatShare])
+        requires wide { HaveParts shares.now self.old.items.items }
+        requires fits { (n : ℕ) × (seat : List ℕ → Option ℕ) × (es : List (List ℕ × ℕ))
+            × HaveSeats seat n shares.now es × (parts_size (map (part_of amount) es) ≤ 10 ^ 22)
+            × ((q : List ℕ) → unsigned_abs (owed_in self.old.items.items (seat q)).amount + 10 ^ 22 < 2 ^ 127) }
+        ensures seats { part_seats self.new.items.items ≡ part_seats self.old.items.items }
+        ensures owed { (n : ℕ) (seat : List ℕ → Option ℕ) (es : List (List ℕ × ℕ))
+            → HaveSeats seat n shares.now es → (q : List ℕ) → owed_in self.new.items.items (seat q)
+            ≡ owed_plus (owed_in self.old.items.items (seat q)) (owed_for q (map (part_of amount) es)) }
+    {
+        add_parts(&mut self.items, &self.index, amount, shares);
+    }
+}
+
+/// Gives the seat of each share a part. What is owed stays.
+pub fn widen(parts: &mut Parts, alloc: Global, shares: &[SeatShare]) -> Result<(), NoMemory>
+    ensures grows { PartsGrow parts.old.items.items parts.new.items.items }
+    ensures below { (n : ℕ) → AreSeatsBelow n shares.now
+        → AreBelow n (part_seats parts.old.items.items) → AreBelow n (part_seats parts.new.items.items) }
+    ensures wide { OnOk result (HaveParts shares.now parts.new.items.items) }
+{
+    if parts.items.is_empty() {
+        parts.items.reserve_exact(rising_seats(shares))?;
+    }
+    let mut next = 0;
+    for share in shares {
+        let place = parts.place(alloc, share.seat, next)?;
+        next = place.wrapping_add(1);
+    }
+    Ok(())
+}
