@@ -67,7 +67,7 @@ pub fn read_texts_into(alloc: Global, cell: &str, texts: &mut Texts) -> Result<(
 /// `NoMemory`: no memory was left for them; the list then has any items.
 pub fn read_shares_into(cell: &str, shares: &mut Shares) -> Result<(), NoMemory>
     requires { list_all (λ part. is_some (share_of part)) (raw_parts cell.now) ≡ true }
-    ensures { OnOk result (shares.new ≡ map (λ part. unwrap_or (share_of part) 0) (raw_parts cell.now)) }
+    ensures { OnOk result (shares.new ≡ map (λ p. unwrap_or (share_of p) 0) (raw_parts cell.now)) }
 {
     shares.restart();
     for part in values(cell) {

@@ -1,4 +1,4 @@
-//! Shares of a work.
+//! Shares of a work, in percent.
 ghost use Rattle.std.specs.Prelude.{◌≡◌, ◌≤◌};
 ghost use Rattle.dsr_cells.specs.Numbers.{share_of};
 

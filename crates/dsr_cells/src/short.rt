@@ -9,7 +9,8 @@ use std::str;
 /// How many bytes a short text has at most.
 pub(crate) const SHORT: usize = 22;
 
-/// A text of at most 22 bytes, which takes no memory of its own. Zeros stand behind it, so two are compared by words.
+/// A text of at most 22 bytes, which takes no memory of its own. The unused bytes are zero, so two
+/// texts are compared word by word.
 #[derive(Drop)]
 pub(crate) struct ShortText {
     bytes: [u8; SHORT],
@@ -24,7 +25,8 @@ impl Model for ShortText {
 
     ghost view = { λ s. take s.size s.bytes };
 
-    ghost invariant = { λ s. (s.size ≤ 22) × HasZerosBehind s.size s.bytes × ∥ IsUtf8 (take s.size s.bytes) ∥₁ };
+    ghost invariant = { λ s.
+        (s.size ≤ 22) × HasZerosBehind s.size s.bytes × ∥ IsUtf8 (take s.size s.bytes) ∥₁ };
 }
 
 /// Copies a text of `HALF` to twice as many bytes to the front: its first and its last `HALF`, which may overlap. Copies
@@ -70,7 +72,7 @@ fn word(bytes: &[u8; SHORT], at: usize) -> u64
     u64::from_le_bytes([b[0], b[1], b[2], b[3], b[4], b[5], b[6], b[7]])
 }
 
-/// Whether all bytes in place are the same: three words are compared with no branch, of which the last two overlap.
+/// Whether all inline bytes are equal: compares three words without branches; the last two overlap.
 #[inline(always)]
 fn same_bytes(bytes: &[u8; SHORT], other: &[u8; SHORT]) -> bool
     ensures { result ≡ bytes_eq bytes.now other.now }
@@ -82,7 +84,7 @@ fn same_bytes(bytes: &[u8; SHORT], other: &[u8; SHORT]) -> bool
 }
 
 impl ShortText {
-    /// The same bytes, in place.
+    /// A copy of the inline bytes.
     #[inline(always)]
     pub(crate) fn copy_of(text: &str) -> ShortText
         requires { length text.now ≤ 22 }
