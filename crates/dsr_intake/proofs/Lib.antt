@@ -3,3 +3,5 @@ pub mod Promises
 pub mod Joining
 pub mod Filing
 pub mod Rounds
+pub mod Sending
+pub mod Lines

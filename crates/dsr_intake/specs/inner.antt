@@ -4,3 +4,5 @@ pub mod Stops
 pub mod Ready
 pub mod Given
 pub mod Collecting
+pub mod Pieces
+pub mod Laid

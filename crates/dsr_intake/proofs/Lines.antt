@@ -1,0 +1,41 @@
+-- What is put, cell by cell and line by line.
+use Rattle.std.proofs.Common.{◌≡◌, ℕ, ◌+◌, ◌<◌, ◌≤◌, ◌++◌, ◌∙◌, List, [], ◌∷◌, length, take, get_or, suc, refl, sym, subst, ap, arith, append_assoc}
+use Rattle.std.specs.List.{flat_map}
+use Rattle.std.proofs.lemmas.List.{append-nil, take_all, take_more}
+use Rattle.std.proofs.lemmas.Grind.{flat_map-append}
+use Rattle.dsr_intake.specs.meaning.Written.{Written}
+use Rattle.dsr_ledger.specs.declared.report.FileLine.{FileLine}
+use Rattle.dsr_intake.specs.meaning.Statement.{file_line, file_lines}
+use Rattle.dsr_intake.specs.inner.Pieces.{Puts}
+use Rattle.dsr_intake.specs.declared.statements.pieces.Pieces.{Pieces}
+use Rattle.dsr_intake.proofs.Sending.{carry_then, carry_nothing}
+
+pub nothing : {W : Type 0} {told : W → Written} (p : Pieces W) → Puts told p p []
+nothing {W} {told} p = record { carries = carry_nothing told p }
+
+pub then : {W : Type 0} {told : W → Written} {p q r : Pieces W} {xs ys : List ℕ} → Puts told p q xs → Puts told q r ys → Puts told p r (xs ++ ys)
+then {W} {told} {p} {q} {r} {xs} {ys} first second = record { carries = carry_then told p q r xs ys first.carries second.carries }
+
+pub turn : {W : Type 0} {told : W → Written} {p q : Pieces W} {xs ys : List ℕ} → Puts told p q xs → xs ≡ ys → Puts told p q ys
+turn {W} {told} {p} {q} puts e = subst (λ l. Puts told p q l) e puts
+
+-- the lines of one item more
+pub more : {W : Type 0} {told : W → Written} {p q r : Pieces W} {X : Type 0} (f : X → List ℕ) (xs : List X) (i : ℕ) (x d : X) → i < length xs
+    → x ≡ get_or xs i d → Puts told p q (flat_map f (take i xs)) → Puts told q r (f x) → Puts told p r (flat_map f (take (i + 1) xs))
+more f xs i x d less is before now =
+    let front : take (i + 1) xs ≡ take i xs ++ x ∷ [] = take_more xs i d less ∙ ap (λ y. take i xs ++ y ∷ []) (sym is) in
+    turn (then before now) (sym (ap (flat_map f) front ∙ flat_map-append f (take i xs) (x ∷ []) ∙ ap (λ l. flat_map f (take i xs) ++ l) (append-nil (f x))))
+
+-- the lines of all items
+pub all : {W : Type 0} {told : W → Written} {p q : Pieces W} {X : Type 0} (f : X → List ℕ) (xs : List X) (i : ℕ) → length xs ≤ i
+    → Puts told p q (flat_map f (take i xs)) → Puts told p q (flat_map f xs)
+all f xs i end puts = turn puts (ap (flat_map f) (take_all i xs end))
+
+-- the line of one file more
+pub file_lines_more : (place : ℕ) (files : List FileLine) (f : FileLine)
+    → file_lines place (files ++ f ∷ []) ≡ file_lines place files ++ file_line (place + length files) f
+file_lines_more place [] f = append-nil (file_line place f)
+file_lines_more place (x ∷ xs) f =
+    let on : suc place + length xs ≡ place + suc (length xs) = omega arith in
+    ap (λ l. file_line place x ++ l) (file_lines_more (suc place) xs f ∙ ap (λ n. file_lines (suc place) xs ++ file_line n f) on)
+    ∙ sym (append_assoc (file_line place x) (file_lines (suc place) xs) (file_line (place + suc (length xs)) f))

@@ -1,0 +1,15 @@
+use Rattle.std.proofs.Common.{[]}
+use Rattle.dsr_intake.proofs.Sending.{carry_then}
+use Rattle.dsr_intake.proofs.statements.pieces.Pieces.put.Goals as goal
+
+pub returns-then-keep : goal.returns-then-keep
+returns-then-keep g c =
+    record { carries = carry_then g.W.Outlet.told c.args.self.now c.make_room.new.self c.keep.new.self [] c.args.bytes.now c.make_room.ensures (rw c.if-keep.true at c.keep.ensures) }
+
+pub returns : goal.returns
+returns g c =
+    let told = g.W.Outlet.told in
+    record {
+      carries = carry_then told c.args.self.now c.make_room.new.self c.send_past.new.self [] c.args.bytes.now c.make_room.ensures
+          (carry_then told c.make_room.new.self c.keep.new.self c.send_past.new.self [] c.args.bytes.now (rw c.if-keep.false at c.keep.ensures) c.send_past.ensures);
+    }

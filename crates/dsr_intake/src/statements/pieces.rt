@@ -1,0 +1,151 @@
+//! The bytes of a statement on their way to an outlet, in pieces.
+ghost use Rattle.std.specs.Prelude.{◌≡◌, ◌<◌, ◌≤◌, ◌++◌, [], List, ℕ, true, false, if◌then◌else◌, length, take, IfSome, OnOk, IfErr};
+ghost use Rattle.dsr_intake.specs.meaning.Written.{Written, IsFlushed, IsCut};
+ghost use Rattle.dsr_intake.specs.inner.Pieces.{IsSent, IsCount, Holds, Carries, Puts, MOST};
+
+use crate::outlet::{Outlet, write_all};
+use dsr_file::Failed;
+
+/// How many bytes are sent at once.
+pub(crate) const PIECE: usize = 65_536;
+
+/// An outlet, how many bytes it took, and whether it has failed.
+#[derive(Drop)]
+pub(crate) struct Sender<'a, W> {
+    out: &'a mut W,
+    written: u64,
+    failed: bool,
+}
+
+impl<'a, W: Outlet> Sender<'a, W> {
+    /// Sends all bytes, unless the outlet has failed.
+    fn send(&mut self, bytes: &[u8])
+        ensures same_outlet { self.new.out.ghost_name ≡ self.old.out.ghost_name }
+        ensures sent { (sent : List ℕ) (before : Written)
+            → IsSent self.old.failed sent self.old.written before (W.told self.old.out.now)
+            → IsSent self.new.failed (sent ++ bytes.now) self.new.written before (W.told self.new.out.now) }
+    {
+        if self.failed {
+            return;
+        }
+        match write_all(self.out, bytes) {
+            Ok(()) => self.written = self.written.saturating_add(bytes.len() as u64),
+            Err(count) => {
+                self.failed = true;
+                self.written = self.written.saturating_add(count as u64);
+            }
+        }
+    }
+}
+
+/// A way to an outlet, with the bytes that wait to be sent.
+#[derive(Drop)]
+pub(crate) struct Pieces<'a, W> {
+    sender: Sender<'a, W>,
+    waiting: Vec<u8>,
+}
+
+impl<'a, W: Outlet> Pieces<'a, W> {
+    /// The way to this outlet, with this memory for what waits.
+    pub(crate) fn new(out: &'a mut W, waiting: Vec<u8>) -> Pieces<'a, W>
+        ensures same_outlet { result.sender.out.ghost_name ≡ out.entry.ghost_name }
+        ensures nothing { Holds W.told [] (W.told out.old) result }
+    {
+        let mut waiting = waiting;
+        waiting.clear();
+        let sender = Sender {
+            out,
+            written: 0,
+            failed: false,
+        };
+        Pieces { sender, waiting }
+    }
+
+    /// Puts these bytes.
+    pub(crate) fn put(&mut self, bytes: &[u8])
+        ensures { Puts W.told self.old self.new bytes.now }
+    {
+        self.make_room(bytes.len());
+        if self.keep(bytes) {
+            return;
+        }
+        self.send_past(bytes);
+    }
+
+    /// Sends what waits, where so many bytes more would be too many.
+    fn make_room(&mut self, count: usize)
+        ensures { Carries W.told self.old self.new [] }
+    {
+        if count > PIECE.saturating_sub(self.waiting.len()) {
+            self.send_waiting();
+        }
+    }
+
+    /// Lets these bytes wait where they are not too many: whether they do.
+    fn keep(&mut self, bytes: &[u8]) -> bool
+        ensures { Carries W.told self.old self.new (if result then bytes.now else []) }
+    {
+        bytes.len() <= PIECE && self.waiting.extend_from_slice(bytes).is_ok()
+    }
+
+    /// Sends what waits, and then these bytes.
+    fn send_past(&mut self, bytes: &[u8])
+        ensures { Carries W.told self.old self.new bytes.now }
+    {
+        self.send_waiting();
+        self.sender.send(bytes);
+    }
+
+    /// Sends what waits.
+    fn send_waiting(&mut self)
+        ensures nothing { Carries W.told self.old self.new [] }
+        ensures empty { self.new.waiting.items ≡ [] }
+    {
+        self.sender.send(&self.waiting);
+        self.waiting.clear();
+    }
+
+    /// Whether the outlet has failed. What is put from then on goes nowhere.
+    pub(crate) fn has_failed(&mut self) -> bool
+        ensures failed { result ≡ true → (bytes : List ℕ) → Puts W.told self.old self.new bytes }
+        ensures sound { result ≡ false → self.new ≡ self.old }
+    {
+        if !self.sender.failed {
+            return false;
+        }
+        self.waiting.clear();
+        true
+    }
+
+    /// How many bytes were put, where the outlet has not failed.
+    pub(crate) fn length(&self) -> Option<u64>
+        ensures { IfSome result (λ n. (put : List ℕ) (before : Written)
+            → Holds W.told put before self.now → IsCount n (length put)) }
+    {
+        if self.sender.failed {
+            return None;
+        }
+        let waiting = self.waiting.len() as u64;
+        Some(self.sender.written.saturating_add(waiting))
+    }
+
+    /// Sends what waits, and flushes. The fault is how many bytes went out.
+    pub(crate) fn finish(&mut self) -> Result<(), u64>
+        ensures same_outlet { self.new.sender.out.ghost_name ≡ self.old.sender.out.ghost_name }
+        ensures whole { OnOk result ((put : List ℕ) (before : Written)
+            → Holds W.told put before self.old
+            → IsFlushed put before (W.told self.new.sender.out.now)) }
+        ensures part { IfErr result (λ n. (put : List ℕ) (before : Written)
+            → Holds W.told put before self.old → length put < MOST
+            → (n ≤ length put) × IsCut (take n put) before (W.told self.new.sender.out.now)) }
+    {
+        self.send_waiting();
+        if self.sender.failed {
+            return Err(self.sender.written);
+        }
+        match self.sender.out.flush() {
+            Ok(()) => Ok(()),
+            Err(Failed) => Err(self.sender.written),
+        }
+    }
+}
