@@ -34,7 +34,9 @@ all f xs i end puts = turn puts (ap (flat_map f) (take_all i xs end))
 -- the line of one file more
 pub file_lines_more : (place : ℕ) (files : List FileLine) (f : FileLine)
     → file_lines place (files ++ f ∷ []) ≡ file_lines place files ++ file_line (place + length files) f
-file_lines_more place [] f = append-nil (file_line place f)
+file_lines_more place [] f =
+    let on : place ≡ place + 0 = omega arith in
+    append-nil (file_line place f) ∙ ap (λ n. file_line n f) on
 file_lines_more place (x ∷ xs) f =
     let on : suc place + length xs ≡ place + suc (length xs) = omega arith in
     ap (λ l. file_line place x ++ l) (file_lines_more (suc place) xs f ∙ ap (λ n. file_lines (suc place) xs ++ file_line n f) on)
