@@ -1,5 +1,6 @@
 -- What is out, step by step.
-use Rattle.std.proofs.Common.{arith, rules, ◌≡◌, ℕ, ◌+◌, ◌-◌, ◌^◌, ◌≤◌, ◌<◌, ◌++◌, List, length, take, min, true, false, ◌∙◌, sym, subst, ap, refl, [], append_assoc, length-append}
+use Rattle.std.proofs.Common.{arith, rules, ◌≡◌, ℕ, ◌+◌, ◌-◌, ◌^◌, ◌≤◌, ◌<◌, ◌++◌, List, length, take, min, true, false, ◌∙◌, sym, subst, ap, refl, [], append_assoc, length-append, Result, Ok, Err, IfErr}
+use Rattle.std.specs.Result.{OnOk}
 use Rattle.std.proofs.Math.Seq.{take-append-add}
 use Rattle.std.proofs.lemmas.List.{append-nil, take-append-le, take_all}
 use Rattle.std.proofs.KnownBytes.{Appends-trans}
@@ -75,3 +76,11 @@ module _ {W : Type 0} (told : W → Written) where
   pub all_sent_too : (p q : Pieces W) (put : List ℕ) (before : Written) → q.waiting.items ≡ [] → Carries told p q [] → Holds told put before p
       → IsSent q.sender.failed put q.sender.written before (told q.sender.out.now)
   all_sent_too p q put before empty carries h = all_sent q put before empty (rw (append-nil put) at (carries.1 put before h))
+
+pub if_ok : {T E : Type 0} (r : Result T E) {P Q : Type 0} → (P → Q) → OnOk r P → OnOk r Q
+if_ok (Ok _) go p = go p
+if_ok (Err _) go p = p
+
+pub if_err : {T E : Type 0} (r : Result T E) {P Q : E → Type 0} → ((e : E) → P e → Q e) → IfErr r P → IfErr r Q
+if_err (Ok _) go p = p
+if_err (Err e) go p = go e p

@@ -148,4 +148,13 @@ impl<'a, W: Outlet> Pieces<'a, W> {
             Err(Failed) => Err(self.sender.written),
         }
     }
+
+    /// The outlet, as it was left.
+    pub(crate) fn into_outlet(self) -> &'a mut W
+        ensures { result ≡ self.sender.out }
+    {
+        let Pieces { sender, .. } = self;
+        let Sender { out, .. } = sender;
+        out
+    }
 }

@@ -95,8 +95,9 @@ pub(crate) fn write_statement<W: Outlet>(
     } = room;
     let mut pieces = Pieces::new(out, waiting);
     put_statement(&mut pieces, &days, &mut key, report);
-    pieces.finish()?;
-    Ok(())
+    let answer = pieces.finish();
+    pieces.into_outlet();
+    answer
 }
 
 /// Puts the statement. `days` has the cells of the report's days, `key` is room for those of a key.

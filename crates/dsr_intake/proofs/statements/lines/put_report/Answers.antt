@@ -6,4 +6,4 @@ use Rattle.dsr_intake.proofs.statements.lines.put_report.Goals as goal
 
 pub returns : goal.returns
 unfolding report_line
-returns g c = turn (then c.put.ensures (then c.put_text.ensures (then c.put_number.ensures (then c.put-2.ensures (then c.put_signed.ensures c.put_end.ensures))))) (search (rules, append_assoc, append-nil, c.requires))
+returns g c = turn (then c.put.ensures (then c.put_text.ensures (then c.put_number.ensures (then (turn c.put-2.ensures c.requires) (then c.put_signed.ensures c.put_end.ensures))))) (search (rules, append_assoc, append-nil))

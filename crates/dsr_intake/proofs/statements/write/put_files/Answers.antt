@@ -1,20 +1,14 @@
-use Rattle.std.proofs.Common.{◌≡◌, ◌+◌, ◌++◌, ◌∷◌, [], ◌∙◌, take, length, sym, ap, arith}
-use Rattle.std.proofs.lemmas.List.{take_more, take_all, length-take-le}
-use Rattle.dsr_intake.specs.meaning.Statement.{file_lines, file_line}
-use Rattle.dsr_intake.proofs.Lines.{then, turn, file_lines_more}
+use Rattle.std.proofs.Common.{refl, ap, arith}
+use Rattle.std.proofs.lemmas.List.{take_all}
+use Rattle.dsr_intake.specs.meaning.Statement.{file_lines}
+use Rattle.dsr_intake.proofs.Lines.{turn, more_files}
 use Rattle.dsr_intake.proofs.statements.write.put_files.Goals as goal
 
 pub loop-file-preserved : goal.loop-file-preserved
 loop-file-preserved g c =
-    let f = c.file-item.result in
-    let i = c.loop-file.file-index in
-    let was = take i c.args.files.now in
-    let next = take_more c.args.files.now i f c.loop-file-test.true ∙ ap (λ x. was ++ x ∷ []) (sym c.file-item.is) in
-    let here : c.loop-file.place ≡ 1 + length was = omega (arith, c.loop-file.invariant.place, length-take-le i c.args.files.now (omega (arith, c.loop-file-test.true))) in
-    let line = ap (file_lines 1) next ∙ file_lines_more 1 was f in
     record {
       place = omega (arith, c.loop-file.invariant.place);
-      lines = turn (then c.loop-file.invariant.lines (turn c.put_file.ensures (ap (λ n. file_line n f) here))) (sym line);
+      lines = more_files c.args.files.now c.loop-file.file-index c.loop-file.place c.loop-file-test.true c.loop-file.invariant.place c.loop-file.invariant.lines c.put_file.ensures refl;
     }
 
 pub returns : goal.returns
