@@ -1,5 +1,7 @@
 -- What is put, cell by cell and line by line.
 use Rattle.std.proofs.Common.{◌≡◌, ℕ, ◌+◌, ◌<◌, ◌≤◌, ◌++◌, ◌∙◌, List, [], ◌∷◌, length, take, get_or, suc, refl, sym, subst, ap, arith, append_assoc}
+use Rattle.std.specs.Prelude.{ℤ}
+use Rattle.std.specs.Fmt.{signed_decimal}
 use Rattle.std.specs.List.{flat_map}
 use Rattle.std.proofs.lemmas.List.{append-nil, take_all, take_more, length-take-le}
 use Rattle.std.proofs.lemmas.Grind.{flat_map-append}
@@ -42,11 +44,15 @@ file_lines_more place (x ∷ xs) f =
     ap (λ l. file_line place x ++ l) (file_lines_more (suc place) xs f ∙ ap (λ n. file_lines (suc place) xs ++ file_line n f) on)
     ∙ sym (append_assoc (file_line place x) (file_lines (suc place) xs) (file_line (place + suc (length xs)) f))
 
-pub more_files : {W : Type 0} {told : W → Written} {p q r : Pieces W} {f d : FileLine} (files : List FileLine) (i place : ℕ) → i < length files → place ≡ i + 1
+pub more_files : {W : Type 0} {told : W → Written} {p q r : Pieces W} {f : FileLine} (files : List FileLine) (i place : ℕ) (d : FileLine) → i < length files → place ≡ i + 1
     → Puts told p q (file_lines 1 (take i files)) → Puts told q r (file_line place f) → f ≡ get_or files i d → Puts told p r (file_lines 1 (take (i + 1) files))
-more_files {W} {told} {p} {q} {r} {f} {d} files i place less at before now is =
+more_files {W} {told} {p} {q} {r} {f} files i place d less at before now is =
     let was = take i files in
     let next = take_more files i d less ∙ ap (λ x. was ++ x ∷ []) (sym is) in
     let here : place ≡ 1 + length was = omega (arith, at, length-take-le i files (omega (arith, less))) in
     let line = ap (file_lines 1) next ∙ file_lines_more 1 was f in
     turn (then before (turn now (ap (λ n. file_line n f) here))) (sym line)
+
+-- the same number, told another way
+pub signed : {W : Type 0} {told : W → Written} {p q : Pieces W} {n : ℤ} (m : ℤ) → Puts told p q (9 ∷ signed_decimal n) → n ≡ m → Puts told p q (9 ∷ signed_decimal m)
+signed m puts same = turn puts (ap (λ x. 9 ∷ signed_decimal x) same)

@@ -151,7 +151,8 @@ impl<'a, W: Outlet> Pieces<'a, W> {
 
     /// The outlet, as it was left.
     pub(crate) fn into_outlet(self) -> &'a mut W
-        ensures { result ≡ self.sender.out }
+        ensures same_outlet { result.ghost_name ≡ self.entry.sender.out.ghost_name }
+        ensures held { result.now ≡ self.entry.sender.out.now }
     {
         let Pieces { sender, .. } = self;
         let Sender { out, .. } = sender;

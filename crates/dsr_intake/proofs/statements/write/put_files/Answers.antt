@@ -8,7 +8,7 @@ pub loop-file-preserved : goal.loop-file-preserved
 loop-file-preserved g c =
     record {
       place = omega (arith, c.loop-file.invariant.place);
-      lines = more_files c.args.files.now c.loop-file.file-index c.loop-file.place c.loop-file-test.true c.loop-file.invariant.place c.loop-file.invariant.lines c.put_file.ensures refl;
+      lines = more_files c.args.files.now c.loop-file.file-index c.loop-file.place _ c.loop-file-test.true c.loop-file.invariant.place c.loop-file.invariant.lines c.put_file.ensures refl;
     }
 
 pub returns : goal.returns
