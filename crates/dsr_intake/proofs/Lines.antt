@@ -56,3 +56,13 @@ more_files {W} {told} {p} {q} {r} {f} files i place d less at before now is =
 -- the same number, told another way
 pub signed : {W : Type 0} {told : W → Written} {p q : Pieces W} {n : ℤ} (m : ℤ) → Puts told p q (9 ∷ signed_decimal n) → n ≡ m → Puts told p q (9 ∷ signed_decimal m)
 signed m puts same = turn puts (ap (λ x. 9 ∷ signed_decimal x) same)
+
+-- the same cell, told another way
+pub cell : {W : Type 0} {told : W → Written} {p q : Pieces W} {x : List ℕ} (y : List ℕ) → Puts told p q (9 ∷ x) → x ≡ y → Puts told p q (9 ∷ y)
+cell y puts same = turn puts (ap (λ l. 9 ∷ l) same)
+
+-- the cells of a report's line, of which the two days are put at once
+pub days_within : (head id files first last days end : List ℕ)
+    → head ++ (id ++ (files ++ ((first ++ (last ++ [])) ++ (days ++ end))))
+    ≡ head ++ ((id ++ (files ++ (first ++ (last ++ (days ++ []))))) ++ end)
+days_within head id files first last days end = search (append_assoc, append-nil)
