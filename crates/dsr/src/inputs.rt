@@ -15,8 +15,9 @@ use std::{fs, io};
 pub enum InputReader {
     /// A file that was opened by its name.
     File(File),
-    /// Standard input, which has no name.
-    Standard(StdinLock<'static>),
+    /// Standard input, which has no name. It has a buffer of 8 KB in itself, and a source is moved to
+    /// its thread and back by value, so it stands behind a box.
+    Standard(Box<StdinLock<'static>>),
 }
 
 impl InputReader {
@@ -129,7 +130,10 @@ fn standard_input<H: io::Input<Reader = StdinLock<'static>>>(
     ensures refused { IfErr result (IsRefusal []) }
 {
     let mut inputs = Vec::new(alloc);
-    let input = Input::new(None, InputReader::Standard(rt.reader()));
+    let Ok(reader) = Box::new(alloc, rt.reader()) else {
+        return Err(OpenError::Memory);
+    };
+    let input = Input::new(None, InputReader::Standard(reader));
     if inputs.push(input).is_err() {
         return Err(OpenError::Memory);
     }

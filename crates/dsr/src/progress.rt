@@ -59,7 +59,8 @@ struct Counts {
 #[derive(Drop)]
 pub struct Progress<H> {
     rt: H,
-    began: Instant,
+    /// When the run began. Where the clock failed there is no time to tell, and so no line.
+    began: Option<Instant>,
     files: usize,
     size: Option<u64>,
     counts: Arc<Counts, Global>,
@@ -78,12 +79,12 @@ impl<H: Clock + Eprint + Copy> Progress<H> {
             done: AtomicU64::new(0),
             told: AtomicU64::new(0),
         };
-        let (Ok(began), Ok(counts)) = (Instant::now(rt), Arc::new(alloc, counts)) else {
+        let Ok(counts) = Arc::new(alloc, counts) else {
             return Err(NoMemory);
         };
         Ok(Progress {
             rt: *rt,
-            began,
+            began: Instant::now(rt).ok(),
             files,
             size,
             counts,
@@ -111,15 +112,20 @@ impl<H: Clock + Eprint + Copy> Progress<H> {
         } else {
             self.counts.read.fetch_add(bytes as u64, Ordering::SeqCst);
         }
-        let Ok(passed) = self.began.elapsed(&self.rt) else {
+        let Some(now) = self.millis() else {
             return;
         };
-        let seconds = passed.as_secs().saturating_mul(1_000);
-        let now = seconds.saturating_add(passed.subsec_millis() as u64);
         let told = self.counts.told.load(Ordering::SeqCst);
         if now >= told.saturating_add(PAUSE) && self.is_our_turn(told, now) {
             let _ = self.rt.eprintln(self.line(now));
         }
+    }
+
+    /// The milliseconds since the run began, if the clock tells them.
+    fn millis(&self) -> Option<u64> {
+        let passed = self.began?.elapsed(&self.rt).ok()?;
+        let seconds = passed.as_secs().saturating_mul(1_000);
+        Some(seconds.saturating_add(passed.subsec_millis() as u64))
     }
 
     /// Whether no other thread has written a line since the last one that this thread knows of.

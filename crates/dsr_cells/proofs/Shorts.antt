@@ -1,8 +1,8 @@
 -- Lemmas on short texts.
 use Rattle.std.proofs.Common.{arith, ◌≡◌, ◌∙◌, ◌++◌, ◌&&◌, ◌≤◌, ◌-◌, refl, sym, ap, ℕ, List, length, take, drop, replicate, nat_eq, true}
 use Rattle.std.specs.Prelude.{IsUtf8}
-use Rattle.std.specs.Bool.{Decides, one_answer}
-use Rattle.std.specs.Int.{w64, from_le_bytes, to_le_bytes}
+use Rattle.std.specs.Bool.{one_answer}
+use Rattle.std.specs.Int.{w64, from_le_bytes}
 use Rattle.std.specs.Str.{bytes_eq}
 use Rattle.std.specs.Cmp.{both_ways, first_so, second_so}
 use Rattle.std.specs.Cmp.Derive.{both_true}

@@ -1,13 +1,16 @@
 //! Reading all values of a list cell.
-ghost use Rattle.std.specs.Prelude.{◌≡◌, [], ◌∷◌, IfOk, length, map};
+ghost use Rattle.std.specs.Prelude.{◌≡◌, ◌∷◌, IfOk, OnOk, length, map, is_some, true};
+ghost use Rattle.std.specs.List.{list_all};
+ghost use Rattle.std.specs.Option.{unwrap_or};
+ghost use Rattle.dsr_cells.specs.Numbers.{share_of};
 ghost use Rattle.dsr_cells.specs.Parts.{parts_left};
 ghost use Rattle.dsr_cells.specs.Values.{parts_after, raw_parts, value_of};
 
 use crate::cells::values;
 use crate::escape::unescape;
-use crate::list::Texts;
 use crate::parts::{first_part, plain_part};
-use crate::text::{NoMemory, Text};
+use crate::share::{Share, Shares};
+use crate::text::{NoMemory, Text, Texts};
 use std::alloc::Global;
 
 /// How many values a list cell has.
@@ -21,47 +24,60 @@ pub fn count_values(cell: &str) -> usize
     count
 }
 
-/// The first value of a text, and the text behind its raw part.
-fn first_value(alloc: Global, text: &str) -> Result<(Text, Option<&str>), NoMemory>
-    ensures { IfOk result (λ r. map value_of (parts_after 0 text.now) ≡ r.0 ∷ map value_of (parts_left r.1)) }
+/// Writes the first value of a text over another text, and answers what stands behind its raw part.
+fn read_first<'c>(
+    alloc: Global,
+    text: &'c str,
+    value: &mut Text,
+) -> Result<Option<&'c str>, NoMemory>
+    ensures { IfOk result (λ rest. map value_of (parts_after 0 text.now)
+        ≡ value.new ∷ map value_of (parts_left rest)) }
 {
     if let Some((part, rest)) = plain_part(text) {
-        return Ok((Text::copy_of(alloc, part)?, rest));
+        value.assign(alloc, part)?;
+        return Ok(rest);
     }
     let (part, rest) = first_part(text);
-    Ok((unescape(alloc, part)?, rest))
+    *value = unescape(alloc, part)?;
+    Ok(rest)
 }
 
-/// The list of one text.
-fn one_text(alloc: Global, text: &str) -> Result<Texts, NoMemory>
-    ensures { IfOk result (λ t. t ≡ text.now ∷ []) }
-{
-    let mut texts = Texts::with_room(alloc, 1)?;
-    texts
-        .push(Text::copy_of(alloc, text)?)
-        .map_err(|_| NoMemory)?;
-    Ok(texts)
-}
-
-/// The values of a list cell, in a list that is made with room for so many.
+/// Writes the values of a list cell over the items of a list: what `unescape` makes of each part that
+/// `values` gives.
 ///
 /// # Errors
 ///
-/// `NoMemory`: no memory was left for them.
-pub fn read_texts_with_room(alloc: Global, cell: &str, room: usize) -> Result<Texts, NoMemory>
-    ensures { IfOk result (λ t. t ≡ map value_of (raw_parts cell.now)) }
+/// `NoMemory`: no memory was left for them; the list then has any items.
+pub fn read_texts_into(alloc: Global, cell: &str, texts: &mut Texts) -> Result<(), NoMemory>
+    ensures { OnOk result (texts.new ≡ map value_of (raw_parts cell.now)) }
 {
-    let mut texts = Texts::with_room(alloc, room)?;
+    texts.restart();
     let mut rest = values(cell).rest;
     while let Some(text) = rest {
-        let (value, after) = first_value(alloc, text)?;
-        texts.push(value).map_err(|_| NoMemory)?;
-        rest = after;
+        let value = texts.next()?;
+        rest = read_first(alloc, text, value)?;
     }
-    Ok(texts)
+    Ok(())
 }
 
-/// The values of a list cell: what `unescape` makes of each part that `values` gives.
+/// Writes the shares of a list cell over the items of a list, where each of its parts is a share.
+///
+/// # Errors
+///
+/// `NoMemory`: no memory was left for them; the list then has any items.
+pub fn read_shares_into(cell: &str, shares: &mut Shares) -> Result<(), NoMemory>
+    requires { list_all (λ part. is_some (share_of part)) (raw_parts cell.now) ≡ true }
+    ensures { OnOk result (shares.new ≡ map (λ part. unwrap_or (share_of part) 0) (raw_parts cell.now)) }
+{
+    shares.restart();
+    for part in values(cell) {
+        let share = Share::read(part).unwrap();
+        *shares.next()? = share;
+    }
+    Ok(())
+}
+
+/// The values of a list cell, as `read_texts_into` writes them.
 ///
 /// # Errors
 ///
@@ -69,11 +85,7 @@ pub fn read_texts_with_room(alloc: Global, cell: &str, room: usize) -> Result<Te
 pub fn read_texts(alloc: Global, cell: &str) -> Result<Texts, NoMemory>
     ensures { IfOk result (λ t. t ≡ map value_of (raw_parts cell.now)) }
 {
-    if cell.is_empty() {
-        return Ok(Texts::new(alloc));
-    }
-    match plain_part(cell) {
-        Some((value, None)) => one_text(alloc, value),
-        _ => read_texts_with_room(alloc, cell, count_values(cell)),
-    }
+    let mut texts = Texts::new(alloc);
+    read_texts_into(alloc, cell, &mut texts)?;
+    Ok(texts)
 }

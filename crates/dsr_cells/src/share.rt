@@ -2,6 +2,7 @@
 ghost use Rattle.std.specs.Prelude.{◌≡◌, ◌≤◌};
 ghost use Rattle.dsr_cells.specs.Numbers.{share_of};
 
+use crate::items::Items;
 use crate::number::read_decimal;
 use std::marker::Model;
 
@@ -23,6 +24,17 @@ impl Model for Share {
     ghost invariant = { λ a. a.parts ≤ 1_000_000 };
 
     ghost inverse = { λ n. record { parts = n } };
+}
+
+/// A list of shares.
+pub type Shares = Items<Share>;
+
+impl Default for Share {
+    ghost is_default = { λ share. share ≡ 0 };
+
+    fn default() -> Share {
+        Share { parts: 0 }
+    }
 }
 
 impl Share {

@@ -96,6 +96,17 @@ impl ShortText {
         }
     }
 
+    /// Writes another text over this one, where it lies.
+    #[inline(always)]
+    pub(crate) fn assign(&mut self, text: &str)
+        requires { length text.now ≤ 22 }
+        ensures { self.new ≡ text.now }
+    {
+        self.bytes = [0; SHORT];
+        copy_short(&mut self.bytes, text.as_bytes());
+        self.size = text.len() as u8;
+    }
+
     /// A second text with the same bytes.
     #[inline(always)]
     pub(crate) fn copy(&self) -> ShortText

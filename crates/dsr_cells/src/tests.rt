@@ -1,10 +1,11 @@
 //! Worked examples of each call: the values are those of the format's description.
 
 use crate::{
-    Amount, Day, Isrc, Items, Share, Shares, Text, Texts, cell, count_cells, count_values,
-    is_currency, is_identifier, is_territory, is_use_type, read_number, read_texts,
-    read_texts_with_room, read_usages, unescape, values, write_amount, write_day,
+    Amount, Day, Isrc, Share, Shares, Text, Texts, cell, count_cells, count_values, is_currency,
+    is_identifier, is_territory, is_use_type, read_number, read_texts, read_texts_into,
+    read_usages, unescape, values, write_amount, write_day,
 };
+use std::alloc::{AllocError, Global};
 use std::cmp::Ordering;
 use std::hash::{DefaultHasher, Hash, Hasher};
 use std::test::Fail;
@@ -51,8 +52,9 @@ fn values_of_a_cell(rt: HostRuntime) -> Result<(), Fail> {
         assert_eq!(rt; shown.as_str(), want, "at {text}");
         let texts = read_texts(rt.alloc(), text)?;
         assert_eq!(rt; count_values(text), texts.len(), "at {text}");
-        let roomy = read_texts_with_room(rt.alloc(), text, 1)?;
-        assert!(rt; roomy.as_slice() == texts.as_slice(), "at {text}");
+        let mut over = read_texts(rt.alloc(), "a|b|c")?;
+        read_texts_into(rt.alloc(), text, &mut over)?;
+        assert!(rt; over.as_slice() == texts.as_slice(), "at {text}");
         let mut read = String::new(rt.alloc());
         for value in texts.as_slice() {
             read.push('<')?;
@@ -241,7 +243,7 @@ fn equal_texts_and_isrcs_hash_alike(rt: HostRuntime) -> Result<(), Fail> {
 
 #[test]
 fn lists_of_texts_and_shares(rt: HostRuntime) -> Result<(), Fail> {
-    let mut texts: Texts = Items::new(rt.alloc());
+    let mut texts = Texts::new(rt.alloc());
     for part in values("P1|P2|P3") {
         let text = unescape(rt.alloc(), part)?;
         assert!(rt; texts.push(text).is_ok());
@@ -249,7 +251,7 @@ fn lists_of_texts_and_shares(rt: HostRuntime) -> Result<(), Fail> {
     assert_eq!(rt; texts.len(), 3);
     assert!(rt; texts.get(1).is_some_and(|text| text.as_str() == "P2"));
     assert!(rt; texts.get(3).is_none());
-    let mut shares: Shares = Items::with_room(rt.alloc(), 1)?;
+    let mut shares = Shares::new(rt.alloc());
     assert_eq!(rt; shares.len(), 0);
     for part in values("50|25") {
         if let Some(share) = Share::read(part) {
@@ -262,6 +264,52 @@ fn lists_of_texts_and_shares(rt: HostRuntime) -> Result<(), Fail> {
         parts ^= share.parts();
     }
     assert_eq!(rt; parts, 500_000 ^ 250_000);
+    Ok(())
+}
+
+/// The bytes of all texts of a list, one behind the other, each behind a point.
+fn joined(alloc: Global, texts: &Texts) -> Result<String, AllocError> {
+    let mut shown = String::new(alloc);
+    for text in texts.as_slice() {
+        shown.push('.')?;
+        shown.push_str(text.as_str())?;
+    }
+    Ok(shown)
+}
+
+#[test]
+fn lists_are_written_over_in_place(rt: HostRuntime) -> Result<(), Fail> {
+    let mut texts = Texts::new(rt.alloc());
+    for (cell, want) in [
+        (
+            "a title of more than thirty bytes|b",
+            ".a title of more than thirty bytes.b",
+        ),
+        (
+            "c|another title of more than thirty bytes|d|e",
+            ".c.another title of more than thirty bytes.d.e",
+        ),
+        ("f", ".f"),
+        ("", ""),
+        ("g|h|i", ".g.h.i"),
+    ] {
+        read_texts_into(rt.alloc(), cell, &mut texts)?;
+        assert_eq!(rt; joined(rt.alloc(), &texts)?.as_str(), want, "at {cell}");
+        assert_eq!(rt; texts.len(), count_values(cell), "at {cell}");
+    }
+    if texts.len() > 0 {
+        texts.shorten();
+    }
+    assert_eq!(rt; joined(rt.alloc(), &texts)?.as_str(), ".g.h");
+    if texts.len() > 0 {
+        texts.shorten();
+    }
+    let next = texts.next()?;
+    next.assign(rt.alloc(), "j")?;
+    assert_eq!(rt; joined(rt.alloc(), &texts)?.as_str(), ".g.j");
+    texts.restart();
+    assert_eq!(rt; texts.len(), 0);
+    assert!(rt; texts.get(0).is_none());
     Ok(())
 }
 
@@ -281,7 +329,7 @@ fn nothing_changes_where_memory_is_refused(rt: HostRuntime) {
         Ok(()) => assert!(rt; out.as_slice() == b"2024-02-29".as_slice()),
         Err(_) => assert!(rt; out.is_empty()),
     }
-    let mut shares: Shares = Items::new(rt.alloc());
+    let mut shares = Shares::new(rt.alloc());
     let Some(share) = Share::read("12.5") else {
         assert!(rt; false);
         return;

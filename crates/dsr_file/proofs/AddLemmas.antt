@@ -7,6 +7,8 @@ use Rattle.std.specs.Option.{option_to_list}
 use Rattle.dsr_records.specs.declared.record.Foot as foot
 use Rattle.dsr_records.specs.declared.record.Record.{Record}
 use Rattle.dsr_records.specs.declared.record.Record.TheVariants.{Head, Summary, Resource, Work, Usage, Foot, Skipped}
+use Rattle.dsr_records.specs.declared.kinds.Kind.TheVariants as kinds
+use Rattle.dsr_records.specs.Reads.{kind_of_record}
 use Rattle.dsr_file.specs.declared.fault.FileFault.{FileFault}
 use Rattle.dsr_file.specs.declared.fault.FileFault.TheVariants as faults
 use Rattle.dsr_file.specs.declared.event.EventPart.{EventPart}
@@ -52,6 +54,27 @@ module _ (old new : Grammar) where
   member_has_no_counts (Resource h) m = refl
   member_has_no_counts (Foot h) m = absurd m
   member_has_no_counts Skipped m = refl
+
+  -- what a resource does to the numbers
+  pub resource_adds : (item : Record) (part : Option EventPart) → kind_of_record item ≡ kinds.Resource → new.stage ≡ stage_after old.stage item → part ≡ given_by old.stage item
+      → new.lines ≡ old.lines + 1 → new.records ≡ old.records + 1 → new.skipped_lines ≡ old.skipped_lines → new.skipped_records ≡ old.skipped_records
+      → new.summaries ≡ old.summaries + 0 → new.blocks ≡ old.blocks + block_count part → Adds old new item part
+  resource_adds (Resource r) part e s g l n a b ss bs = record { stage = s; given = g; lines = l; records = n; skipped_lines = a; skipped_records = b; summaries = ss; blocks = bs }
+  resource_adds (Head h) part e s g l n a b ss bs = absurd (cc)
+  resource_adds (Summary h) part e s g l n a b ss bs = absurd (cc)
+  resource_adds (Work h) part e s g l n a b ss bs = absurd (cc)
+  resource_adds (Usage h) part e s g l n a b ss bs = absurd (cc)
+  resource_adds (Foot h) part e s g l n a b ss bs = absurd (cc)
+  resource_adds Skipped part e s g l n a b ss bs = absurd (cc)
+
+  pub resource_has_no_counts : (item : Record) → kind_of_record item ≡ kinds.Resource → option_and_then (kept_count_fault new) (foot_in item) ≡ None
+  resource_has_no_counts (Work w) e = refl
+  resource_has_no_counts (Usage u) e = refl
+  resource_has_no_counts (Head h) e = refl
+  resource_has_no_counts (Summary h) e = refl
+  resource_has_no_counts (Resource h) e = refl
+  resource_has_no_counts (Foot h) e = cc
+  resource_has_no_counts Skipped e = refl
 
 summary_added : (item : Record) → length (summaries (item ∷ [])) ≡ summary_count item
 summary_added (Summary s) = refl

@@ -13,3 +13,4 @@ pub mod StandLemmas
 pub mod EndLemmas
 pub mod FeedLemmas
 pub mod ReadLemmas
+pub mod ResultLemmas

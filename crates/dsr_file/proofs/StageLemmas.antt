@@ -9,14 +9,14 @@ use Rattle.dsr_records.specs.declared.record.Record.{Record}
 use Rattle.dsr_records.specs.declared.record.Record.TheVariants as the
 use Rattle.dsr_records.specs.declared.record.Summary as summary
 use Rattle.dsr_records.specs.declared.record.Head as head
-use Rattle.dsr_records.specs.Blocks.{BlockParts}
+use Rattle.dsr_records.specs.Blocks.{BlockParts, OpensBlock}
 use Rattle.dsr_file.specs.declared.fault.FileFault.{FileFault}
 use Rattle.dsr_file.specs.declared.stage.Before.TheVariants as columns
 use Rattle.dsr_file.specs.declared.stage.Stage.{Stage}
 use Rattle.dsr_file.specs.declared.stage.Stage.TheVariants.{Start, Front, Open, Closed}
 use Rattle.dsr_file.specs.Parts.{last_of, summaries}
 use Rattle.dsr_file.specs.Faults.{column, place, summary_fault, member_fault, early_fault, last_part, in_part}
-use Rattle.dsr_file.specs.Stages.{column_at, block_length, stage_fault, records_of, IsOpen, KeepsStage}
+use Rattle.dsr_file.specs.Stages.{column_at, block_length, stage_fault, stage_after, given_by, part_given, records_of, IsOpen, KeepsStage}
 use Rattle.dsr_file.proofs.PartLemmas.{last_of_push}
 
 -- the last record of HEAD and summaries
@@ -108,3 +108,22 @@ fault_agrees stage rs (the.Work w) k = rw (column_kept stage rs k) (work_place s
 fault_agrees stage rs (the.Usage u) k = rw (column_kept stage rs k) (usage_place stage rs u.block_id k)
 fault_agrees stage rs (the.Foot f) k = rw (column_kept stage rs k) (foot_place stage)
 fault_agrees stage rs the.Skipped k = skipped_place stage
+
+-- the stage behind a resource, and what it closes
+pub opens_stage : (stage : Stage) (r : Record) (b : BlockParts) → OpensBlock r b → Open b ≡ stage_after stage r
+opens_stage stage (the.Resource r) b e = ap Open e
+opens_stage stage (the.Head h) b e = absurd e
+opens_stage stage (the.Summary h) b e = absurd e
+opens_stage stage (the.Work h) b e = absurd e
+opens_stage stage (the.Usage h) b e = absurd e
+opens_stage stage (the.Foot h) b e = absurd e
+opens_stage stage the.Skipped b e = absurd e
+
+pub opens_given : (stage : Stage) (r : Record) (b : BlockParts) → OpensBlock r b → part_given stage ≡ given_by stage r
+opens_given stage (the.Resource r) b e = refl
+opens_given stage (the.Head h) b e = absurd e
+opens_given stage (the.Summary h) b e = absurd e
+opens_given stage (the.Work h) b e = absurd e
+opens_given stage (the.Usage h) b e = absurd e
+opens_given stage (the.Foot h) b e = absurd e
+opens_given stage the.Skipped b e = absurd e

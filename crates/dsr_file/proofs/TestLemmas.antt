@@ -29,7 +29,7 @@ use Rattle.dsr_file.specs.Readings as line
 use Rattle.dsr_file.specs.Parts.{closed, summaries, events_of, last_of}
 use Rattle.dsr_file.specs.Faults.{fault_if, fault_of, early_fault, place, column, member_fault, in_part, summary_fault, summary_limit, last_part, first_id}
 use Rattle.dsr_file.specs.Texts.{counts_fault}
-use Rattle.dsr_file.specs.Stages.{stage_fault}
+use Rattle.dsr_file.specs.Stages.{IsOther, stage_fault}
 use Rattle.dsr_file.specs.Grammars.{Keeps, LineSteps, IsRecord}
 use Rattle.dsr_file.proofs.StageLemmas.{fault_agrees}
 use Rattle.dsr_file.proofs.LineLemmas.{records-same, first_good}
@@ -198,6 +198,16 @@ real_record (Resource h) n = tt
 real_record (Work h) n = tt
 real_record (Usage h) n = tt
 real_record (Foot h) n = tt
+
+-- a record that is none of a block's, by its kind
+pub other_record : (r : Record) → (kinds.Resource ≡ kind_of_record r → ⊥) → (kinds.Work ≡ kind_of_record r → ⊥) → (kinds.Usage ≡ kind_of_record r → ⊥) → IsOther r
+other_record (Resource h) n m u = n refl
+other_record (Work h) n m u = m refl
+other_record (Usage h) n m u = u refl
+other_record Skipped n m u = tt
+other_record (Head h) n m u = tt
+other_record (Summary h) n m u = tt
+other_record (Foot h) n m u = tt
 
 pub skipped_record : (r : Record) → kinds.Skipped ≡ kind_of_record r → r ≡ Skipped
 skipped_record Skipped e = refl

@@ -1,5 +1,5 @@
 -- What a refused reading of a file leaves.
-use Rattle.std.specs.Prelude.{◌≡◌, ℕ, List, [], ◌∷◌, ◌++◌}
+use Rattle.std.specs.Prelude.{◌≡◌, ℕ, List, [], ◌∷◌, ◌++◌, Result, Ok, Err}
 use Rattle.dsr_records.specs.Records.{LayoutTable}
 use Rattle.dsr_file.specs.declared.reading.ReadFileError.{ReadFileError}
 use Rattle.dsr_file.specs.declared.reading.ReadFileError.TheVariants.{Memory, Refused}
@@ -10,3 +10,8 @@ use Rattle.dsr_file.specs.Sources.{Told, IsRefused}
 abbrev pub IsRefusal : LayoutTable → ℕ → Told → Told → List Placed → ReadFileError → Type 0
 IsRefusal layout limit before after es Memory = (after ≡ before) × (es ≡ [])
 IsRefusal layout limit before after es (Refused e) = IsRefused layout limit before after (es ++ e ∷ [])
+
+-- an answer whose error is the event that the sink refused
+abbrev pub refused_event : {O : Type 0} → Result O Placed → Result O ReadFileError
+refused_event (Ok outcome) = Ok outcome
+refused_event (Err e) = Err (Refused e)

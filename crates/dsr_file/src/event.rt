@@ -13,7 +13,9 @@ pub type Summaries = Items<Summary>;
 /// The head of a file and its summaries, no two of which have one identifier.
 #[derive(Drop)]
 pub struct Opening {
+    /// The record HEAD.
     pub head: Head,
+    /// In the order of the file.
     pub summaries: Summaries,
 }
 
@@ -50,7 +52,9 @@ impl EventPart {
 /// An event and its place in the file's list of events, from 0 and below 2^37.
 #[derive(Drop)]
 pub struct Event {
+    /// How many events come before it.
     pub place: u64,
+    /// What it tells.
     pub part: EventPart,
 }
 

@@ -33,9 +33,14 @@ impl EventList {
         }
     }
 
-    /// Appends an event, or hands it back where memory is refused.
+    /// Appends an event.
+    ///
+    /// # Errors
+    ///
+    /// The event itself, where memory is refused; the list stays as it was.
     pub fn push(&mut self, event: Event) -> Result<(), Event>
-        ensures { MatchResult result (λ _. self.new ≡ self.old ++ event ∷ []) (λ back. (back ≡ event) × (self.new ≡ self.old)) }
+        ensures { MatchResult result (λ _. self.new ≡ self.old ++ event ∷ [])
+            (λ back. (back ≡ event) × (self.new ≡ self.old)) }
     {
         self.events
             .push_back(event)
@@ -58,7 +63,8 @@ impl EventList {
 
     /// Takes the front event: none where the list is empty.
     pub fn next(&mut self) -> Option<Event>
-        ensures { MatchOption result ((self.old ≡ []) × (self.new ≡ [])) (λ event. self.old ≡ event ∷ self.new) }
+        ensures { MatchOption result ((self.old ≡ []) × (self.new ≡ []))
+            (λ event. self.old ≡ event ∷ self.new) }
     {
         self.events.pop_front()
     }

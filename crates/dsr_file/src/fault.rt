@@ -7,30 +7,55 @@ use dsr_records::Column;
 /// The first fault of a file.
 #[derive(Clone, Copy, PartialEq, Eq)]
 pub enum FileFault {
+    /// A line has more than 8,192 bytes.
     LongLine,
+    /// A line is no UTF-8.
     NotUtf8,
+    /// A line has more than 64 cells.
     ManyCells,
+    /// The first cell names no type of record.
     UnknownRecord,
+    /// The line ends before the cell of this column.
     MissingCell(Column),
+    /// The cell of this column is not spelled as its values are.
     BadCell(Column),
+    /// A work has more shares than parties, or fewer.
     Uneven,
+    /// The first record is no HEAD.
     NoHead,
+    /// HEAD comes again.
     SecondHead,
+    /// A summary comes behind a resource.
     LateSummary,
+    /// A work or a usage comes before the first resource.
     NoResource,
+    /// A work comes behind a usage of its block.
     LateWork,
+    /// A work or a usage names another block than its resource.
     BlockNumber,
+    /// A block has no usage.
     NoUsage,
+    /// A record comes behind FOOT.
     AfterFoot,
+    /// The text ends without FOOT.
     NoFoot,
+    /// Two summaries have one identifier.
     SummaryTwice,
+    /// There are more than 1,000 summaries.
     ManySummaries,
+    /// A block has more than 64 records.
     LongBlock,
+    /// FOOT counts other lines than there are.
     FootLines,
+    /// FOOT counts other summaries than there are.
     FootSummaries,
+    /// FOOT counts other blocks than there are.
     FootBlocks,
+    /// A read failed.
     Read,
+    /// The limit of reads was reached.
     Reads,
+    /// No memory was left.
     Memory,
 }
 
@@ -96,5 +121,10 @@ pub enum Outcome {
     /// Every line is good, and the last record is FOOT.
     Whole,
     /// The first fault and its line, from 1.
-    Fault { line: u64, fault: FileFault },
+    Fault {
+        /// The line that has the fault, or the one that would have come next.
+        line: u64,
+        /// What is wrong with it.
+        fault: FileFault,
+    },
 }

@@ -1,8 +1,9 @@
 //! Bytes into a reader, and its events into a sink.
 ghost use Rattle.std.specs.Prelude.{◌≡◌, ◌++◌, ◌∷◌, [], ◌+◌, ◌≤◌, ◌^◌, length, List, ℕ, Some, None, OnOk, IfOk, IfErr};
 ghost use Rattle.dsr_records.specs.Records.{LayoutTable};
-ghost use Rattle.dsr_file.specs.Runs.{BeginsEvents, HasEvents, EndsWith};
-ghost use Rattle.dsr_file.specs.Standing.{Stands, bytes_used, ending_told};
+ghost use Rattle.dsr_file.specs.Placed.{Placed};
+ghost use Rattle.dsr_file.specs.Runs.{IsSomeRun, BeginsEvents, HasEvents, EndsWith};
+ghost use Rattle.dsr_file.specs.Standing.{Stands, bytes_used, ending_told, events_left};
 ghost use Rattle.dsr_file.specs.Feeding.{IsKnown, Fed, FedSome};
 
 use crate::event::Event;
@@ -10,7 +11,27 @@ use crate::fault::{Ending, Outcome};
 use crate::reader::FileReader;
 use crate::sink::Sink;
 
-/// Gives a piece to a reader, and its events to a sink.
+/// Puts an event of the reader into the sink, and gives the reader the block that the sink can
+/// spare.
+fn hand_over<S: Sink>(file: &mut FileReader, event: Event, sink: &mut S) -> Result<(), Event>
+    requires { IsSomeRun (S.list sink.old ++ event ∷ []) }
+    ensures added { OnOk result (S.list sink.new ≡ S.list sink.old ++ event ∷ []) }
+    ensures refused { IfErr result (λ back. (back ≡ event) × (S.list sink.new ≡ S.list sink.old)) }
+    ensures name { S.name sink.new ≡ S.name sink.old }
+    ensures stands { (layout : LayoutTable) (b : List ℕ) (es : List Placed)
+        → Stands layout file.old b es → Stands layout file.new b es }
+    ensures used { bytes_used file.new ≡ bytes_used file.old }
+    ensures left { events_left file.new ≡ events_left file.old }
+    ensures ending { ending_told file.new ≡ ending_told file.old }
+{
+    sink.put(event)?;
+    if let Some(block) = sink.spare() {
+        file.reuse(block);
+    }
+    Ok(())
+}
+
+/// Gives a piece to a reader, and its events to a sink, which is told how many bytes there were.
 pub(crate) fn feed<S: Sink>(file: &mut FileReader, piece: &[u8], sink: &mut S) -> Result<(), Event>
     requires open { ending_told file.old ≡ None }
     requires room { bytes_used file.old + length piece.now ≤ 2 ^ 36 }
@@ -18,16 +39,23 @@ pub(crate) fn feed<S: Sink>(file: &mut FileReader, piece: &[u8], sink: &mut S) -
     ensures open { ending_told file.new ≡ None }
     ensures used { OnOk result (bytes_used file.new ≤ bytes_used file.old + length piece.now) }
     ensures name { S.name sink.new ≡ S.name sink.old }
-    ensures fed { OnOk result ((layout : LayoutTable) (b : List ℕ) → Stands layout file.old b (S.list sink.old) → Fed layout file.new b piece.now (S.list sink.new)) }
-    ensures refused { IfErr result (λ e. (layout : LayoutTable) (b : List ℕ) → Stands layout file.old b (S.list sink.old) → FedSome layout b piece.now (S.list sink.new ++ e ∷ [])) }
+    ensures fed { OnOk result ((layout : LayoutTable) (b : List ℕ)
+        → Stands layout file.old b (S.list sink.old)
+        → Fed layout file.new b piece.now (S.list sink.new)) }
+    ensures refused { IfErr result (λ e. (layout : LayoutTable) (b : List ℕ)
+        → Stands layout file.old b (S.list sink.old)
+        → FedSome layout b piece.now (S.list sink.new ++ e ∷ [])) }
 {
     let mut used = 0;
     loop {
         let (more, event) = file.take(&piece[used..]);
         used += more;
         match event {
-            Some(event) => sink.put(event)?,
-            None => return Ok(()),
+            Some(event) => hand_over(file, event, sink)?,
+            None => {
+                sink.note_bytes(piece.len());
+                return Ok(());
+            }
         }
     }
 }
@@ -41,12 +69,16 @@ pub(crate) fn finish_all<S: Sink>(
     requires open { ending_told file.old ≡ None }
     requires known { IsKnown file.old (S.list sink.old) }
     ensures name { S.name sink.new ≡ S.name sink.old }
-    ensures all { IfOk result (λ o. (layout : LayoutTable) (b : List ℕ) → Stands layout file.old b (S.list sink.old) → HasEvents layout b (Some ending) (S.list sink.new) × EndsWith (S.list sink.new) o) }
-    ensures refused { IfErr result (λ e. (layout : LayoutTable) (b : List ℕ) → Stands layout file.old b (S.list sink.old) → BeginsEvents layout b (Some ending) (S.list sink.new ++ e ∷ [])) }
+    ensures all { IfOk result (λ o. (layout : LayoutTable) (b : List ℕ)
+        → Stands layout file.old b (S.list sink.old)
+        → HasEvents layout b (Some ending) (S.list sink.new) × EndsWith (S.list sink.new) o) }
+    ensures refused { IfErr result (λ e. (layout : LayoutTable) (b : List ℕ)
+        → Stands layout file.old b (S.list sink.old)
+        → BeginsEvents layout b (Some ending) (S.list sink.new ++ e ∷ [])) }
 {
     loop {
         match file.finish(ending) {
-            Some(event) => sink.put(event)?,
+            Some(event) => hand_over(file, event, sink)?,
             None => return Ok(file.outcome()),
         }
     }

@@ -7,7 +7,9 @@ ghost use Rattle.dsr_file.specs.Counting.{foot_in, summary_count, block_count};
 use crate::event::EventPart;
 use crate::fault::{Ending, FileFault, Outcome};
 use crate::stage::Stage;
-use dsr_records::{CheckedLine, Foot, Kind, Layout, Record, RecordFault, check_line, text_of};
+use dsr_records::{
+    Block, CheckedLine, Foot, Kind, Layout, Record, RecordFault, check_line, text_of,
+};
 use std::alloc::Global;
 
 /// What a line does.
@@ -41,7 +43,9 @@ impl Grammar {
     ghost use Rattle.dsr_file.specs.Readings.{Reading, SkippedLine, Holds, reading, of_utf8};
     ghost use Rattle.dsr_records.specs.declared.record.Record.TheVariants as the;
     ghost use Rattle.dsr_file.specs.Grammars.{Keeps, LineSteps, RecordSteps, IsRecord, kept_count_fault};
-    ghost use Rattle.dsr_file.specs.Stages.{IsFree, IsMember, column_at};
+    ghost use Rattle.dsr_records.specs.declared.kinds.Kind.TheVariants as kinds;
+    ghost use Rattle.dsr_records.specs.Reads.{kind_of_record};
+    ghost use Rattle.dsr_file.specs.Stages.{IsFree, IsMember, IsOther, column_at};
     ghost use Rattle.dsr_file.specs.Texts.{outcome_at};
 
     /// No line yet.
@@ -101,7 +105,8 @@ impl Grammar {
         requires lines { self.old.lines < 2 ^ 40 - 1 }
         requires free { IsFree self.old.stage line.now }
         requires member { IsMember line.now }
-        ensures steps { (ls : List Reading) → Keeps self.old ls → RecordSteps ls line.now result None self.new }
+        ensures steps { (ls : List Reading) → Keeps self.old ls
+            → RecordSteps ls line.now result None self.new }
         ensures counts { self.new.lines ≤ self.old.lines + 1 }
     {
         match self.stage.add_member(alloc, line) {
@@ -113,13 +118,14 @@ impl Grammar {
         }
     }
 
-    /// Takes a record that is no work or usage and has no early fault.
+    /// Takes a record that is none of a block's and has no early fault.
     fn add(&mut self, alloc: Global, item: Record, closed: &mut Option<EventPart>) -> Step
         requires lines { self.old.lines < 2 ^ 40 - 1 }
         requires free { IsFree self.old.stage item }
-        requires other { IsMember item → ⊥ }
+        requires other { IsOther item }
         requires none { closed.old ≡ None }
-        ensures steps { (ls : List Reading) → Keeps self.old ls → RecordSteps ls item result closed.new self.new }
+        ensures steps { (ls : List Reading) → Keeps self.old ls
+            → RecordSteps ls item result closed.new self.new }
         ensures counts { self.new.lines ≤ self.old.lines + 1 }
     {
         let foot = foot_in(&item);
@@ -135,16 +141,41 @@ impl Grammar {
         }
     }
 
+    /// Opens the block of a resource line, which has no early fault, over the spare block.
+    fn open(
+        &mut self,
+        alloc: Global,
+        line: &CheckedLine<'_>,
+        spare: &mut Option<Block>,
+        closed: &mut Option<EventPart>,
+    ) -> Step
+        requires lines { self.old.lines < 2 ^ 40 - 1 }
+        requires resource { kind_of_record line.now ≡ kinds.Resource }
+        requires none { closed.old ≡ None }
+        ensures steps { (ls : List Reading) → Keeps self.old ls
+            → RecordSteps ls line.now result closed.new self.new }
+        ensures counts { self.new.lines ≤ self.old.lines + 1 }
+    {
+        let Ok(()) = self.stage.open(alloc, line, spare, closed) else {
+            return Step::NoMemory;
+        };
+        let blocks = block_count(closed);
+        self.count(0, blocks);
+        Step::Good
+    }
+
     /// Tests a record, and takes it where it has no early fault.
     fn record(
         &mut self,
         alloc: Global,
         line: &CheckedLine<'_>,
+        spare: &mut Option<Block>,
         closed: &mut Option<EventPart>,
     ) -> Step
         requires lines { self.old.lines < 2 ^ 40 - 1 }
         requires none { closed.old ≡ None }
-        ensures steps { (ls : List Reading) → Keeps self.old ls → IsRecord line.now → LineSteps ls (Holds line.now) result closed.new self.new }
+        ensures steps { (ls : List Reading) → Keeps self.old ls → IsRecord line.now
+            → LineSteps ls (Holds line.now) result closed.new self.new }
         ensures counts { self.new.lines ≤ self.old.lines + 1 }
     {
         if let Some(fault) = self.stage.fault(line.kind(), line.id()) {
@@ -152,11 +183,12 @@ impl Grammar {
         }
         match line.kind() {
             Kind::Work | Kind::Usage => self.add_member(alloc, line),
+            Kind::Resource => self.open(alloc, line, spare, closed),
             _ => self.other(alloc, line, closed),
         }
     }
 
-    /// Takes a record that is no work or usage and has no early fault, once it is copied.
+    /// Takes a record that is none of a block's and has no early fault, once it is copied.
     fn other(
         &mut self,
         alloc: Global,
@@ -165,9 +197,10 @@ impl Grammar {
     ) -> Step
         requires lines { self.old.lines < 2 ^ 40 - 1 }
         requires free { IsFree self.old.stage line.now }
-        requires other { IsMember line.now → ⊥ }
+        requires other { IsOther line.now }
         requires none { closed.old ≡ None }
-        ensures steps { (ls : List Reading) → Keeps self.old ls → RecordSteps ls line.now result closed.new self.new }
+        ensures steps { (ls : List Reading) → Keeps self.old ls
+            → RecordSteps ls line.now result closed.new self.new }
         ensures counts { self.new.lines ≤ self.old.lines + 1 }
     {
         match line.read(alloc) {
@@ -178,7 +211,8 @@ impl Grammar {
 
     fn skip_line(&mut self)
         requires { self.old.lines < 2 ^ 40 - 1 }
-        ensures steps { (ls : List Reading) → Keeps self.old ls → LineSteps ls SkippedLine Step.Good None self.new }
+        ensures steps { (ls : List Reading) → Keeps self.old ls
+            → LineSteps ls SkippedLine Step.Good None self.new }
         ensures lines { self.new.lines ≡ self.old.lines + 1 }
     {
         self.lines += 1;
@@ -187,7 +221,8 @@ impl Grammar {
 
     fn skip_record(&mut self)
         requires { self.old.lines < 2 ^ 40 - 1 }
-        ensures steps { (ls : List Reading) → Keeps self.old ls → LineSteps ls (Holds the.Skipped) Step.Good None self.new }
+        ensures steps { (ls : List Reading) → Keeps self.old ls
+            → LineSteps ls (Holds the.Skipped) Step.Good None self.new }
         ensures lines { self.new.lines ≡ self.old.lines + 1 }
     {
         self.lines += 1;
@@ -200,11 +235,13 @@ impl Grammar {
         alloc: Global,
         layout: &Layout,
         text: &str,
+        spare: &mut Option<Block>,
         closed: &mut Option<EventPart>,
     ) -> Step
         requires lines { self.old.lines < 2 ^ 40 - 1 }
         requires none { closed.old ≡ None }
-        ensures steps { (ls : List Reading) → Keeps self.old ls → LineSteps ls (of_utf8 layout.now text.now) result closed.new self.new }
+        ensures steps { (ls : List Reading) → Keeps self.old ls
+            → LineSteps ls (of_utf8 layout.now text.now) result closed.new self.new }
         ensures counts { self.new.lines ≤ self.old.lines + 1 }
     {
         if is_skipped(text) {
@@ -213,7 +250,7 @@ impl Grammar {
         }
         match &check_line(layout, text) {
             Err(fault) => Step::Faulty(file_fault(*fault)),
-            Ok(line) => self.checked(alloc, line, closed),
+            Ok(line) => self.checked(alloc, line, spare, closed),
         }
     }
 
@@ -222,11 +259,13 @@ impl Grammar {
         &mut self,
         alloc: Global,
         line: &CheckedLine<'_>,
+        spare: &mut Option<Block>,
         closed: &mut Option<EventPart>,
     ) -> Step
         requires lines { self.old.lines < 2 ^ 40 - 1 }
         requires none { closed.old ≡ None }
-        ensures steps { (ls : List Reading) → Keeps self.old ls → LineSteps ls (Holds line.now) result closed.new self.new }
+        ensures steps { (ls : List Reading) → Keeps self.old ls
+            → LineSteps ls (Holds line.now) result closed.new self.new }
         ensures counts { self.new.lines ≤ self.old.lines + 1 }
     {
         match line.kind() {
@@ -234,7 +273,7 @@ impl Grammar {
                 self.skip_record();
                 Step::Good
             }
-            _ => self.record(alloc, line, closed),
+            _ => self.record(alloc, line, spare, closed),
         }
     }
 
@@ -244,16 +283,18 @@ impl Grammar {
         alloc: Global,
         layout: &Layout,
         line: &[u8],
+        spare: &mut Option<Block>,
         closed: &mut Option<EventPart>,
     ) -> Step
         requires lines { self.old.lines < 2 ^ 40 - 1 }
         requires none { closed.old ≡ None }
         requires short { length line.now ≤ 8192 }
-        ensures steps { (ls : List Reading) → Keeps self.old ls → LineSteps ls (reading layout.now line.now) result closed.new self.new }
+        ensures steps { (ls : List Reading) → Keeps self.old ls
+            → LineSteps ls (reading layout.now line.now) result closed.new self.new }
         ensures counts { self.new.lines ≤ self.old.lines + 1 }
     {
         match text_of(strip_return(line)) {
-            Some(text) => self.text(alloc, layout, text, closed),
+            Some(text) => self.text(alloc, layout, text, spare, closed),
             None => Step::Faulty(FileFault::NotUtf8),
         }
     }

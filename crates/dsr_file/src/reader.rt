@@ -11,7 +11,7 @@ use crate::event::{Event, EventPart};
 use crate::fault::{Ending, FileFault, Outcome};
 use crate::grammar::{Grammar, Step};
 use dsr_cells::NoMemory;
-use dsr_records::Layout;
+use dsr_records::{Block, Layout};
 use std::alloc::Global;
 
 /// How far a reader has come.
@@ -48,6 +48,8 @@ pub struct FileReader {
     place: u64,
     phase: Phase,
     ending: Option<Ending>,
+    /// Its memory serves for the next block.
+    spare: Option<Block>,
     ghost lines_given: { grammar.lines ≤ given + allowance phase },
     ghost given_small: { given ≤ 2 ^ 36 },
     ghost place_small: { place ≤ given + allowance phase },
@@ -61,6 +63,10 @@ impl FileReader {
     ghost use Rattle.dsr_file.specs.declared.reader.Phase.TheVariants as phases;
 
     /// A reader that was given nothing. It keeps the allocator and a copy of the layout.
+    ///
+    /// # Errors
+    ///
+    /// `NoMemory`: there is no room for the longest line.
     pub fn new(alloc: Global, layout: &Layout) -> Result<FileReader, NoMemory>
         ensures stands { IfOk result (λ r. Stands layout.now r [] []) }
         ensures open { IfOk result (λ r. ending_told r ≡ None) }
@@ -75,13 +81,29 @@ impl FileReader {
             place: 0,
             phase: Phase::Reading,
             ending: None,
+            spare: None,
         })
+    }
+
+    /// Gives the reader a block whose memory it may use again; the value of the block is lost.
+    pub fn reuse(&mut self, block: Block)
+        // The reader stands for what it stood for.
+        ensures stands { (layout : LayoutTable) (b : List ℕ) (es : List Placed)
+            → Stands layout self.old b es → Stands layout self.new b es }
+        ensures stood { (layout : LayoutTable) (b : List ℕ) (es : List Placed)
+            → Stands layout self.new b es → Stands layout self.old b es }
+        ensures used { bytes_used self.new ≡ bytes_used self.old }
+        ensures left { events_left self.new ≡ events_left self.old }
+        ensures ending { ending_told self.new ≡ ending_told self.old }
+    {
+        self.spare = Some(block);
     }
 
     /// How many bytes were used.
     pub fn given(&self) -> u64
         ensures used { result ≡ bytes_used self.now }
-        ensures bytes { (layout : LayoutTable) (b : List ℕ) (es : List Placed) → Stands layout self.now b es → result ≡ length b }
+        ensures bytes { (layout : LayoutTable) (b : List ℕ) (es : List Placed)
+            → Stands layout self.now b es → result ≡ length b }
     {
         self.given
     }
@@ -89,7 +111,8 @@ impl FileReader {
     /// Whether Ended was given.
     pub fn done(&self) -> bool
         ensures phase { IsTrue result ↔ IsDone self.now }
-        ensures ended { (layout : LayoutTable) (b : List ℕ) (es : List Placed) → Stands layout self.now b es → (IsTrue result ↔ (has_ended es ≡ true)) }
+        ensures ended { (layout : LayoutTable) (b : List ℕ) (es : List Placed)
+            → Stands layout self.now b es → (IsTrue result ↔ (has_ended es ≡ true)) }
     {
         self.phase.is_done()
     }
@@ -154,7 +177,9 @@ impl FileReader {
         requires reading { self.old.phase ≡ phases.Reading }
         requires room { self.old.place + 1 ≤ self.old.given }
         requires none { event.old ≡ None }
-        ensures stands { (layout : LayoutTable) (b : List ℕ) (es : List Placed) → AtAnswer layout self.old line step closed b es → Stands layout self.new b (es ++ option_to_list event.new) }
+        ensures stands { (layout : LayoutTable) (b : List ℕ) (es : List Placed)
+            → AtAnswer layout self.old line step closed b es
+            → Stands layout self.new b (es ++ option_to_list event.new) }
         ensures same { SameText self.old self.new }
         ensures reading { IfNone event.new (self.new.phase ≡ phases.Reading) }
     {
@@ -206,15 +231,21 @@ impl FileReader {
         requires none { event.old ≡ None }
         requires room { self.old.place + 1 ≤ self.old.given }
         requires lines { self.old.grammar.lines + 1 ≤ self.old.given }
-        ensures stands { (layout : LayoutTable) (b : List ℕ) (es : List Placed) → AtLine layout self.old self.old.cutter.bytes.items b es → Stands layout self.new b (es ++ option_to_list event.new) }
+        ensures stands { (layout : LayoutTable) (b : List ℕ) (es : List Placed)
+            → AtLine layout self.old self.old.cutter.bytes.items b es
+            → Stands layout self.new b (es ++ option_to_list event.new) }
         ensures same { SameText self.old self.new }
         ensures reading { IfNone event.new (self.new.phase ≡ phases.Reading) }
     {
         let number = self.grammar.lines + 1;
         let mut closed = None;
-        let step = self
-            .grammar
-            .line(self.alloc, &self.layout, self.cutter.line(), &mut closed);
+        let step = self.grammar.line(
+            self.alloc,
+            &self.layout,
+            self.cutter.line(),
+            &mut self.spare,
+            &mut closed,
+        );
         self.cutter.clear();
         self.answer(number, step, closed, event);
     }
@@ -228,15 +259,15 @@ impl FileReader {
         requires short { length line.now ≤ 8192 }
         requires cleared { self.old.cutter.bytes.items ≡ [] }
         requires settled { self.old.cutter.fresh ≡ false }
-        ensures stands { (layout : LayoutTable) (b : List ℕ) (es : List Placed) → AtLine layout self.old line.now b es → Stands layout self.new b (es ++ option_to_list event.new) }
+        ensures stands { (layout : LayoutTable) (b : List ℕ) (es : List Placed)
+            → AtLine layout self.old line.now b es
+            → Stands layout self.new b (es ++ option_to_list event.new) }
         ensures same { SameText self.old self.new }
         ensures reading { IfNone event.new (self.new.phase ≡ phases.Reading) }
     {
         let number = self.grammar.lines + 1;
         let mut closed = None;
-        let step = self
-            .grammar
-            .line(self.alloc, &self.layout, line, &mut closed);
+        let step = self.grammar.line(self.alloc, &self.layout, line, &mut self.spare, &mut closed);
         self.answer(number, step, closed, event);
     }
 
@@ -244,10 +275,12 @@ impl FileReader {
     fn long_line(&mut self) -> Event
         requires reading { self.old.phase ≡ phases.Reading }
         requires room { self.old.place + 1 ≤ self.old.given }
-        ensures event { result ≡ ended self.old.place (Outcome.Fault (self.old.grammar.lines + 1) FileFault.LongLine) }
+        ensures event { result ≡ ended self.old.place (Outcome.Fault (self.old.grammar.lines + 1)
+            FileFault.LongLine) }
         ensures place { self.new.place ≡ self.old.place + 1 }
         ensures same { SameText self.old self.new }
-        ensures done { self.new.phase ≡ phases.Done (Outcome.Fault (self.old.grammar.lines + 1) FileFault.LongLine) }
+        ensures done { self.new.phase ≡ phases.Done (Outcome.Fault (self.old.grammar.lines + 1)
+            FileFault.LongLine) }
     {
         let line = self.grammar.lines + 1;
         self.end(Outcome::Fault {
@@ -264,7 +297,9 @@ impl FileReader {
         requires room { self.old.place + 1 ≤ self.old.given }
         requires lines { self.old.grammar.lines + 1 ≤ self.old.given }
         requires here { FitsCut cut used.now self.old.cutter }
-        ensures stands { (layout : LayoutTable) (b : List ℕ) (es : List Placed) → AtCut layout self.old cut b used.now es → Stands layout self.new (b ++ used.now) (es ++ option_to_list event.new) }
+        ensures stands { (layout : LayoutTable) (b : List ℕ) (es : List Placed)
+            → AtCut layout self.old cut b used.now es
+            → Stands layout self.new (b ++ used.now) (es ++ option_to_list event.new) }
         ensures same { SameText self.old self.new }
         ensures reading { IfNone event.new (self.new.phase ≡ phases.Reading) }
     {
@@ -284,7 +319,9 @@ impl FileReader {
         requires none { event.old ≡ None }
         ensures some { 0 < result }
         ensures bound { result ≤ length piece.now }
-        ensures stands { (layout : LayoutTable) (b : List ℕ) (es : List Placed) → Stands layout self.old b es → Stands layout self.new (b ++ take result piece.now) (es ++ option_to_list event.new) }
+        ensures stands { (layout : LayoutTable) (b : List ℕ) (es : List Placed)
+            → Stands layout self.old b es
+            → Stands layout self.new (b ++ take result piece.now) (es ++ option_to_list event.new) }
         ensures given { self.new.given ≡ self.old.given + result }
         ensures ending { self.new.ending ≡ self.old.ending }
         ensures reading { IfNone event.new (self.new.phase ≡ phases.Reading) }
@@ -300,7 +337,9 @@ impl FileReader {
         requires reading { self.old.phase ≡ phases.Reading }
         requires room { self.old.given + length piece.now ≤ 2 ^ 36 }
         ensures bound { result.0 ≤ length piece.now }
-        ensures stands { (layout : LayoutTable) (b : List ℕ) (es : List Placed) → Stands layout self.old b es → Stands layout self.new (b ++ take result.0 piece.now) (es ++ option_to_list result.1) }
+        ensures stands { (layout : LayoutTable) (b : List ℕ) (es : List Placed)
+            → Stands layout self.old b es
+            → Stands layout self.new (b ++ take result.0 piece.now) (es ++ option_to_list result.1) }
         ensures ending { self.new.ending ≡ self.old.ending }
         ensures reading { IfNone result.1 (self.new.phase ≡ phases.Reading) }
         ensures whole { IfNone result.1 (result.0 ≡ length piece.now) }
@@ -324,16 +363,22 @@ impl FileReader {
         requires room { bytes_used self.old + length piece.now ≤ 2 ^ 36 }
 
         // The reader stands for the bytes used and the events given.
-        ensures stands { (layout : LayoutTable) (b : List ℕ) (es : List Placed) → Stands layout self.old b es → Stands layout self.new (b ++ take result.0 piece.now) (es ++ option_to_list result.1) }
+        ensures stands { (layout : LayoutTable) (b : List ℕ) (es : List Placed)
+            → Stands layout self.old b es
+            → Stands layout self.new (b ++ take result.0 piece.now) (es ++ option_to_list result.1) }
         // These events are the first that the bytes have; without an event, all.
-        ensures begins { (layout : LayoutTable) (b : List ℕ) (es : List Placed) → Stands layout self.new b es → BeginsEvents layout b None es }
-        ensures all { IfNone result.1 ((layout : LayoutTable) (b : List ℕ) (es : List Placed) → Stands layout self.new b es → HasEvents layout b None es) }
+        ensures begins { (layout : LayoutTable) (b : List ℕ) (es : List Placed)
+            → Stands layout self.new b es → BeginsEvents layout b None es }
+        ensures all { IfNone result.1 ((layout : LayoutTable) (b : List ℕ) (es : List Placed)
+            → Stands layout self.new b es → HasEvents layout b None es) }
         // Where an event of the bytes used so far waits, no byte more is used.
-        ensures waiting { (layout : LayoutTable) (b : List ℕ) (es : List Placed) → Stands layout self.old b es → HasEvents layout b None es ⊎ (result.0 ≡ 0) }
+        ensures waiting { (layout : LayoutTable) (b : List ℕ) (es : List Placed)
+            → Stands layout self.old b es → HasEvents layout b None es ⊎ (result.0 ≡ 0) }
         // Without an event the whole piece was used, unless Ended was given.
         ensures bound { result.0 ≤ length piece.now }
         ensures whole { IfNone result.1 ((result.0 ≡ length piece.now) ⊎ IsDone self.new) }
-        ensures done { IsDone self.old → (result.0 ≡ 0) × (result.1 ≡ None) × (self.new ≡ self.old) }
+        ensures done { IsDone self.old
+            → (result.0 ≡ 0) × (result.1 ≡ None) × (self.new ≡ self.old) }
         ensures used { bytes_used self.new ≡ bytes_used self.old + result.0 }
         ensures open { ending_told self.new ≡ None }
         ensures progress { OnSome result.1 (events_left self.new < result.0 + events_left self.old) }
@@ -349,10 +394,15 @@ impl FileReader {
     pub fn finish(&mut self, ending: Ending) -> Option<Event>
         ensures ending { ending_told self.new ≡ Some (first_ending self.old ending) }
         ensures used { bytes_used self.new ≡ bytes_used self.old }
-        ensures stands { (layout : LayoutTable) (b : List ℕ) (es : List Placed) → Stands layout self.old b es → Stands layout self.new b (es ++ option_to_list result) }
+        ensures stands { (layout : LayoutTable) (b : List ℕ) (es : List Placed)
+            → Stands layout self.old b es → Stands layout self.new b (es ++ option_to_list result) }
         // The events given are the first of the text's; without an event, all.
-        ensures begins { (layout : LayoutTable) (b : List ℕ) (es : List Placed) → Stands layout self.new b es → BeginsEvents layout b (Some (first_ending self.old ending)) es }
-        ensures all { IfNone result ((layout : LayoutTable) (b : List ℕ) (es : List Placed) → Stands layout self.new b es → HasEvents layout b (Some (first_ending self.old ending)) es) }
+        ensures begins { (layout : LayoutTable) (b : List ℕ) (es : List Placed)
+            → Stands layout self.new b es
+            → BeginsEvents layout b (Some (first_ending self.old ending)) es }
+        ensures all { IfNone result ((layout : LayoutTable) (b : List ℕ) (es : List Placed)
+            → Stands layout self.new b es
+            → HasEvents layout b (Some (first_ending self.old ending)) es) }
         ensures done { IfNone result (IsDone self.new) }
         ensures progress { OnSome result (events_left self.new < events_left self.old) }
     {
@@ -369,8 +419,12 @@ impl FileReader {
         ensures ending { self.new.ending ≡ Some (first_ending self.old ending) }
         ensures phase { self.new.phase ≡ self.old.phase }
         ensures used { self.new.given ≡ self.old.given }
-        ensures ended { self.old.phase ≢ phases.Reading → (layout : LayoutTable) (b : List ℕ) (es : List Placed) → Stands layout self.old b es → Stands layout self.new b es }
-        ensures reading { self.old.phase ≡ phases.Reading → (layout : LayoutTable) (b : List ℕ) (es : List Placed) → Stands layout self.old b es → AtEnd layout self.new ending b es }
+        ensures ended { self.old.phase ≢ phases.Reading
+            → (layout : LayoutTable) (b : List ℕ) (es : List Placed)
+            → Stands layout self.old b es → Stands layout self.new b es }
+        ensures reading { self.old.phase ≡ phases.Reading
+            → (layout : LayoutTable) (b : List ℕ) (es : List Placed)
+            → Stands layout self.old b es → AtEnd layout self.new ending b es }
     {
         if self.ending.is_none() {
             self.ending = Some(ending);
@@ -380,7 +434,8 @@ impl FileReader {
     /// Ends behind the last piece.
     fn finish_lines(&mut self, ending: Ending) -> Event
         requires reading { self.old.phase ≡ phases.Reading }
-        ensures stands { (layout : LayoutTable) (b : List ℕ) (es : List Placed) → AtEnd layout self.old ending b es → Stands layout self.new b (es ++ result ∷ []) }
+        ensures stands { (layout : LayoutTable) (b : List ℕ) (es : List Placed)
+            → AtEnd layout self.old ending b es → Stands layout self.new b (es ++ result ∷ []) }
         ensures left { left self.new.phase < 2 }
         ensures same { SameText self.old self.new }
     {
@@ -392,7 +447,9 @@ impl FileReader {
 
     fn finish_whole(&mut self) -> Event
         requires reading { self.old.phase ≡ phases.Reading }
-        ensures stands { (layout : LayoutTable) (b : List ℕ) (es : List Placed) → AtEnd layout self.old Ending.Whole b es → Stands layout self.new b (es ++ result ∷ []) }
+        ensures stands { (layout : LayoutTable) (b : List ℕ) (es : List Placed)
+            → AtEnd layout self.old Ending.Whole b es
+            → Stands layout self.new b (es ++ result ∷ []) }
         ensures left { left self.new.phase < 2 }
         ensures same { SameText self.old self.new }
     {
@@ -407,7 +464,8 @@ impl FileReader {
     fn no_line(&mut self, ending: Ending) -> Event
         requires reading { self.old.phase ≡ phases.Reading }
         requires none { ending ≡ Ending.Whole → length self.old.cutter.bytes.items ≡ 0 }
-        ensures stands { (layout : LayoutTable) (b : List ℕ) (es : List Placed) → AtEnd layout self.old ending b es → Stands layout self.new b (es ++ result ∷ []) }
+        ensures stands { (layout : LayoutTable) (b : List ℕ) (es : List Placed)
+            → AtEnd layout self.old ending b es → Stands layout self.new b (es ++ result ∷ []) }
         ensures left { left self.new.phase < 2 }
         ensures same { SameText self.old self.new }
     {
@@ -419,16 +477,22 @@ impl FileReader {
     fn last_line(&mut self) -> Event
         requires reading { self.old.phase ≡ phases.Reading }
         requires some { 0 < length self.old.cutter.bytes.items }
-        ensures stands { (layout : LayoutTable) (b : List ℕ) (es : List Placed) → AtEnd layout self.old Ending.Whole b es → Stands layout self.new b (es ++ result ∷ []) }
+        ensures stands { (layout : LayoutTable) (b : List ℕ) (es : List Placed)
+            → AtEnd layout self.old Ending.Whole b es
+            → Stands layout self.new b (es ++ result ∷ []) }
         ensures left { left self.new.phase < 2 }
         ensures same { SameText self.old self.new }
     {
         let line = self.grammar.lines + 1;
         self.phase = Phase::Done(Outcome::Whole);
         let mut closed = None;
-        let step = self
-            .grammar
-            .line(self.alloc, &self.layout, self.cutter.line(), &mut closed);
+        let step = self.grammar.line(
+            self.alloc,
+            &self.layout,
+            self.cutter.line(),
+            &mut self.spare,
+            &mut closed,
+        );
         match step {
             Step::Good => {
                 let outcome = self.grammar.outcome(Ending::Whole);

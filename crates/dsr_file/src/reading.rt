@@ -3,7 +3,7 @@ ghost use Rattle.std.specs.Prelude.{◌≡◌, ◌++◌, ◌∷◌, [], ◌<◌,
 ghost use Rattle.dsr_records.specs.Records.{LayoutTable};
 ghost use Rattle.dsr_file.specs.Runs.{EndsWith};
 ghost use Rattle.dsr_file.specs.Sources.{IsRead, IsRefused};
-ghost use Rattle.dsr_file.specs.Refusals.{IsRefusal};
+ghost use Rattle.dsr_file.specs.Refusals.{IsRefusal, refused_event};
 ghost use Rattle.dsr_file.specs.Standing.{Stands, bytes_used, ending_told};
 
 use crate::event::Event;
@@ -29,6 +29,10 @@ pub enum ReadFileError {
 
 /// Reads a file by a layout and puts its events into an empty sink. The answer is the outcome that was put last.
 /// It makes `max_reads` reads at most, each of 4,096 bytes at most, and none after the file has ended.
+///
+/// # Errors
+///
+/// [`ReadFileError`]: no memory for a reader, or an event that the sink handed back.
 pub fn read_file<R: Source, S: Sink>(
     alloc: Global,
     layout: &Layout,
@@ -50,7 +54,14 @@ pub fn read_file<R: Source, S: Sink>(
     let Ok(mut file) = FileReader::new(alloc, layout) else {
         return Err(ReadFileError::Memory);
     };
-    match read_all(&mut file, reader, sink, max_reads) {
+    error_of(read_all(&mut file, reader, sink, max_reads))
+}
+
+/// An answer whose error is told as the event that the sink refused.
+fn error_of(answer: Result<Outcome, Event>) -> Result<Outcome, ReadFileError>
+    ensures { result ≡ refused_event answer }
+{
+    match answer {
         Ok(outcome) => Ok(outcome),
         Err(event) => Err(ReadFileError::Refused(event)),
     }

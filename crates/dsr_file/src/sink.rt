@@ -4,6 +4,7 @@ ghost use Rattle.dsr_file.specs.Placed.{Placed};
 ghost use Rattle.dsr_file.specs.Runs.{IsSomeRun};
 
 use crate::event::Event;
+use dsr_records::Block;
 
 /// Takes the events of a file, one after another.
 pub trait Sink {
@@ -15,10 +16,30 @@ pub trait Sink {
 
     ghost name: { Self → Self.Name };
 
-    /// Adds the event to the list, or hands it back and changes nothing. The list with the event is a run of some text.
+    /// Adds the event to the list. The list with the event is a run of some text.
+    ///
+    /// # Errors
+    ///
+    /// The event itself, where the sink does not take it; nothing changes then.
     fn put(&mut self, event: Event) -> Result<(), Event>
         requires { IsSomeRun (list self.old ++ event ∷ []) }
         ensures added { OnOk result (list self.new ≡ list self.old ++ event ∷ []) }
         ensures refused { IfErr result (λ back. (back ≡ event) × (list self.new ≡ list self.old)) }
         ensures name { name self.new ≡ name self.old };
+
+    /// A block whose memory may be used again, if the sink has one. Its value says nothing. A sink
+    /// that keeps its events has none.
+    fn spare(&mut self) -> Option<Block>
+        ensures list { list self.new ≡ list self.old }
+        ensures name { name self.new ≡ name self.old }
+    {
+        None
+    }
+
+    /// Notes that so many bytes of the file were read since the last note: a sink may count them to
+    /// bound what waits in it. Nothing has to be done.
+    fn note_bytes(&mut self, _bytes: usize)
+        ensures list { list self.new ≡ list self.old }
+        ensures name { name self.new ≡ name self.old }
+    {}
 }

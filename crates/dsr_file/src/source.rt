@@ -18,6 +18,10 @@ pub trait Source {
     ghost told: { Self → Told };
 
     /// Reads bytes into the front of the piece: how many. 0 is the end.
+    ///
+    /// # Errors
+    ///
+    /// [`Failed`]: the read failed.
     fn read(&mut self, piece: &mut [u8]) -> Result<usize, Failed>
         requires { 0 < length piece.old }
         ensures bound { ReadsAtMost result piece.new }

@@ -3,9 +3,10 @@ ghost use Rattle.std.specs.Prelude.{◌≡◌, ◌++◌, ◌∷◌, [], ◌+◌,
 ghost use Rattle.std.specs.List.{list_any};
 ghost use Rattle.std.specs.Str.{bytes_eq};
 ghost use Rattle.std.specs.Option.{option_map};
-ghost use Rattle.dsr_records.specs.Reads.{has_texts};
+ghost use Rattle.dsr_records.specs.declared.kinds.Kind.TheVariants as kinds;
+ghost use Rattle.dsr_records.specs.Reads.{has_texts, kind_of_record};
 ghost use Rattle.dsr_file.specs.Faults.{place, member_fault, summary_fault};
-ghost use Rattle.dsr_file.specs.Stages.{column_at, stage_fault, stage_after, given_by, part_given, kept_fault, block_length, IsFree, IsMember, IsNew};
+ghost use Rattle.dsr_file.specs.Stages.{column_at, stage_fault, stage_after, given_by, part_given, kept_fault, block_length, IsFree, IsMember, IsOther, IsNew};
 
 use crate::event::{EventPart, Opening, Summaries};
 use crate::fault::FileFault;
@@ -150,8 +151,8 @@ impl Stage {
         }
     }
 
-    /// Takes a record that is no work or usage and has no fault, and gives the event that it closes. Want of memory
-    /// changes nothing.
+    /// Takes a record of a kind that no block holds and that has no fault, and gives the event that it
+    /// closes. Want of memory changes nothing.
     pub(crate) fn add(
         &mut self,
         alloc: Global,
@@ -159,7 +160,7 @@ impl Stage {
         closed: &mut Option<EventPart>,
     ) -> Result<(), NoMemory>
         requires free { IsFree self.old item }
-        requires other { IsMember item → ⊥ }
+        requires other { IsOther item }
         requires none { closed.old ≡ None }
         ensures next { OnOk result (self.new ≡ stage_after self.old item) }
         ensures given { OnOk result (closed.new ≡ given_by self.old item) }
@@ -174,17 +175,35 @@ impl Stage {
                 Ok(())
             }
             Record::Summary(summary) => self.add_summary(summary),
-            Record::Resource(resource) => {
-                let block = Block::open(alloc, resource)?;
-                self.close(Stage::Open(block), closed);
-                Ok(())
-            }
             Record::Foot(_) => {
                 self.close(Stage::Closed, closed);
                 Ok(())
             }
             _ => Ok(()),
         }
+    }
+
+    /// Opens the block of a resource line, which has no fault, over the spare block, and gives the
+    /// event that the line closes. Want of memory closes nothing.
+    pub(crate) fn open(
+        &mut self,
+        alloc: Global,
+        line: &CheckedLine<'_>,
+        spare: &mut Option<Block>,
+        closed: &mut Option<EventPart>,
+    ) -> Result<(), NoMemory>
+        requires resource { kind_of_record line.now ≡ kinds.Resource }
+        requires none { closed.old ≡ None }
+        ensures next { OnOk result (self.new ≡ stage_after self.old line.now) }
+        ensures given { OnOk result (closed.new ≡ given_by self.old line.now) }
+        ensures memory { OnErr result (has_texts line.now ≡ true) }
+    {
+        let mut block = spare.take().unwrap_or_else(|| Block::empty(alloc));
+        let Ok(()) = line.open_block(alloc, &mut block) else {
+            return Err(NoMemory);
+        };
+        self.close(Stage::Open(block), closed);
+        Ok(())
     }
 
     fn add_summary(&mut self, summary: Summary) -> Result<(), NoMemory>

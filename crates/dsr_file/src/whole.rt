@@ -1,5 +1,5 @@
 //! All events of a text.
-ghost use Rattle.std.specs.Prelude.{◌≡◌, ◌++◌, ◌+◌, ◌≤◌, ◌^◌, length, List, ℕ, Some, None, IfOk};
+ghost use Rattle.std.specs.Prelude.{◌≡◌, ◌++◌, ◌+◌, ◌≤◌, ◌^◌, [], length, List, ℕ, Some, None, IfOk};
 ghost use Rattle.dsr_records.specs.Records.{LayoutTable};
 ghost use Rattle.dsr_file.specs.Texts.{text_events};
 ghost use Rattle.dsr_file.specs.Runs.{HasEvents, EndsWith, is_memory, by_memory};
@@ -17,6 +17,10 @@ use dsr_records::Layout;
 use std::alloc::Global;
 
 /// All events of the text with these bytes and this ending.
+///
+/// # Errors
+///
+/// `NoMemory`: no memory was left for the events, or for what they hold.
 pub fn whole_events(
     alloc: Global,
     layout: &Layout,
@@ -26,16 +30,29 @@ pub fn whole_events(
     requires { length bytes.now ≤ 2 ^ 36 }
     ensures { IfOk result (λ events. events ≡ text_events layout.now bytes.now ending) }
 {
-    let mut file = FileReader::new(alloc, layout)?;
     let mut events = EventList::new(alloc);
-    match give_all(&mut file, bytes, ending, &mut events) {
-        Ok(outcome) => if ends_for_memory(outcome) {
-            Err(NoMemory)
-        } else {
-            Ok(events)
-        },
-        Err(_) => Err(NoMemory),
+    let outcome = read_whole(alloc, layout, bytes, ending, &mut events)?;
+    if ends_for_memory(outcome) {
+        return Err(NoMemory);
     }
+    Ok(events)
+}
+
+/// Gives a sink all events of a text.
+fn read_whole<S: Sink>(
+    alloc: Global,
+    layout: &Layout,
+    bytes: &[u8],
+    ending: Ending,
+    sink: &mut S,
+) -> Result<Outcome, NoMemory>
+    requires room { length bytes.now ≤ 2 ^ 36 }
+    requires empty { S.list sink.old ≡ [] }
+    ensures { IfOk result (λ o. HasEvents layout.now bytes.now (Some ending) (S.list sink.new)
+        × EndsWith (S.list sink.new) o) }
+{
+    let mut file = FileReader::new(alloc, layout)?;
+    give_all(&mut file, bytes, ending, sink).map_err(|_| NoMemory)
 }
 
 /// Gives a reader the rest of a text, and a sink the events.
@@ -48,7 +65,10 @@ fn give_all<S: Sink>(
     requires open { ending_told file.old ≡ None }
     requires room { bytes_used file.old + length bytes.now ≤ 2 ^ 36 }
     requires known { IsKnown file.old (S.list sink.old) }
-    ensures { IfOk result (λ o. (layout : LayoutTable) (b : List ℕ) → Stands layout file.old b (S.list sink.old) → HasEvents layout (b ++ bytes.now) (Some ending) (S.list sink.new) × EndsWith (S.list sink.new) o) }
+    ensures { IfOk result (λ o. (layout : LayoutTable) (b : List ℕ)
+        → Stands layout file.old b (S.list sink.old)
+        → HasEvents layout (b ++ bytes.now) (Some ending) (S.list sink.new)
+        × EndsWith (S.list sink.new) o) }
 {
     feed(file, bytes, sink)?;
     if file.done() {

@@ -3,3 +3,6 @@ pub mod Promises
 pub mod Joining
 pub mod Filing
 pub mod Rounds
+pub mod Sending
+pub mod Lines
+pub mod Bounds

@@ -4,3 +4,7 @@ pub mod Stops
 pub mod Ready
 pub mod Given
 pub mod Collecting
+pub mod Pieces
+pub mod Puts
+pub mod Bound
+pub mod Laid

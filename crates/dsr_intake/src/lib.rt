@@ -8,10 +8,19 @@
 //! 4. `pipeline/collector`: takes the events of all relays, a message of each in turn, and books them.
 //!    `pipeline/seed`: the seed of the hashes in the books.
 //! 5. `pipeline/gather` again: joins the threads and hands the readers back, with the report.
-//! 6. `statements/write`: the bytes of the report, by `statements/lines`, `statements/cells` and `statements/names`.
-//!    `statements/status`: whether anybody has to look at them.
-//! 7. `pipeline/run`: all of this, and then the bytes go to an `outlet`, which is flushed. `to_write` makes an
-//!    outlet of a writer of the library.
+//! 6. `statements/room`: all the memory that writing the statement takes is taken before its first byte goes out.
+//! 7. `statements/write`: puts the statement, by `statements/lines`, `statements/cells`, `statements/key` and
+//!    `statements/names`, to whatever takes bytes (`statements/put`): first to `statements/bound`, which adds up how
+//!    many they are at most, then to `statements/pieces`. `statements/status`: whether anybody has to look at it.
+//! 8. `statements/pieces`: sends what is put to an `outlet`, in pieces of 64 KB, and flushes it at the end. `to_write`
+//!    makes an outlet of a writer of the library.
+//! 9. `pipeline/run`: all of this.
+//!
+//! ```
+//! // A run on readers, as `gives` in `crates/dsr_tests/src/runs.rt` makes it; proved with that crate.
+//! let answer = run(rt, alloc, &mut readers, Options::standard(), &mut page);
+//! assert!(answer == Ok(status) && page.bytes() == statement);
+//! ```
 //!
 //! `pipeline/errors` has each error with its text. Of the definitions, `specs/meaning` has those that `run` must be
 //! believed by, and `specs/inner` relates to them what the code keeps.

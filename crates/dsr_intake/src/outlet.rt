@@ -1,7 +1,7 @@
 //! Where a statement goes.
 ghost use Rattle.std.specs.Prelude.{◌≡◌, ◌<◌, ◌≤◌, ◌+◌, true, false, length, take, MatchResult, IfOk};
 ghost use Rattle.std.specs.Io.KnownBytes.{WriteAppends, Keeps};
-ghost use Rattle.dsr_intake.specs.meaning.Written.{Written, IsTaken, IsFlushed, IsCut};
+ghost use Rattle.dsr_intake.specs.meaning.Written.{Written, IsTaken, IsCut};
 
 use dsr_file::Failed;
 
@@ -62,17 +62,4 @@ pub(crate) fn write_all<W: Outlet>(out: &mut W, bytes: &[u8]) -> Result<(), usiz
         }
     }
     Ok(())
-}
-
-/// Writes all bytes, and then flushes. The fault is how many of them went out.
-pub(crate) fn write_and_flush<W: Outlet>(out: &mut W, bytes: &[u8]) -> Result<(), usize>
-    ensures written { MatchResult result
-        (λ _. IsFlushed bytes.now (W.told out.old) (W.told out.new))
-        (λ n. (n ≤ length bytes.now) × IsCut (take n bytes.now) (W.told out.old) (W.told out.new)) }
-{
-    write_all(out, bytes)?;
-    match out.flush() {
-        Ok(()) => Ok(()),
-        Err(Failed) => Err(bytes.len()),
-    }
 }

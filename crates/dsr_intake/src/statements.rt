@@ -1,7 +1,12 @@
 //! A report as bytes, and whether anybody has to look at it.
+pub(crate) mod bound;
 pub(crate) mod cells;
+pub(crate) mod key;
 pub(crate) mod lines;
 pub(crate) mod names;
+pub(crate) mod pieces;
+pub(crate) mod put;
+pub(crate) mod room;
 pub(crate) mod status;
 pub(crate) mod verdict;
 pub(crate) mod write;

@@ -32,6 +32,13 @@ impl<W: Write> ToWrite<W> {
             unflushed: false,
         }
     }
+
+    /// The writer, with what was written.
+    pub(crate) fn into_writer(self) -> W
+        ensures { result ≡ self.writer }
+    {
+        self.writer
+    }
 }
 
 impl<W: Write> Outlet for ToWrite<W> {

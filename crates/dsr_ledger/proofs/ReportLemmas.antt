@@ -301,6 +301,15 @@ module _ (books : Ledger) where
       lines = λ bs stand. refl;
     }
 
+-- a recording is taken, and its lines are added
+pub lines_step : (books : Ledger) (isrc : List ℕ) (r : Recording) (all rest : List (List ℕ × Recording)) (ps : List (List ℕ)) (ks : List SummaryKey) (out new : List LedgerLine)
+    → all ≡ (isrc, r) ∷ rest → ps ≡ books.parties.keys → ks ≡ books.summary_keys.keys → AreRest books all → IsWritten books all out → AddsLines ps ks isrc r out new
+    → AreRest books rest × IsWritten books rest new
+lines_step books isrc r all rest ps ks out new taken parties keys own was adds =
+    let before = subst (AreRest books) taken own in
+    let added = subst (λ xs. AddsLines books.parties.keys xs isrc r out new) keys (subst (λ xs. AddsLines xs ks isrc r out new) parties adds) in
+    (rest_tail books (isrc, r) rest before, written_step books isrc r rest out new before (subst (λ es. IsWritten books es out) taken was) added)
+
 fewer : {X : Type 0} (p : X → Bool) (xs : List X) → length (filter p xs) ≤ length xs
 fewer p [] = omega arith
 fewer p (x ∷ xs) = let rest = fewer p xs in elim (p x) as (λ b. length (cond b (x ∷ filter p xs) (filter p xs)) ≤ suc (length xs)) [ true ↦ omega arith | false ↦ omega arith ]

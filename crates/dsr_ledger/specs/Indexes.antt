@@ -1,15 +1,18 @@
 -- The index of a list of numbers.
-use Rattle.std.specs.Prelude.{◌≡◌, ℕ, List, Option, take}
+use Rattle.std.specs.Prelude.{◌≡◌, ℕ, ◌<◌, List, MatchOption, length, drop, slice_index}
 use Rattle.std.specs.BTreeMap.{get}
-use Rattle.std.specs.Option.{option_or}
 use Rattle.std.specs.Ordering.{nat_cmp}
 use Rattle.dsr_ledger.specs.declared.ledger.index.Index.{Index}
 use Rattle.dsr_ledger.specs.Numbered.{place_in}
 
--- the place that the index has of a number
-abbrev pub indexed_at : Index → ℕ → Option ℕ
-indexed_at index n = get nat_cmp index.places n
+-- each number is above those before it
+abbrev pub Rise : List ℕ → Type 0
+Rise ns = (i j : ℕ) → i < j → j < length ns → slice_index ns i < slice_index ns j
 
--- each number stands among the first 16, or has its place in the index
+-- an index describes a list of numbers if it is empty and they rise, or if it has their places
+abbrev pub Describes : Index → List ℕ → Type 0
+Describes index ns = MatchOption index.places (Rise ns) (λ places. (n : ℕ) → get nat_cmp places.value n ≡ place_in ns n)
+
+-- the index of a list of numbers describes those behind the first 16
 abbrev pub AreIndexed : List ℕ → Index → Type 0
-AreIndexed ns index = (n : ℕ) → place_in ns n ≡ option_or (place_in (take 16 ns) n) (indexed_at index n)
+AreIndexed ns index = Describes index (drop 16 ns)

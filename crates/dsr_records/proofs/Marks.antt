@@ -1,16 +1,19 @@
 -- Lemmas on the TABs of bytes as bits.
-use Rattle.std.proofs.Common.{◌≡◌, ◌+◌, ◌-◌, ◌*◌, ◌/◌, ◌%◌, ◌^◌, ◌<◌, ◌≤◌, ℕ, zero, suc, Bool, List, [], ◌∷◌, length, map, take, drop, get_or, cond, true, false, eqb, refl, sym, ap, subst, ◌∙◌, arith, inl, inr, bit_or, min, w64, pow_mono, pow-suc, mul_comm, div-one, add_comm, mod-eq_of_lt, mul-lt-mul_of_pos_right}
+use Rattle.std.proofs.Common.{◌≡◌, ◌+◌, ◌-◌, ◌*◌, ◌/◌, ◌%◌, ◌^◌, ◌<◌, ◌≤◌, ℕ, zero, suc, Bool, List, [], ◌∷◌, length, map, take, drop, get_or, cond, true, false, eqb, refl, sym, ap, subst, ◌∙◌, arith, inl, inr, bit_or, min, w64, pow_mono, pow-suc, mul_comm, div-one, add_comm, mod-eq_of_lt, mul-lt-mul_of_pos_right, ◌++◌, count_by, length-append}
 use Rattle.std.specs.Int.{bit_at, from_bool}
-use Rattle.std.specs.List.{position_or_len}
+use Rattle.std.specs.List.{filter, position_or_len}
 use Rattle.std.specs.Simd.Lanes.{chunk}
 use Rattle.std.proofs.lemmas.Bool.{cases_lt}
-use Rattle.std.proofs.lemmas.List.{get_or_past, get_or-take, length-take, length-map, length-drop, drop-drop, drop-take, drop_more, take_min, take_all}
-use Rattle.std.proofs.lemmas.List.Sums.{position_or_len_is}
+use Rattle.std.proofs.lemmas.List.{get_or_past, get_or-take, length-take, length-map, length-drop, drop-drop, drop-take, drop_more, take_min, take_all, take-append-drop}
+use Rattle.std.proofs.lemmas.List.Elements.{filter-append}
+use Rattle.std.proofs.lemmas.List.Splits.{length-slice_split}
+use Rattle.std.proofs.lemmas.List.Sums.{count_by-le-length, length-filter, position_or_len_is}
 use Rattle.std.proofs.lemmas.Nat.{pow-add, pow_pos}
 use Rattle.std.proofs.lemmas.Nat.Bits.{bit_at-trailing_zeros, bit_at_or, bit_at_cat_low, bit_at_cat_high, same_from_bits}
-use Rattle.std.proofs.lemmas.Simd.{bit_mask_l, mask_l-lt, get_or-chunk, length-chunk}
+use Rattle.std.proofs.lemmas.Simd.{bit_mask_l, mask_l-lt, ones-mask_l, get_or-chunk, length-chunk}
 use Rattle.std.proofs.Math.ListN.{get_or-map}
 use Rattle.std.proofs.Math.Nat.{zero-div, div-div-eq-div-mul}
+use Rattle.std.specs.Prelude.{count_ones}
 use Rattle.std.specs.Int.Count.{count_trailing_zeros}
 use Rattle.dsr_records.specs.Marks.{tab_bits}
 use Rattle.dsr_cells.specs.Cells.{cells}
@@ -190,6 +193,32 @@ known_behind text rest unseen tabs place known inside behind =
 -- the TABs of the first 64 bytes
 pub known_first : (text : List ℕ) (unseen tabs : ℕ) → tabs ≡ tab_bits (take 64 text) → unseen ≡ length text - 64 → KnownTabs text unseen tabs
 known_first text unseen tabs known some = (omega arith, known ∙ ap tab_bits (sym (take_first text 64 (length text - unseen) (omega arith))))
+
+-- each byte behind the first n may pass
+count_by-front : (p : ℕ → Bool) (n : ℕ) (xs : List ℕ) → count_by p xs ≤ count_by p (take n xs) + (length xs - n)
+count_by-front p n xs =
+    let parts : filter p xs ≡ filter p (take n xs) ++ filter p (drop n xs) =
+    ap (filter p) (sym (take-append-drop n xs)) ∙ filter-append p (take n xs) (drop n xs) in
+    let lengths = ap length parts ∙ length-append (filter p (take n xs)) (filter p (drop n xs)) in
+    omega (
+      arith,
+      lengths,
+      length-filter p xs,
+      length-filter p (take n xs),
+      length-filter p (drop n xs),
+      count_by-le-length p (drop n xs),
+      length-drop n xs,
+    )
+
+-- the TABs that are known, and the bytes that are unseen, are one fewer than the cells may be
+pub cells_known : (text : List ℕ) (unseen tabs : ℕ) → KnownTabs text unseen tabs
+    → length (cells text) ≤ count_ones tabs + unseen + 1
+cells_known text unseen tabs known =
+    let seen = length text - unseen in
+    let ones : count_ones tabs ≡ count_by is_tab (take seen text) =
+    ap count_ones known.1 ∙ ones-mask_l is_tab (take seen text) in
+    let split : length (cells text) ≡ count_by is_tab text + 1 = length-slice_split is_tab text in
+    omega (arith, ones, split, count_by-front is_tab seen text)
 
 -- where no TAB is known, and all bytes are seen, the text is one cell
 pub only_cell_known : (text : List ℕ) (unseen tabs : ℕ) → KnownTabs text unseen tabs → tabs ≡ 0 → unseen ≡ 0 → cells text ≡ text ∷ []

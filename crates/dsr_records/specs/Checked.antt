@@ -1,11 +1,11 @@
 -- What contracts see of a line that was checked.
 use Rattle.dsr_records.specs.declared.record.Record.{Record}
 use Rattle.dsr_records.specs.declared.record.Record.TheVariants as records
-use Rattle.dsr_records.specs.declared.borrowed.BorrowedRecord.{BorrowedRecord}
-use Rattle.dsr_records.specs.declared.borrowed.BorrowedRecord.TheVariants.{Head, Summary, Resource, Work, Usage, Foot, Skipped}
+use Rattle.dsr_records.specs.declared.check.RecordLine.{RecordLine}
+use Rattle.dsr_records.specs.declared.check.RecordLine.TheVariants.{Head, Summary, Resource, Work, Usage, Foot, Skipped}
 
 -- the record whose texts stand in the line
-abbrev pub record_seen : BorrowedRecord → Record
+abbrev pub record_seen : RecordLine → Record
 record_seen (Head h) = records.Head h
 record_seen (Summary s) = records.Summary s
 record_seen (Resource r) = records.Resource r

@@ -21,8 +21,8 @@ fn behind_cells(from: Option<Rest<'_>>, count: usize) -> Option<Rest<'_>>
     rest
 }
 
-/// What is left from the cell at a place on, found from what is left from another cell on or, where that one stands behind it,
-/// from the line's beginning.
+/// What is left from the cell at a place on, found from what is left from another cell on or, where
+/// that one stands behind it, from the line's beginning.
 #[cold]
 #[inline(never)]
 fn rest_elsewhere<'l>(
@@ -41,7 +41,8 @@ fn rest_elsewhere<'l>(
     }
 }
 
-/// Finds the cells of a line from where the last one was found, which contracts see as the cells of the line.
+/// Finds the cells of a line from where the last one was found, which contracts see as the cells of
+/// the line.
 #[derive(Drop)]
 pub(crate) struct Cursor<'l> {
     line: &'l str,
@@ -63,13 +64,15 @@ impl<'l> Model for Cursor<'l> {
 }
 
 impl<'l> Cursor<'l> {
-    /// A cursor at the first cell.
-    pub(crate) fn at(line: &'l str) -> Cursor<'l>
+    /// A cursor at the first cell of a line, of which nothing is taken yet.
+    #[inline(always)]
+    pub(crate) fn at(line: &'l str, whole: Rest<'l>) -> Cursor<'l>
+        requires { whole.text.now ≡ line.now }
         ensures { result ≡ cells line.now }
     {
         Cursor {
             line,
-            rest: Some(Rest::of(line)),
+            rest: Some(whole),
             next: 0,
         }
     }

@@ -133,6 +133,10 @@ impl Layout {
     }
 
     /// The layout that the lines of a text spell, or its first fault.
+    ///
+    /// # Errors
+    ///
+    /// The first faulty line and what is wrong with it; `LayoutFault` says each fault.
     pub fn read(bytes: &[u8]) -> Result<Layout, LayoutError>
         ensures { result ≡ layout_of bytes.now }
     {

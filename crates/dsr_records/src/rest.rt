@@ -1,5 +1,6 @@
 //! What is left of a line, and the first cell of it.
-ghost use Rattle.std.specs.Prelude.{◌≡◌, ◌≢◌, ◌+◌, ◌-◌, ◌<◌, ◌≤◌, ◌==◌, ◌∷◌, length, take, drop, slice_index};
+ghost use Rattle.std.specs.Prelude.{◌≡◌, ◌≢◌, ◌+◌, ◌-◌, ◌<◌, ◌≤◌, ◌==◌, ◌∷◌, length, take, drop};
+ghost use Rattle.std.specs.Prelude.{slice_index, false};
 ghost use Rattle.std.specs.List.{position, position_or_len};
 ghost use Rattle.dsr_cells.specs.Cells.{cells};
 ghost use Rattle.dsr_records.specs.Marks.{tab_bits};
@@ -40,11 +41,13 @@ fn around_tab(text: &str, place: usize) -> (&str, &str)
 #[derive(Clone, Copy)]
 pub(crate) struct Rest<'l> {
     text: &'l str,
-    /// How many of the last bytes are not looked at yet. Of those before them, at most 64, the TABs are known.
+    /// How many of the last bytes are not looked at yet. Of those before them, at most 64, the TABs
+    /// are known.
     unseen: usize,
     /// Bit k is set where byte k, of the bytes seen, is a TAB.
     tabs: u64,
-    ghost known: { (length text.now - unseen ≤ 64) × (tabs ≡ tab_bits (take (length text.now - unseen) text.now)) },
+    ghost known: { (length text.now - unseen ≤ 64)
+        × (tabs ≡ tab_bits (take (length text.now - unseen) text.now)) },
 }
 
 impl<'l> Rest<'l> {
@@ -79,7 +82,8 @@ impl<'l> Rest<'l> {
         }
     }
 
-    /// The same text. Where no TAB is known and bytes are left to look at, the TABs are those of its first 64 bytes.
+    /// The same text. Where no TAB is known and bytes are left to look at, the TABs are those of its
+    /// first 64 bytes.
     #[inline(always)]
     fn looked_at(self) -> Rest<'l>
         ensures { result.text ≡ self.entry.text }
@@ -89,6 +93,16 @@ impl<'l> Rest<'l> {
         } else {
             self
         }
+    }
+
+    /// Whether there may be more cells than so many: each byte that is not looked at yet may be a
+    /// TAB.
+    #[inline(always)]
+    pub(crate) fn may_have_more(&self, most: usize) -> bool
+        ensures { result ≡ false → length (cells self.now.text.now) ≤ most }
+    {
+        let tabs = self.tabs.count_ones() as usize;
+        tabs >= most || self.unseen >= most - tabs
     }
 
     /// The first cell, and what stands behind the TAB that ends it.
@@ -122,7 +136,8 @@ impl<'l> Rest<'l> {
         (cell, Some(rest))
     }
 
-    /// The first cell of a text that has no TAB among its first 64 bytes, and what stands behind the TAB that ends it.
+    /// The first cell of a text that has no TAB among its first 64 bytes, and what stands behind the
+    /// TAB that ends it.
     #[inline(always)]
     fn long_cell(text: &'l str) -> (&'l str, Option<Rest<'l>>)
         ensures { cells text.now ≡ result.0.now ∷ cells_left result.1 }

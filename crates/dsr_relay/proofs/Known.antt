@@ -8,7 +8,7 @@ use Rattle.dsr_relay.specs.Messages.{Message, events_of, IsMessage, AreMessages}
 use Rattle.dsr_relay.specs.Rule.{Relayed, Goes, Comes, IsLeft, both_of, out_of, received_of}
 use Rattle.dsr_relay.proofs.Moves.{sends, receives, forks, merges, learns}
 
-pub sends_as : (n pass : ℕ) (v : Log) (x : Message) → v ≡ Sends (out_of v) n → IsMessage x.items → IsOrderly (events_of (out_of v) ++ x.items) → Pushes Relayed n pass v x (Goes v x)
+pub sends_as : (n pass : ℕ) (v : Log) (x : Message) → v ≡ Sends (out_of v) n → IsMessage x → IsOrderly (events_of (out_of v) ++ x) → Pushes Relayed n pass v x (Goes v x)
 sends_as n pass v x is size orderly = subst (λ (u : Log). Pushes Relayed n pass u x (Goes u x)) (sym is) (sends n pass (out_of v) n x refl size orderly)
 
 pub receives_as : (pass : ℕ) (v : Log) → v ≡ Takes (received_of v) → Pops Relayed pass v (Comes v)

@@ -63,7 +63,7 @@ begins = record {
     one zero v e = subst (Knows 0 0 [] [] 0 0) (some-injective _ _ e) (refl, refl, refl)
     one (suc pass) v e = absurd (some-ne-none v (sym e))
 
-pub sends : (n pass : ℕ) (sent : List Message) (capacity : ℕ) (x : Message) → n ≡ capacity → IsMessage x.items → IsOrderly (events_of sent ++ x.items)
+pub sends : (n pass : ℕ) (sent : List Message) (capacity : ℕ) (x : Message) → n ≡ capacity → IsMessage x → IsOrderly (events_of sent ++ x)
     → Pushes Relayed n pass (Sends sent capacity) x (Goes (Sends sent capacity) x)
 sends n pass sent capacity x same size orderly queue views room h at =
     let mine : Knows h.feed h.tap h.out h.received h.capacity pass (Sends sent capacity) = h.knows pass (Sends sent capacity) at in
@@ -76,7 +76,7 @@ sends n pass sent capacity x same size orderly queue views room h at =
         received = h.received;
         capacity = h.capacity;
         in_order = ap (λ l. l ++ x ∷ []) h.in_order ∙ append_assoc h.received queue (x ∷ []);
-        orderly = subst IsOrderly (sym (events_of-push h.out x)) (subst (λ l. IsOrderly (events_of l ++ x.items)) mine.1 orderly);
+        orderly = subst IsOrderly (sym (events_of-push h.out x)) (subst (λ l. IsOrderly (events_of l ++ x)) mine.1 orderly);
         messages = messages_push h.out x h.messages size;
         fits = omega (arith, length-append queue (x ∷ []), same, mine.2, room);
         knows = knows_set h.feed h.tap out h.received h.capacity views pass (Sends (sent ++ x ∷ []) capacity)

@@ -12,7 +12,7 @@ pub sends_again : (v : Log) (ms : List Message) (n : ℕ) → v ≡ Sends ms n �
 sends_again v ms n e = e ∙ ap (λ u. Sends (out_of u) n) (sym e)
 
 -- the list sent is the same once the batch is a message
-pub sent_out : (v w : Log) (n : ℕ) (m : Message) (batch rest : List Placed) → w ≡ Sends (out_of v ++ m ∷ []) n → m.items ≡ batch → rest ≡ [] → events_of (out_of w) ++ rest ≡ events_of (out_of v) ++ batch
+pub sent_out : (v w : Log) (n : ℕ) (m : Message) (batch rest : List Placed) → w ≡ Sends (out_of v ++ m ∷ []) n → m ≡ batch → rest ≡ [] → events_of (out_of w) ++ rest ≡ events_of (out_of v) ++ batch
 sent_out v w n m batch rest e same none =
     ap (λ l. events_of (out_of w) ++ l) none ∙ append_nil (events_of (out_of w)) ∙ ap (λ u. events_of (out_of u)) e ∙ events_of-push (out_of v) m ∙ ap (λ l. events_of (out_of v) ++ l) same
 

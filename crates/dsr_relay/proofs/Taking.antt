@@ -88,23 +88,23 @@ pub takes_again : (v : Log) (ms : List Message) → v ≡ Takes ms → v ≡ Tak
 takes_again v ms e = e ∙ ap (λ u. Takes (received_of u)) (sym e)
 
 -- the events that have come in once a message came
-pub come_in : (v w : Log) (m : Message) (taken : List Placed) → w ≡ Takes (received_of v ++ m ∷ []) → taken ++ [] ≡ events_of (received_of v) → taken ++ m.items ≡ events_of (received_of w)
-come_in v w m taken e all = ap (λ l. l ++ m.items) (sym (append_nil taken) ∙ all) ∙ sym (events_of-push (received_of v) m) ∙ ap (λ u. events_of (received_of u)) (sym e)
+pub come_in : (v w : Log) (m : Message) (taken : List Placed) → w ≡ Takes (received_of v ++ m ∷ []) → taken ++ [] ≡ events_of (received_of v) → taken ++ m ≡ events_of (received_of w)
+come_in v w m taken e all = ap (λ l. l ++ m) (sym (append_nil taken) ∙ all) ∙ sym (events_of-push (received_of v) m) ∙ ap (λ u. events_of (received_of u)) (sym e)
 
 -- the message that came has 1 to 32 events
-pub has_size : (v w : Log) (m : Message) → w ≡ Takes (received_of v ++ m ∷ []) → AreMessages (received_of w) → IsMessage m.items
+pub has_size : (v w : Log) (m : Message) → w ≡ Takes (received_of v ++ m ∷ []) → AreMessages (received_of w) → IsMessage m
 has_size v w m e h = let last = messages_back (received_of v) (m ∷ []) (subst (λ (u : Log). AreMessages (received_of u)) e h) in last.0
 
 -- the first event of a message that came
 pub first_next : (v w : Log) (m : Message) (n : ℕ) (held came : List Placed) (e seen : Placed) (rest : List Placed) → seen ≡ e → w ≡ Takes (received_of v ++ m ∷ []) → take n (events_of (received_of v)) ++ held ≡ events_of (received_of v)
-    → held ≡ [] → came ≡ m.items → came ≡ e ∷ rest → IsOrderly (events_of (received_of w)) → TakesNext (events_of (received_of w)) (take n (events_of (received_of v))) rest e seen
+    → held ≡ [] → came ≡ m → came ≡ e ∷ rest → IsOrderly (events_of (received_of w)) → TakesNext (events_of (received_of w)) (take n (events_of (received_of v))) rest e seen
 first_next v w m n held came e seen rest same is whole none gives first orderly =
     let taken = take n (events_of (received_of v)) in
     takes_next (events_of (received_of w)) taken rest e seen same (ap (λ l. taken ++ l) (sym first ∙ gives) ∙ come_in v w m taken is (ap (λ l. taken ++ l) (sym none) ∙ whole)) orderly
 
 -- all events of a message that came
 pub lot_next : (v w : Log) (m : Message) (n : ℕ) (held rest : List Placed) (e seen : Placed) → seen ≡ e → w ≡ Takes (received_of v ++ m ∷ []) → take n (events_of (received_of v)) ++ held ≡ events_of (received_of v)
-    → held ≡ [] → m.items ≡ rest ++ e ∷ [] → IsOrderly (events_of (received_of w)) → TakesLot (events_of (received_of w)) (take n (events_of (received_of v))) m.items seen
+    → held ≡ [] → m ≡ rest ++ e ∷ [] → IsOrderly (events_of (received_of w)) → TakesLot (events_of (received_of w)) (take n (events_of (received_of v))) m seen
 lot_next v w m n held rest e seen same is whole none last orderly =
     let taken = take n (events_of (received_of v)) in
-    takes_lot (events_of (received_of w)) taken m.items rest e seen same (come_in v w m taken is (ap (λ l. taken ++ l) (sym none) ∙ whole)) last orderly
+    takes_lot (events_of (received_of w)) taken m rest e seen same (come_in v w m taken is (ap (λ l. taken ++ l) (sym none) ∙ whole)) last orderly

@@ -12,18 +12,18 @@ use Rattle.dsr_relay.specs.declared.feed.Feed.TheInside.{Inside}
 
 -- what went out, followed by the batch
 abbrev pub sent_of : Inside → List Placed
-sent_of f = events_of (out_of (view f.pass)) ++ f.batch.items
+sent_of f = events_of (out_of (view f.pass)) ++ f.batch
 
 abbrev pub feed_view : Inside → FeedView
 feed_view f = record {
   name = record { of = record {}; table = f.pass.table_id; key = f.pass.me.0.of; capacity = ruled_capacity (sends_on f.sender) };
   sent = sent_of f;
-  batch = f.batch.items;
+  batch = f.batch;
 }
 
 pub record IsFeed (f : Inside) : Type 0 where
   pub seat : IsSeatAt (sends_on f.sender) f.pass
   pub knows : view f.pass ≡ Sends (out_of (view f.pass)) (ruled_capacity (sends_on f.sender))
-  pub waits : length f.batch.items ≤ 31
+  pub waits : length f.batch ≤ 31
   pub orderly : IsOrderly (sent_of f)
   pub count : f.count ≡ length (sent_of f)

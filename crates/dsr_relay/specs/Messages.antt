@@ -1,16 +1,15 @@
 -- The events of messages.
 use Rattle.std.specs.Prelude.{◌<◌, ◌≤◌, List, [], ◌∷◌, ◌++◌, length}
 use Rattle.dsr_file.specs.Placed.{Placed}
-use Rattle.std.specs.declared.alloc.Global.{Global}
-use Rattle.std.specs.declared.vec.Vec.{Vec}
 
+-- what goes through the channel at once is seen as its events
 abbrev pub Message : Type 0
-Message = Vec Placed Global
+Message = List Placed
 
 -- the events of the messages, one message after another
 abbrev pub events_of : List Message → List Placed
 events_of [] = []
-events_of (message ∷ messages) = message.items ++ events_of messages
+events_of (message ∷ messages) = message ++ events_of messages
 
 -- a message has 1 to 32 events
 abbrev pub IsMessage : List Placed → Type 0
@@ -19,4 +18,4 @@ IsMessage events = (0 < length events) × (length events ≤ 32)
 -- each of them is a message
 abbrev pub AreMessages : List Message → Type 0
 AreMessages [] = Unit {0}
-AreMessages (message ∷ messages) = IsMessage message.items × AreMessages messages
+AreMessages (message ∷ messages) = IsMessage message × AreMessages messages

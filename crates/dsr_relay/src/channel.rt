@@ -7,7 +7,8 @@ ghost use Rattle.dsr_relay.specs.Messages.{events_of, IsMessage, AreMessages};
 ghost use Rattle.dsr_relay.specs.Rule.{out_of, received_of};
 ghost use Rattle.dsr_relay.specs.declared.rule.Log.TheVariants.{Sends, Takes};
 
-use crate::rule::{InOrder, Log, Message, Received, Sent};
+use crate::batch::Batch;
+use crate::rule::{InOrder, Log, Received, Sent};
 use crossbeam_channel::{Pass, RuledReceiver, RuledSender};
 use std::mem;
 use std::sync::Wait;
@@ -17,20 +18,27 @@ use std::sync::Wait;
 pub struct Closed;
 
 /// Puts the batch as a message at the back of the channel, and begins the next one, or leaves everything as it was.
+///
+/// # Errors
+///
+/// `Closed`: the other end is gone.
 pub fn send_out<R: Wait>(
     rt: &R,
-    sender: &RuledSender<Message, Log, InOrder>,
-    pass: &mut Pass<Message, Log>,
-    batch: &mut Message,
-    next: Message,
+    sender: &RuledSender<Batch, Log, InOrder>,
+    pass: &mut Pass<Batch, Log>,
+    batch: &mut Batch,
+    next: Batch,
 ) -> Result<(), Closed>
-    requires next { next.items ≡ [] }
+    requires next { next ≡ [] }
     requires seat { IsSeatAt (sends_on sender.now) pass.old }
-    requires knows { view pass.old ≡ Sends (out_of (view pass.old)) (ruled_capacity (sends_on sender.now)) }
-    requires size { IsMessage batch.old.items }
-    requires orderly { IsOrderly (events_of (out_of (view pass.old)) ++ batch.old.items) }
+    requires knows { view pass.old
+        ≡ Sends (out_of (view pass.old)) (ruled_capacity (sends_on sender.now)) }
+    requires size { IsMessage batch.old }
+    requires orderly { IsOrderly (events_of (out_of (view pass.old)) ++ batch.old) }
     ensures seat { IsSeatAt (sends_on sender.now) pass.new }
-    ensures sent { OnOk result ((view pass.new ≡ Sends (out_of (view pass.old) ++ batch.old ∷ []) (ruled_capacity (sends_on sender.now))) × (batch.new.items ≡ [])) }
+    ensures sent { OnOk result ((view pass.new
+        ≡ Sends (out_of (view pass.old) ++ batch.old ∷ []) (ruled_capacity (sends_on sender.now)))
+        × (batch.new ≡ [])) }
     ensures closed { OnErr result ((view pass.new ≡ view pass.old) × (batch.new ≡ batch.old)) }
 {
     let message = mem::replace(batch, next);
@@ -46,15 +54,17 @@ pub fn send_out<R: Wait>(
 /// Takes the message at the front of the channel, or answers that there is none and the feed is gone.
 pub fn take_next<R: Wait>(
     rt: &R,
-    receiver: &RuledReceiver<Message, Log, InOrder>,
-    pass: &mut Pass<Message, Log>,
-) -> Option<Message>
+    receiver: &RuledReceiver<Batch, Log, InOrder>,
+    pass: &mut Pass<Batch, Log>,
+) -> Option<Batch>
     requires seat { IsSeatAt (receives_on receiver.now) pass.old }
     requires knows { view pass.old ≡ Takes (received_of (view pass.old)) }
     ensures seat { IsSeatAt (receives_on receiver.now) pass.new }
     ensures none { IfNone result (view pass.new ≡ view pass.old) }
-    ensures taken { IfSome result (λ m. view pass.new ≡ Takes (received_of (view pass.old) ++ m ∷ [])) }
-    ensures orderly { OnSome result (IsOrderly (events_of (received_of (view pass.new))) × AreMessages (received_of (view pass.new))) }
+    ensures taken { IfSome result (λ m. view pass.new
+        ≡ Takes (received_of (view pass.old) ++ m ∷ [])) }
+    ensures orderly { OnSome result (IsOrderly (events_of (received_of (view pass.new)))
+        × AreMessages (received_of (view pass.new))) }
 {
     receiver.recv_as::<Received, R>(rt, pass).ok()
 }

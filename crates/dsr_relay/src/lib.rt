@@ -1,23 +1,28 @@
 //! One relay for each file: a bounded channel that hands the file's events from its reader's thread to the collector.
 //!
-//! [`open_relay`] makes the two ends. The [`Feed`] gathers the events that it is given into messages of up to 32 and puts each into
-//! the channel; where the channel is full, it waits. The [`Tap`] takes the events one after another, or those of a message at once;
-//! where there is none, it waits.
-//! [`Tap::take_in`] joins the two ends and tells what was taken and what is left.
+//! 1. [`open_relay`] makes the two ends, and takes all memory that the relay will ever have (`open`, `memory`).
+//! 2. The [`Feed`] gathers the events that it is given in a [`Batch`] of up to 32, which it puts into the channel as one
+//!    message; where the channel is full, it waits (`feed`, `batch`, `channel`).
+//! 3. The [`Tap`] takes the events one after another, or those of a message at once; where there is none, it waits (`tap`).
+//! 4. A batch whose events are no longer wanted goes back ([`Tap::give_back`]). The feed writes the next events over it,
+//!    and hands out the blocks that it wrote over ([`Feed::spare`]), so that the reader writes into their memory.
+//! 5. [`Tap::take_in`] joins the two ends and tells what was taken and what is left ([`Settled`]).
 //!
-//! The promise: whatever the schedule of the threads, the events come out once each and in their order, and what was taken followed
-//! by what is left is what was sent. It rests on a rule, which the channel keeps at each of its two kinds of step, a message in and a
-//! message out: what came in, followed by what is in the channel, is what went out. No clause says that a thread runs, or that a call
-//! which waits returns.
+//! The promise: whatever the schedule of the threads, the events come out once each and in their order, and what was
+//! taken followed by what is left is what was sent. It rests on a rule (`rule`), which the channel keeps at each of its two
+//! kinds of step, a message in and a message out: what came in, followed by what is in the channel, is what went out. No
+//! clause says that a thread runs, or that a call which waits returns. [`laws`] says what holds of the relays of all files
+//! together.
 //!
-//! Begin with `specs/Views.antt`, what contracts see of the ends, and `specs/Rule.antt`, the rule; then read `feed`, `tap` and `open`.
-//! [`laws`] says what holds of the relays of all files together.
+//! Begin with `specs/Views.antt`, what contracts see of the ends, and `specs/Rule.antt`, the rule; then read `feed`, `tap`
+//! and `open`. The first test of `tests.rt` is an example, proved with the crate: an end of a file goes from one end to the
+//! other.
 #![tactic(auto)]
 
+mod batch;
 mod channel;
 mod feed;
 pub mod laws;
-mod lot;
 mod memory;
 mod name;
 mod open;
@@ -25,9 +30,9 @@ mod rule;
 mod settled;
 mod tap;
 
+pub use batch::Batch;
 pub use channel::Closed;
 pub use feed::Feed;
-pub use lot::Lot;
 pub use name::Name;
 pub use open::{RelayError, open_relay};
 pub use settled::Settled;

@@ -1,24 +1,21 @@
 //! What the two ends know of a relay, and the rule that ties it to what the channel holds.
 ghost use Rattle.std.specs.Prelude.{ℕ};
 
+use crate::batch::Batch;
 use crossbeam_channel::protocol::{Join, Lesson, Outcome, Protocol, Split};
-use dsr_file::Event;
 use std::collections::LinkedList;
 use std::marker::{Brand, PhantomData};
-
-/// The events that go through the channel at once, 32 at most. A message is moved without its events.
-pub type Message = Vec<Event>;
 
 /// What an end knows by its pass. No value of it is made.
 pub enum Log {
     /// Of a relay that is not yet cut into its ends.
     Fresh,
     /// Of the feed: the messages that went out, and how many the channel takes.
-    Sends(LinkedList<Message>, u64),
+    Sends(LinkedList<Batch>, u64),
     /// Of the tap: the messages that came in.
-    Takes(LinkedList<Message>),
+    Takes(LinkedList<Batch>),
     /// Of both ends where they met: what went out, what came in, and how many the channel takes.
-    Both(LinkedList<Message>, LinkedList<Message>, u64),
+    Both(LinkedList<Batch>, LinkedList<Batch>, u64),
     /// Of an end that the other took in.
     Spent,
 }
@@ -35,7 +32,7 @@ impl Capacity for Brand {
 /// What came in, followed by what the channel holds, is what went out, and its events are an orderly list.
 pub struct InOrder;
 
-impl Protocol<Message, Log> for InOrder {
+impl Protocol<Batch, Log> for InOrder {
     ghost use Rattle.dsr_relay.specs.declared.rule.Log.TheVariants.{Fresh};
     ghost use Rattle.dsr_relay.specs.Rule.{Relayed};
 
@@ -73,14 +70,14 @@ impl Join<Log> for Meet {
 /// A message goes out: the feed's list grows by it.
 pub struct Sent;
 
-impl Outcome<Message, Log> for Sent {
+impl Outcome<Batch, Log> for Sent {
     ghost use Rattle.dsr_relay.specs.Rule.{Goes};
 
     ghost then = { Goes };
 }
 
 /// A send learns nothing of what the channel holds.
-impl Lesson<Message, Log> for Sent {
+impl Lesson<Batch, Log> for Sent {
     ghost use Rattle.std.specs.Prelude.{⊤};
 
     ghost fact = { λ v items. ⊤ };
@@ -89,14 +86,14 @@ impl Lesson<Message, Log> for Sent {
 /// A message comes in: the tap's list grows by it.
 pub struct Received;
 
-impl Outcome<Message, Log> for Received {
+impl Outcome<Batch, Log> for Received {
     ghost use Rattle.dsr_relay.specs.Rule.{Comes};
 
     ghost then = { Comes };
 }
 
 /// A receive learns nothing of what the channel still holds.
-impl Lesson<Message, Log> for Received {
+impl Lesson<Batch, Log> for Received {
     ghost use Rattle.std.specs.Prelude.{⊤};
 
     ghost fact = { λ v items. ⊤ };
@@ -105,7 +102,7 @@ impl Lesson<Message, Log> for Received {
 /// What the channel holds where the ends meet: what went out and did not come in.
 pub struct Rest;
 
-impl Lesson<Message, Log> for Rest {
+impl Lesson<Batch, Log> for Rest {
     ghost use Rattle.dsr_relay.specs.Rule.{IsLeft};
 
     ghost fact = { IsLeft };

@@ -4,10 +4,13 @@ use crate::tap::Tap;
 use std::marker::Model;
 use std::snapshot::Snapshot;
 
-/// How many events were taken, and how many are left of those that were sent. Contracts see the two lists, whose lengths the numbers are.
+/// How many events were taken, and how many are left of those that were sent. Contracts see the two lists, whose lengths
+/// the numbers are.
 #[derive(Drop)]
 pub struct Settled {
+    /// How many events were taken.
     pub taken: u64,
+    /// How many events that were sent were not taken.
     pub left: u64,
     pub(crate) tap: Snapshot<Tap>,
     pub(crate) feed: Snapshot<Feed>,

@@ -1,12 +1,13 @@
 //! The end that takes.
-ghost use Rattle.std.specs.Prelude.{◌≡◌, ◌+◌, ◌*◌, ◌<◌, ◌≤◌, true, false, [], ◌∷◌, ◌++◌, length, IfSome, IfNone, IfOk, OnErr};
+ghost use Rattle.std.specs.Prelude.{◌≡◌, ◌+◌, ◌*◌, ◌<◌, ◌≤◌, true, false, [], ◌∷◌, ◌++◌, length};
+ghost use Rattle.std.specs.Prelude.{IfSome, IfNone, IfOk, OnErr};
 ghost use Rattle.dsr_file.specs.Orderly.{IsOrderly, has_ended};
 
+use crate::batch::Batch;
 use crate::channel::{Closed, take_next};
 use crate::feed::Feed;
-use crate::lot::Lot;
 use crate::memory::Returns;
-use crate::rule::{InOrder, Log, Meet, Message, Rest};
+use crate::rule::{InOrder, Log, Meet, Rest};
 use crate::settled::Settled;
 use crossbeam_channel::{Pass, RuledReceiver};
 use dsr_file::Event;
@@ -18,9 +19,9 @@ use std::sync::Wait;
 /// The taking end of a relay. Contracts see the relay's name, the events taken, and those of the last message that are still held.
 #[derive(Drop)]
 pub struct Tap {
-    pub(crate) receiver: RuledReceiver<Message, Log, InOrder>,
-    pub(crate) pass: Pass<Message, Log>,
-    pub(crate) held: Lot,
+    pub(crate) receiver: RuledReceiver<Batch, Log, InOrder>,
+    pub(crate) pass: Pass<Batch, Log>,
+    pub(crate) held: Batch,
     pub(crate) count: u64,
     pub(crate) ended: bool,
     pub(crate) returns: Returns,
@@ -38,13 +39,20 @@ impl Model for Tap {
 }
 
 impl Tap {
-    /// Takes the next event. Where there is none yet, the call waits; where the feed is gone and nothing is left it may answer `Closed`,
-    /// and then nothing has changed.
+    /// Takes the next event. Where there is none yet, the call waits.
+    ///
+    /// # Errors
+    ///
+    /// `Closed`: the feed is gone and nothing is left. Nothing has changed.
     pub fn take<R: Wait>(&mut self, rt: &R) -> Result<Event, Closed>
         requires { has_ended self.old.taken ≡ false }
-        ensures taken { IfOk result (λ e. self.new ≡ record self.old { taken = self.old.taken ++ e ∷ []; held = self.new.held }) }
+        ensures taken { IfOk result (λ e. self.new ≡ record self.old {
+          taken = self.old.taken ++ e ∷ [];
+          held = self.new.held;
+        }) }
         ensures place { IfOk result (λ e. e.place ≡ length self.old.taken) }
-        ensures held { IfOk result (λ e. 0 < length self.old.held → self.old.held ≡ e ∷ self.new.held) }
+        ensures held { IfOk result (λ e. 0 < length self.old.held
+            → self.old.held ≡ e ∷ self.new.held) }
         ensures closed { OnErr result ((self.new ≡ self.old) × (self.old.held ≡ [])) }
         ensures orderly { IsOrderly self.new.taken }
     {
@@ -60,7 +68,10 @@ impl Tap {
     /// Takes the next event of the last message.
     fn take_held(&mut self) -> Option<Event>
         requires { has_ended self.old.taken ≡ false }
-        ensures taken { IfSome result (λ e. self.new ≡ record self.old { taken = self.old.taken ++ e ∷ []; held = self.new.held }) }
+        ensures taken { IfSome result (λ e. self.new ≡ record self.old {
+          taken = self.old.taken ++ e ∷ [];
+          held = self.new.held;
+        }) }
         ensures place { IfSome result (λ e. e.place ≡ length self.old.taken) }
         ensures held { IfSome result (λ e. self.old.held ≡ e ∷ self.new.held) }
         ensures none { IfNone result ((self.new ≡ self.old) × (self.old.held ≡ [])) }
@@ -76,15 +87,18 @@ impl Tap {
     fn take_first<R: Wait>(&mut self, rt: &R) -> Result<Event, Closed>
         requires going { has_ended self.old.taken ≡ false }
         requires none_held { self.old.held ≡ [] }
-        ensures taken { IfOk result (λ e. self.new ≡ record self.old { taken = self.old.taken ++ e ∷ []; held = self.new.held }) }
+        ensures taken { IfOk result (λ e. self.new ≡ record self.old {
+          taken = self.old.taken ++ e ∷ [];
+          held = self.new.held;
+        }) }
         ensures place { IfOk result (λ e. e.place ≡ length self.old.taken) }
         ensures closed { OnErr result (self.new ≡ self.old) }
         ensures orderly { IsOrderly self.new.taken }
     {
-        let Some(message) = take_next(rt, &self.receiver, &mut self.pass) else {
+        let Some(batch) = take_next(rt, &self.receiver, &mut self.pass) else {
             return Err(Closed);
         };
-        self.held = Lot::of(message);
+        self.held = batch;
         let Some(event) = self.held.take_first() else {
             unreachable!()
         };
@@ -98,20 +112,26 @@ impl Tap {
         requires { self.old.held ≡ [] }
         ensures { self.new ≡ self.old }
     {
-        let none = Lot::of(self.returns.none());
+        let none = self.returns.none();
         let used = mem::replace(&mut self.held, none);
-        self.returns.give(rt, used.into_memory());
+        self.returns.give(rt, used);
     }
 
-    /// Takes what is held of the last message, or else the next message. Where there is none yet, the call waits; where the
-    /// feed is gone and nothing is left it may answer `Closed`, and then nothing has changed. A lot is given back before the
-    /// next one is taken: the feed has no other memory for what comes.
-    pub fn take_lot<R: Wait>(&mut self, rt: &R) -> Result<Lot, Closed>
+    /// Takes what is held of the last message, or else the next message. Where there is none yet, the call waits. A batch is
+    /// given back before the next one is taken: the feed has no other memory for what comes.
+    ///
+    /// # Errors
+    ///
+    /// `Closed`: the feed is gone and nothing is left. Nothing has changed.
+    pub fn take_batch<R: Wait>(&mut self, rt: &R) -> Result<Batch, Closed>
         requires { has_ended self.old.taken ≡ false }
-        ensures taken { IfOk result (λ lot. self.new ≡ record self.old { taken = self.old.taken ++ lot; held = [] }) }
-        ensures held { IfOk result (λ lot. 0 < length self.old.held → lot ≡ self.old.held) }
-        ensures some { IfOk result (λ lot. 0 < length lot) }
-        ensures few { IfOk result (λ lot. length lot ≤ 32) }
+        ensures taken { IfOk result (λ b. self.new ≡ record self.old {
+          taken = self.old.taken ++ b;
+          held = [];
+        }) }
+        ensures held { IfOk result (λ b. 0 < length self.old.held → b ≡ self.old.held) }
+        ensures some { IfOk result (λ b. 0 < length b) }
+        ensures few { IfOk result (λ b. length b ≤ 32) }
         ensures closed { OnErr result ((self.new ≡ self.old) × (self.old.held ≡ [])) }
         ensures orderly { IsOrderly self.new.taken }
     {
@@ -124,50 +144,53 @@ impl Tap {
     }
 
     /// Takes what is held of the last message.
-    fn take_rest(&mut self) -> Lot
+    fn take_rest(&mut self) -> Batch
         requires going { has_ended self.old.taken ≡ false }
         requires some { 0 < length self.old.held }
         ensures taken { self.new ≡ record self.old { taken = self.old.taken ++ result; held = [] } }
         ensures held { result ≡ self.old.held }
         ensures orderly { IsOrderly self.new.taken }
     {
-        let none = Lot::of(self.returns.none());
-        let lot = mem::replace(&mut self.held, none);
-        let Some((last, _)) = lot.events().split_last() else {
+        let none = self.returns.none();
+        let batch = mem::replace(&mut self.held, none);
+        let Some((last, _)) = batch.events().split_last() else {
             unreachable!()
         };
         self.count = last.place + 1;
         self.ended = last.part.is_ended();
-        lot
+        batch
     }
 
     /// Receives a message and takes it.
-    fn take_message<R: Wait>(&mut self, rt: &R) -> Result<Lot, Closed>
+    fn take_message<R: Wait>(&mut self, rt: &R) -> Result<Batch, Closed>
         requires going { has_ended self.old.taken ≡ false }
         requires none_held { self.old.held ≡ [] }
-        ensures taken { IfOk result (λ lot. self.new ≡ record self.old { taken = self.old.taken ++ lot; held = [] }) }
-        ensures some { IfOk result (λ lot. 0 < length lot) }
-        ensures few { IfOk result (λ lot. length lot ≤ 32) }
+        ensures taken { IfOk result (λ b. self.new ≡ record self.old {
+          taken = self.old.taken ++ b;
+          held = [];
+        }) }
+        ensures some { IfOk result (λ b. 0 < length b) }
+        ensures few { IfOk result (λ b. length b ≤ 32) }
         ensures closed { OnErr result (self.new ≡ self.old) }
         ensures orderly { IsOrderly self.new.taken }
     {
-        let Some(message) = take_next(rt, &self.receiver, &mut self.pass) else {
+        let Some(batch) = take_next(rt, &self.receiver, &mut self.pass) else {
             return Err(Closed);
         };
-        let Some((last, _)) = message.as_slice().split_last() else {
+        let Some((last, _)) = batch.events().split_last() else {
             unreachable!()
         };
         self.count = last.place + 1;
         self.ended = last.part.is_ended();
-        Ok(Lot::of(message))
+        Ok(batch)
     }
 
-    /// Gives a lot back that was taken and is no longer wanted: the thread of the feed frees its events and fills its
+    /// Gives a batch back that was taken and is no longer wanted: the thread of the feed frees its events and fills its
     /// memory again. The call waits for no room, and what contracts see of the tap stays as it is.
-    pub fn give_back<R: Wait>(&mut self, rt: &R, lot: Lot)
+    pub fn give_back<R: Wait>(&mut self, rt: &R, batch: Batch)
         ensures { self.new ≡ self.old }
     {
-        self.returns.give(rt, lot.into_memory());
+        self.returns.give(rt, batch);
     }
 
     /// Whether Ended was taken.
@@ -209,7 +232,8 @@ impl Tap {
             mut pass,
             batch: _,
             count,
-            spare: _,
+            supply: _,
+            stale: _,
         } = feed;
         sender.absorb::<Meet>(&mut pass, theirs);
         sender.learn_as::<Rest>(&mut pass);

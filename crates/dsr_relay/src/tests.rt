@@ -1,8 +1,9 @@
 //! Relays at work: refusals, handed back events, closed ends, full channels, and threads.
-ghost use Rattle.std.specs.Prelude.{◌≡◌, ℕ, ◌+◌, ◌<◌, ◌≤◌, true, false, [], length, IfSome, IfOk, OnOk, OnErr};
+ghost use Rattle.std.specs.Prelude.{◌≡◌, ℕ, ◌+◌, ◌<◌, ◌≤◌, true, false, [], length};
+ghost use Rattle.std.specs.Prelude.{IfSome, IfOk, OnOk, OnErr};
 ghost use Rattle.dsr_file.specs.Orderly.{has_ended, is_ended, MayStandAt};
 
-use crate::{Feed, RelayError, Tap, open_relay};
+use crate::{Batch, Feed, RelayError, Tap, open_relay};
 use dsr_cells::{NoMemory, Text, Texts};
 use dsr_file::{Ending, Event, EventList, EventPart, Outcome, whole_events};
 use dsr_records::{Block, Layout, Resource, UsageList, WorkList};
@@ -70,7 +71,8 @@ fn opened(alloc: Global) -> Option<EventPart>
 
 /// Its block.
 fn block(alloc: Global, n: u64) -> Option<EventPart>
-    ensures { IfSome result (λ part. ((place : ℕ) → 0 < place → MayStandAt place part) × (is_ended part ≡ false)) }
+    ensures { IfSome result (λ part. ((place : ℕ) → 0 < place → MayStandAt place part)
+        × (is_ended part ≡ false)) }
 {
     let mut events = events(alloc, n)?;
     events.next()?;
@@ -118,7 +120,8 @@ fn send_part<R: Wait>(rt: &R, feed: &mut Feed, part: EventPart) -> Result<(), Ev
     requires few { length feed.old.sent < 100000 }
     requires part { MayStandAt (length feed.old.sent) part }
     ensures name { feed.new.name ≡ feed.old.name }
-    ensures sent { OnOk result ((length feed.new.sent ≡ length feed.old.sent + 1) × (has_ended feed.new.sent ≡ is_ended part)) }
+    ensures sent { OnOk result ((length feed.new.sent ≡ length feed.old.sent + 1)
+        × (has_ended feed.new.sent ≡ is_ended part)) }
     ensures refused { OnErr result (feed.new ≡ feed.old) }
 {
     let place = feed.sent_count();
@@ -251,7 +254,8 @@ fn flushes<R: Wait>(rt: &R, feed: &mut Feed) -> bool
 
 /// A new relay.
 fn relay(alloc: Global, capacity: u32) -> Result<(Feed, Tap), Fail>
-    ensures { IfOk result (λ r. (r.1.name ≡ r.0.name) × (r.0.sent ≡ []) × (r.0.batch ≡ []) × (r.1.taken ≡ []) × (r.1.held ≡ [])) }
+    ensures { IfOk result (λ r. (r.1.name ≡ r.0.name) × (r.0.sent ≡ []) × (r.0.batch ≡ [])
+        × (r.1.taken ≡ []) × (r.1.held ≡ [])) }
 {
     match open_relay(alloc, capacity) {
         Ok(ends) => Ok(ends),
@@ -266,6 +270,18 @@ fn is_made(alloc: Global, capacity: u32) -> Option<bool> {
         Err(RelayError::Capacity) => Some(false),
         Err(RelayError::Memory) => None,
     }
+}
+
+/// An example: the end of a file goes from one end of a relay to the other.
+#[test]
+fn an_end_goes_through(rt: HostRuntime) -> Result<(), Fail> {
+    let (mut feed, mut tap) = relay(rt.alloc(), 16)?;
+    assert!(rt; send_ended(&rt, &mut feed).is_ok());
+    assert!(rt; takes_end(&rt, &mut tap, 0));
+    assert!(rt; tap.ended());
+    let settled = tap.take_in(feed);
+    assert_eq!(rt; (settled.taken, settled.left), (1, 0));
+    Ok(())
 }
 
 #[test]
@@ -325,29 +341,29 @@ fn one_of_forty_is_taken(rt: HostRuntime) -> Result<(), Fail> {
     Ok(())
 }
 
-/// Takes a lot and gives it back, and answers how many events it has, or none where the feed is gone.
-fn takes_lot<R: Wait>(rt: &R, tap: &mut Tap) -> Option<usize>
+/// Takes a batch and gives it back, and answers how many events it has, or none where the feed is gone.
+fn takes_batch<R: Wait>(rt: &R, tap: &mut Tap) -> Option<usize>
     requires { has_ended tap.old.taken ≡ false }
     ensures { tap.new.name ≡ tap.old.name }
 {
-    let Ok(lot) = tap.take_lot(rt) else {
+    let Ok(batch) = tap.take_batch(rt) else {
         return None;
     };
-    let count = lot.events().len();
-    tap.give_back(rt, lot);
+    let count = batch.events().len();
+    tap.give_back(rt, batch);
     Some(count)
 }
 
 #[test]
-fn lots_of_forty(rt: HostRuntime) -> Result<(), Fail> {
+fn batches_of_forty(rt: HostRuntime) -> Result<(), Fail> {
     let (mut feed, mut tap) = relay(rt.alloc(), 2)?;
     assert!(rt; send_blocks(&rt, rt.alloc(), &mut feed, 39));
     assert!(rt; flushes(&rt, &mut feed));
     assert!(rt; takes_opened(&rt, &mut tap));
     assert!(rt; !tap.ended());
-    assert_eq!(rt; takes_lot(&rt, &mut tap), Some(31));
+    assert_eq!(rt; takes_batch(&rt, &mut tap), Some(31));
     assert!(rt; !tap.ended());
-    assert_eq!(rt; takes_lot(&rt, &mut tap), Some(8));
+    assert_eq!(rt; takes_batch(&rt, &mut tap), Some(8));
     let settled = tap.take_in(feed);
     assert_eq!(rt; (settled.taken, settled.left), (40, 0));
     Ok(())
@@ -463,9 +479,9 @@ fn are_right(events: &[Event], first: u64) -> bool {
     true
 }
 
-/// Takes the events of a file of blocks by lots, and answers how many were the right ones, up to the first lot that was
+/// Takes the events of a file of blocks by batches, and answers how many were the right ones, up to the first batch that was
 /// not.
-fn take_lots<R: Wait>(rt: &R, tap: &mut Tap) -> u64
+fn take_batches<R: Wait>(rt: &R, tap: &mut Tap) -> u64
     ensures { tap.new.name ≡ tap.old.name }
 {
     let mut taken = 0u64;
@@ -473,25 +489,25 @@ fn take_lots<R: Wait>(rt: &R, tap: &mut Tap) -> u64
         if tap.ended() {
             return taken;
         }
-        let Ok(lot) = tap.take_lot(rt) else {
+        let Ok(batch) = tap.take_batch(rt) else {
             return taken;
         };
-        if !are_right(lot.events(), taken) {
+        if !are_right(batch.events(), taken) {
             return taken;
         }
-        taken = taken.wrapping_add(lot.events().len() as u64);
-        tap.give_back(rt, lot);
+        taken = taken.wrapping_add(batch.events().len() as u64);
+        tap.give_back(rt, batch);
     }
     taken
 }
 
 #[test]
-fn lots_through_one_place(rt: HostRuntime) -> Result<(), Fail> {
+fn batches_through_one_place(rt: HostRuntime) -> Result<(), Fail> {
     let alloc: Global = rt.alloc();
     let (feed, mut tap) = relay(alloc, 1)?;
     let promise = SameRelay(Snapshot::of(&feed));
     let sender = thread::spawn_with(&rt, promise, move || send_file(&rt, alloc, feed, 2000))?;
-    assert_eq!(rt; take_lots(&rt, &mut tap), 2002);
+    assert_eq!(rt; take_batches(&rt, &mut tap), 2002);
     assert!(rt; tap.ended());
     let settled = tap.take_in(sender.join(&rt));
     assert_eq!(rt; (settled.taken, settled.left), (2002, 0));
@@ -500,7 +516,8 @@ fn lots_through_one_place(rt: HostRuntime) -> Result<(), Fail> {
 
 /// A block that takes no memory: its texts are short, and its lists are empty.
 fn plain_block(alloc: Global) -> Result<EventPart, NoMemory>
-    ensures { IfOk result (λ part. ((place : ℕ) → 0 < place → MayStandAt place part) × (is_ended part ≡ false)) }
+    ensures { IfOk result (λ part. ((place : ℕ) → 0 < place → MayStandAt place part)
+        × (is_ended part ≡ false)) }
 {
     let resource = Resource {
         block_id: Text::copy_of(alloc, "B1")?,
@@ -514,6 +531,61 @@ fn plain_block(alloc: Global) -> Result<EventPart, NoMemory>
         works: WorkList::new(alloc),
         usages: UsageList::new(alloc),
     }))
+}
+
+/// The number of the block that the feed spares, if it spares one.
+fn spared(feed: &mut Feed) -> Option<u64>
+    ensures { feed.new ≡ feed.old }
+{
+    let block = feed.spare()?;
+    block.id.as_str().parse::<u64>().ok()
+}
+
+#[test]
+fn a_block_that_came_back_is_spared_once(rt: HostRuntime) -> Result<(), Fail> {
+    let alloc: Global = rt.alloc();
+    let (mut feed, mut tap) = relay(alloc, 1)?;
+    assert!(rt; send_blocks(&rt, alloc, &mut feed, 2));
+    assert!(rt; spared(&mut feed).is_none());
+    assert!(rt; flushes(&rt, &mut feed));
+    assert_eq!(rt; takes_batch(&rt, &mut tap), Some(3));
+    assert!(rt; send_block(&rt, alloc, &mut feed));
+    assert!(rt; spared(&mut feed).is_none());
+    assert!(rt; send_block(&rt, alloc, &mut feed));
+    assert_eq!(rt; spared(&mut feed), Some(1));
+    assert!(rt; spared(&mut feed).is_none());
+    Ok(())
+}
+
+/// Whether an event that is pushed onto this batch is written over a stale one.
+fn is_written_over(batch: &mut Batch) -> bool
+    ensures pushed { length batch.new ≤ length batch.old + 1 }
+{
+    match batch.push(Event {
+        place: 0,
+        part: ended(),
+    }) {
+        Ok(over) => over.is_some(),
+        Err(_) => false,
+    }
+}
+
+/// What is stale in a batch is written over, and freed once much was read for it.
+#[test]
+fn events_of_many_bytes_are_freed(rt: HostRuntime) -> Result<(), Fail> {
+    let Ok(mut batch) = Batch::with_room(rt.alloc()) else {
+        return Err(Fail::new("no batch"));
+    };
+    assert!(rt; !is_written_over(&mut batch));
+    batch.note_bytes(1000);
+    assert_eq!(rt; batch.bytes(), 1000);
+    batch.restart();
+    assert_eq!(rt; batch.bytes(), 0);
+    assert!(rt; is_written_over(&mut batch));
+    batch.note_bytes(256 * 1024);
+    batch.restart();
+    assert!(rt; !is_written_over(&mut batch));
+    Ok(())
 }
 
 /// Sends a block that takes no memory out, takes it and gives it back. Answers whether all of that went well.
@@ -533,7 +605,7 @@ fn passes_block<R: Wait>(rt: &R, alloc: Global, feed: &mut Feed, tap: &mut Tap) 
     if !flushes(rt, feed) || tap.ended() {
         return false;
     }
-    takes_lot(rt, tap) == Some(1)
+    takes_batch(rt, tap) == Some(1)
 }
 
 /// Sends and takes so many blocks, one after another. Answers whether all of that went well.
@@ -584,7 +656,7 @@ fn a_file_goes_through_or_no_memory(rt: HostRuntime) {
     let Ok(sender) = thread::spawn(&rt, move || send_file(&rt, alloc, feed, 70)) else {
         return;
     };
-    let taken = take_lots(&rt, &mut tap);
+    let taken = take_batches(&rt, &mut tap);
     assert!(rt; tap.ended());
     let feed = sender.join(&rt);
     assert_eq!(rt; taken, feed.sent_count());

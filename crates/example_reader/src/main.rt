@@ -58,13 +58,27 @@ fn drain<P: Print, R: Read>(rt: &P, file: &mut FileReader, reader: &mut R) -> io
     Ok(())
 }
 
+/// Ends the text, and prints the events that are left.
+fn end<P: Print>(rt: &P, file: &mut FileReader) -> io::Result<()>
+    requires { ending_told file.old ≡ None }
+{
+    while let Some(event) = file.finish(Ending::Whole) {
+        show(rt, &event)?;
+    }
+    Ok(())
+}
+
+/// Prints the events of a report.
+fn print_events<P: Print, R: Read>(rt: &P, file: &mut FileReader, reader: &mut R) -> io::Result<()>
+    requires { ending_told file.old ≡ None }
+{
+    drain(rt, file, reader)?;
+    end(rt, file)
+}
+
 fn main(rt: HostRuntime) -> io::Result<()> {
     let Ok(mut file) = FileReader::new(rt.alloc(), &Layout::standard()) else {
         return println!(rt; "out of memory");
     };
-    drain(&rt, &mut file, &mut rt.stdin())?;
-    while let Some(event) = file.finish(Ending::Whole) {
-        show(&rt, &event)?;
-    }
-    Ok(())
+    print_events(&rt, &mut file, &mut rt.stdin())
 }

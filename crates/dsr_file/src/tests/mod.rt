@@ -1,6 +1,7 @@
 //! Worked texts: how tests write them, and what their events come to.
 mod limits;
 mod reading;
+mod spares;
 mod texts;
 
 use crate::{Ending, Event, EventList, EventPart, FileFault, Outcome, whole_events};

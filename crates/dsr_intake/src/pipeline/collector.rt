@@ -97,11 +97,11 @@ fn take_message<H: Wait>(
         (file_of tap.new.taken)) }
     ensures stopped { IfErr result (IsStoppedAt k tap.new) }
 {
-    let Ok(lot) = tap.take_lot(rt) else {
+    let Ok(batch) = tap.take_batch(rt) else {
         return Err(closed(k));
     };
-    let answer = book_events(books, k, lot.events());
-    tap.give_back(rt, lot);
+    let answer = book_events(books, k, batch.events());
+    tap.give_back(rt, batch);
     match answer {
         Ok(()) => Ok(()),
         Err(NoMemory) => Err(CollectError::Memory),

@@ -2,9 +2,24 @@
 ghost use Rattle.std.specs.Prelude.{◌≡◌};
 
 use dsr_file::{Event, Sink};
+use dsr_records::Block;
 use dsr_relay::{Feed, Name};
 use std::marker::Model;
 use std::sync::Wait;
+
+/// For how many bytes of a file events may wait in a batch before it goes out.
+const MOST_WAITING: usize = 64 * 1024;
+
+/// Sends the batch out where many bytes were read for it, so that what waits in a relay is bounded in bytes too. Where the
+/// tap is gone the batch may stay.
+fn send_large_batch<H: Wait>(rt: &H, feed: &mut Feed)
+    ensures sent { feed.new.sent ≡ feed.old.sent }
+    ensures name { feed.new.name ≡ feed.old.name }
+{
+    if feed.batch_bytes() > MOST_WAITING {
+        let _ = feed.flush(rt);
+    }
+}
 
 /// A sink that sends each event on a feed. Contracts see it as the feed: its list is what was sent, its name the relay's.
 #[derive(Drop)]
@@ -48,5 +63,16 @@ impl<'a, H: Wait> Sink for FeedSink<'a, H> {
     /// Sends the event; it may come back once the tap is gone.
     fn put(&mut self, event: Event) -> Result<(), Event> {
         self.feed.send(self.rt, event)
+    }
+
+    /// A block that came back from the collector.
+    fn spare(&mut self) -> Option<Block> {
+        self.feed.spare()
+    }
+
+    /// Counts the bytes, and sends the batch out once there are many.
+    fn note_bytes(&mut self, bytes: usize) {
+        self.feed.note_bytes(bytes);
+        send_large_batch(self.rt, &mut self.feed);
     }
 }

@@ -198,6 +198,11 @@ fn collect_error(error: CollectError) -> IntakeError
 }
 
 /// Reads the files at once, a thread for each, and reports them.
+///
+/// # Errors
+///
+/// `NoFiles`, `TooManyFiles`, `Capacity` and `Reads`, the first that holds: the readers are unchanged.
+/// `Memory`, `Thread` and `Broken` come while the files are read.
 pub fn intake<
     R: Source + Send + Drop + 'static,
     H: Threads + Wait + RandomSource + Copy + Send + 'static,

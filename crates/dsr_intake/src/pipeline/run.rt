@@ -6,20 +6,26 @@ ghost use Rattle.dsr_intake.specs.meaning.Options.{refusal_of};
 ghost use Rattle.dsr_intake.specs.meaning.Statement.{statement_of};
 ghost use Rattle.dsr_intake.specs.meaning.Outcomes.{IsReported, IsUnwritten, IsLateRun};
 
-use crate::outlet::{Outlet, write_and_flush};
+use crate::outlet::Outlet;
 use crate::pipeline::errors::RunError;
 use crate::pipeline::gather::intake;
 use crate::pipeline::options::Options;
 use crate::statements::status::status;
 use crate::statements::verdict::Status;
-use crate::statements::write::statement;
+use crate::statements::write::{room_for, write_statement};
 use dsr_file::Source;
 use std::alloc::Global;
 use std::random::RandomSource;
 use std::sync::Wait;
 use std::thread::Threads;
 
-/// Reads the files, and writes their statement.
+/// Reads the files, and writes their statement in pieces. All the memory that this takes is taken before
+/// its first byte goes out.
+///
+/// # Errors
+///
+/// `Intake` and `Memory`: nothing was written or flushed. `Write`: exactly so many first bytes of the
+/// statement are out, and the outlet has failed.
 pub fn run<
     R: Source + Send + Drop + 'static,
     W: Outlet,
@@ -48,13 +54,11 @@ pub fn run<
         Ok(report) => report,
         Err(error) => return Err(RunError::Intake(error)),
     };
-    let Ok(bytes) = statement(alloc, &report) else {
+    let Ok(room) = room_for(alloc, &report) else {
         return Err(RunError::Memory);
     };
-    match write_and_flush(out, &bytes) {
+    match write_statement(room, &report, out) {
         Ok(()) => Ok(status(&report)),
-        Err(written) => Err(RunError::Write {
-            written: written as u64,
-        }),
+        Err(written) => Err(RunError::Write { written }),
     }
 }

@@ -1,119 +1,166 @@
 //! The statement of a report.
-ghost use Rattle.std.specs.Prelude.{◌≡◌, ◌++◌, OnOk, IfOk};
+ghost use Rattle.std.specs.Prelude.{◌≡◌, ◌<◌, ◌≤◌, true, length, take, IfSome, OnOk, IfOk, IfErr};
 ghost use Rattle.std.specs.List.{flat_map};
 ghost use Rattle.dsr_intake.specs.meaning.Statement.{statement_of, file_lines, missing_line, difference_line, ledger_lines, reject_line};
+ghost use Rattle.dsr_intake.specs.meaning.Written.{IsFlushed, IsCut};
+ghost use Rattle.dsr_intake.specs.inner.Pieces.{Carries, MOST};
+ghost use Rattle.dsr_intake.specs.inner.Puts.{Puts};
+ghost use Rattle.dsr_intake.specs.inner.Bound.{IsUpTo};
+ghost use Rattle.dsr_intake.specs.inner.Laid.{day_cells};
 
+use crate::outlet::Outlet;
+use crate::statements::bound::Bound;
 use crate::statements::lines::{
     put_difference, put_file, put_head, put_ledger, put_missing, put_reject,
 };
+use crate::statements::pieces::Pieces;
+use crate::statements::put::Put;
+use crate::statements::room::Room;
+use crate::to_write::ToWrite;
 use dsr_cells::NoMemory;
-use dsr_ledger::{Difference, FileLine, LedgerLine, PartyLine, Reject, Report};
+use dsr_ledger::{Difference, FileLine, LedgerLine, Reject, Report};
 use std::alloc::Global;
 
-/// How many lines of the ledger are looked at together before they are put.
-const AHEAD: usize = 16;
-
-/// How many bytes a line of the ledger takes with those of its parties: a guess.
-const LINE_ROOM: usize = 256;
-
 /// The bytes of the statement.
+///
+/// # Errors
+///
+/// `NoMemory`: there is no memory for them.
 pub fn statement(alloc: Global, report: &Report) -> Result<Vec<u8>, NoMemory>
     ensures { IfOk result (λ v. v.items ≡ statement_of report.now) }
 {
-    let mut out = Vec::new(alloc);
-    put_head(&mut out, &report.key)?;
-    put_files(&mut out, report.files.as_slice())?;
-    put_numbers(&mut out, report.missing.as_slice())?;
-    put_differences(&mut out, report.differences.as_slice())?;
-    put_ledgers(alloc, &mut out, report.ledger.as_slice())?;
-    put_rejects(&mut out, report.rejects.as_slice())?;
-    Ok(out)
+    let room = Room::new(alloc, &report.key)?;
+    let mut out = ToWrite::new(Vec::new(alloc));
+    match write_statement(room, report, &mut out) {
+        Ok(()) => Ok(out.into_writer()),
+        Err(_written) => Err(NoMemory),
+    }
+}
+
+/// All the memory that writing the statement takes. It is refused also to a statement that may have
+/// 2^64 - 1 bytes or more, of which no error could tell how much is out.
+pub(crate) fn room_for(alloc: Global, report: &Report) -> Result<Room, NoMemory>
+    ensures days { IfOk result (λ r. IfSome report.now.key (λ k. r.days.items ≡ day_cells k)) }
+    ensures short { OnOk result (length (statement_of report.now) < MOST) }
+{
+    let mut room = Room::new(alloc, &report.key)?;
+    if statement_bound(&room.days, &mut room.key, report) < u64::MAX {
+        Ok(room)
+    } else {
+        Err(NoMemory)
+    }
+}
+
+/// At least as many as the statement has bytes, or the greatest number. `days` has the cells of the
+/// report's days, `key` is room for those of a key.
+fn statement_bound(days: &[u8], key: &mut Vec<u8>, report: &Report) -> u64
+    requires { IfSome report.now.key (λ k. days.now ≡ day_cells k) }
+    ensures { IsUpTo result (length (statement_of report.now)) }
+{
+    let mut bound = Bound { most: 0 };
+    put_statement(&mut bound, days, key, report);
+    bound.most
+}
+
+/// Writes the statement in pieces, and then flushes. The fault is how many of its bytes went out.
+pub(crate) fn write_statement<W: Outlet>(
+    room: Room,
+    report: &Report,
+    out: &mut W,
+) -> Result<(), u64>
+    requires { IfSome report.now.key (λ k. room.days.items ≡ day_cells k) }
+    ensures whole { OnOk result (IsFlushed (statement_of report.now)
+        (W.told out.old) (W.told out.new)) }
+    ensures part { length (statement_of report.now) < MOST → IfErr result (λ n.
+        (n ≤ length (statement_of report.now))
+        × IsCut (take n (statement_of report.now)) (W.told out.old) (W.told out.new)) }
+{
+    let Room {
+        days,
+        mut key,
+        mut waiting,
+    } = room;
+    let mut pieces = Pieces::new(out, &mut waiting);
+    send_statement(&mut pieces, &days, &mut key, report);
+    let answer = pieces.finish();
+    pieces.into_outlet();
+    answer
+}
+
+/// Puts the statement on its way to the outlet. `days` has the cells of the report's days, `key` is
+/// room for those of a key.
+fn send_statement<W: Outlet>(
+    out: &mut Pieces<'_, W>,
+    days: &[u8],
+    key: &mut Vec<u8>,
+    report: &Report,
+)
+    requires { IfSome report.now.key (λ k. days.now ≡ day_cells k) }
+    ensures same_outlet { out.new.sender.out.ghost_name ≡ out.old.sender.out.ghost_name }
+    ensures put { Carries W.told out.old out.new (statement_of report.now) }
+{
+    put_statement(out, days, key, report);
+}
+
+/// Puts the statement. `days` has the cells of the report's days, `key` is room for those of a key.
+fn put_statement<P: Put>(out: &mut P, days: &[u8], key: &mut Vec<u8>, report: &Report)
+    requires { IfSome report.now.key (λ k. days.now ≡ day_cells k) }
+    ensures { Puts P.after out.old out.new (statement_of report.now) }
+{
+    put_head(out, &report.key, days);
+    put_files(out, report.files.as_slice());
+    put_numbers(out, report.missing.as_slice());
+    put_differences(out, report.differences.as_slice());
+    put_ledgers(out, key, report.ledger.as_slice());
+    put_rejects(out, report.rejects.as_slice());
 }
 
 /// Puts the lines of the files.
-fn put_files(out: &mut Vec<u8>, files: &[FileLine]) -> Result<(), NoMemory>
-    ensures { OnOk result (out.new.items ≡ out.old.items ++ file_lines 1 files.now) }
+fn put_files<P: Put>(out: &mut P, files: &[FileLine])
+    ensures { Puts P.after out.old out.new (file_lines 1 files.now) }
 {
     let mut place = 1;
     for file in files {
-        put_file(out, place, file)?;
+        put_file(out, place, file);
         place += 1;
     }
-    Ok(())
 }
 
 /// Puts the lines of the missing files.
-fn put_numbers(out: &mut Vec<u8>, numbers: &[u32]) -> Result<(), NoMemory>
-    ensures { OnOk result (out.new.items ≡ out.old.items ++ flat_map missing_line numbers.now) }
+fn put_numbers<P: Put>(out: &mut P, numbers: &[u32])
+    ensures { Puts P.after out.old out.new (flat_map missing_line numbers.now) }
 {
     for number in numbers {
-        put_missing(out, *number)?;
+        put_missing(out, *number);
     }
-    Ok(())
 }
 
 /// Puts the lines of the summaries that differ.
-fn put_differences(out: &mut Vec<u8>, differences: &[Difference]) -> Result<(), NoMemory>
-    ensures { OnOk result (out.new.items
-        ≡ out.old.items ++ flat_map difference_line differences.now) }
+fn put_differences<P: Put>(out: &mut P, differences: &[Difference])
+    ensures { Puts P.after out.old out.new (flat_map difference_line differences.now) }
 {
     for difference in differences {
-        put_difference(out, difference)?;
+        put_difference(out, difference);
     }
-    Ok(())
 }
 
-/// Puts the lines of the ledger.
-fn put_ledgers(alloc: Global, out: &mut Vec<u8>, lines: &[LedgerLine]) -> Result<(), NoMemory>
-    ensures { OnOk result (out.new.items ≡ out.old.items ++ flat_map ledger_lines lines.now) }
+/// Puts the lines of the ledger. It stops once the outlet has failed.
+fn put_ledgers<P: Put>(out: &mut P, key: &mut Vec<u8>, lines: &[LedgerLine])
+    ensures { Puts P.after out.old out.new (flat_map ledger_lines lines.now) }
 {
-    guess_room(out, lines);
-    let mut key = Vec::new(alloc);
-    for (k, line) in lines.iter().enumerate() {
-        if k % AHEAD == 0 {
-            make_room(out, &lines[k..])?;
+    for line in lines {
+        if out.is_closed() {
+            return;
         }
-        put_ledger(out, &mut key, line)?;
+        put_ledger(out, key, line);
     }
-    Ok(())
-}
-
-/// Makes room for the lines of the ledger, by a guess. Where memory for a guess is refused, the lines
-/// make room as they come.
-fn guess_room(out: &mut Vec<u8>, lines: &[LedgerLine])
-    ensures { out.new.items ≡ out.old.items }
-{
-    let _ = out.reserve(lines.len().saturating_mul(LINE_ROOM));
-}
-
-/// Makes room for the names of the parties of the lines that come next. To ask how long they are
-/// brings them near, all at once, so that putting them does not wait for one after another.
-fn make_room(out: &mut Vec<u8>, lines: &[LedgerLine]) -> Result<(), NoMemory>
-    ensures { out.new.items ≡ out.old.items }
-{
-    let mut room = 0usize;
-    for line in lines.iter().take(AHEAD) {
-        room = room.saturating_add(names_room(line.parties.as_slice()));
-    }
-    out.reserve(room)?;
-    Ok(())
-}
-
-/// How much room the names of these parties take.
-fn names_room(parties: &[PartyLine]) -> usize {
-    let mut room = 0usize;
-    for party in parties {
-        room = room.saturating_add(party.party.as_str().len());
-    }
-    room
 }
 
 /// Puts the lines of the rejected blocks.
-fn put_rejects(out: &mut Vec<u8>, rejects: &[Reject]) -> Result<(), NoMemory>
-    ensures { OnOk result (out.new.items ≡ out.old.items ++ flat_map reject_line rejects.now) }
+fn put_rejects<P: Put>(out: &mut P, rejects: &[Reject])
+    ensures { Puts P.after out.old out.new (flat_map reject_line rejects.now) }
 {
     for reject in rejects {
-        put_reject(out, reject)?;
+        put_reject(out, reject);
     }
-    Ok(())
 }

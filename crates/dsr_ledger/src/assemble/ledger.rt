@@ -62,7 +62,7 @@ pub fn ledger_lines(alloc: Global, books: Ledger) -> Result<LedgerLines, NoMemor
     recordings.sort_unstable_keys()?;
     let names = parties.as_slice();
     let keys = summary_keys.as_slice();
-    let mut report = Items::with_room(alloc, recordings.len())?;
+    let mut report = Items::from(Vec::with_capacity(alloc, recordings.len())?);
     for (isrc, recording) in recordings {
         add_recording(&mut report, alloc, names, keys, isrc, &recording)?;
     }

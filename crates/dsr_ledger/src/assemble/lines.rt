@@ -41,7 +41,7 @@ fn party_lines(
         → ((q : List ℕ) → owed_at_place parts.now (place q) ≡ owed_for q (all_parts bs))
         → IfOk result (λ lines. lines ≡ party_lines bs) }
 {
-    let mut lines = Items::with_room(alloc, names.len())?;
+    let mut lines = Items::from(Vec::with_capacity(alloc, names.len())?);
     for (party, place) in names {
         let part = part_at(parts, *place);
         if part.has_part {

@@ -1,50 +1,161 @@
 //! Where the items of a list stand, by their numbers.
-ghost use Rattle.std.specs.Prelude.{◌≡◌, ℕ, List, [], ◌∷◌, ◌++◌, None, OnOk, OnErr, length};
-ghost use Rattle.dsr_ledger.specs.Indexes.{indexed_at, AreIndexed};
+ghost use Rattle.std.specs.Prelude.{◌≡◌, ℕ, [], ◌∷◌, ◌++◌, None, true, OnOk, OnErr, IfOk};
+ghost use Rattle.std.specs.Prelude.{map, nat_eq, take, drop};
+ghost use Rattle.std.specs.BTreeMap.{get};
+ghost use Rattle.std.specs.List.{position};
+ghost use Rattle.std.specs.Ordering.{nat_cmp};
 ghost use Rattle.dsr_ledger.specs.Numbered.{place_in};
+ghost use Rattle.dsr_ledger.specs.Indexes.{Rise, Describes, AreIndexed};
 
 use dsr_cells::NoMemory;
 use std::alloc::Global;
 use std::collections::BTreeMap;
 
-/// So many items of a list are found by going over them. Those behind have an index.
+/// So many items of a list are found by going over them. Those behind are searched for.
 pub const FEW: usize = 16;
 
-/// The places of the items of a list behind the first few, by their numbers, of which none stands
-/// twice.
+/// An item that is found by its number.
+pub trait Numbered {
+    ghost number_of: { Self → ℕ };
+
+    /// Its number.
+    fn number(&self) -> u32
+        ensures { result ≡ number_of self.now };
+}
+
+impl Numbered for u32 {
+    ghost number_of = { λ n. n };
+
+    fn number(&self) -> u32 {
+        *self
+    }
+}
+
+/// Where items stand that have numbers, of which none stands twice. While the numbers rise it is
+/// empty, and an item is found by a binary search. The first number that does not rise is put into a
+/// tree, with the places of all items before it.
 #[derive(Drop)]
 pub struct Index {
-    pub places: BTreeMap<u32, usize>,
+    pub places: Option<Box<BTreeMap<u32, usize>>>,
+}
+
+/// The place of a number among the first few items.
+fn first_place<T: Numbered>(items: &[T], number: u32) -> Option<usize>
+    ensures { result ≡ position (λ item. nat_eq number (T.number_of item)) (take 16 items.now) }
+{
+    items
+        .iter()
+        .take(FEW)
+        .position(|item| number == item.number())
+}
+
+/// The items behind the first few.
+fn behind<T>(items: &[T]) -> &[T]
+    ensures { result.now ≡ drop 16 items.now }
+{
+    &items[FEW.min(items.len())..]
+}
+
+/// The place of a number among items whose numbers rise.
+fn search<T: Numbered>(items: &[T], number: u32) -> Option<usize>
+    requires { Rise (map T.number_of items.now) }
+    ensures { result ≡ place_in (map T.number_of items.now) number }
+{
+    items
+        .binary_search_by_key(&number, |item| item.number())
+        .ok()
+}
+
+/// Whether a number is above those of items that rise.
+fn is_above<T: Numbered>(items: &[T], number: u32) -> bool
+    ensures { result ≡ true → Rise (map T.number_of items.now)
+        → Rise (map T.number_of items.now ++ number ∷ []) }
+{
+    match items.last() {
+        Some(last) => last.number() < number,
+        None => true,
+    }
+}
+
+/// The places of items whose numbers rise.
+fn gather<T: Numbered>(alloc: Global, items: &[T]) -> Result<BTreeMap<u32, usize>, NoMemory>
+    requires { Rise (map T.number_of items.now) }
+    ensures { IfOk result (λ places. (n : ℕ) →
+        get nat_cmp places n ≡ place_in (map T.number_of items.now) n) }
+{
+    let mut places = BTreeMap::new(alloc);
+    for (place, item) in items.iter().enumerate() {
+        places.insert(item.number(), place)?;
+    }
+    Ok(places)
 }
 
 impl Index {
     /// No items.
-    pub fn new(alloc: Global) -> Index
-        ensures { AreIndexed [] result }
+    pub fn new() -> Index
+        ensures { Describes result [] }
     {
-        Index {
-            places: BTreeMap::new(alloc),
+        Index { places: None }
+    }
+
+    /// The place of a number among the items that the index describes.
+    fn place<T: Numbered>(&self, items: &[T], number: u32) -> Option<usize>
+        requires { Describes self.now (map T.number_of items.now) }
+        ensures { result ≡ place_in (map T.number_of items.now) number }
+    {
+        match &self.places {
+            Some(places) => places.get(&number).copied(),
+            None => search(items, number),
         }
     }
 
-    /// The place of a number that is not among the first few.
-    pub fn get(&self, number: u32) -> Option<usize>
-        ensures { result ≡ indexed_at self.now number }
+    /// Takes in the number that is put behind the items that the index describes.
+    fn put<T: Numbered>(&mut self, alloc: Global, items: &[T], number: u32) -> Result<(), NoMemory>
+        requires described { Describes self.old (map T.number_of items.now) }
+        requires absent { place_in (map T.number_of items.now) number ≡ None }
+        ensures ok { OnOk result (Describes self.new (map T.number_of items.now ++ number ∷ [])) }
+        ensures err { OnErr result (Describes self.new (map T.number_of items.now)) }
     {
-        self.places.get(&number).copied()
-    }
-
-    /// Takes in the number that is put behind the others, at this place.
-    pub fn add(&mut self, alloc: Global, number: u32, place: usize) -> Result<(), NoMemory>
-        ensures ok { (ns : List ℕ) → AreIndexed ns self.old → place ≡ length ns
-            → place_in ns number ≡ None → OnOk result (AreIndexed (ns ++ number ∷ []) self.new) }
-        ensures err { (ns : List ℕ) → AreIndexed ns self.old
-            → OnErr result (AreIndexed ns self.new) }
-    {
-        if place < FEW {
+        if let Some(places) = &mut self.places {
+            places.insert(number, items.len())?;
             return Ok(());
         }
-        self.places.insert(number, place)?;
+        if is_above(items, number) {
+            return Ok(());
+        }
+        let mut places = gather(alloc, items)?;
+        places.insert(number, items.len())?;
+        self.places = Some(Box::new(alloc, places)?);
         Ok(())
+    }
+
+    /// The place of a number in a list.
+    pub fn find<T: Numbered>(&self, items: &[T], number: u32) -> Option<usize>
+        requires { AreIndexed (map T.number_of items.now) self.now }
+        ensures { result ≡ place_in (map T.number_of items.now) number }
+    {
+        if let Some(place) = first_place(items, number) {
+            return Some(place);
+        }
+        let place = self.place(behind(items), number)?;
+        Some(place + FEW)
+    }
+
+    /// Takes in the number that is put behind the items of a list, where it does not stand.
+    pub fn add<T: Numbered>(
+        &mut self,
+        alloc: Global,
+        items: &[T],
+        number: u32,
+    ) -> Result<(), NoMemory>
+        requires indexed { AreIndexed (map T.number_of items.now) self.old }
+        requires absent { place_in (map T.number_of items.now) number ≡ None }
+        ensures ok { OnOk result (AreIndexed (map T.number_of items.now ++ number ∷ []) self.new) }
+        ensures err { OnErr result (AreIndexed (map T.number_of items.now) self.new) }
+    {
+        if items.len() < FEW {
+            return Ok(());
+        }
+        self.put(alloc, behind(items), number)
     }
 }

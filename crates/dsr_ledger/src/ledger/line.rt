@@ -6,19 +6,28 @@ ghost use Rattle.dsr_ledger.specs.Ranges.{IsInRange};
 ghost use Rattle.dsr_ledger.specs.Seated.{HaveSeats, HaveParts};
 ghost use Rattle.dsr_ledger.specs.Tallies.{no_tally, line_tally, tally_with, TallyFits};
 
+use crate::ledger::index::Numbered;
 use crate::ledger::parts::{Parts, SeatShare};
 use crate::sums::Sums;
 use dsr_records::Usage;
 use std::alloc::Global;
 
 /// The number of a summary key, whether a booked usage counts under it, the sums of these, and what
-/// parties have of them.
+/// parties have of them. The widest fields stand first, so that a line takes 80 bytes.
 #[derive(Drop)]
 pub struct Line {
-    pub key: u32,
-    pub is_booked: bool,
     pub sums: Sums,
     pub parts: Parts,
+    pub key: u32,
+    pub is_booked: bool,
+}
+
+impl Numbered for Line {
+    ghost number_of = { λ line. line.key };
+
+    fn number(&self) -> u32 {
+        self.key
+    }
 }
 
 impl Line {

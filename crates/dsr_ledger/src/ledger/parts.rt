@@ -4,13 +4,14 @@ ghost use Rattle.std.specs.List.{position};
 ghost use Rattle.std.specs.Int.{w128};
 ghost use Rattle.std.specs.Int.RustNames.{FitsSigned, int_div};
 ghost use Rattle.std.specs.Str.{bytes_eq};
+ghost use Rattle.std.proofs.Props.{props};
 ghost use Rattle.dsr_ledger.specs.Indexes.{AreIndexed};
 ghost use Rattle.dsr_ledger.specs.Numbered.{IsNumbered, AreApart, AreBelow, place_in, place_by};
 ghost use Rattle.dsr_ledger.specs.Owed.{nothing_owed, owed_with, owed_kept, owed_at_place, owed_in, owed_plus, owed_for, part_seats, part_in, parts_size, PartsGrow};
 ghost use Rattle.dsr_ledger.specs.Parts.{part_of};
 ghost use Rattle.dsr_ledger.specs.Seated.{HaveSeats, HasPart, HaveParts, AreSeatsBelow};
 
-use crate::ledger::index::{FEW, Index};
+use crate::ledger::index::{Index, Numbered};
 use dsr_cells::{Amount, NoMemory};
 use std::alloc::Global;
 
@@ -54,14 +55,22 @@ impl SeatPart {
     }
 }
 
+impl Numbered for SeatPart {
+    ghost number_of = { λ part. part.seat };
+
+    fn number(&self) -> u32 {
+        self.seat
+    }
+}
+
 /// The parts of a line, one for each seat that has one, in the order in which they came.
 #[derive(Drop)]
 pub struct Parts {
     pub items: Vec<SeatPart>,
-    /// The places of the parts behind the first few, by their seats.
+    /// By the seats.
     pub index: Index,
     ghost apart: { AreApart (part_seats items.items) },
-    ghost indexed: { AreIndexed (part_seats items.items) index },
+    ghost indexed: { AreIndexed (part_seats items.items) index } by { Prim.hlevel props },
 }
 
 /// A share of an amount, in units, rounded toward zero.
@@ -76,24 +85,6 @@ fn share_of(amount: i128, share: u32) -> i128
     }
 }
 
-/// The place of a seat's part among the first few.
-fn first_place(parts: &[SeatPart], seat: u32) -> Option<usize>
-    ensures { result ≡ position (λ part. nat_eq seat part.seat) (take 16 parts.now) }
-{
-    parts.iter().take(FEW).position(|part| seat == part.seat)
-}
-
-/// The place of a seat's part, among the first few or by the index.
-fn look_up(parts: &[SeatPart], index: &Index, seat: u32) -> Option<usize>
-    requires { AreIndexed (part_seats parts.now) index.now }
-    ensures { result ≡ part_in parts.now seat }
-{
-    if let Some(place) = first_place(parts, seat) {
-        return Some(place);
-    }
-    index.get(seat)
-}
-
 /// The place of a seat's part. The part at `hint` is looked at first.
 fn find_part(parts: &[SeatPart], index: &Index, seat: u32, hint: usize) -> Option<usize>
     requires apart { AreApart (part_seats parts.now) }
@@ -105,7 +96,7 @@ fn find_part(parts: &[SeatPart], index: &Index, seat: u32, hint: usize) -> Optio
             return Some(hint);
         }
     }
-    look_up(parts, index, seat)
+    index.find(parts, seat)
 }
 
 /// How many of these seats are above all before them: all parties, where they come in the order of
@@ -190,7 +181,7 @@ impl Parts {
     {
         Parts {
             items: Vec::new(alloc),
-            index: Index::new(alloc),
+            index: Index::new(),
         }
     }
 
@@ -211,7 +202,7 @@ impl Parts {
         ensures err { OnErr result (self.new.items.items ≡ self.old.items.items) }
     {
         self.items.reserve(1)?;
-        self.index.add(alloc, seat, self.items.len())?;
+        self.index.add(alloc, self.items.as_slice(), seat)?;
         self.items.push(SeatPart::new(seat))?;
         Ok(())
     }

@@ -2,12 +2,13 @@
 ghost use Rattle.std.specs.Prelude.{◌≡◌, ◌<◌, OnOk, nat_eq, take, length};
 ghost use Rattle.std.specs.Vec.{vec_len, vec_capacity};
 ghost use Rattle.std.specs.List.{position};
+ghost use Rattle.std.proofs.Props.{props};
 ghost use Rattle.dsr_ledger.specs.Indexes.{AreIndexed};
 ghost use Rattle.dsr_ledger.specs.Numbered.{AreApart, place_in};
 ghost use Rattle.dsr_ledger.specs.Seats.{seat_numbers};
 ghost use Rattle.dsr_ledger.specs.Tallies.{line_in, line_keys, AreWithin};
 
-use crate::ledger::index::{FEW, Index};
+use crate::ledger::index::Index;
 use crate::ledger::line::Line;
 use crate::ledger::parts::{SeatShare, widen};
 use crate::ledger::seats::Seats;
@@ -21,29 +22,11 @@ use std::alloc::Global;
 pub struct Recording {
     pub seats: Seats,
     pub lines: Vec<Line>,
-    /// The places of the lines behind the first few, by the numbers of their summary keys.
+    /// By the numbers of the lines' summary keys.
     pub index: Index,
     ghost apart: { AreApart (line_keys lines.items) },
-    ghost indexed: { AreIndexed (line_keys lines.items) index },
+    ghost indexed: { AreIndexed (line_keys lines.items) index } by { Prim.hlevel props },
     ghost within: { AreWithin (length (seat_numbers seats)) lines.items },
-}
-
-/// The line of a summary key among the first few.
-fn first_line(lines: &[Line], key: u32) -> Option<usize>
-    ensures { result ≡ position (λ line. nat_eq key line.key) (take 16 lines.now) }
-{
-    lines.iter().take(FEW).position(|line| key == line.key)
-}
-
-/// The line of a summary key, among the first few or by the index.
-fn look_up(lines: &[Line], index: &Index, key: u32) -> Option<usize>
-    requires { AreIndexed (line_keys lines.now) index.now }
-    ensures { result ≡ line_in lines.now key }
-{
-    if let Some(number) = first_line(lines, key) {
-        return Some(number);
-    }
-    index.get(key)
 }
 
 /// The line of a summary key. The line at `hint` is looked at first.
@@ -57,7 +40,7 @@ fn find_line(lines: &[Line], index: &Index, key: u32, hint: usize) -> Option<usi
             return Some(hint);
         }
     }
-    look_up(lines, index, key)
+    index.find(lines, key)
 }
 
 /// Takes the memory for one more line, and exactly that for a first one: most recordings have few.
@@ -89,7 +72,7 @@ impl Recording {
         Recording {
             seats: Seats::new(alloc),
             lines: Vec::new(alloc),
-            index: Index::new(alloc),
+            index: Index::new(),
         }
     }
 
@@ -112,7 +95,7 @@ impl Recording {
     {
         reserve_line(&mut self.lines)?;
         let number = self.lines.len();
-        self.index.add(alloc, key, number)?;
+        self.index.add(alloc, self.lines.as_slice(), key)?;
         self.lines.push(Line::new(alloc, key))?;
         Ok(number)
     }

@@ -1,9 +1,10 @@
 //! The seats of a recording's parties.
-ghost use Rattle.std.specs.Prelude.{◌≡◌, IfOk, OnOk, OnErr, Some, length, take};
+ghost use Rattle.std.specs.Prelude.{◌≡◌, IfOk, OnOk, OnErr, Some, length};
+ghost use Rattle.std.proofs.Props.{props};
 ghost use Rattle.dsr_ledger.specs.Indexes.{AreIndexed};
 ghost use Rattle.dsr_ledger.specs.Numbered.{place_in, AreApart};
 
-use crate::ledger::index::{FEW, Index};
+use crate::ledger::index::Index;
 use dsr_cells::NoMemory;
 use std::alloc::Global;
 
@@ -11,17 +12,10 @@ use std::alloc::Global;
 #[derive(Drop)]
 pub struct Seats {
     pub numbers: Vec<u32>,
-    /// The seats behind the first few, by the numbers of their parties.
+    /// By the numbers of the parties.
     pub index: Index,
     ghost apart: { AreApart numbers.items },
-    ghost indexed: { AreIndexed numbers.items index },
-}
-
-/// The place of a number among the first few.
-fn first_place(numbers: &[u32], number: u32) -> Option<usize>
-    ensures { result ≡ place_in (take 16 numbers.now) number }
-{
-    numbers.iter().take(FEW).position(|one| number == *one)
+    ghost indexed: { AreIndexed numbers.items index } by { Prim.hlevel props },
 }
 
 impl Seats {
@@ -35,7 +29,7 @@ impl Seats {
     {
         Seats {
             numbers: Vec::new(alloc),
-            index: Index::new(alloc),
+            index: Index::new(),
         }
     }
 
@@ -58,10 +52,7 @@ impl Seats {
     fn find(&self, party: u32) -> Option<usize>
         ensures { result ≡ place_in (seat_numbers self.now) party }
     {
-        if let Some(seat) = first_place(self.numbers.as_slice(), party) {
-            return Some(seat);
-        }
-        self.index.get(party)
+        self.index.find(self.numbers.as_slice(), party)
     }
 
     /// Gives a party that has no seat the next one.
@@ -71,7 +62,7 @@ impl Seats {
         ensures err { OnErr result (seat_numbers self.new ≡ seat_numbers self.old) }
     {
         self.numbers.reserve(1)?;
-        self.index.add(alloc, party, self.numbers.len())?;
+        self.index.add(alloc, self.numbers.as_slice(), party)?;
         self.numbers.push(party)?;
         Ok(())
     }

@@ -1,6 +1,7 @@
-use Rattle.std.proofs.Common.{◌≡◌, ◌∙◌, ◌<◌, ◌++◌, [], ◌∷◌, Some, ap, length, slice_index_or, false, rules}
+use Rattle.std.proofs.Common.{◌≡◌, ◌∙◌, ◌<◌, ◌++◌, [], ◌∷◌, Some, ap, subst, length, slice_index_or, false, rules}
 use Rattle.std.proofs.lemmas.List.Elements.{All-push}
-use Rattle.dsr.proofs.Naming.{named_next}
+use Rattle.dsr.specs.Inputs.{IsRefusalOf}
+use Rattle.dsr.proofs.Naming.{named_next, refused_among}
 use Rattle.dsr.proofs.inputs.open_inputs.Goals as goal
 
 pub loop-name-preserved : goal.loop-name-preserved
@@ -17,3 +18,12 @@ loop-name-preserved g c =
           (c.in-Ok.ensures.name ∙ ap Some name));
       unfailed = rw items (All-push (λ i. i.source.failed ≡ false) c.loop-name.inputs.items c.in-Ok.input was.unfailed c.in-Ok.ensures.unfailed);
     }
+
+pub returns-in-Err-clause-refused : goal.returns-in-Err-clause-refused
+returns-in-Err-clause-refused g c =
+    let names = c.args.files.now in
+    let k = c.loop-name.name-index in
+    let under : k < length names = search rules in
+    let name : c.name-item.result ≡ slice_index_or names k c.name-item.result =
+    c.name-item.is ∙ ap (λ xs. slice_index_or xs k c.name-item.result) c.as_slice-name-items.ensures in
+    refused_among names k c.name-item.result c.in-Err.error under (subst (λ n. IsRefusalOf n c.in-Err.error) name c.in-Err.ensures.refused)

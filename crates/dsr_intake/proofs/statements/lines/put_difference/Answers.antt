@@ -2,13 +2,17 @@ use Rattle.std.proofs.Common.{append_assoc, rules}
 use Rattle.std.specs.Int.{w64}
 use Rattle.std.specs.Int.RustNames.{FitsSigned}
 use Rattle.std.proofs.lemmas.Int.{to_z-of_z}
-use Rattle.std.proofs.lemmas.Result.{IfOk-equal}
+use Rattle.std.proofs.lemmas.List.{append-nil}
 use Rattle.dsr_intake.specs.meaning.Statement.{difference_line}
+use Rattle.dsr_intake.proofs.Lines.{then, turn}
 use Rattle.dsr_intake.proofs.statements.lines.put_difference.Goals as goal
 
 pub returns : goal.returns
 unfolding difference_line
-returns c =
+returns g c =
     let fits : FitsSigned w64 c.args.difference.now.stated_usages = search rules in
     let same = to_z-of_z w64 c.args.difference.now.stated_usages fits in
-    search (rules, IfOk-equal, append_assoc, same)
+    let puts =
+    then c.put.ensures (then c.put_number.ensures (then c.put_text.ensures
+    (then c.put_usages.ensures (then c.put_amount.ensures (then c.put_amount-2.ensures c.put_end.ensures))))) in
+    turn puts (search (rules, append_assoc, append-nil, same))

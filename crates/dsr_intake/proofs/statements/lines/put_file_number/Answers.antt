@@ -3,8 +3,8 @@ use Rattle.dsr_intake.proofs.statements.lines.put_file_number.Goals as goal
 
 pub returns-in-Some : goal.returns-in-Some
 unfolding number_cell
-returns-in-Some c = rw c.in-Some.is (rw c.from.ensures at c.put_number.ensures)
+returns-in-Some g c = rw c.in-Some.is (rw c.from.ensures at c.put_number.ensures)
 
 pub returns-in-None : goal.returns-in-None
 unfolding number_cell
-returns-in-None c = rw c.in-None.is c.put_text.ensures
+returns-in-None g c = rw c.in-None.is c.put_text.ensures

@@ -1,12 +1,15 @@
 use Rattle.std.proofs.Common.{append_assoc, rules}
-use Rattle.std.proofs.lemmas.Result.{IfOk-equal}
+use Rattle.std.proofs.lemmas.List.{append-nil}
 use Rattle.dsr_intake.specs.meaning.Statement.{outcome_cells}
+use Rattle.dsr_intake.proofs.Lines.{then, turn}
 use Rattle.dsr_intake.proofs.statements.lines.put_outcome.Goals as goal
 
 pub returns-in-Whole : goal.returns-in-Whole
 unfolding outcome_cells
-returns-in-Whole c = rw c.in-Whole.is (search rules)
+returns-in-Whole g c = rw c.in-Whole.is (turn c.put_text.ensures (search (rules, append-nil)))
 
-pub returns-in_ok-put_text-in-Fault-2 : goal.returns-in_ok-put_text-in-Fault-2
+pub returns-in-Fault : goal.returns-in-Fault
 unfolding outcome_cells
-returns-in_ok-put_text-in-Fault-2 c = rw c.in-Fault.is (search (rules, IfOk-equal, append_assoc))
+returns-in-Fault g c =
+    rw c.in-Fault.is (turn (then c.put_text-in-Fault.ensures (then c.put_number.ensures (then c.put_text-in-Fault-2.ensures c.put_column.ensures)))
+    (search (rules, append_assoc, append-nil)))

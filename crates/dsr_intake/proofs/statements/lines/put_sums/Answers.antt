@@ -1,8 +1,11 @@
 use Rattle.std.proofs.Common.{append_assoc, rules}
-use Rattle.std.proofs.lemmas.Result.{IfOk-equal}
+use Rattle.std.proofs.lemmas.List.{append-nil}
 use Rattle.dsr_intake.specs.meaning.Statement.{sums_line}
+use Rattle.dsr_intake.proofs.Lines.{then, turn}
 use Rattle.dsr_intake.proofs.statements.lines.put_sums.Goals as goal
 
 pub returns : goal.returns
 unfolding sums_line
-returns c = search (rules, IfOk-equal, append_assoc)
+returns g c =
+    turn (then c.put.ensures (then c.put_key.ensures (then c.put_signed.ensures (then c.put_amount.ensures c.put_end.ensures))))
+    (search (rules, append_assoc, append-nil))

@@ -1,10 +1,11 @@
-use Rattle.std.proofs.Common.{◌≡◌, ◌+◌, ◌++◌, drop}
+use Rattle.std.proofs.Common.{◌≡◌, ◌+◌, take}
 use Rattle.dsr_intake.specs.meaning.Statement.{file_lines}
+use Rattle.dsr_intake.specs.inner.Puts.{Puts}
 use Rattle.dsr_intake.proofs.statements.write.put_files.Given as goal
 
 abbrev pub invariant-loop-file : goal.invariant-loop-file
-invariant-loop-file l =
+invariant-loop-file g l =
     record {
       place : l.place ≡ l.file-index + 1;
-      lines : l.out.items ++ file_lines l.place (drop l.file-index l.files) ≡ l.fn.out.items ++ file_lines 1 l.files;
+      lines : Puts g.P.Put.after l.fn.out l.out (file_lines 1 (take l.file-index l.files));
     }

@@ -1,9 +1,9 @@
 use Rattle.std.proofs.Math.Logic.{∥∥₁_map}
-use Rattle.std.proofs.Common.{◌≡◌, ◌<◌, ℕ, List, [], length, sym, subst}
+use Rattle.std.proofs.Common.{◌≡◌, ◌<◌, ◌∙◌, ℕ, List, [], length, sym, subst}
 use Rattle.std.specs.List.{IsDistinct}
 use Rattle.dsr_ledger.specs.SummaryKeys.{summary_key_eq}
-use Rattle.dsr_ledger.specs.Listed.{IsOfSmallAt, AddsLines}
-use Rattle.dsr_ledger.proofs.ReportLemmas.{AreRest, IsWritten, rest_tail, rest_all, written_none, written_step, written_all, small_recording}
+use Rattle.dsr_ledger.specs.Listed.{IsOfSmallAt}
+use Rattle.dsr_ledger.proofs.ReportLemmas.{AreRest, IsWritten, rest_all, written_none, written_all, lines_step, small_recording}
 use Rattle.dsr_ledger.proofs.assemble.ledger.ledger_lines.Goals as goal
 
 pub loop-isrc-init : goal.loop-isrc-init
@@ -15,7 +15,7 @@ loop-isrc-init c =
     record {
       rest = subst (AreRest books) (sym gives.0) (rest_all books m sort.unique (λ q. sort.reordered.2 q) c.in_ok-sort_unstable_keys.ensures.sorted);
       written =
-          subst (IsWritten books c.into_iter-isrc-iterator.result) (sym c.in_ok-report.ensures) (
+          subst (IsWritten books c.into_iter-isrc-iterator.result) (sym (c.from-report.ensures ∙ c.in_ok-with_capacity.ensures.items)) (
           subst (λ es. IsWritten books es []) (sym gives.0) (written_none books m sort.unique (λ q. sort.reordered.2 q)));
     }
 
@@ -44,20 +44,17 @@ add_recording-requires-clause-small c =
 
 pub loop-isrc-preserved : goal.loop-isrc-preserved
 loop-isrc-preserved c =
-    let books = c.args.books in
-    let isrc = c.in-Some.isrc in
-    let r = c.in-Some.recording in
-    let left = c.next.new.self in
-    let out = c.loop-isrc.report in
-    let new = c.add_recording.new.report in
-    let rest = subst (AreRest books) c.in-Some.ensures.steps c.loop-isrc.invariant.rest in
-    let adds =
-    subst (λ ks. AddsLines books.parties.keys ks isrc r out new) c.as_slice-keys.ensures.keys (
-    subst (λ ps. AddsLines ps c.as_slice-keys.result.now isrc r out new) c.as_slice-names.ensures.keys c.in_ok-add_recording.ensures) in
-    record {
-      rest = rest_tail books (isrc, r) left rest;
-      written = written_step books isrc r left out new rest (subst (λ es. IsWritten books es out) c.in-Some.ensures.steps c.loop-isrc.invariant.written) adds;
-    }
+    let next = lines_step c.args.books c.in-Some.isrc c.in-Some.recording c.loop-isrc.isrc-iterator c.next.new.self
+    c.as_slice-names.result.now c.as_slice-keys.result.now c.loop-isrc.report c.add_recording.new.report
+    c.in-Some.ensures.steps c.as_slice-names.ensures.keys c.as_slice-keys.ensures.keys c.loop-isrc.invariant.rest c.loop-isrc.invariant.written c.in_ok-add_recording.ensures in
+    record { rest = next.0; written = next.1 }
+
+pub loop-isrc-preserved-in_ok-add_recording : goal.loop-isrc-preserved-in_ok-add_recording
+loop-isrc-preserved-in_ok-add_recording c =
+    let next = lines_step c.args.books c.in-Some.isrc c.in-Some.recording c.loop-isrc.isrc-iterator c.next.new.self
+    c.as_slice-names.result.now c.as_slice-keys.result.now c.loop-isrc.report c.add_recording.new.report
+    c.in-Some.ensures.steps c.as_slice-names.ensures.keys c.as_slice-keys.ensures.keys c.loop-isrc.invariant.rest c.loop-isrc.invariant.written c.in_ok-add_recording.ensures in
+    record { rest = next.0; written = next.1 }
 
 pub returns : goal.returns
 returns c = λ bs stand.

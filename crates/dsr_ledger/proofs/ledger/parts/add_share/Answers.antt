@@ -5,12 +5,18 @@ use Rattle.std.specs.Int.{w128}
 use Rattle.std.specs.Int.RustNames.{int_div, FitsSigned}
 use Rattle.std.specs.Str.{bytes_eq}
 use Rattle.std.proofs.lemmas.Int.{to_z-of_z}
+use Rattle.dsr_ledger.specs.Indexes.{AreIndexed}
 use Rattle.dsr_ledger.specs.Numbered.{AreApart, place_in, place_by}
 use Rattle.dsr_ledger.specs.Owed.{owed_at_place, owed_in, owed_with, part_in, part_seats}
 use Rattle.dsr_ledger.proofs.ItemLemmas.{items_are_numbered}
 use Rattle.dsr_ledger.proofs.NumberedLemmas.{not_Some}
 use Rattle.dsr_ledger.proofs.PartLemmas.{seat_of_part, places_are_numbered_by}
 use Rattle.dsr_ledger.proofs.ledger.parts.add_share.Goals as goal
+
+pub find_part-requires-clause-indexed : goal.find_part-requires-clause-indexed
+find_part-requires-clause-indexed c =
+    let same : c.as_slice.result.now ≡ c.args.parts.now.items = search rules in
+    subst (λ ps. AreIndexed (part_seats ps) c.args.index.now) (sym same) c.requires.indexed
 
 pub add_part-requires-clause-below : goal.add_part-requires-clause-below
 add_part-requires-clause-below c =

@@ -16,11 +16,11 @@ invariant_of-self-then-not-goes_out g c =
     let e = c.args.event in
     let out = events_of (out_of (view f.pass)) in
     let asked : IsOrderly (sent_of f ++ e ∷ []) = subst (λ (v : FeedView). IsOrderly (v.sent ++ e ∷ [])) (sym c.self.view_is) c.requires in
-    let same : out ++ c.put.new.batch.items ≡ sent_of f ++ e ∷ [] = ap (λ l. out ++ l) c.in_ok-put.ensures ∙ sym (append_assoc out f.batch.items (e ∷ [])) in
+    let same : out ++ c.put.new.batch ≡ sent_of f ++ e ∷ [] = ap (λ l. out ++ l) c.in_ok-self-inside.ensures ∙ sym (append_assoc out f.batch (e ∷ [])) in
     record {
       seat = c.self.invariant.seat;
       knows = c.self.invariant.knows;
-      waits = omega (arith, ap length c.in_ok-put.ensures, length-append f.batch.items (e ∷ []), has_room f.batch.items e (sym c.goes_out-goes_out.ensures ∙ c.if-not-goes_out.true) c.self.invariant.waits);
+      waits = omega (arith, ap length c.in_ok-self-inside.ensures, length-append f.batch (e ∷ []), has_room f.batch e (sym c.goes_out-goes_out.ensures ∙ c.if-not-goes_out.true) c.self.invariant.waits);
       orderly = subst IsOrderly (sym same) asked;
       count = omega (arith, ap (λ (v : Placed). v.place) c.event.view_is, orderly_next (sent_of f) e [] asked, ap length same, length-append (sent_of f) (e ∷ []));
     }
@@ -33,8 +33,8 @@ invariant_of-self-in_default g c =
     let went = c.in_default.ensures.sent in
     let asked : IsOrderly (sent_of f ++ e ∷ []) = subst (λ (v : FeedView). IsOrderly (v.sent ++ e ∷ [])) (sym c.self.view_is) c.requires in
     let same =
-    sent_out (view f.pass) (view c.send_out.new.pass) _ _ (f.batch.items ++ e ∷ []) c.send_out.new.batch.items went.0 c.in_ok-put.ensures went.1
-    ∙ sym (append_assoc out f.batch.items (e ∷ [])) in
+    sent_out (view f.pass) (view c.send_out.new.pass) _ _ (f.batch ++ e ∷ []) c.send_out.new.batch went.0 c.in_ok-self-inside.ensures went.1
+    ∙ sym (append_assoc out f.batch (e ∷ [])) in
     record {
       seat = c.send_out.ensures.seat;
       knows = sends_again _ _ _ went.0;
@@ -50,12 +50,12 @@ returns-in_default-clause-sent g c =
     let out = events_of (out_of (view f.pass)) in
     let went = c.in_default.ensures.sent in
     let same =
-    sent_out (view f.pass) (view c.send_out.new.pass) _ _ (f.batch.items ++ e ∷ []) c.send_out.new.batch.items went.0 c.in_ok-put.ensures went.1
-    ∙ sym (append_assoc out f.batch.items (e ∷ [])) in
+    sent_out (view f.pass) (view c.send_out.new.pass) _ _ (f.batch ++ e ∷ []) c.send_out.new.batch went.0 c.in_ok-self-inside.ensures went.1
+    ∙ sym (append_assoc out f.batch (e ∷ [])) in
     let seat = c.send_out.ensures.seat in
     let was = c.self.invariant.seat in
-    let batch = went.1 ∙ sym (batch_goes f.batch.items e (sym c.goes_out-goes_out.ensures ∙ c.if-not-goes_out.false)) in
-    let next : feed_view (record f { pass = c.send_out.new.pass; batch = c.send_out.new.batch; count = c.event.inside.place + 1 }) ≡ record (feed_view f) { sent = sent_of f ++ e ∷ []; batch = batch_after f.batch.items e } =
+    let batch = went.1 ∙ sym (batch_goes f.batch e (sym c.goes_out-goes_out.ensures ∙ c.if-not-goes_out.false)) in
+    let next : feed_view (record f { pass = c.send_out.new.pass; batch = c.send_out.new.batch; count = c.event.inside.place + 1 }) ≡ record (feed_view f) { sent = sent_of f ++ e ∷ []; batch = batch_after f.batch e } =
     λ i. record {
       name = record { of = record {}; table = (seat.0 ∙ sym was.0) i; key = (seat.1 ∙ sym was.1) i; capacity = (feed_view f).name.capacity };
       sent = same i;

@@ -1,4 +1,4 @@
-use Rattle.std.proofs.Common.{◌≡◌, ◌+◌, [], ◌∷◌, ◌++◌, length, take, sym, ap, ◌∙◌, arith}
+use Rattle.std.proofs.Common.{◌≡◌, ◌+◌, [], ◌∷◌, ◌++◌, length, take, refl, sym, ap, ◌∙◌, arith}
 use Rattle.crossbeam_channel.specs.Claims.{view}
 use Rattle.dsr_file.specs.Orderly.{has_ended}
 use Rattle.dsr_relay.specs.Views.{TapView}
@@ -8,21 +8,20 @@ use Rattle.dsr_relay.proofs.tap.Tap.take_first.Goals as goal
 
 pub unreachable-requires : goal.unreachable-requires
 unreachable-requires g c =
-    let size = has_size (view c.self.inside.pass) (view c.take_next.new.pass) c.in-Some.message c.in-Some.ensures.taken c.in-Some.ensures.orderly.1 in
-    omega (arith, size.0, ap length (sym c.of.ensures ∙ c.in_default-take_first.ensures.0))
+    let size = has_size (view c.self.inside.pass) (view c.take_next.new.pass) c.in-Some.batch c.in-Some.ensures.taken c.in-Some.ensures.orderly.1 in
+    omega (arith, size.0, ap length (c.in_default-take_first.ensures.0))
 
 pub invariant_of-self-2 : goal.invariant_of-self-2
 invariant_of-self-2 g c =
     let t = c.self.inside in
     let none = ap (λ (v : TapView). v.held) c.self.view_is ∙ c.requires.none_held in
-    let gives = c.of.ensures in
     let first = c.in-Some-take_first.ensures in
-    let next = first_next (view t.pass) (view c.take_next.new.pass) c.in-Some.message t.count t.held c.of.result c.in-Some-take_first.event _ c.take_first.new.self c.event.view_is c.in-Some.ensures.taken c.self.invariant.whole none gives first c.in-Some.ensures.orderly.0 in
-    let size = has_size (view t.pass) (view c.take_next.new.pass) c.in-Some.message c.in-Some.ensures.taken c.in-Some.ensures.orderly.1 in
+    let next = first_next (view t.pass) (view c.take_next.new.pass) c.in-Some.batch t.count t.held c.in-Some.batch c.in-Some-take_first.event _ c.take_first.new.self c.event.view_is c.in-Some.ensures.taken c.self.invariant.whole none refl first c.in-Some.ensures.orderly.0 in
+    let size = has_size (view t.pass) (view c.take_next.new.pass) c.in-Some.batch c.in-Some.ensures.taken c.in-Some.ensures.orderly.1 in
     record {
       seat = c.in-Some.ensures.seat;
       knows = takes_again _ _ c.in-Some.ensures.taken;
-      few = omega (arith, size.1, ap length (sym gives ∙ first));
+      few = omega (arith, size.1, ap length first);
       orderly = c.in-Some.ensures.orderly.0;
       whole = next.whole;
       count = next.count;
@@ -34,7 +33,7 @@ returns-clause-taken g c =
     let t = c.self.inside in
     let e = c.in-Some-take_first.event in
     let none = ap (λ (v : TapView). v.held) c.self.view_is ∙ c.requires.none_held in
-    let next = first_next (view t.pass) (view c.take_next.new.pass) c.in-Some.message t.count t.held c.of.result e _ c.take_first.new.self c.event.view_is c.in-Some.ensures.taken c.self.invariant.whole none c.of.ensures c.in-Some-take_first.ensures c.in-Some.ensures.orderly.0 in
+    let next = first_next (view t.pass) (view c.take_next.new.pass) c.in-Some.batch t.count t.held c.in-Some.batch e _ c.take_first.new.self c.event.view_is c.in-Some.ensures.taken c.self.invariant.whole none refl c.in-Some-take_first.ensures c.in-Some.ensures.orderly.0 in
     let seat = c.in-Some.ensures.seat in
     let was = c.self.invariant.seat in
     let after : tap_view (record t { pass = c.take_next.new.pass; held = c.take_first.new.self; count = c.event.inside.place + 1; ended = c.is_ended-self-inside.result }) ≡ record (tap_view t) { taken = take t.count (arrived t) ++ e ∷ []; held = c.take_first.new.self } =
@@ -45,12 +44,12 @@ pub returns-clause-place : goal.returns-clause-place
 returns-clause-place g c =
     let t = c.self.inside in
     let none = ap (λ (v : TapView). v.held) c.self.view_is ∙ c.requires.none_held in
-    let next = first_next (view t.pass) (view c.take_next.new.pass) c.in-Some.message t.count t.held c.of.result c.in-Some-take_first.event _ c.take_first.new.self c.event.view_is c.in-Some.ensures.taken c.self.invariant.whole none c.of.ensures c.in-Some-take_first.ensures c.in-Some.ensures.orderly.0 in
+    let next = first_next (view t.pass) (view c.take_next.new.pass) c.in-Some.batch t.count t.held c.in-Some.batch c.in-Some-take_first.event _ c.take_first.new.self c.event.view_is c.in-Some.ensures.taken c.self.invariant.whole none refl c.in-Some-take_first.ensures c.in-Some.ensures.orderly.0 in
     next.place ∙ ap (λ (v : TapView). length v.taken) c.self.view_is
 
 pub returns-clause-orderly : goal.returns-clause-orderly
 returns-clause-orderly g c =
     let t = c.self.inside in
     let none = ap (λ (v : TapView). v.held) c.self.view_is ∙ c.requires.none_held in
-    let next = first_next (view t.pass) (view c.take_next.new.pass) c.in-Some.message t.count t.held c.of.result c.in-Some-take_first.event _ c.take_first.new.self c.event.view_is c.in-Some.ensures.taken c.self.invariant.whole none c.of.ensures c.in-Some-take_first.ensures c.in-Some.ensures.orderly.0 in
+    let next = first_next (view t.pass) (view c.take_next.new.pass) c.in-Some.batch t.count t.held c.in-Some.batch c.in-Some-take_first.event _ c.take_first.new.self c.event.view_is c.in-Some.ensures.taken c.self.invariant.whole none refl c.in-Some-take_first.ensures c.in-Some.ensures.orderly.0 in
     next.orderly

@@ -7,15 +7,15 @@ use Rattle.dsr_relay.proofs.tap.Tap.take_message.Goals as goal
 
 pub unreachable-requires : goal.unreachable-requires
 unreachable-requires g c =
-    let size = has_size (view c.self.inside.pass) (view c.take_next.new.pass) c.in-Some.message c.in-Some.ensures.taken c.in-Some.ensures.orderly.1 in
-    omega (arith, size.0, ap length (sym c.as_slice.ensures.value), c.in_default-split_last.ensures.cases)
+    let size = has_size (view c.self.inside.pass) (view c.take_next.new.pass) c.in-Some.batch c.in-Some.ensures.taken c.in-Some.ensures.orderly.1 in
+    omega (arith, size.0, ap length (sym c.events.ensures), c.in_default-split_last.ensures.cases)
 
 pub invariant_of-self-2 : goal.invariant_of-self-2
 invariant_of-self-2 g c =
     let t = c.self.inside in
     let none = ap (λ (v : TapView). v.held) c.self.view_is ∙ c.requires.none_held in
-    let last = sym c.as_slice.ensures.value ∙ c.in-Some-split_last.ensures.cases.0 in
-    let next = lot_next (view t.pass) (view c.take_next.new.pass) c.in-Some.message t.count t.held _ _ _ c.last.view_is c.in-Some.ensures.taken c.self.invariant.whole none last c.in-Some.ensures.orderly.0 in
+    let last = sym c.events.ensures ∙ c.in-Some-split_last.ensures.cases.0 in
+    let next = lot_next (view t.pass) (view c.take_next.new.pass) c.in-Some.batch t.count t.held _ _ _ c.last.view_is c.in-Some.ensures.taken c.self.invariant.whole none last c.in-Some.ensures.orderly.0 in
     record {
       seat = c.in-Some.ensures.seat;
       knows = takes_again _ _ c.in-Some.ensures.taken;
@@ -30,23 +30,23 @@ pub returns-clause-taken : goal.returns-clause-taken
 returns-clause-taken g c =
     let t = c.self.inside in
     let none = ap (λ (v : TapView). v.held) c.self.view_is ∙ c.requires.none_held in
-    let last = sym c.as_slice.ensures.value ∙ c.in-Some-split_last.ensures.cases.0 in
-    let next = lot_next (view t.pass) (view c.take_next.new.pass) c.in-Some.message t.count t.held _ _ _ c.last.view_is c.in-Some.ensures.taken c.self.invariant.whole none last c.in-Some.ensures.orderly.0 in
+    let last = sym c.events.ensures ∙ c.in-Some-split_last.ensures.cases.0 in
+    let next = lot_next (view t.pass) (view c.take_next.new.pass) c.in-Some.batch t.count t.held _ _ _ c.last.view_is c.in-Some.ensures.taken c.self.invariant.whole none last c.in-Some.ensures.orderly.0 in
     let seat = c.in-Some.ensures.seat in
     let was = c.self.invariant.seat in
-    let front = next.front ∙ ap (λ l. take t.count (arrived t) ++ l) (sym c.of.ensures) in
-    let after : tap_view (record t { pass = c.take_next.new.pass; count = c.last.inside.place + 1; ended = c.is_ended-self-inside.result }) ≡ record (tap_view t) { taken = take t.count (arrived t) ++ c.of.result; held = [] } =
+    let front = next.front in
+    let after : tap_view (record t { pass = c.take_next.new.pass; count = c.last.inside.place + 1; ended = c.is_ended-self-inside.result }) ≡ record (tap_view t) { taken = take t.count (arrived t) ++ c.in-Some.batch; held = [] } =
     λ i. record { name = record { of = record {}; table = (seat.0 ∙ sym was.0) i; key = (seat.1 ∙ sym was.1) i; capacity = (tap_view t).name.capacity }; taken = front i; held = none i } in
-    after ∙ ap (λ (v : TapView). record v { taken = v.taken ++ c.of.result; held = [] }) c.self.view_is
+    after ∙ ap (λ (v : TapView). record v { taken = v.taken ++ c.in-Some.batch; held = [] }) c.self.view_is
 
 pub returns-clause-few : goal.returns-clause-few
 returns-clause-few g c =
-    let size = has_size (view c.self.inside.pass) (view c.take_next.new.pass) c.in-Some.message c.in-Some.ensures.taken c.in-Some.ensures.orderly.1 in
-    omega (arith, size.1, ap length c.of.ensures)
+    let size = has_size (view c.self.inside.pass) (view c.take_next.new.pass) c.in-Some.batch c.in-Some.ensures.taken c.in-Some.ensures.orderly.1 in
+    size.1
 
 pub returns-clause-orderly : goal.returns-clause-orderly
 returns-clause-orderly g c =
     let t = c.self.inside in
     let none = ap (λ (v : TapView). v.held) c.self.view_is ∙ c.requires.none_held in
-    let last = sym c.as_slice.ensures.value ∙ c.in-Some-split_last.ensures.cases.0 in
-    (lot_next (view t.pass) (view c.take_next.new.pass) c.in-Some.message t.count t.held _ _ _ c.last.view_is c.in-Some.ensures.taken c.self.invariant.whole none last c.in-Some.ensures.orderly.0).orderly
+    let last = sym c.events.ensures ∙ c.in-Some-split_last.ensures.cases.0 in
+    (lot_next (view t.pass) (view c.take_next.new.pass) c.in-Some.batch t.count t.held _ _ _ c.last.view_is c.in-Some.ensures.taken c.self.invariant.whole none last c.in-Some.ensures.orderly.0).orderly

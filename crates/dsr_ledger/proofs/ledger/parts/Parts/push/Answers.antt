@@ -1,6 +1,5 @@
-use Rattle.std.proofs.Common.{rules, ◌≡◌, ◌++◌, ◌∷◌, [], sym, ap, ◌∙◌, subst, length, nat_eq}
+use Rattle.std.proofs.Common.{rules, ◌≡◌, ◌++◌, ◌∷◌, [], sym, ap, ◌∙◌, subst, nat_eq}
 use Rattle.std.specs.Prelude.{None}
-use Rattle.std.proofs.lemmas.List.{length-map}
 use Rattle.dsr_ledger.specs.declared.ledger.parts.SeatPart.{SeatPart}
 use Rattle.dsr_ledger.specs.Indexes.{AreIndexed}
 use Rattle.dsr_ledger.specs.Numbered.{AreApart}
@@ -17,13 +16,24 @@ invariant_of-self c =
     let same = sym c.reserve.ensures.items in
     record { apart = subst (λ ps. AreApart (part_seats ps)) same s.apart; indexed = subst (λ ps. AreIndexed (part_seats ps) s.index) same s.indexed }
 
+pub add-requires-clause-indexed : goal.add-requires-clause-indexed
+add-requires-clause-indexed c =
+    let s = c.args.self.now in
+    let same : c.as_slice.result.now ≡ s.items.items = search rules in
+    subst (λ ps. AreIndexed (part_seats ps) s.index) (sym same) s.indexed
+
+pub add-requires-clause-absent : goal.add-requires-clause-absent
+add-requires-clause-absent c =
+    let same : c.as_slice.result.now ≡ c.args.self.now.items.items = search rules in
+    ap (λ ps. part_in ps c.args.seat) same ∙ c.requires
+
 pub invariant_of-self-in-Break-branch-2 : goal.invariant_of-self-in-Break-branch-2
 invariant_of-self-in-Break-branch-2 c =
     let s = c.args.self.now in
-    let same = sym c.reserve.ensures.items in
+    let same : c.as_slice.result.now ≡ c.reserve.new.self.items = search rules in
     record {
-      apart = subst (λ ps. AreApart (part_seats ps)) same s.apart;
-      indexed = subst (λ ps. AreIndexed (part_seats ps) c.add.new.self) same (c.in_err-add.ensures.err (part_seats s.items.items) s.indexed);
+      apart = subst (λ ps. AreApart (part_seats ps)) (sym c.reserve.ensures.items) s.apart;
+      indexed = subst (λ ps. AreIndexed (part_seats ps) c.add.new.self) same c.in_err-add.ensures.err;
     }
 
 pub invariant_of-self-2 : goal.invariant_of-self-2
@@ -33,11 +43,11 @@ invariant_of-self-2 c =
     let p = c.new.result in
     let ns = part_seats ps in
     let items : c.push.new.self.items ≡ ps ++ p ∷ [] = search rules in
+    let same : c.as_slice.result.now ≡ ps = search rules in
     let seats = ap part_seats items ∙ numbers_pushed seat_of_part ps p ∙ ap (λ n. ns ++ n ∷ []) c.new.ensures.seat in
-    let long : c.len.result ≡ length ps = search rules in
     record {
       apart = subst AreApart (sym seats) (apart_more nat_eq same_number ns c.args.seat c.requires s.apart);
-      indexed = subst (λ l. AreIndexed l c.add.new.self) (sym seats) (c.in_ok-add.ensures.ok ns s.indexed (long ∙ sym (length-map ps seat_of_part)) c.requires);
+      indexed = subst (λ l. AreIndexed l c.add.new.self) (ap (λ qs. part_seats qs ++ c.args.seat ∷ []) same ∙ sym seats) c.in_ok-add.ensures.ok;
     }
 
 pub returns-clause-ok : goal.returns-clause-ok

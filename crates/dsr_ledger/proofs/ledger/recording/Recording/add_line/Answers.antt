@@ -1,6 +1,5 @@
 use Rattle.std.proofs.Common.{rules, ◌≡◌, ◌++◌, ◌∷◌, [], ap, sym, subst, ◌∙◌, length, nat_eq, inr}
 use Rattle.std.specs.Prelude.{None, Some}
-use Rattle.std.proofs.lemmas.List.{length-map}
 use Rattle.dsr_ledger.specs.Indexes.{AreIndexed}
 use Rattle.dsr_ledger.specs.Numbered.{AreApart, AreBelow}
 use Rattle.dsr_ledger.specs.Owed.{part_seats}
@@ -28,13 +27,25 @@ returns-in_err-reserve_line-clause-grows c =
     let ls = c.args.self.now.lines.items in
     subst (LinesGrow ls) (sym c.reserve_line.ensures.items) (lines_stay ls)
 
+pub add-requires-clause-indexed : goal.add-requires-clause-indexed
+add-requires-clause-indexed c =
+    let r = c.args.self.now in
+    let same : c.as_slice.result.now ≡ r.lines.items = search rules in
+    subst (λ ls. AreIndexed (line_keys ls) r.index) (sym same) r.indexed
+
+pub add-requires-clause-absent : goal.add-requires-clause-absent
+add-requires-clause-absent c =
+    let same : c.as_slice.result.now ≡ c.args.self.now.lines.items = search rules in
+    ap (λ ls. line_in ls c.args.key) same ∙ c.requires
+
 pub invariant_of-self-in-Break-branch-2 : goal.invariant_of-self-in-Break-branch-2
 invariant_of-self-in-Break-branch-2 c =
     let r = c.args.self.now in
     let same = sym c.reserve_line.ensures.items in
+    let there : c.as_slice.result.now ≡ c.reserve_line.new.lines.items = search rules in
     record {
       apart = subst (λ ls. AreApart (line_keys ls)) same r.apart;
-      indexed = subst (λ ls. AreIndexed (line_keys ls) c.add.new.self) same (c.in_err-add.ensures.err (line_keys r.lines.items) r.indexed);
+      indexed = subst (λ ls. AreIndexed (line_keys ls) c.add.new.self) there c.in_err-add.ensures.err;
       within = subst (AreWithin (length (seat_numbers r.seats))) same r.within;
     }
 
@@ -51,12 +62,12 @@ invariant_of-self-2 c =
     let ks = line_keys ls in
     let seats = length (seat_numbers r.seats) in
     let items : c.push.new.self.items ≡ ls ++ l ∷ [] = search rules in
+    let same : c.as_slice.result.now ≡ ls = search rules in
     let keys = ap line_keys items ∙ numbers_pushed key_of ls l ∙ ap (λ n. ks ++ n ∷ []) c.new.ensures.key in
-    let long : c.len-number.result ≡ length ls = search rules in
     let below = subst (λ ps. AreBelow seats (part_seats ps)) (sym c.new.ensures.parts) (none_below seats) in
     record {
       apart = subst AreApart (sym keys) (apart_more nat_eq same_number ks c.args.key c.requires r.apart);
-      indexed = subst (λ ns. AreIndexed ns c.add.new.self) (sym keys) (c.in_ok-add.ensures.ok ks r.indexed (long ∙ sym (length-map ls key_of)) c.requires);
+      indexed = subst (λ ns. AreIndexed ns c.add.new.self) (ap (λ xs. line_keys xs ++ c.args.key ∷ []) same ∙ sym keys) c.in_ok-add.ensures.ok;
       within = subst (AreWithin seats) (sym items) (within_pushed seats ls l r.within below);
     }
 

@@ -1,15 +1,35 @@
-use Rattle.std.proofs.Common.{rules, ◌≡◌, ◌++◌, ◌∷◌, [], sym, subst, length, nat_eq}
+use Rattle.std.proofs.Common.{rules, ◌≡◌, ◌++◌, ◌∷◌, [], sym, ap, ◌∙◌, subst, nat_eq, map-id}
 use Rattle.dsr_ledger.specs.Indexes.{AreIndexed}
-use Rattle.dsr_ledger.specs.Numbered.{AreApart}
+use Rattle.dsr_ledger.specs.Numbered.{AreApart, place_in}
 use Rattle.dsr_ledger.proofs.NumberedLemmas.{apart_more}
 use Rattle.dsr_ledger.proofs.PlaceByLemmas.{same_number}
 use Rattle.dsr_ledger.proofs.ledger.seats.Seats.add.Goals as goal
 
+pub invariant_of-self : goal.invariant_of-self
+invariant_of-self c =
+    let s = c.args.self.now in
+    let same = sym c.reserve.ensures.items in
+    record { apart = subst AreApart same s.apart; indexed = subst (λ ns. AreIndexed ns s.index) same s.indexed }
+
+pub add-requires-clause-indexed : goal.add-requires-clause-indexed
+add-requires-clause-indexed c =
+    let s = c.args.self.now in
+    let same : c.as_slice.result.now ≡ s.numbers.items = search rules in
+    subst (λ ns. AreIndexed ns s.index) (sym (map-id c.as_slice.result.now ∙ same)) s.indexed
+
+pub add-requires-clause-absent : goal.add-requires-clause-absent
+add-requires-clause-absent c =
+    let same : c.as_slice.result.now ≡ c.args.self.now.numbers.items = search rules in
+    ap (λ ns. place_in ns c.args.party) (map-id c.as_slice.result.now ∙ same) ∙ c.requires
+
 pub invariant_of-self-in-Break-branch-2 : goal.invariant_of-self-in-Break-branch-2
 invariant_of-self-in-Break-branch-2 c =
     let s = c.args.self.now in
-    let same = sym c.reserve.ensures.items in
-    record { apart = subst AreApart same s.apart; indexed = subst (λ ns. AreIndexed ns c.add.new.self) same (c.in_err-add.ensures.err s.numbers.items s.indexed) }
+    let same : c.as_slice.result.now ≡ c.reserve.new.self.items = search rules in
+    record {
+      apart = subst AreApart (sym c.reserve.ensures.items) s.apart;
+      indexed = subst (λ ns. AreIndexed ns c.add.new.self) (map-id c.as_slice.result.now ∙ same) c.in_err-add.ensures.err;
+    }
 
 pub invariant_of-self-2 : goal.invariant_of-self-2
 invariant_of-self-2 c =
@@ -17,8 +37,8 @@ invariant_of-self-2 c =
     let ns = s.numbers.items in
     let n = c.args.party in
     let items : c.push.new.self.items ≡ ns ++ n ∷ [] = search rules in
-    let long : c.len.result ≡ length ns = search rules in
+    let same : c.as_slice.result.now ≡ ns = search rules in
     record {
       apart = subst AreApart (sym items) (apart_more nat_eq same_number ns n c.requires s.apart);
-      indexed = subst (λ l. AreIndexed l c.add.new.self) (sym items) (c.in_ok-add.ensures.ok ns s.indexed long c.requires);
+      indexed = subst (λ l. AreIndexed l c.add.new.self) (ap (λ l. l ++ n ∷ []) (map-id c.as_slice.result.now ∙ same) ∙ sym items) c.in_ok-add.ensures.ok;
     }

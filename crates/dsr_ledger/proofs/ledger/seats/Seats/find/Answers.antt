@@ -1,18 +1,15 @@
-use Rattle.std.proofs.Common.{rules, ◌≡◌, ap, sym, ◌∙◌, take}
-use Rattle.std.specs.Prelude.{None, Some}
-use Rattle.std.specs.Option.{option_or}
-use Rattle.dsr_ledger.specs.Indexes.{indexed_at}
+use Rattle.std.proofs.Common.{rules, ◌≡◌, ap, sym, subst, ◌∙◌, map-id}
+use Rattle.dsr_ledger.specs.Indexes.{AreIndexed}
 use Rattle.dsr_ledger.specs.Numbered.{place_in}
 use Rattle.dsr_ledger.proofs.ledger.seats.Seats.find.Goals as goal
 
-pub returns-in-Some : goal.returns-in-Some
-returns-in-Some c =
+pub find-requires : goal.find-requires
+find-requires c =
     let s = c.args.self.now in
-    let first : place_in (take 16 s.numbers.items) c.args.party ≡ Some c.in-Some.seat = search rules in
-    sym (s.indexed c.args.party ∙ ap (λ o. option_or o (indexed_at s.index c.args.party)) first)
+    let same : c.as_slice.result.now ≡ s.numbers.items = search rules in
+    subst (λ ns. AreIndexed ns s.index) (sym (map-id c.as_slice.result.now ∙ same)) s.indexed
 
 pub returns : goal.returns
 returns c =
-    let s = c.args.self.now in
-    let none : place_in (take 16 s.numbers.items) c.args.party ≡ None = search rules in
-    c.get.ensures ∙ sym (s.indexed c.args.party ∙ ap (λ o. option_or o (indexed_at s.index c.args.party)) none)
+    let same : c.as_slice.result.now ≡ c.args.self.now.numbers.items = search rules in
+    c.find.ensures ∙ ap (λ ns. place_in ns c.args.party) (map-id c.as_slice.result.now ∙ same)

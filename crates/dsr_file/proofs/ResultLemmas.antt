@@ -1,0 +1,13 @@
+-- An answer whose error is the event that the sink refused.
+use Rattle.std.proofs.Common.{Result, Ok, Err}
+use Rattle.std.specs.Prelude.{IfErr}
+use Rattle.dsr_file.specs.declared.reading.ReadFileError.{ReadFileError}
+use Rattle.dsr_file.specs.declared.reading.ReadFileError.TheVariants.{Refused}
+use Rattle.dsr_file.specs.Placed.{Placed}
+use Rattle.dsr_file.specs.Refusals.{refused_event}
+
+module _ {O : Type 0} where
+  pub if_refused : (r : Result O Placed) (Q : Placed → Type 0) (P : ReadFileError → Type 0)
+      → ((e : Placed) → Q e → P (Refused e)) → IfErr r Q → IfErr (refused_event r) P
+  if_refused (Ok o) Q P then is = is
+  if_refused (Err e) Q P then is = then e is

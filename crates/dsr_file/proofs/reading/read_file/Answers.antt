@@ -1,0 +1,9 @@
+use Rattle.std.proofs.Common.{subst, sym, []}
+use Rattle.dsr_file.specs.Standing.{Stands}
+use Rattle.dsr_file.proofs.ResultLemmas.{if_refused}
+use Rattle.dsr_file.proofs.reading.read_file.Goals as goal
+
+pub returns-clause-refused : goal.returns-clause-refused
+returns-clause-refused g c =
+    let stands = subst (λ es. Stands c.args.layout.now c.in-Ok.file [] es) (sym c.requires.empty) c.in-Ok.ensures.stands in
+    rw c.error_of.ensures (if_refused c.read_all.result _ _ (λ e told. told c.args.layout.now stands) c.read_all.ensures.refused)

@@ -1,0 +1,53 @@
+//! How many bytes are put at most, told without laying them out.
+ghost use Rattle.std.specs.Prelude.{◌≡◌, ◌≤◌, ◌+◌, ℕ, length};
+ghost use Rattle.dsr_intake.specs.inner.Bound.{IsUpTo};
+
+use crate::statements::put::Put;
+
+/// The most digits of a `u64`.
+const DECIMAL: u64 = 20;
+
+/// The most bytes of an `i128`.
+const SIGNED_DECIMAL: u64 = 40;
+
+/// The most bytes of an amount.
+const UNITS: u64 = 64;
+
+/// At least as many as the bytes that were put; the greatest number where these may be too many.
+#[derive(Drop)]
+pub(crate) struct Bound {
+    pub(crate) most: u64,
+}
+
+impl Bound {
+    /// Adds so many.
+    fn add(&mut self, count: u64)
+        ensures { (n k : ℕ) → k ≤ count → IsUpTo self.old.most n → IsUpTo self.new.most (n + k) }
+    {
+        self.most = self.most.saturating_add(count);
+    }
+}
+
+impl Put for Bound {
+    ghost after = { λ start now put. IsUpTo now.most (start.most + length put) };
+
+    fn put(&mut self, bytes: &[u8]) {
+        self.add(bytes.len() as u64);
+    }
+
+    fn put_decimal(&mut self, _number: u64) {
+        self.add(DECIMAL);
+    }
+
+    fn put_signed_decimal(&mut self, _number: i128) {
+        self.add(SIGNED_DECIMAL);
+    }
+
+    fn put_units(&mut self, _amount: i128) {
+        self.add(UNITS);
+    }
+
+    fn is_closed(&mut self) -> bool {
+        false
+    }
+}

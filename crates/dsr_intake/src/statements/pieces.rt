@@ -1,0 +1,165 @@
+//! The bytes of a statement on their way to an outlet, in pieces.
+ghost use Rattle.std.specs.Prelude.{◌≡◌, ◌<◌, ◌≤◌, ◌++◌, [], List, ℕ, true, false, if◌then◌else◌, length, take, OnOk, IfErr};
+ghost use Rattle.dsr_intake.specs.meaning.Written.{Written, IsFlushed, IsCut};
+ghost use Rattle.dsr_intake.specs.inner.Pieces.{IsSent, Holds, Carries, MOST};
+
+use crate::outlet::{Outlet, write_all};
+use crate::statements::put::Put;
+use dsr_cells::amount_text;
+use dsr_file::Failed;
+use itoa::Buffer;
+
+/// How many bytes are sent at once.
+pub(crate) const PIECE: usize = 65_536;
+
+/// An outlet, how many bytes it took, and whether it has failed.
+#[derive(Drop)]
+pub(crate) struct Sender<'a, W> {
+    out: &'a mut W,
+    written: u64,
+    failed: bool,
+}
+
+impl<'a, W: Outlet> Sender<'a, W> {
+    /// Sends all bytes, unless the outlet has failed.
+    fn send(&mut self, bytes: &[u8])
+        ensures same_outlet { self.new.out.ghost_name ≡ self.old.out.ghost_name }
+        ensures sent { (sent : List ℕ) (before : Written)
+            → IsSent self.old.failed sent self.old.written before (W.told self.old.out.now)
+            → IsSent self.new.failed (sent ++ bytes.now) self.new.written before (W.told self.new.out.now) }
+    {
+        if self.failed {
+            return;
+        }
+        match write_all(self.out, bytes) {
+            Ok(()) => self.written = self.written.saturating_add(bytes.len() as u64),
+            Err(count) => {
+                self.failed = true;
+                self.written = self.written.saturating_add(count as u64);
+            }
+        }
+    }
+}
+
+/// A way to an outlet, and the bytes that wait to be sent.
+#[derive(Drop)]
+pub(crate) struct Pieces<'a, W> {
+    sender: Sender<'a, W>,
+    waiting: &'a mut Vec<u8>,
+}
+
+impl<'a, W: Outlet> Pieces<'a, W> {
+    /// The way to this outlet, with this memory for what waits.
+    pub(crate) fn new(out: &'a mut W, waiting: &'a mut Vec<u8>) -> Pieces<'a, W>
+        ensures same_outlet { result.sender.out.ghost_name ≡ out.entry.ghost_name }
+        ensures nothing { Holds W.told [] (W.told out.old) result }
+    {
+        waiting.clear();
+        let sender = Sender {
+            out,
+            written: 0,
+            failed: false,
+        };
+        Pieces { sender, waiting }
+    }
+
+    /// Sends what waits, where so many bytes more would be too many.
+    fn make_room(&mut self, count: usize)
+        ensures { Carries W.told self.old self.new [] }
+    {
+        if count > PIECE.saturating_sub(self.waiting.len()) {
+            self.send_waiting();
+        }
+    }
+
+    /// Lets these bytes wait where they are not too many: whether they do.
+    fn keep(&mut self, bytes: &[u8]) -> bool
+        ensures { Carries W.told self.old self.new (if result then bytes.now else []) }
+    {
+        bytes.len() <= PIECE && self.waiting.extend_from_slice(bytes).is_ok()
+    }
+
+    /// Sends what waits, and then these bytes.
+    fn send_past(&mut self, bytes: &[u8])
+        ensures { Carries W.told self.old self.new bytes.now }
+    {
+        self.send_waiting();
+        self.sender.send(bytes);
+    }
+
+    /// Sends what waits.
+    fn send_waiting(&mut self)
+        ensures nothing { Carries W.told self.old self.new [] }
+        ensures empty { self.new.waiting.now.items ≡ [] }
+    {
+        self.sender.send(self.waiting.as_slice());
+        self.waiting.clear();
+    }
+
+    /// Sends what waits, and flushes. The fault is how many bytes went out.
+    pub(crate) fn finish(&mut self) -> Result<(), u64>
+        ensures same_outlet { self.new.sender.out.ghost_name ≡ self.old.sender.out.ghost_name }
+        ensures whole { OnOk result ((put : List ℕ) (before : Written)
+            → Holds W.told put before self.old
+            → IsFlushed put before (W.told self.new.sender.out.now)) }
+        ensures part { IfErr result (λ n. (put : List ℕ) (before : Written)
+            → Holds W.told put before self.old → length put < MOST
+            → (n ≤ length put) × IsCut (take n put) before (W.told self.new.sender.out.now)) }
+    {
+        self.send_waiting();
+        if self.sender.failed {
+            return Err(self.sender.written);
+        }
+        match self.sender.out.flush() {
+            Ok(()) => Ok(()),
+            Err(Failed) => Err(self.sender.written),
+        }
+    }
+
+    /// The outlet, as it was left.
+    pub(crate) fn into_outlet(self) -> &'a mut W
+        ensures same_outlet { result.ghost_name ≡ self.entry.sender.out.ghost_name }
+        ensures held { result.now ≡ self.entry.sender.out.now }
+    {
+        let Pieces { sender, .. } = self;
+        let Sender { out, .. } = sender;
+        out
+    }
+}
+
+impl<'a, W: Outlet> Put for Pieces<'a, W> {
+    ghost after = { Carries W.told };
+
+    fn put(&mut self, bytes: &[u8]) {
+        self.make_room(bytes.len());
+        if self.keep(bytes) {
+            return;
+        }
+        self.send_past(bytes);
+    }
+
+    fn put_decimal(&mut self, number: u64) {
+        let mut buffer = Buffer::new();
+        self.put(buffer.format(number).as_bytes());
+    }
+
+    fn put_signed_decimal(&mut self, number: i128) {
+        let mut buffer = Buffer::new();
+        self.put(buffer.format(number).as_bytes());
+    }
+
+    #[tactic(auto, unfolding(crate::specs::meaning::Statement::amount_cell))]
+    fn put_units(&mut self, amount: i128) {
+        let mut room = [b'0'; 64];
+        self.put(amount_text(amount, &mut room));
+    }
+
+    /// Whether the outlet has failed.
+    fn is_closed(&mut self) -> bool {
+        if !self.sender.failed {
+            return false;
+        }
+        self.waiting.clear();
+        true
+    }
+}

@@ -1,0 +1,32 @@
+//! Putting bytes behind one another, whatever takes them.
+ghost use Rattle.std.specs.Prelude.{◌≡◌, true, false, decimal, List, ℕ};
+ghost use Rattle.std.specs.Fmt.{signed_decimal};
+ghost use Rattle.dsr_intake.specs.meaning.Statement.{amount_cell};
+ghost use Rattle.dsr_intake.specs.inner.Puts.{Puts};
+
+/// What takes bytes, numbers and amounts one behind the other.
+pub(crate) trait Put {
+    /// From a start to now these bytes were put.
+    ghost after: { Self → Self → List ℕ → Type 0 };
+
+    /// Puts bytes.
+    fn put(&mut self, bytes: &[u8])
+        ensures { Puts after self.old self.new bytes.now };
+
+    /// Puts the digits of a number.
+    fn put_decimal(&mut self, number: u64)
+        ensures { Puts after self.old self.new (decimal number) };
+
+    /// Puts the digits of a number that may be below zero, with its sign.
+    fn put_signed_decimal(&mut self, number: i128)
+        ensures { Puts after self.old self.new (signed_decimal number) };
+
+    /// Puts the text of an amount.
+    fn put_units(&mut self, amount: i128)
+        ensures { Puts after self.old self.new (amount_cell amount) };
+
+    /// Whether what is put from now on goes nowhere.
+    fn is_closed(&mut self) -> bool
+        ensures closed { result ≡ true → (bytes : List ℕ) → Puts after self.old self.new bytes }
+        ensures open { result ≡ false → self.new ≡ self.old };
+}

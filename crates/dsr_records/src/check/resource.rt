@@ -1,0 +1,73 @@
+//! AS01: the resource of a block.
+ghost use Rattle.std.specs.Prelude.{◌≡◌, Ok, Err, MatchResult, IfOk, OnOk};
+ghost use Rattle.dsr_records.specs.declared.kinds.Kind.TheVariants as kinds;
+ghost use Rattle.dsr_records.specs.declared.record.Record.TheVariants as records;
+ghost use Rattle.dsr_records.specs.Values.{record_by_row};
+
+use crate::kinds::{Column, RecordFault};
+use crate::record::Resource;
+use crate::row::Row;
+use crate::spelled::read_identifier;
+use dsr_cells::{NoMemory, read_texts_into};
+use std::alloc::Global;
+use std::default::MadeWith;
+use std::marker::Model;
+
+/// A resource whose texts and list cells stand in its line, which contracts see as the resource.
+#[derive(Drop)]
+pub(crate) struct ResourceLine<'l> {
+    pub(crate) block_id: &'l str,
+    isrc: &'l str,
+    titles: &'l str,
+    artists: &'l str,
+}
+
+impl<'l> Model for ResourceLine<'l> {
+    ghost use Rattle.dsr_records.specs.declared.record.Resource.{Resource as ResourceRecord};
+    ghost use Rattle.dsr_records.specs.Values.{values_of};
+
+    ghost Value = { ResourceRecord };
+
+    ghost view = { λ r. record {
+      block_id = r.block_id.now;
+      isrc = r.isrc.now;
+      titles = values_of r.titles.now;
+      artists = values_of r.artists.now;
+    } };
+}
+
+/// The resource of a row.
+#[inline(always)]
+pub(crate) fn check_resource<'l>(row: &Row<'l>) -> Result<ResourceLine<'l>, RecordFault>
+    ensures { MatchResult result
+        (λ r. record_by_row row.now kinds.Resource ≡ Ok (records.Resource r))
+        (λ fault. record_by_row row.now kinds.Resource ≡ Err fault) }
+{
+    Ok(ResourceLine {
+        block_id: read_identifier(row, 0, Column::BlockId, 32)?,
+        isrc: row.text(1),
+        titles: row.text(2),
+        artists: row.text(3),
+    })
+}
+
+impl<'l> ResourceLine<'l> {
+    /// The resource, with texts of its own.
+    pub(crate) fn read(&self, alloc: Global) -> Result<Resource, NoMemory>
+        ensures { IfOk result (λ r. r ≡ self.now) }
+    {
+        let mut resource = Resource::made_with(alloc);
+        self.write(alloc, &mut resource)?;
+        Ok(resource)
+    }
+
+    /// Writes the resource over another one.
+    pub(crate) fn write(&self, alloc: Global, resource: &mut Resource) -> Result<(), NoMemory>
+        ensures { OnOk result (resource.new ≡ self.now) }
+    {
+        resource.block_id.assign(alloc, self.block_id)?;
+        resource.isrc.assign(alloc, self.isrc)?;
+        read_texts_into(alloc, self.titles, &mut resource.titles)?;
+        read_texts_into(alloc, self.artists, &mut resource.artists)
+    }
+}

@@ -1,0 +1,73 @@
+//! SY01: a summary of usages.
+ghost use Rattle.std.specs.Prelude.{◌≡◌, Ok, Err, MatchResult, IfOk};
+ghost use Rattle.dsr_records.specs.declared.kinds.Kind.TheVariants as kinds;
+ghost use Rattle.dsr_records.specs.declared.record.Record.TheVariants as records;
+ghost use Rattle.dsr_records.specs.Values.{record_by_row};
+
+use crate::kinds::{Column, RecordFault};
+use crate::record::Summary;
+use crate::row::Row;
+use crate::spelled::{
+    read_amount, read_currency, read_identifier, read_territory, read_usage_count, read_use_type,
+};
+use dsr_cells::{Amount, NoMemory, Text};
+use std::alloc::Global;
+use std::marker::Model;
+
+/// A summary whose texts stand in its line, which contracts see as the summary.
+#[derive(Drop)]
+pub(crate) struct SummaryLine<'l> {
+    pub(crate) id: &'l str,
+    territory: &'l str,
+    use_type: &'l str,
+    currency: &'l str,
+    usages: i64,
+    amount: Amount,
+}
+
+impl<'l> Model for SummaryLine<'l> {
+    ghost use Rattle.dsr_records.specs.declared.record.Summary.{Summary as SummaryRecord};
+
+    ghost Value = { SummaryRecord };
+
+    ghost view = { λ s. record {
+      id = s.id.now;
+      territory = s.territory.now;
+      use_type = s.use_type.now;
+      currency = s.currency.now;
+      usages = s.usages;
+      amount = s.amount;
+    } };
+}
+
+/// The summary of a row.
+#[inline(always)]
+pub(crate) fn check_summary<'l>(row: &Row<'l>) -> Result<SummaryLine<'l>, RecordFault>
+    ensures { MatchResult result (λ s. record_by_row row.now kinds.Summary ≡ Ok (records.Summary s))
+        (λ fault. record_by_row row.now kinds.Summary ≡ Err fault) }
+{
+    Ok(SummaryLine {
+        id: read_identifier(row, 0, Column::SummaryRecordId, 32)?,
+        territory: read_territory(row, 1)?,
+        use_type: read_use_type(row, 2)?,
+        currency: read_currency(row, 3)?,
+        usages: read_usage_count(row, 4)?,
+        amount: read_amount(row, 5)?,
+    })
+}
+
+impl<'l> SummaryLine<'l> {
+    /// The summary, with texts of its own.
+    pub(crate) fn copy(&self, alloc: Global) -> Result<Summary, NoMemory>
+        ensures { IfOk result (λ r. r ≡ self.now) }
+    {
+        Ok(Summary {
+            id: Text::copy_of(alloc, self.id)?,
+            territory: Text::copy_of(alloc, self.territory)?,
+            use_type: Text::copy_of(alloc, self.use_type)?,
+            currency: Text::copy_of(alloc, self.currency)?,
+            usages: self.usages,
+            amount: self.amount,
+        })
+    }
+}

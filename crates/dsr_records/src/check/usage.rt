@@ -1,0 +1,72 @@
+//! SU01: a usage of a block's resource.
+ghost use Rattle.std.specs.Prelude.{◌≡◌, Ok, Err, MatchResult, IfOk, OnOk};
+ghost use Rattle.dsr_records.specs.declared.kinds.Kind.TheVariants as kinds;
+ghost use Rattle.dsr_records.specs.declared.record.Record.TheVariants as records;
+ghost use Rattle.dsr_records.specs.Values.{record_by_row};
+
+use crate::kinds::{Column, RecordFault};
+use crate::record::Usage;
+use crate::row::Row;
+use crate::spelled::{read_amount, read_identifier, read_usage_count};
+use dsr_cells::{Amount, NoMemory};
+use std::alloc::Global;
+use std::default::MadeWith;
+use std::marker::Model;
+
+/// A usage whose texts stand in its line, which contracts see as the usage.
+#[derive(Drop)]
+pub(crate) struct UsageLine<'l> {
+    pub(crate) block_id: &'l str,
+    summary_id: &'l str,
+    usages: i64,
+    amount: Amount,
+}
+
+impl<'l> Model for UsageLine<'l> {
+    ghost use Rattle.dsr_records.specs.declared.record.Usage.{Usage as UsageRecord};
+
+    ghost Value = { UsageRecord };
+
+    ghost view = { λ u. record {
+      block_id = u.block_id.now;
+      summary_id = u.summary_id.now;
+      usages = u.usages;
+      amount = u.amount;
+    } };
+}
+
+/// The usage of a row.
+#[inline(always)]
+pub(crate) fn check_usage<'l>(row: &Row<'l>) -> Result<UsageLine<'l>, RecordFault>
+    ensures { MatchResult result (λ u. record_by_row row.now kinds.Usage ≡ Ok (records.Usage u))
+        (λ fault. record_by_row row.now kinds.Usage ≡ Err fault) }
+{
+    Ok(UsageLine {
+        block_id: read_identifier(row, 0, Column::BlockId, 32)?,
+        summary_id: read_identifier(row, 1, Column::SummaryRecordId, 32)?,
+        usages: read_usage_count(row, 2)?,
+        amount: read_amount(row, 3)?,
+    })
+}
+
+impl<'l> UsageLine<'l> {
+    /// The usage, with texts of its own.
+    pub(crate) fn read(&self, alloc: Global) -> Result<Usage, NoMemory>
+        ensures { IfOk result (λ u. u ≡ self.now) }
+    {
+        let mut usage = Usage::made_with(alloc);
+        self.write(alloc, &mut usage)?;
+        Ok(usage)
+    }
+
+    /// Writes the usage over another one.
+    pub(crate) fn write(&self, alloc: Global, usage: &mut Usage) -> Result<(), NoMemory>
+        ensures { OnOk result (usage.new ≡ self.now) }
+    {
+        usage.block_id.assign(alloc, self.block_id)?;
+        usage.summary_id.assign(alloc, self.summary_id)?;
+        usage.usages = self.usages;
+        usage.amount = self.amount;
+        Ok(())
+    }
+}

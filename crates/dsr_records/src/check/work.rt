@@ -1,0 +1,125 @@
+//! MW01: a work of a block.
+ghost use Rattle.std.specs.Prelude.{◌≡◌, Ok, Err, MatchResult, IfOk, OnOk, OnErr, [], true};
+ghost use Rattle.dsr_records.specs.declared.kinds.Kind.TheVariants as kinds;
+ghost use Rattle.dsr_records.specs.declared.record.Record.TheVariants as records;
+ghost use Rattle.dsr_records.specs.Values.{record_by_row, shares_of, values_of};
+ghost use Rattle.std.specs.List.{list_all};
+ghost use Rattle.dsr_cells.specs.Values.{raw_parts};
+ghost use Rattle.dsr_records.specs.Tables.{is_share};
+
+use crate::kinds::{Column, RecordFault};
+use crate::record::Work;
+use crate::row::Row;
+use crate::spelled::{read_identifier, read_share_count};
+use dsr_cells::{NoMemory, Share, Shares, Texts, count_values, read_texts_into, values};
+use std::alloc::Global;
+use std::default::MadeWith;
+use std::marker::Model;
+
+/// A work whose texts and list cells stand in its line, which contracts see as the work.
+#[derive(Drop)]
+pub(crate) struct WorkLine<'l> {
+    pub(crate) block_id: &'l str,
+    work_id: &'l str,
+    title: &'l str,
+    parties: &'l str,
+    shares: &'l str,
+}
+
+impl<'l> Model for WorkLine<'l> {
+    ghost use Rattle.std.specs.Prelude.{◌≡◌, true, length};
+    ghost use Rattle.std.specs.List.{list_all};
+    ghost use Rattle.dsr_cells.specs.Values.{raw_parts};
+    ghost use Rattle.dsr_records.specs.Tables.{is_share};
+    ghost use Rattle.dsr_records.specs.Values.{values_of, shares_of};
+    ghost use Rattle.dsr_records.specs.Works.{WorkParts};
+
+    ghost Value = { WorkParts };
+
+    ghost view = { λ w. record {
+      block_id = w.block_id.now;
+      work_id = w.work_id.now;
+      title = w.title.now;
+      parties = values_of w.parties.now;
+      shares = shares_of w.shares.now;
+    } };
+
+    ghost invariant = { λ w. (list_all is_share (raw_parts w.shares.now) ≡ true)
+        × (length (raw_parts w.parties.now) ≡ length (raw_parts w.shares.now)) };
+}
+
+/// The work of a row.
+#[inline(always)]
+pub(crate) fn check_work<'l>(row: &Row<'l>) -> Result<WorkLine<'l>, RecordFault>
+    ensures { MatchResult result (λ w. record_by_row row.now kinds.Work ≡ Ok (records.Work w))
+        (λ fault. record_by_row row.now kinds.Work ≡ Err fault) }
+{
+    let block_id = read_identifier(row, 0, Column::BlockId, 32)?;
+    let parties = row.text(3);
+    let count = read_share_count(row, 4)?;
+    if count_values(parties) != count {
+        return Err(RecordFault::Uneven);
+    }
+    Ok(WorkLine {
+        block_id,
+        work_id: row.text(1),
+        title: row.text(2),
+        parties,
+        shares: row.text(4),
+    })
+}
+
+/// Writes the shares of a list cell over the items of a list.
+fn read_shares_into(cell: &str, shares: &mut Shares) -> Result<(), NoMemory>
+    requires { list_all is_share (raw_parts cell.now) ≡ true }
+    ensures { OnOk result (shares.new ≡ shares_of cell.now) }
+{
+    shares.restart();
+    for part in values(cell) {
+        let share = shares.next()?;
+        *share = Share::read(part).unwrap();
+    }
+    Ok(())
+}
+
+impl<'l> WorkLine<'l> {
+    /// Writes the parties and their shares over lists. Where memory is refused, both are empty.
+    fn write_parties(
+        &self,
+        alloc: Global,
+        parties: &mut Texts,
+        shares: &mut Shares,
+    ) -> Result<(), NoMemory>
+        ensures parties { OnOk result (parties.new ≡ self.now.parties) }
+        ensures shares { OnOk result (shares.new ≡ self.now.shares) }
+        ensures refused { OnErr result ((parties.new ≡ []) × (shares.new ≡ [])) }
+    {
+        if read_texts_into(alloc, self.parties, parties).is_ok()
+            && read_shares_into(self.shares, shares).is_ok()
+        {
+            return Ok(());
+        }
+        parties.restart();
+        shares.restart();
+        Err(NoMemory)
+    }
+
+    /// The work, with texts of its own.
+    pub(crate) fn read(&self, alloc: Global) -> Result<Work, NoMemory>
+        ensures { IfOk result (λ w. w ≡ self.now) }
+    {
+        let mut work = Work::made_with(alloc);
+        self.write(alloc, &mut work)?;
+        Ok(work)
+    }
+
+    /// Writes the work over another one.
+    pub(crate) fn write(&self, alloc: Global, work: &mut Work) -> Result<(), NoMemory>
+        ensures { OnOk result (work.new ≡ self.now) }
+    {
+        work.block_id.assign(alloc, self.block_id)?;
+        work.work_id.assign(alloc, self.work_id)?;
+        work.title.assign(alloc, self.title)?;
+        self.write_parties(alloc, &mut work.parties, &mut work.shares)
+    }
+}
