@@ -40,5 +40,3 @@ pub use sink::Sink;
 pub use source::{Failed, FromRead, Source};
 pub use whole::whole_events;
 
-#[cfg(test)]
-mod tests;

@@ -1,5 +1,9 @@
 //! The report, from all that is kept.
-ghost use Rattle.std.specs.Prelude.{◌≡◌, ◌≤◌, List, IfOk, length};
+ghost use Rattle.std.specs.Prelude.{◌≡◌, ◌≤◌, ℕ, List, IfOk, length, map};
+ghost use Rattle.std.specs.List.{flat_map, list_any};
+ghost use Rattle.std.specs.BTreeSet.{contains};
+ghost use Rattle.std.specs.Ordering.{nat_cmp};
+ghost use Rattle.dsr_ledger.specs.Assembly.{line_kept, is_number_kept, differences_kept};
 ghost use Rattle.dsr_ledger.specs.Files.{File};
 ghost use Rattle.dsr_ledger.specs.Reports.{report_of};
 ghost use Rattle.dsr_ledger.specs.Books.{IsReached, Stands};
@@ -10,13 +14,35 @@ mod listed;
 
 use crate::assemble::ledger::ledger_lines;
 use crate::differences::differences_of;
+use crate::file::FileBooks;
 use crate::file_lines::file_lines;
 use crate::kept::Kept;
 use crate::missing::{missing_numbers, own_numbers};
 use crate::rejects::key_and_rejects;
-use crate::report::Report;
+use crate::report::{Differences, FileLines, Report};
 use dsr_cells::NoMemory;
 use std::alloc::Global;
+use std::collections::BTreeSet;
+
+/// What the report takes from the files while they are kept.
+#[derive(Drop)]
+struct Told {
+    lines: FileLines,
+    numbers: BTreeSet<u32>,
+    differences: Differences,
+}
+
+fn told_of(alloc: Global, files: &[FileBooks]) -> Result<Told, NoMemory>
+    ensures lines { IfOk result (λ told. told.lines ≡ map line_kept files.now) }
+    ensures own { IfOk result (λ told. (n : ℕ) → contains nat_cmp told.numbers n ≡ list_any (is_number_kept n) files.now) }
+    ensures differences { IfOk result (λ told. told.differences ≡ flat_map differences_kept files.now) }
+{
+    Ok(Told {
+        lines: file_lines(alloc, files)?,
+        numbers: own_numbers(alloc, files)?,
+        differences: differences_of(alloc, files)?,
+    })
+}
 
 /// The report of the files.
 pub fn assemble(alloc: Global, kept: Kept) -> Result<Report, NoMemory>
@@ -25,18 +51,15 @@ pub fn assemble(alloc: Global, kept: Kept) -> Result<Report, NoMemory>
     ensures { (files : List File) → Stands kept files → IfOk result (λ r. r ≡ report_of files) }
 {
     let Kept { files, ledger } = kept;
-    let in_order = files.as_slice();
-    let file_lines = file_lines(alloc, in_order)?;
-    let numbers = own_numbers(alloc, in_order)?;
-    let differences = differences_of(alloc, in_order)?;
+    let told = told_of(alloc, files.as_slice())?;
     let (key, rejects) = key_and_rejects(alloc, files)?;
-    let missing = missing_numbers(alloc, &key, &numbers)?;
+    let missing = missing_numbers(alloc, &key, &told.numbers)?;
     let ledger = ledger_lines(alloc, ledger)?;
     Ok(Report {
         key,
-        files: file_lines,
+        files: told.lines,
         missing,
-        differences,
+        differences: told.differences,
         ledger,
         rejects,
     })

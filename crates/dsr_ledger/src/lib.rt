@@ -53,8 +53,6 @@ mod rejects;
 mod report;
 mod seeded;
 mod sums;
-#[cfg(test)]
-mod tests;
 mod verdict;
 
 pub use books::Books;

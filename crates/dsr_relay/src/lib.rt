@@ -38,5 +38,3 @@ pub use open::{RelayError, open_relay};
 pub use settled::Settled;
 pub use tap::Tap;
 
-#[cfg(test)]
-mod tests;

@@ -11,13 +11,13 @@ ledger_lines-requires c = ∥∥₁_map c.requires.reached (small_lines c.args.k
 
 pub returns : goal.returns
 returns c = λ files h.
-    let same : c.as_slice-in_order.result.now ≡ c.args.kept.files.items = c.as_slice-in_order.ensures.value in
-    report_is c.args.kept c.in_ok-numbers.numbers _ (record {
+    let same : c.as_slice.result.now ≡ c.args.kept.files.items = c.as_slice.ensures.value in
+    report_is c.args.kept c.in_ok-told.told.numbers _ (record {
       key = c.in_ok-key.ensures.key;
-      lines = c.in_ok-file_lines.ensures ∙ ap (map line_kept) same;
-      own = λ n. c.in_ok-numbers.ensures n ∙ ap (list_any (is_number_kept n)) same;
+      lines = c.in_ok-told.ensures.lines ∙ ap (map line_kept) same;
+      own = λ n. c.in_ok-told.ensures.own n ∙ ap (list_any (is_number_kept n)) same;
       missing = c.in_ok-missing.ensures;
-      differences = c.in_ok-differences.ensures ∙ ap (flat_map differences_kept) same;
+      differences = c.in_ok-told.ensures.differences ∙ ap (flat_map differences_kept) same;
       ledger = c.in_ok-ledger.ensures;
       rejects = c.in_ok-key.ensures.rejects;
     }) files h

@@ -1,0 +1,168 @@
+//! The books under measure.
+
+use crate::taker::{Taker, no_memory};
+use dsr_cells::NoMemory;
+use dsr_file::{Event, EventPart, Opening, Outcome};
+use dsr_ledger::{Books, Report};
+use dsr_records::Block;
+use std::alloc::Global;
+use std::io;
+use std::time::{Clock, Instant};
+
+/// The most blocks that a file can have.
+const MOST_BLOCKS: u64 = 1 << 37;
+
+/// How many blocks wait, so that the clock is asked once for all of them.
+const WAITING: usize = 4096;
+
+/// How many events a message of a relay has.
+const MESSAGE: usize = 32;
+
+/// What was measured.
+#[derive(Clone, Copy, Drop)]
+pub struct Figures {
+    /// How many blocks were booked.
+    pub blocks: u64,
+    /// How many lines the ledger has.
+    pub lines: usize,
+    /// The nanoseconds of booking a block.
+    pub block: u128,
+    /// The nanoseconds of making the report.
+    pub report: u128,
+}
+
+/// The books of one file, the blocks that wait for them, and how long the books took so far.
+#[derive(Drop)]
+pub struct Measured {
+    books: Books,
+    waiting: Vec<Event>,
+    blocks: u64,
+    nanos: u128,
+}
+
+/// Books a block of the file, where the books can take it: whether they took it.
+fn book(books: &mut Books, block: &Block) -> Result<bool, NoMemory> {
+    if !books.has_opening(0) || books.ended(0) || books.blocks(0) >= MOST_BLOCKS {
+        return Ok(false);
+    }
+    books.book(0, block)?;
+    Ok(true)
+}
+
+/// Books the blocks of a message: how many the books took.
+fn book_message(books: &mut Books, events: &[Event]) -> Result<u64, NoMemory> {
+    let mut booked = 0u64;
+    for event in events {
+        if let EventPart::Block(block) = &event.part {
+            booked = booked.wrapping_add(u64::from(book(books, block)?));
+        }
+    }
+    Ok(booked)
+}
+
+/// Books all blocks: how many the books took.
+fn book_all(books: &mut Books, events: &[Event]) -> Result<u64, NoMemory> {
+    let mut booked = 0u64;
+    for message in events.chunks(MESSAGE) {
+        booked = booked.wrapping_add(book_message(books, message)?);
+    }
+    Ok(booked)
+}
+
+/// The report of one file that has ended; none where it has not.
+fn report_of(books: Books) -> Result<Option<Report>, NoMemory> {
+    if books.files() != 1 || books.opened() != 1 || !books.ended(0) {
+        return Ok(None);
+    }
+    Ok(Some(books.into_report()?))
+}
+
+impl Measured {
+    /// Books of one file, which is not opened.
+    pub fn new(alloc: Global) -> Result<Measured, NoMemory> {
+        Ok(Measured {
+            books: Books::new(alloc, 1)?,
+            waiting: Vec::with_capacity(alloc, WAITING)?,
+            blocks: 0,
+            nanos: 0,
+        })
+    }
+
+    /// Opens the file.
+    fn open(&mut self, opening: Opening) -> Result<(), NoMemory> {
+        if self.books.opened() < self.books.files() {
+            self.books.open_next(Some(opening))?;
+        }
+        Ok(())
+    }
+
+    /// Books the blocks that wait, and measures how long that takes.
+    fn book_waiting<C: Clock>(&mut self, clock: &C) -> io::Result<()> {
+        let start = Instant::now(clock)?;
+        let booked = book_all(&mut self.books, self.waiting.as_slice()).map_err(no_memory)?;
+        let nanos = start.elapsed(clock)?.as_nanos();
+        self.nanos = self.nanos.wrapping_add(nanos);
+        self.blocks = self.blocks.wrapping_add(booked);
+        self.waiting.clear();
+        Ok(())
+    }
+
+    /// Ends the file.
+    fn end(&mut self, outcome: Outcome) -> Result<(), NoMemory> {
+        if self.books.opened() > 0 && !self.books.ended(0) {
+            self.books.end_file(0, outcome)?;
+        }
+        Ok(())
+    }
+
+    /// Lets a block wait, and books all that wait where they are many.
+    fn wait<C: Clock>(&mut self, clock: &C, event: Event) -> io::Result<()> {
+        self.waiting
+            .push(event)
+            .map_err(|_| io::ErrorKind::OutOfMemory)?;
+        if self.waiting.len() >= WAITING {
+            self.book_waiting(clock)?;
+        }
+        Ok(())
+    }
+
+    /// Makes the report, and says what was measured.
+    pub fn report<C: Clock>(self, clock: &C) -> io::Result<Figures> {
+        let Measured {
+            books,
+            waiting: _,
+            blocks,
+            nanos,
+        } = self;
+        let start = Instant::now(clock)?;
+        let report = report_of(books).map_err(no_memory)?;
+        let took = start.elapsed(clock)?.as_nanos();
+        Ok(Figures {
+            blocks,
+            lines: match &report {
+                Some(report) => report.ledger.len(),
+                None => 0,
+            },
+            block: nanos / u128::from(blocks.max(1)),
+            report: took,
+        })
+    }
+}
+
+impl Taker for Measured {
+    fn take<C: Clock>(&mut self, clock: &C, event: Event) -> io::Result<Option<Block>> {
+        if matches!(event.part, EventPart::Block(_)) {
+            self.wait(clock, event)?;
+            return Ok(None);
+        }
+        match event.part {
+            EventPart::Opened(opening) => self.open(opening).map_err(no_memory)?,
+            EventPart::Block(_) => {}
+            EventPart::Ended(outcome) => {
+                self.book_waiting(clock)?;
+                self.end(outcome).map_err(no_memory)?;
+            }
+        }
+        Ok(None)
+    }
+}

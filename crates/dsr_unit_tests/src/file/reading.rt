@@ -1,0 +1,350 @@
+//! Readers, sources and sinks.
+ghost use Rattle.std.specs.Prelude.{◌≡◌, ◌+◌, ◌<◌, ◌≤◌, ◌^◌, None, false, length};
+ghost use Rattle.dsr_file.specs.Standing.{bytes_used, ending_told};
+
+use super::limits::comment;
+use super::texts::cut_at;
+use super::{FILE, come_to, is_named, letter, text};
+use dsr_file::{
+    Ending, Event, EventList, Failed, FileReader, FromRead, Outcome, ReadCount, ReadFileError,
+    Sink, Source, read_file, whole_events,
+};
+use dsr_records::Layout;
+use std::alloc::{AllocError, Global};
+
+/// A source that gives a text in pieces of one size, and then fails or ends.
+#[derive(Drop)]
+struct Pieces<'t> {
+    rest: &'t [u8],
+    size: usize,
+    fails: bool,
+    failed: bool,
+    reads: u32,
+    count: ReadCount,
+}
+
+impl<'t> Source for Pieces<'t> {
+    ghost use Rattle.std.specs.Prelude.{None};
+
+    ghost told = { λ s. record { remaining = None; failed = s.failed; reads = s.count } };
+
+    fn read(&mut self, piece: &mut [u8]) -> Result<usize, Failed> {
+        self.reads = self.reads.wrapping_add(1);
+        let count = self.size.min(piece.len()).min(self.rest.len());
+        self.count.add(count);
+        if count == 0 && self.fails {
+            self.failed = true;
+            return Err(Failed);
+        }
+        let (front, rest) = self.rest.split_at(count);
+        piece[..count].copy_from_slice(front);
+        self.rest = rest;
+        Ok(count)
+    }
+
+    fn failed(&self) -> bool {
+        self.failed
+    }
+}
+
+fn in_pieces(rest: &[u8], size: usize, fails: bool) -> Pieces<'_>
+    ensures { result.failed ≡ false }
+{
+    Pieces {
+        rest,
+        size,
+        fails,
+        failed: false,
+        reads: 0,
+        count: ReadCount::new(),
+    }
+}
+
+/// Reads a source into a list, and answers whether it comes to these events and this end.
+fn reads_to<R: Source>(
+    alloc: Global,
+    source: &mut R,
+    max_reads: u32,
+    letters: &str,
+    told: &str,
+) -> bool
+    requires some_reads { 0 < max_reads }
+    requires few_reads { max_reads ≤ 2 ^ 24 }
+    requires unfailed { (R.told source.old).failed ≡ false }
+{
+    let mut events = EventList::new(alloc);
+    match read_file(alloc, &Layout::standard(), source, &mut events, max_reads) {
+        Ok(_) => come_to(&events, letters, told),
+        Err(_) => false,
+    }
+}
+
+/// With a byte order mark, CR LF, and no last LF, in pieces of every size.
+#[test]
+fn pieces_of_any_size(rt: HostRuntime) -> Result<(), AllocError> {
+    let mut bytes = Vec::new(rt.alloc());
+    bytes.extend_from_slice(b"\xEF\xBB\xBF")?;
+    bytes.extend_from_slice(text(rt.alloc(), FILE, "", b"\r\n")?.as_slice())?;
+    bytes.truncate(bytes.len() - 2);
+    for size in 1..bytes.len() + 1 {
+        let mut source = in_pieces(bytes.as_slice(), size, false);
+        assert!(rt;
+            reads_to(rt.alloc(), &mut source, 1000, "OBBE", "Whole"),
+            "{size}"
+        );
+    }
+    Ok(())
+}
+
+#[test]
+fn a_read_that_fails(rt: HostRuntime) -> Result<(), AllocError> {
+    let bytes = text(rt.alloc(), FILE, "", b"\n")?;
+    for cut in 0..bytes.len() + 1 {
+        let mut source = in_pieces(&bytes.as_slice()[..cut], 50, true);
+        let (letters, told) = cut_at(cut);
+        assert!(rt;
+            reads_to(rt.alloc(), &mut source, 1000, letters, told),
+            "{cut}"
+        );
+        assert!(rt; source.failed());
+    }
+    Ok(())
+}
+
+/// Whether the lines of these letters, in pieces of one size, come to this by so many reads.
+fn limited(
+    alloc: Global,
+    letters: &str,
+    size: usize,
+    reads: u32,
+    events: &str,
+    told: &str,
+) -> bool {
+    let Ok(bytes) = text(alloc, letters, "", b"\n") else {
+        return false;
+    };
+    if reads == 0 || reads > 1000 {
+        return false;
+    }
+    let mut source = in_pieces(bytes.as_slice(), size, false);
+    reads_to(alloc, &mut source, reads, events, told) && source.reads == reads
+}
+
+#[test]
+fn limited_reads(rt: HostRuntime) {
+    assert!(rt; limited(rt.alloc(), "#######", 3, 5, "E", "6 Reads"));
+    assert!(rt; limited(rt.alloc(), FILE, 1, 206, "OBBE", "9 Reads"));
+    assert!(rt; limited(rt.alloc(), FILE, 1, 207, "OBBE", "Whole"));
+}
+
+#[test]
+fn no_read_after_a_fault(rt: HostRuntime) -> Result<(), AllocError> {
+    let bytes = text(rt.alloc(), "UHH", "", b"\n")?;
+    let mut source = in_pieces(bytes.as_slice(), 20, false);
+    assert!(rt; reads_to(rt.alloc(), &mut source, 5, "E", "1 NoHead"));
+    assert!(rt; source.reads == 1);
+    Ok(())
+}
+
+/// How many bytes the first lines have, up to the end of the last of them.
+fn length_of(lines: u64, bytes: &[u8]) -> usize {
+    let mut ended = 0u64;
+    for (place, byte) in bytes.iter().enumerate() {
+        if *byte == b'\n' {
+            ended = ended.wrapping_add(1);
+            if ended == lines {
+                return place.wrapping_add(1);
+            }
+        }
+    }
+    bytes.len()
+}
+
+/// A source that gives a byte by each read is read up to its end, or up to the line at which memory is refused.
+#[test]
+fn no_read_after_the_end(rt: HostRuntime) -> Result<(), AllocError> {
+    let bytes = text(rt.alloc(), FILE, "", b"\n")?;
+    let mut events = EventList::new(rt.alloc());
+    let mut source = in_pieces(bytes.as_slice(), 1, false);
+    let reads = match read_file(
+        rt.alloc(),
+        &Layout::standard(),
+        &mut source,
+        &mut events,
+        1000,
+    ) {
+        Ok(Outcome::Whole) => bytes.len().wrapping_add(1),
+        Ok(Outcome::Fault { line, fault }) if is_named(fault, "Memory") => {
+            length_of(line, bytes.as_slice())
+        }
+        Ok(_) => 0,
+        Err(ReadFileError::Memory) => 0,
+        Err(ReadFileError::Refused(_)) => return Ok(()),
+    };
+    assert!(rt; source.reads as usize == reads);
+    Ok(())
+}
+
+#[test]
+fn a_source_of_a_reader(rt: HostRuntime) {
+    let nothing: &[u8] = b"";
+    let mut source = FromRead::new(nothing);
+    assert!(rt; reads_to(rt.alloc(), &mut source, 1, "E", "1 NoHead"));
+    assert!(rt; !source.failed());
+}
+
+/// A sink that takes so many events, and hands the rest back.
+#[derive(Drop)]
+struct Few {
+    events: EventList,
+    most: usize,
+}
+
+impl Sink for Few {
+    type Name = ();
+
+    ghost list = { λ s. s.events };
+
+    ghost name = { λ _. tt };
+
+    fn put(&mut self, event: Event) -> Result<(), Event> {
+        if self.events.len() >= self.most {
+            return Err(event);
+        }
+        self.events.push(event)
+    }
+}
+
+/// The place of the event that a sink of so many events hands back.
+fn refused(alloc: Global, bytes: &[u8], most: usize) -> Option<u64> {
+    let mut sink = Few {
+        events: EventList::new(alloc),
+        most,
+    };
+    let mut source = in_pieces(bytes, 100, false);
+    match read_file(alloc, &Layout::standard(), &mut source, &mut sink, 1000) {
+        Err(ReadFileError::Refused(event)) => Some(event.place),
+        _ => None,
+    }
+}
+
+#[test]
+fn a_sink_that_refuses(rt: HostRuntime) -> Result<(), AllocError> {
+    let bytes = text(rt.alloc(), FILE, "", b"\n")?;
+    for (most, place) in [(0, Some(0)), (2, Some(2)), (3, Some(3)), (4, None)] {
+        assert!(rt; refused(rt.alloc(), bytes.as_slice(), most) == place);
+    }
+    Ok(())
+}
+
+/// Takes from a piece: how many bytes, and the letter of the event; a blank for none.
+fn take(file: &mut FileReader, piece: &[u8]) -> (usize, u8)
+    requires open { ending_told file.old ≡ None }
+    requires room { bytes_used file.old + length piece.now ≤ 2 ^ 36 }
+    ensures open { ending_told file.new ≡ None }
+    ensures used { bytes_used file.new ≡ bytes_used file.old + result.0 }
+    ensures bound { result.0 ≤ length piece.now }
+{
+    let (used, event) = file.take(piece);
+    match event {
+        Some(event) => (used, letter(&event)),
+        None => (used, b' '),
+    }
+}
+
+/// Takes from a text three times, from where the last call stopped, and finishes: the letters of the events, and the bytes used.
+fn four_events(alloc: Global, bytes: &[u8]) -> Option<([u8; 4], usize)>
+    requires { length bytes.now ≤ 10000 }
+{
+    let mut file = FileReader::new(alloc, &Layout::standard()).ok()?;
+    let (first, one) = take(&mut file, bytes);
+    let (second, two) = take(&mut file, &bytes[first..]);
+    let used = first + second;
+    let (third, three) = take(&mut file, &bytes[used..]);
+    let used = used + third;
+    let four = match file.finish(Ending::Whole) {
+        Some(event) => letter(&event),
+        None => b' ',
+    };
+    if file.given() != used as u64 || !file.done() {
+        return None;
+    }
+    Some(([one, two, three, four], used))
+}
+
+/// How many bytes are used where the four events are these.
+fn gives(alloc: Global, bytes: &[u8], events: &[u8]) -> Option<usize> {
+    if bytes.len() > 10_000 {
+        return None;
+    }
+    let (found, used) = four_events(alloc, bytes)?;
+    if found.as_slice() == events {
+        Some(used)
+    } else {
+        None
+    }
+}
+
+/// A fault of FOOT's counts comes after the event that FOOT closes; then nothing is used or given.
+#[test]
+fn one_event_a_call(rt: HostRuntime) -> Result<(), AllocError> {
+    let rows: [(&str, &str, &[u8], usize); 3] = [
+        ("HSU*", "FOOT\t4\t0\t1", b"OB E", 96),
+        ("H*H", "FOOT\t3\t0\t0", b"OE  ", 49),
+        ("SH", "", b"E   ", 30),
+    ];
+    for (letters, other, events, used) in rows {
+        let bytes = text(rt.alloc(), letters, other, b"\n")?;
+        assert!(rt;
+            gives(rt.alloc(), bytes.as_slice(), events) == Some(used),
+            "{letters}"
+        );
+    }
+    Ok(())
+}
+
+#[test]
+fn a_long_line_before_its_end(rt: HostRuntime) -> Result<(), AllocError> {
+    let line = comment(rt.alloc(), 8192)?;
+    assert!(rt; gives(rt.alloc(), line.as_slice(), b"E   ").is_some());
+    Ok(())
+}
+
+/// A layout that puts the cells of a resource elsewhere, and skips a record type.
+const LAYOUT: &[u8] =
+    b"HEAD\tHEAD\t1\t2\t3\t4\t5\t6\t7\nSY\tSY01\t1\t2\t3\t4\t5\t6\nAS\tAS01.01\t1\t3\t2\t4\nMW\tMW01\t1\t2\t3\t4\t5\nSU\tSU01\t1\t2\t3\t4\nFOOT\tFOOT\t1\t2\t3\nSKIP\tRE01\n";
+
+/// A file by that layout.
+const OTHER_FILE: &[u8] =
+    b"HEAD\tR1\t1\t1\t2024-01-01\t2024-01-31\nAS01.01\t1\tSong\tGBABC2400001\tBand\nRE01\tx\nSU01\t1\tS1\t1\t1\nFOOT\t5\t0\t1\n";
+
+#[test]
+fn another_layout(rt: HostRuntime) {
+    let Ok(layout) = Layout::read(LAYOUT) else {
+        panic!(rt; "the layout is refused")
+    };
+    let mut events = EventList::new(rt.alloc());
+    let mut source = in_pieces(OTHER_FILE, 4096, false);
+    let outcome = read_file(rt.alloc(), &layout, &mut source, &mut events, 9);
+    assert!(rt; outcome.is_ok() && come_to(&events, "OBE", "Whole"));
+}
+
+#[test]
+fn a_list_of_events(rt: HostRuntime) {
+    let mut events = EventList::new(rt.alloc());
+    let pushed = events.push(Event::default()).is_ok();
+    assert!(rt; pushed && events.len() == 1);
+    let front = events.next();
+    assert!(rt; front.is_some_and(|event| event.part.is_ended()) && events.len() == 0);
+}
+
+/// Where memory is refused, no events are given, and else these.
+#[test]
+fn events_or_no_memory(rt: HostRuntime) {
+    let Ok(layout) = Layout::read(LAYOUT) else {
+        panic!(rt; "the layout is refused")
+    };
+    if let Ok(events) = whole_events(rt.alloc(), &layout, OTHER_FILE, Ending::Whole) {
+        assert!(rt; come_to(&events, "OBE", "Whole"));
+    }
+}

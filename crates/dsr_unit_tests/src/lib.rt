@@ -1,0 +1,15 @@
+//! Worked examples of the calls of each crate below the run: a module for each crate.
+//!
+//! They stand in a crate of their own, since a crate with tests is proved a second time with them.
+#![tactic(auto)]
+
+#[cfg(test)]
+mod cells;
+#[cfg(test)]
+mod file;
+#[cfg(test)]
+mod ledger;
+#[cfg(test)]
+mod records;
+#[cfg(test)]
+mod relay;

@@ -1,0 +1,3 @@
+//! Worked examples of the calls of dsr_records.
+mod checked_cells;
+mod lines;
