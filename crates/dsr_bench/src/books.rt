@@ -77,6 +77,14 @@ fn report_of(books: Books) -> Result<Option<Report>, NoMemory> {
     Ok(Some(books.into_report()?))
 }
 
+/// Makes the report: how many lines its ledger has.
+fn ledger_lines(books: Books) -> Result<usize, NoMemory> {
+    match report_of(books)? {
+        Some(report) => Ok(report.ledger.len()),
+        None => Ok(0),
+    }
+}
+
 impl Measured {
     /// Books of one file, which is not opened.
     pub fn new(alloc: Global) -> Result<Measured, NoMemory> {
@@ -126,43 +134,44 @@ impl Measured {
         Ok(())
     }
 
+    /// Takes an event of the file.
+    fn put<C: Clock>(&mut self, clock: &C, event: Event) -> io::Result<()> {
+        if matches!(event.part, EventPart::Block(_)) {
+            return self.wait(clock, event);
+        }
+        match event.part {
+            EventPart::Opened(opening) => self.open(opening).map_err(no_memory),
+            EventPart::Block(_) => Ok(()),
+            EventPart::Ended(outcome) => {
+                self.book_waiting(clock)?;
+                self.end(outcome).map_err(no_memory)
+            }
+        }
+    }
+
+    /// The books, without what waits.
+    fn into_books(self) -> Books {
+        self.books
+    }
+
     /// Makes the report, and says what was measured.
     pub fn report<C: Clock>(self, clock: &C) -> io::Result<Figures> {
-        let Measured {
-            books,
-            waiting: _,
-            blocks,
-            nanos,
-        } = self;
+        let (blocks, nanos) = (self.blocks, self.nanos);
         let start = Instant::now(clock)?;
-        let report = report_of(books).map_err(no_memory)?;
-        let took = start.elapsed(clock)?.as_nanos();
+        let lines = ledger_lines(self.into_books()).map_err(no_memory)?;
+        let report = start.elapsed(clock)?.as_nanos();
         Ok(Figures {
             blocks,
-            lines: match &report {
-                Some(report) => report.ledger.len(),
-                None => 0,
-            },
+            lines,
             block: nanos / u128::from(blocks.max(1)),
-            report: took,
+            report,
         })
     }
 }
 
 impl Taker for Measured {
     fn take<C: Clock>(&mut self, clock: &C, event: Event) -> io::Result<Option<Block>> {
-        if matches!(event.part, EventPart::Block(_)) {
-            self.wait(clock, event)?;
-            return Ok(None);
-        }
-        match event.part {
-            EventPart::Opened(opening) => self.open(opening).map_err(no_memory)?,
-            EventPart::Block(_) => {}
-            EventPart::Ended(outcome) => {
-                self.book_waiting(clock)?;
-                self.end(outcome).map_err(no_memory)?;
-            }
-        }
+        self.put(clock, event)?;
         Ok(None)
     }
 }

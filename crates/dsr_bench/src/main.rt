@@ -14,7 +14,7 @@ use crate::drive::read_all;
 use crate::taker::{Counted, no_memory};
 use std::alloc::AllocGlobal;
 use std::env::{self, Env};
-use std::io::{self, Print, Read};
+use std::io::{self, Eprint, Print, Read};
 use std::time::Clock;
 
 /// Whether the books are to be measured.
@@ -35,7 +35,10 @@ fn measure_reader<R: AllocGlobal + Clock + Print, S: Read>(
 }
 
 /// Reads a report file and books it.
-fn measure_books<R: AllocGlobal + Clock + Print, S: Read>(rt: &R, input: &mut S) -> io::Result<()> {
+fn measure_books<R: AllocGlobal + Clock + Eprint + Print, S: Read>(
+    rt: &R,
+    input: &mut S,
+) -> io::Result<()> {
     let mut measured = Measured::new(rt.alloc()).map_err(no_memory)?;
     read_all(rt, rt.alloc(), &mut measured, input)?;
     let figures = measured.report(rt)?;
