@@ -71,6 +71,20 @@ fn end<C: Clock, T: Taker>(clock: &C, file: &mut FileReader, taker: &mut T) -> i
     Ok(())
 }
 
+/// Gives the bytes of an input to the reader, and its events to the taker: how many bytes there were.
+fn read_through<C: Clock, T: Taker, R: Read>(
+    clock: &C,
+    file: &mut FileReader,
+    taker: &mut T,
+    input: &mut R,
+) -> io::Result<u64>
+    requires { ending_told file.old ≡ None }
+{
+    drain(clock, file, taker, input)?;
+    end(clock, file, taker)?;
+    Ok(file.given())
+}
+
 /// Gives the events of an input to a taker: how many bytes it had.
 pub fn read_all<C: Clock, T: Taker, R: Read>(
     clock: &C,
@@ -81,7 +95,5 @@ pub fn read_all<C: Clock, T: Taker, R: Read>(
     let Ok(mut file) = FileReader::new(alloc, &Layout::standard()) else {
         return Err(io::ErrorKind::OutOfMemory.into());
     };
-    drain(clock, &mut file, taker, input)?;
-    end(clock, &mut file, taker)?;
-    Ok(file.given())
+    read_through(clock, &mut file, taker, input)
 }
