@@ -39,4 +39,3 @@ pub use reading::{ReadFileError, read_file};
 pub use sink::Sink;
 pub use source::{Failed, FromRead, Source};
 pub use whole::whole_events;
-

@@ -37,4 +37,3 @@ pub use name::Name;
 pub use open::{RelayError, open_relay};
 pub use settled::Settled;
 pub use tap::Tap;
-
