@@ -1,10 +1,9 @@
 //! The bytes of a text, cut into lines.
-ghost use Rattle.std.specs.Prelude.{◌≡◌, ◌++◌, ◌∷◌, [], ◌+◌, ◌<◌, ◌≤◌, length, List, ℕ, false, take, slice_index, IfOk, IsTrue, vec_capacity};
-ghost use Rattle.std.specs.List.{list_any};
-ghost use Rattle.dsr_cells.specs.Lines.{is_line_feed, without_mark};
+ghost use Rattle.std.specs.Prelude.{◌≡◌, ◌++◌, ◌∷◌, [], ◌+◌, ◌<◌, ◌≤◌, length, List, ℕ, false, take, IfOk, IsTrue, vec_capacity};
+ghost use Rattle.dsr_cells.specs.Lines.{without_mark};
 
+use crate::line_feed::line_end;
 use dsr_cells::NoMemory;
-use memchr::memchr;
 use std::alloc::Global;
 
 const LINE_LIMIT: usize = 8192;
@@ -31,18 +30,6 @@ pub(crate) struct Cutter {
     ghost room: { 8192 ≤ vec_capacity bytes },
     ghost short: { length bytes.items ≤ 8192 },
     ghost few: { IsTrue fresh → length bytes.items < 3 },
-}
-
-/// How many bytes stand before the first line feed.
-fn line_end(piece: &[u8]) -> usize
-    ensures bound { result ≤ length piece.now }
-    ensures before { list_any is_line_feed (take result piece.now) ≡ false }
-    ensures found { result < length piece.now → slice_index piece.now result ≡ 10 }
-{
-    match memchr(b'\n', piece) {
-        Some(end) => end,
-        None => piece.len(),
-    }
 }
 
 impl Cutter {

@@ -22,6 +22,7 @@ mod fault;
 mod feeding;
 mod grammar;
 pub mod laws;
+mod line_feed;
 mod read_count;
 mod reader;
 mod reading;

@@ -171,22 +171,23 @@ impl FileReader {
         &mut self,
         line: u64,
         step: Step,
-        closed: Option<EventPart>,
+        closed: &mut Option<EventPart>,
         event: &mut Option<Event>,
     )
         requires reading { self.old.phase ≡ phases.Reading }
         requires room { self.old.place + 1 ≤ self.old.given }
         requires none { event.old ≡ None }
         ensures stands { (layout : LayoutTable) (b : List ℕ) (es : List Placed)
-            → AtAnswer layout self.old line step closed b es
+            → AtAnswer layout self.old line step closed.old b es
             → Stands layout self.new b (es ++ option_to_list event.new) }
         ensures same { SameText self.old self.new }
         ensures reading { IfNone event.new (self.new.phase ≡ phases.Reading) }
+        ensures taken { IfNone event.new (closed.new ≡ None) }
     {
         match step {
             Step::Good => self.good(closed, event),
             Step::Faulty(fault) => *event = Some(self.faulty(
-                closed,
+                closed.take(),
                 Outcome::Fault { line, fault },
             )),
             Step::NoMemory => *event = Some(self.end(Outcome::Fault {
@@ -196,17 +197,35 @@ impl FileReader {
         }
     }
 
-    /// Gives the event of a good line, if there is one.
+    /// Gives the event of a good line, if there is one. Most lines close nothing.
     #[inline(always)]
-    fn good(&mut self, closed: Option<EventPart>, event: &mut Option<Event>)
+    fn good(&mut self, closed: &mut Option<EventPart>, event: &mut Option<Event>)
         requires reading { self.old.phase ≡ phases.Reading }
         requires room { self.old.place + 1 ≤ self.old.given }
         requires none { event.old ≡ None }
-        ensures event { option_to_list event.new ≡ placed self.old.place (option_to_list closed) }
-        ensures place { self.new.place ≡ self.old.place + length (option_to_list closed) }
+        ensures event { option_to_list event.new
+            ≡ placed self.old.place (option_to_list closed.old) }
+        ensures place { self.new.place ≡ self.old.place + length (option_to_list closed.old) }
         ensures rest { SameBut self.old self.new }
+        ensures taken { closed.new ≡ None }
     {
-        if let Some(part) = closed {
+        if closed.is_some() {
+            self.give(closed, event);
+        }
+    }
+
+    /// Gives the event of what a good line closed, if anything.
+    fn give(&mut self, closed: &mut Option<EventPart>, event: &mut Option<Event>)
+        requires reading { self.old.phase ≡ phases.Reading }
+        requires room { self.old.place + 1 ≤ self.old.given }
+        requires none { event.old ≡ None }
+        ensures event { option_to_list event.new
+            ≡ placed self.old.place (option_to_list closed.old) }
+        ensures place { self.new.place ≡ self.old.place + length (option_to_list closed.old) }
+        ensures rest { SameBut self.old self.new }
+        ensures taken { closed.new ≡ None }
+    {
+        if let Some(part) = closed.take() {
             *event = Some(self.event(part));
         }
     }
@@ -226,8 +245,9 @@ impl FileReader {
     }
 
     /// Takes the line that is kept.
-    fn kept_line(&mut self, event: &mut Option<Event>)
+    fn kept_line(&mut self, closed: &mut Option<EventPart>, event: &mut Option<Event>)
         requires reading { self.old.phase ≡ phases.Reading }
+        requires open { closed.old ≡ None }
         requires none { event.old ≡ None }
         requires room { self.old.place + 1 ≤ self.old.given }
         requires lines { self.old.grammar.lines + 1 ≤ self.old.given }
@@ -236,23 +256,24 @@ impl FileReader {
             → Stands layout self.new b (es ++ option_to_list event.new) }
         ensures same { SameText self.old self.new }
         ensures reading { IfNone event.new (self.new.phase ≡ phases.Reading) }
+        ensures taken { IfNone event.new (closed.new ≡ None) }
     {
         let number = self.grammar.lines + 1;
-        let mut closed = None;
         let step = self.grammar.line(
             self.alloc,
             &self.layout,
             self.cutter.line(),
             &mut self.spare,
-            &mut closed,
+            closed,
         );
         self.cutter.clear();
         self.answer(number, step, closed, event);
     }
 
     /// Takes a line that lies in the piece.
-    fn line(&mut self, line: &[u8], event: &mut Option<Event>)
+    fn line(&mut self, line: &[u8], closed: &mut Option<EventPart>, event: &mut Option<Event>)
         requires reading { self.old.phase ≡ phases.Reading }
+        requires open { closed.old ≡ None }
         requires none { event.old ≡ None }
         requires room { self.old.place + 1 ≤ self.old.given }
         requires lines { self.old.grammar.lines + 1 ≤ self.old.given }
@@ -264,10 +285,10 @@ impl FileReader {
             → Stands layout self.new b (es ++ option_to_list event.new) }
         ensures same { SameText self.old self.new }
         ensures reading { IfNone event.new (self.new.phase ≡ phases.Reading) }
+        ensures taken { IfNone event.new (closed.new ≡ None) }
     {
         let number = self.grammar.lines + 1;
-        let mut closed = None;
-        let step = self.grammar.line(self.alloc, &self.layout, line, &mut self.spare, &mut closed);
+        let step = self.grammar.line(self.alloc, &self.layout, line, &mut self.spare, closed);
         self.answer(number, step, closed, event);
     }
 
@@ -290,8 +311,15 @@ impl FileReader {
     }
 
     /// Takes what the cutter has found in the bytes used.
-    fn cut(&mut self, cut: Cut, used: &[u8], event: &mut Option<Event>)
+    fn cut(
+        &mut self,
+        cut: Cut,
+        used: &[u8],
+        closed: &mut Option<EventPart>,
+        event: &mut Option<Event>,
+    )
         requires reading { self.old.phase ≡ phases.Reading }
+        requires open { closed.old ≡ None }
         requires none { event.old ≡ None }
         requires some { 0 < length used.now }
         requires room { self.old.place + 1 ≤ self.old.given }
@@ -302,18 +330,25 @@ impl FileReader {
             → Stands layout self.new (b ++ used.now) (es ++ option_to_list event.new) }
         ensures same { SameText self.old self.new }
         ensures reading { IfNone event.new (self.new.phase ≡ phases.Reading) }
+        ensures taken { IfNone event.new (closed.new ≡ None) }
     {
         match cut {
             Cut::More => {}
-            Cut::Kept => self.kept_line(event),
-            Cut::Here => self.line(&used[..used.len() - 1], event),
+            Cut::Kept => self.kept_line(closed, event),
+            Cut::Here => self.line(&used[..used.len() - 1], closed, event),
             Cut::Long => *event = Some(self.long_line()),
         }
     }
 
     /// Uses bytes of a piece, up to the end of a line: how many.
-    fn step(&mut self, piece: &[u8], event: &mut Option<Event>) -> usize
+    fn step(
+        &mut self,
+        piece: &[u8],
+        closed: &mut Option<EventPart>,
+        event: &mut Option<Event>,
+    ) -> usize
         requires reading { self.old.phase ≡ phases.Reading }
+        requires open { closed.old ≡ None }
         requires some { 0 < length piece.now }
         requires room { self.old.given + length piece.now ≤ 2 ^ 36 }
         requires none { event.old ≡ None }
@@ -325,10 +360,11 @@ impl FileReader {
         ensures given { self.new.given ≡ self.old.given + result }
         ensures ending { self.new.ending ≡ self.old.ending }
         ensures reading { IfNone event.new (self.new.phase ≡ phases.Reading) }
+        ensures taken { IfNone event.new (closed.new ≡ None) }
     {
         let (used, cut) = self.cutter.take(piece);
         self.given += used as u64;
-        self.cut(cut, &piece[..used], event);
+        self.cut(cut, &piece[..used], closed, event);
         used
     }
 
@@ -347,9 +383,10 @@ impl FileReader {
         ensures given { self.new.given ≡ self.old.given + result.0 }
     {
         let mut used = 0;
+        let mut closed = None;
         let mut event = None;
         while used < piece.len() {
-            used += self.step(&piece[used..], &mut event);
+            used += self.step(&piece[used..], &mut closed, &mut event);
             if event.is_some() {
                 return (used, event);
             }

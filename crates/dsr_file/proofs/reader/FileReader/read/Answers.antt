@@ -17,6 +17,7 @@ loop-used-preserved c =
     record {
       bound = omega (arith, c.step-used.ensures.bound, c.loop-used.invariant.bound, length-drop c.loop-used.used c.args.piece.now);
       reading = subst (λ o. IfNone o (c.step-used.new.self.phase ≡ Reading)) none c.step-used.ensures.reading;
+      empty = subst (λ o. IfNone o (c.step-used.new.closed ≡ None)) none c.step-used.ensures.taken;
       none = none;
       given = omega (arith, c.step-used.ensures.given, c.loop-used.invariant.given);
       ending = c.step-used.ensures.ending ∙ c.loop-used.invariant.ending;

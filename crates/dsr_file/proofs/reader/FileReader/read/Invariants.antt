@@ -9,6 +9,7 @@ abbrev pub invariant-loop-used : goal.invariant-loop-used
 invariant-loop-used l = record {
   bound : l.used ≤ length l.piece;
   reading : l.self.phase ≡ Reading;
+  empty : l.closed ≡ None;
   none : l.event ≡ None;
   given : l.self.given ≡ l.fn.self.given + l.used;
   ending : l.self.ending ≡ l.fn.self.ending;

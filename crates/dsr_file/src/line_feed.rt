@@ -1,0 +1,64 @@
+//! Where the first line feed of a piece stands, found 16 bytes at a time.
+ghost use Rattle.std.specs.Prelude.{◌≡◌, ◌+◌, ◌<◌, ◌≤◌, ◌==◌, length, map, not, false, take, slice_index};
+ghost use Rattle.std.specs.List.{list_any, prefix_len};
+ghost use Rattle.std.specs.Simd.Lanes.{chunk, mask_l};
+ghost use Rattle.dsr_cells.specs.Lines.{is_line_feed};
+
+use memchr::memchr;
+use std::simd::prelude::*;
+
+/// The line feeds of the 16 bytes from a place on: bit k is set where byte k is one.
+#[inline(always)]
+fn feeds_of_16(piece: &[u8], at: usize) -> u64
+    requires { at + 16 ≤ length piece.now }
+    ensures { result ≡ mask_l (map (λ b. b == 10) (chunk at 16 piece.now)) }
+{
+    u8x16::from_slice(&piece[at..])
+        .simd_eq(u8x16::splat(b'\n'))
+        .to_bitmask()
+}
+
+/// How many of the 16 bytes from a place on stand before the first line feed among them: all 16
+/// where there is none.
+#[inline(always)]
+fn run_of_16(piece: &[u8], at: usize) -> usize
+    requires { at + 16 ≤ length piece.now }
+    ensures { result ≡ prefix_len (λ b. not (b == 10)) (chunk at 16 piece.now) }
+{
+    let feeds = feeds_of_16(piece, at);
+    if feeds == 0 {
+        16
+    } else {
+        feeds.trailing_zeros() as usize
+    }
+}
+
+/// How many bytes stand before the first line feed, where there are few.
+fn end_of_few(piece: &[u8]) -> usize
+    ensures bound { result ≤ length piece.now }
+    ensures before { list_any is_line_feed (take result piece.now) ≡ false }
+    ensures found { result < length piece.now → slice_index piece.now result ≡ 10 }
+{
+    match memchr(b'\n', piece) {
+        Some(end) => end,
+        None => piece.len(),
+    }
+}
+
+/// How many bytes stand before the first line feed.
+#[inline(always)]
+pub(crate) fn line_end(piece: &[u8]) -> usize
+    ensures bound { result ≤ length piece.now }
+    ensures before { list_any is_line_feed (take result piece.now) ≡ false }
+    ensures found { result < length piece.now → slice_index piece.now result ≡ 10 }
+{
+    let mut at = 0;
+    while piece.len() - at >= 16 {
+        let run = run_of_16(piece, at);
+        at += run;
+        if run < 16 {
+            return at;
+        }
+    }
+    at + end_of_few(&piece[at..])
+}
