@@ -66,6 +66,15 @@ going_is es ys rs e h = ap has_ended e ∙ ended_placed 0 ys ∙ ap (list_any is
 pub ends_next : (es : List Placed) (n : ℕ) (o : Outcome) (e : Placed) → e ≡ ended n o → n ≡ length es → EndsWith (es ++ e ∷ []) o
 ends_next es n o e is at = (es, ap (λ x. es ++ x ∷ []) (is ∙ ap (λ m. ended m o) at))
 
+-- an event by its part
+pub ended_again : (place n : ℕ) (o : Outcome) (e : Placed) (part : EventPart) → record { place = n; part = part } ≡ e → e ≡ ended place o → record { place = place; part = part } ≡ e
+ended_again place n o e part view is = ap (λ k. record { place = k; part = part }) (sym (ap (λ x. x.place) (view ∙ is))) ∙ view
+
+pub given_again : (place n : ℕ) (told : Option EventPart) (o : Outcome) (e : Placed) (r : FileReader) (part : EventPart) → record { place = n; part = part } ≡ e → FaultyGives place told o e r
+    → record { place = place; part = part } ≡ e
+given_again place n None o e r part view gives = ended_again place n o e part view gives.1
+given_again place n (Some q) o e r part view gives = ap (λ k. record { place = k; part = part }) (sym (ap (λ x. x.place) (view ∙ gives.1))) ∙ view
+
 -- the event of the last line, if there is one, and then the outcome
 pub gives_stands : (layout : LayoutTable) (r new : FileReader) (b : List ℕ) (es : List Placed) (part : Option EventPart) (o : Outcome) (e : Placed) → r.layout ≡ layout → r.given ≡ length b → r.place ≡ length es
     → known_events layout b new.ending ≡ (es ++ placed r.place (option_to_list part)) ++ ended (length (es ++ placed r.place (option_to_list part))) o ∷ []
@@ -257,8 +266,14 @@ pieces_joined b piece m n h =
     let all : take (length piece - m) (drop m piece) ≡ drop m piece = grind (arith, common_steps) in
     append_assoc b (take m piece) _ ∙ ap (λ x. b ++ (take m piece ++ take n x)) all ∙ ap (λ x. b ++ x) (sym (take-add m n piece))
 
-pub stands_joined : (layout : LayoutTable) (r : FileReader) (b piece : List ℕ) (es : List Placed) (m n : ℕ) (o q : Option Placed) → m ≤ length piece → o ≡ q → Stands layout r ((b ++ take m piece) ++ take n (take (length piece - m) (drop m piece))) (es ++ option_to_list o) → Stands layout r (b ++ take (m + n) piece) (es ++ option_to_list q)
-stands_joined layout r b piece es m n o q h e s = subst (λ x. Stands layout r x (es ++ option_to_list q)) (pieces_joined b piece m n h) (subst (λ x. Stands layout r ((b ++ take m piece) ++ take n (take (length piece - m) (drop m piece))) (es ++ option_to_list x)) e s)
+pub stands_more : (layout : LayoutTable) (r : FileReader) (b piece : List ℕ) (es : List Placed) (m n : ℕ) (xs ys : List Placed) → m ≤ length piece → xs ≡ ys
+    → Stands layout r ((b ++ take m piece) ++ take n (take (length piece - m) (drop m piece))) (es ++ xs) → Stands layout r (b ++ take (m + n) piece) (es ++ ys)
+stands_more layout r b piece es m n xs ys h e s =
+    subst (λ x. Stands layout r x (es ++ ys)) (pieces_joined b piece m n h) (subst (λ x. Stands layout r ((b ++ take m piece) ++ take n (take (length piece - m) (drop m piece))) (es ++ x)) e s)
+
+pub stands_joined : (layout : LayoutTable) (r : FileReader) (b piece : List ℕ) (es : List Placed) (m n : ℕ) (o q : Option Placed) → m ≤ length piece → o ≡ q
+    → Stands layout r ((b ++ take m piece) ++ take n (take (length piece - m) (drop m piece))) (es ++ option_to_list o) → Stands layout r (b ++ take (m + n) piece) (es ++ option_to_list q)
+stands_joined layout r b piece es m n o q h e s = stands_more layout r b piece es m n (option_to_list o) (option_to_list q) h (ap option_to_list e) s
 
 pub if_none : {A : Type 0} {P Q : Type 0} (o : Option A) → (P → Q) → IfNone o P → IfNone o Q
 if_none None f p = f p

@@ -165,68 +165,45 @@ impl FileReader {
         self.event(part)
     }
 
-    /// What a line has done, which closed this.
+    /// What a line has done: `part` is what it closed, and becomes what the next event tells, if
+    /// there is one.
     #[inline(always)]
-    fn answer(
-        &mut self,
-        line: u64,
-        step: Step,
-        closed: &mut Option<EventPart>,
-        event: &mut Option<Event>,
-    )
+    fn answer(&mut self, line: u64, step: Step, part: &mut Option<EventPart>)
         requires reading { self.old.phase ≡ phases.Reading }
         requires room { self.old.place + 1 ≤ self.old.given }
-        requires none { event.old ≡ None }
         ensures stands { (layout : LayoutTable) (b : List ℕ) (es : List Placed)
-            → AtAnswer layout self.old line step closed.old b es
-            → Stands layout self.new b (es ++ option_to_list event.new) }
+            → AtAnswer layout self.old line step part.old b es
+            → Stands layout self.new b (es ++ placed self.old.place (option_to_list part.new)) }
         ensures same { SameText self.old self.new }
-        ensures reading { IfNone event.new (self.new.phase ≡ phases.Reading) }
-        ensures taken { IfNone event.new (closed.new ≡ None) }
+        ensures reading { IfNone part.new (self.new.phase ≡ phases.Reading) }
+        ensures place { IfNone part.new (self.new.place ≡ self.old.place) }
     {
         match step {
-            Step::Good => self.good(closed, event),
-            Step::Faulty(fault) => *event = Some(self.faulty(
-                closed.take(),
-                Outcome::Fault { line, fault },
-            )),
-            Step::NoMemory => *event = Some(self.end(Outcome::Fault {
-                line,
-                fault: FileFault::Memory,
-            })),
+            Step::Good => self.good(part),
+            Step::Faulty(fault) => {
+                let event = self.faulty(part.take(), Outcome::Fault { line, fault });
+                *part = Some(event.part);
+            }
+            Step::NoMemory => {
+                let event = self.end(Outcome::Fault {
+                    line,
+                    fault: FileFault::Memory,
+                });
+                *part = Some(event.part);
+            }
         }
     }
 
-    /// Gives the event of a good line, if there is one. Most lines close nothing.
+    /// Counts the event of a good line, if it closed something.
     #[inline(always)]
-    fn good(&mut self, closed: &mut Option<EventPart>, event: &mut Option<Event>)
-        requires reading { self.old.phase ≡ phases.Reading }
+    fn good(&mut self, part: &Option<EventPart>)
         requires room { self.old.place + 1 ≤ self.old.given }
-        requires none { event.old ≡ None }
-        ensures event { option_to_list event.new
-            ≡ placed self.old.place (option_to_list closed.old) }
-        ensures place { self.new.place ≡ self.old.place + length (option_to_list closed.old) }
-        ensures rest { SameBut self.old self.new }
-        ensures taken { closed.new ≡ None }
-    {
-        if closed.is_some() {
-            self.give(closed, event);
-        }
-    }
-
-    /// Gives the event of what a good line closed, if anything.
-    fn give(&mut self, closed: &mut Option<EventPart>, event: &mut Option<Event>)
         requires reading { self.old.phase ≡ phases.Reading }
-        requires room { self.old.place + 1 ≤ self.old.given }
-        requires none { event.old ≡ None }
-        ensures event { option_to_list event.new
-            ≡ placed self.old.place (option_to_list closed.old) }
-        ensures place { self.new.place ≡ self.old.place + length (option_to_list closed.old) }
+        ensures place { self.new.place ≡ self.old.place + length (option_to_list part.now) }
         ensures rest { SameBut self.old self.new }
-        ensures taken { closed.new ≡ None }
     {
-        if let Some(part) = closed.take() {
-            *event = Some(self.event(part));
+        if part.is_some() {
+            self.place += 1;
         }
     }
 
@@ -245,18 +222,17 @@ impl FileReader {
     }
 
     /// Takes the line that is kept.
-    fn kept_line(&mut self, closed: &mut Option<EventPart>, event: &mut Option<Event>)
+    fn kept_line(&mut self, part: &mut Option<EventPart>)
         requires reading { self.old.phase ≡ phases.Reading }
-        requires open { closed.old ≡ None }
-        requires none { event.old ≡ None }
+        requires none { part.old ≡ None }
         requires room { self.old.place + 1 ≤ self.old.given }
         requires lines { self.old.grammar.lines + 1 ≤ self.old.given }
         ensures stands { (layout : LayoutTable) (b : List ℕ) (es : List Placed)
             → AtLine layout self.old self.old.cutter.bytes.items b es
-            → Stands layout self.new b (es ++ option_to_list event.new) }
+            → Stands layout self.new b (es ++ placed self.old.place (option_to_list part.new)) }
         ensures same { SameText self.old self.new }
-        ensures reading { IfNone event.new (self.new.phase ≡ phases.Reading) }
-        ensures taken { IfNone event.new (closed.new ≡ None) }
+        ensures reading { IfNone part.new (self.new.phase ≡ phases.Reading) }
+        ensures place { IfNone part.new (self.new.place ≡ self.old.place) }
     {
         let number = self.grammar.lines + 1;
         let step = self.grammar.line(
@@ -264,17 +240,16 @@ impl FileReader {
             &self.layout,
             self.cutter.line(),
             &mut self.spare,
-            closed,
+            part,
         );
         self.cutter.clear();
-        self.answer(number, step, closed, event);
+        self.answer(number, step, part);
     }
 
     /// Takes a line that lies in the piece.
-    fn line(&mut self, line: &[u8], closed: &mut Option<EventPart>, event: &mut Option<Event>)
+    fn line(&mut self, line: &[u8], part: &mut Option<EventPart>)
         requires reading { self.old.phase ≡ phases.Reading }
-        requires open { closed.old ≡ None }
-        requires none { event.old ≡ None }
+        requires none { part.old ≡ None }
         requires room { self.old.place + 1 ≤ self.old.given }
         requires lines { self.old.grammar.lines + 1 ≤ self.old.given }
         requires short { length line.now ≤ 8192 }
@@ -282,14 +257,16 @@ impl FileReader {
         requires settled { self.old.cutter.fresh ≡ false }
         ensures stands { (layout : LayoutTable) (b : List ℕ) (es : List Placed)
             → AtLine layout self.old line.now b es
-            → Stands layout self.new b (es ++ option_to_list event.new) }
+            → Stands layout self.new b (es ++ placed self.old.place (option_to_list part.new)) }
         ensures same { SameText self.old self.new }
-        ensures reading { IfNone event.new (self.new.phase ≡ phases.Reading) }
-        ensures taken { IfNone event.new (closed.new ≡ None) }
+        ensures reading { IfNone part.new (self.new.phase ≡ phases.Reading) }
+        ensures place { IfNone part.new (self.new.place ≡ self.old.place) }
     {
         let number = self.grammar.lines + 1;
-        let step = self.grammar.line(self.alloc, &self.layout, line, &mut self.spare, closed);
-        self.answer(number, step, closed, event);
+        let step = self
+            .grammar
+            .line(self.alloc, &self.layout, line, &mut self.spare, part);
+        self.answer(number, step, part);
     }
 
     /// Ends by a line that is too long.
@@ -311,60 +288,52 @@ impl FileReader {
     }
 
     /// Takes what the cutter has found in the bytes used.
-    fn cut(
-        &mut self,
-        cut: Cut,
-        used: &[u8],
-        closed: &mut Option<EventPart>,
-        event: &mut Option<Event>,
-    )
+    fn cut(&mut self, cut: Cut, used: &[u8], part: &mut Option<EventPart>)
         requires reading { self.old.phase ≡ phases.Reading }
-        requires open { closed.old ≡ None }
-        requires none { event.old ≡ None }
+        requires none { part.old ≡ None }
         requires some { 0 < length used.now }
         requires room { self.old.place + 1 ≤ self.old.given }
         requires lines { self.old.grammar.lines + 1 ≤ self.old.given }
         requires here { FitsCut cut used.now self.old.cutter }
         ensures stands { (layout : LayoutTable) (b : List ℕ) (es : List Placed)
             → AtCut layout self.old cut b used.now es
-            → Stands layout self.new (b ++ used.now) (es ++ option_to_list event.new) }
+            → Stands layout self.new (b ++ used.now)
+            (es ++ placed self.old.place (option_to_list part.new)) }
         ensures same { SameText self.old self.new }
-        ensures reading { IfNone event.new (self.new.phase ≡ phases.Reading) }
-        ensures taken { IfNone event.new (closed.new ≡ None) }
+        ensures reading { IfNone part.new (self.new.phase ≡ phases.Reading) }
+        ensures place { IfNone part.new (self.new.place ≡ self.old.place) }
     {
         match cut {
             Cut::More => {}
-            Cut::Kept => self.kept_line(closed, event),
-            Cut::Here => self.line(&used[..used.len() - 1], closed, event),
-            Cut::Long => *event = Some(self.long_line()),
+            Cut::Kept => self.kept_line(part),
+            Cut::Here => self.line(&used[..used.len() - 1], part),
+            Cut::Long => {
+                let event = self.long_line();
+                *part = Some(event.part);
+            }
         }
     }
 
     /// Uses bytes of a piece, up to the end of a line: how many.
-    fn step(
-        &mut self,
-        piece: &[u8],
-        closed: &mut Option<EventPart>,
-        event: &mut Option<Event>,
-    ) -> usize
+    fn step(&mut self, piece: &[u8], part: &mut Option<EventPart>) -> usize
         requires reading { self.old.phase ≡ phases.Reading }
-        requires open { closed.old ≡ None }
         requires some { 0 < length piece.now }
         requires room { self.old.given + length piece.now ≤ 2 ^ 36 }
-        requires none { event.old ≡ None }
+        requires none { part.old ≡ None }
         ensures some { 0 < result }
         ensures bound { result ≤ length piece.now }
         ensures stands { (layout : LayoutTable) (b : List ℕ) (es : List Placed)
             → Stands layout self.old b es
-            → Stands layout self.new (b ++ take result piece.now) (es ++ option_to_list event.new) }
+            → Stands layout self.new (b ++ take result piece.now)
+            (es ++ placed self.old.place (option_to_list part.new)) }
         ensures given { self.new.given ≡ self.old.given + result }
         ensures ending { self.new.ending ≡ self.old.ending }
-        ensures reading { IfNone event.new (self.new.phase ≡ phases.Reading) }
-        ensures taken { IfNone event.new (closed.new ≡ None) }
+        ensures reading { IfNone part.new (self.new.phase ≡ phases.Reading) }
+        ensures place { IfNone part.new (self.new.place ≡ self.old.place) }
     {
         let (used, cut) = self.cutter.take(piece);
         self.given += used as u64;
-        self.cut(cut, &piece[..used], closed, event);
+        self.cut(cut, &piece[..used], part);
         used
     }
 
@@ -382,13 +351,14 @@ impl FileReader {
         ensures some { OnSome result.1 (0 < result.0) }
         ensures given { self.new.given ≡ self.old.given + result.0 }
     {
+        let place = self.place;
         let mut used = 0;
-        let mut closed = None;
-        let mut event = None;
+        let mut part = None;
         while used < piece.len() {
-            used += self.step(&piece[used..], &mut closed, &mut event);
-            if event.is_some() {
-                return (used, event);
+            used += self.step(&piece[used..], &mut part);
+            match part {
+                Some(part) => return (used, Some(Event { place, part })),
+                None => {}
             }
         }
         (used, None)

@@ -1,4 +1,6 @@
-use Rattle.dsr_file.proofs.StandLemmas.{at_kept, at_here, long_stands}
+use Rattle.std.proofs.Common.{◌++◌, ◌∷◌, [], subst, sym}
+use Rattle.dsr_file.specs.Standing.{Stands}
+use Rattle.dsr_file.proofs.StandLemmas.{at_kept, at_here, ended_again, long_stands}
 use Rattle.dsr_file.proofs.reader.FileReader.cut.Goals as goal
 
 pub returns-in-Kept-clause-stands : goal.returns-in-Kept-clause-stands
@@ -9,4 +11,5 @@ returns-in-Here-clause-stands c = λ layout b es a. c.line.ensures.stands layout
 
 pub returns-in-Long-clause-stands : goal.returns-in-Long-clause-stands
 returns-in-Long-clause-stands c = λ layout b es a.
-    long_stands layout c.args.self.now c.long_line.new.self c.args.cut b c.args.used.now es c.long_line.result a c.in-Long.is c.long_line.ensures.event c.long_line.ensures.same c.long_line.ensures.place c.long_line.ensures.done
+    subst (λ e. Stands layout c.long_line-event.new.self (b ++ c.args.used.now) (es ++ e ∷ [])) (sym (ended_again c.args.self.now.place _ _ c.long_line-event.result _ c.event.view_is c.long_line-event.ensures.event))
+    (long_stands layout c.args.self.now c.long_line-event.new.self c.args.cut b c.args.used.now es c.long_line-event.result a c.in-Long.is c.long_line-event.ensures.event c.long_line-event.ensures.same c.long_line-event.ensures.place c.long_line-event.ensures.done)

@@ -9,9 +9,9 @@ abbrev pub invariant-loop-used : goal.invariant-loop-used
 invariant-loop-used l = record {
   bound : l.used ≤ length l.piece;
   reading : l.self.phase ≡ Reading;
-  empty : l.closed ≡ None;
-  none : l.event ≡ None;
+  none : l.part ≡ None;
   given : l.self.given ≡ l.fn.self.given + l.used;
+  place : l.self.place ≡ l.place;
   ending : l.self.ending ≡ l.fn.self.ending;
   stands : (layout : LayoutTable) (b : List ℕ) (es : List Placed) → Stands layout l.fn.self b es → Stands layout l.self (b ++ take l.used l.piece) es;
 }
