@@ -1,0 +1,33 @@
+-- Lemmas on the first pipe or backslash of some bytes.
+use Rattle.std.proofs.Common.{arith, ◌≡◌, ◌<◌, ◌≤◌, ◌+◌, ℕ, Bool, List, [], ◌∷◌, length, map, get_or, true, false, refl, ap₂, eqb, inl, inr, Some, None, bit_or, w8, Fits}
+use Rattle.std.specs.List.{position, position_or_len}
+use Rattle.std.specs.Simd.Lanes.{Each1}
+use Rattle.std.proofs.lemmas.List.Sums.{position_or_len_is}
+use Rattle.std.proofs.lemmas.Bool.{cases_lt, lt-ltb, le-ltb, agree_below_at}
+use Rattle.dsr_cells.proofs.RawParts.{is_mark, PlainTo}
+
+-- a byte that is a pipe once bit 32 is set
+abbrev pub is_pipe_with_bit : ℕ → Bool
+is_pipe_with_bit b = eqb (bit_or b 32) 124
+
+-- such bytes are the marks
+pub marked : (run : List ℕ) → Each1 (Fits w8) run → map is_pipe_with_bit run ≡ map is_mark run
+marked [] fits = refl
+marked (b ∷ bs) fits = ap₂ (λ m ms. m ∷ ms) (agree_below_at is_pipe_with_bit is_mark 256 b refl (fits.0).fits) (marked bs fits.1)
+
+pub found_mark : (text : List ℕ) (i : ℕ) → i < length text → PlainTo text i → is_mark (get_or text i 0) ≡ true → Some i ≡ position is_mark text
+found_mark text i within plain mark =
+    let there : position_or_len is_mark text ≡ i = position_or_len_is is_mark text i 0 (omega arith) plain (λ _. mark) in
+    rw (there, lt-ltb i (length text) within) refl
+
+pub no_mark : (text : List ℕ) → PlainTo text (length text) → None ≡ position is_mark text
+no_mark text plain =
+    let none : position_or_len is_mark text ≡ length text = position_or_len_is is_mark text (length text) 0 (omega arith) plain (λ less. absurd (omega arith)) in
+    rw (none, le-ltb (length text) (length text) (omega arith)) refl
+
+-- n plain bytes from a place on, which may overlap those before it
+pub plain_over : (bytes : List ℕ) (at from n : ℕ) → from ≤ at → PlainTo bytes at → ((k : ℕ) → from ≤ k → k < from + n → is_mark (get_or bytes k 0) ≡ false) → PlainTo bytes (from + n)
+plain_over bytes at from n over before more k less = elim (cases_lt k at) [
+  | inl front ↦ before k front
+  | inr back ↦ more k (omega arith) less
+]
