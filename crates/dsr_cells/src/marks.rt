@@ -1,6 +1,7 @@
 //! The first pipe or backslash of some bytes, sought in several bytes at once.
-ghost use Rattle.std.specs.Prelude.{◌≡◌, ◌+◌, ◌≤◌, ◌<◌, ◌==◌, ◌||◌, not, length, map};
+ghost use Rattle.std.specs.Prelude.{◌≡◌, ◌+◌, ◌≤◌, ◌<◌, ◌==◌, ◌||◌, IfSome, not, length, map};
 ghost use Rattle.std.specs.List.{position, prefix_len};
+ghost use Rattle.std.specs.Option.{unwrap_or};
 ghost use Rattle.std.specs.Simd.Lanes.{mask_l, chunk};
 
 use std::simd::Simd;
@@ -20,18 +21,19 @@ fn marks_of<const N: usize>(bytes: &[u8], at: usize) -> u64
         .to_bitmask()
 }
 
-/// How many of the `N` bytes from a place on come before the first pipe or backslash.
+/// How many of the `N` bytes from a place on come before the first pipe or backslash, where there is one.
 #[inline(always)]
-fn plain_of<const N: usize>(bytes: &[u8], at: usize) -> usize
+fn plain_of<const N: usize>(bytes: &[u8], at: usize) -> Option<usize>
     requires few { N ≤ 64 }
     requires within { at + N ≤ length bytes.now }
-    ensures { result ≡ prefix_len (λ b. not ((b == 124) || (b == 92))) (chunk at N bytes.now) }
+    ensures count { unwrap_or result N ≡ prefix_len (λ b. not ((b == 124) || (b == 92))) (chunk at N bytes.now) }
+    ensures few { IfSome result (λ n. n < N) }
 {
     let marks = marks_of::<N>(bytes, at);
     if marks == 0 {
-        return N;
+        return None;
     }
-    marks.trailing_zeros() as usize
+    Some(marks.trailing_zeros() as usize)
 }
 
 /// Where the first pipe or backslash of `N` bytes or more stands. The last `N` may overlap those before them.
@@ -45,17 +47,13 @@ fn first_by<const N: usize>(bytes: &[u8]) -> Option<usize>
     let last = bytes.len() - N;
     let mut at = 0;
     while at < last {
-        let plain = plain_of::<N>(bytes, at);
-        if plain < N {
+        if let Some(plain) = plain_of::<N>(bytes, at) {
             return Some(at + plain);
         }
         at += N;
     }
-    let plain = plain_of::<N>(bytes, last);
-    if plain < N {
-        return Some(last + plain);
-    }
-    None
+    let plain = plain_of::<N>(bytes, last)?;
+    Some(last + plain)
 }
 
 /// Where the first pipe or backslash stands.
