@@ -4,6 +4,7 @@ ghost use Rattle.std.specs.Int.{w64, from_le_bytes};
 ghost use Rattle.std.specs.Str.{bytes_eq};
 
 use std::marker::Model;
+use std::simd::Simd;
 use std::str;
 
 /// How many bytes a short text has at most.
@@ -27,8 +28,9 @@ impl Model for ShortText {
     ghost invariant = { λ s. (s.size ≤ 22) × HasZerosBehind s.size s.bytes × ∥ IsUtf8 (take s.size s.bytes) ∥₁ };
 }
 
-/// Copies a text of `HALF` to twice as many bytes to the front: its first and its last `HALF`, which may overlap. Copies
-/// of a fixed length are a few instructions each, and one of any length is a call.
+/// Copies a text of `HALF` to twice as many bytes to the front: its first and its last `HALF`, which may overlap. Each is one
+/// load and one store; the loads come first, so that nobody has to ask whether the text and the bytes overlap.
+#[inline(always)]
 fn copy_ends<const HALF: usize>(bytes: &mut [u8; SHORT], text: &[u8])
     requires long { HALF ≤ length text.now }
     requires short { length text.now ≤ HALF + HALF }
@@ -37,8 +39,10 @@ fn copy_ends<const HALF: usize>(bytes: &mut [u8; SHORT], text: &[u8])
     ensures rest { drop (length text.now) bytes.new ≡ drop (length text.now) bytes.old }
 {
     let tail = text.len() - HALF;
-    bytes[..HALF].copy_from_slice(&text[..HALF]);
-    bytes[tail..tail + HALF].copy_from_slice(&text[tail..]);
+    let front = Simd::<u8, HALF>::from_slice(text);
+    let back = Simd::<u8, HALF>::from_slice(&text[tail..]);
+    front.copy_to_slice(&mut bytes[..HALF]);
+    back.copy_to_slice(&mut bytes[tail..tail + HALF]);
 }
 
 /// Copies a text to the front.

@@ -1,8 +1,28 @@
-use Rattle.std.proofs.Common.{rules, arith, ◌≡◌, ◌≤◌, ◌+◌, ◌-◌, ℕ, List, ◌++◌, length, take, drop, ap, ◌∙◌, length-append, length-drop}
-use Rattle.std.proofs.lemmas.List.{take-append-le, take-append-drop, take-take, take_rest, length-take}
+use Rattle.std.proofs.Common.{arith, ◌≡◌, ◌≤◌, ◌+◌, ◌-◌, ℕ, List, ◌++◌, length, take, drop, ap, ◌∙◌, length-append, length-drop}
+use Rattle.std.proofs.lemmas.List.{take-append-le, take-append-drop, take-take, take_all, length-take, length-take-le}
+use Rattle.std.proofs.lemmas.Simd.{put_chunk_whole}
+use Rattle.std.specs.Simd.Lanes.{chunk, put_chunk}
 use Rattle.std.proofs.lemmas.Slice.{take-put_mid, drop-put_mid, drop-append-drop}
-use borrow.Rule.Slice.PartMut.{put_mid}
+use borrow.Rule.Slice.PartMut.{put_mid, mid_of}
 use Rattle.dsr_cells.proofs.short.copy_ends.Goals as goal
+
+-- the vectors are written over as many bytes: the first of the text, and the last
+abbrev front_of : List ℕ → List ℕ → ℕ → List ℕ
+front_of bytes text half = put_chunk 0 (take half bytes) (chunk 0 half text)
+
+front_is : (bytes text : List ℕ) (half : ℕ) → half ≤ length text → half ≤ length bytes → front_of bytes text half ≡ take half text
+front_is bytes text half long room = put_chunk_whole (take half bytes) (take half text) (omega (arith, length-take-le half bytes room, length-take-le half text long))
+
+back_is : (bytes text : List ℕ) (half k : ℕ) → half ≤ length text → length text ≤ length bytes → k ≡ half
+    → put_chunk 0 (mid_of (length text - half) k (front_of bytes text half ++ drop half bytes)) (chunk (length text - half) half text) ≡ drop (length text - half) text
+back_is bytes text half k long room e =
+    let tail = length text - half in
+    let before = front_of bytes text half ++ drop half bytes in
+    let front : length (front_of bytes text half) ≡ half = ap length (front_is bytes text half long (omega (arith, room))) ∙ length-take-le half text long in
+    let whole : length before ≡ length bytes = omega (arith, front, length-drop half bytes, length-append (front_of bytes text half) (drop half bytes)) in
+    put_chunk_whole (take k (drop tail before)) (take half (drop tail text))
+    (omega (arith, e, whole, length-take k (drop tail before), length-drop tail before, length-take half (drop tail text), length-drop tail text))
+    ∙ take_all half (drop tail text) (omega (arith, length-drop tail text))
 
 -- the first and the last bytes of a text, which meet or overlap, are the text
 ends : (text front back rest : List ℕ) (half k : ℕ) → half ≤ length text → length text ≤ half + half → front ≡ take half text → back ≡ drop (length text - half) text
@@ -17,8 +37,10 @@ ends text front back rest half k long short e1 e2 =
 
 pub returns-clause-front : goal.returns-clause-front
 returns-clause-front g c =
-    ends c.args.text.now c.copy_from_slice.new.self c.copy_from_slice-2.new.self _ g.row.HALF _ c.requires.long c.requires.short c.copy_from_slice.ensures.after
-    (c.copy_from_slice-2.ensures.after ∙ take_rest c.args.text.now (length c.args.text.now - g.row.HALF))
+    let room : length c.args.text.now ≤ length c.args.bytes.now = omega (arith, c.told-bytes, c.requires.room) in
+    ends c.args.text.now _ _ _ g.row.HALF _ c.requires.long c.requires.short
+    (front_is c.args.bytes.now c.args.text.now g.row.HALF c.requires.long (omega (arith, c.requires.long, room)))
+    (back_is c.args.bytes.now c.args.text.now g.row.HALF _ c.requires.long room (omega arith))
 
 -- and what stood behind the text stays
 behind : (text front back bytes : List ℕ) (half : ℕ) → half ≤ length text → length front ≡ half → length back ≡ half → length text ≤ length bytes
@@ -29,4 +51,10 @@ behind text front back bytes half long lf lb room =
 
 pub returns-clause-rest : goal.returns-clause-rest
 returns-clause-rest g c =
-    behind c.args.text.now c.copy_from_slice.new.self c.copy_from_slice-2.new.self c.args.bytes.now g.row.HALF c.requires.long (search rules) (search rules) (search rules)
+    let text = c.args.text.now in
+    let half = g.row.HALF in
+    let room : length text ≤ length c.args.bytes.now = omega (arith, c.told-bytes, c.requires.room) in
+    let front = front_is c.args.bytes.now text half c.requires.long (omega (arith, c.requires.long, room)) in
+    let back = back_is c.args.bytes.now text half (length text - half + half - (length text - half)) c.requires.long room (omega arith) in
+    behind text _ _ c.args.bytes.now half c.requires.long (ap length front ∙ length-take-le half text c.requires.long)
+    (ap length back ∙ omega (arith, c.requires.long, length-drop (length text - half) text)) room
