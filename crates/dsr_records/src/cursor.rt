@@ -1,5 +1,5 @@
 //! Finding the cells of a line one after another.
-ghost use Rattle.std.specs.Prelude.{◌≡◌, ◌<◌, slice_get, drop};
+ghost use Rattle.std.specs.Prelude.{◌≡◌, ◌<◌, Some, IfSome, slice_get, drop};
 ghost use Rattle.std.specs.Option.{option_map};
 ghost use Rattle.dsr_cells.specs.Cells.{cells};
 ghost use Rattle.dsr_records.specs.Rows.{cells_left};
@@ -73,6 +73,30 @@ impl<'l> Cursor<'l> {
             rest: whole,
             next: 0,
         }
+    }
+
+    /// The line.
+    #[inline(always)]
+    pub(crate) fn line(&self) -> &'l str
+        ensures { cells result.now ≡ self.now }
+    {
+        self.line
+    }
+
+    /// The cell at a place, where the cursor stands there. It calls nothing that answers more than a
+    /// number, so that a loop over it has the cursor in registers.
+    #[inline(always)]
+    pub(crate) fn cell_here(&mut self, place: u8) -> Option<&'l str>
+        ensures value { IfSome result (λ c. slice_get self.old place ≡ Some c.now) }
+        ensures same { self.new ≡ self.old }
+    {
+        let place = usize::from(place);
+        if place != self.next {
+            return None;
+        }
+        let (cell, after) = self.rest.first_cell();
+        self.stand_at(place + 1, after);
+        Some(cell)
     }
 
     /// The cell at a place, from 0, where the line has it.

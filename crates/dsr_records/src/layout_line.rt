@@ -19,6 +19,15 @@ pub(crate) fn start(name: &str) -> u32
     u32::from_le_bytes([bytes[0], bytes[1], bytes[2], bytes[3]])
 }
 
+/// Whether two texts are equal, where it is seldom asked.
+#[cold]
+#[inline(never)]
+fn is_same(text: &str, other: &str) -> bool
+    ensures { result ≡ bytes_eq text.now other.now }
+{
+    text == other
+}
+
 /// A record type, which contracts see as its bytes. Most have four of them, so that two are compared
 /// as numbers.
 #[derive(Drop)]
@@ -75,7 +84,7 @@ impl TypeName {
         ensures { result ≡ bytes_eq self.now name.now }
     {
         let own = self.text.as_str();
-        own.len() == name.len() && (name.len() == 4 || own == name)
+        own.len() == name.len() && (name.len() == 4 || is_same(own, name))
     }
 
     /// An equal record type.
