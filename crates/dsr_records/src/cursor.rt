@@ -1,5 +1,5 @@
 //! Finding the cells of a line one after another.
-ghost use Rattle.std.specs.Prelude.{◌≡◌, slice_get, drop};
+ghost use Rattle.std.specs.Prelude.{◌≡◌, ◌<◌, Some, IfSome, slice_get, drop};
 ghost use Rattle.std.specs.Option.{option_map};
 ghost use Rattle.dsr_cells.specs.Cells.{cells};
 ghost use Rattle.dsr_records.specs.Rows.{cells_left};
@@ -21,23 +21,22 @@ fn behind_cells(from: Option<Rest<'_>>, count: usize) -> Option<Rest<'_>>
     rest
 }
 
+/// Where a cursor stands behind the last cell: no cell is looked for there.
+const NOWHERE: usize = 256;
+
 /// What is left from the cell at a place on, found from what is left from another cell on or, where
 /// that one stands behind it, from the line's beginning.
 #[cold]
 #[inline(never)]
-fn rest_elsewhere<'l>(
-    line: &'l str,
-    rest: Option<Rest<'l>>,
-    next: usize,
-    place: usize,
-) -> Option<Rest<'l>>
-    requires { cells_left rest ≡ drop next (cells line.now) }
+fn rest_elsewhere<'l>(line: &'l str, rest: Rest<'l>, next: usize, place: usize) -> Option<Rest<'l>>
+    requires inside { place < 256 }
+    requires known { next < 256 → cells rest.text.now ≡ drop next (cells line.now) }
     ensures { cells_left result ≡ drop place (cells line.now) }
 {
     if place < next {
         behind_cells(Some(Rest::of(line)), place)
     } else {
-        behind_cells(rest, place - next)
+        behind_cells(Some(rest), place - next)
     }
 }
 
@@ -46,21 +45,20 @@ fn rest_elsewhere<'l>(
 #[derive(Drop)]
 pub(crate) struct Cursor<'l> {
     line: &'l str,
-    /// What is left from the cell at place `next` on, where the line has it.
-    rest: Option<Rest<'l>>,
+    /// What is left from the cell at place `next` on, unless that is `NOWHERE`.
+    rest: Rest<'l>,
     next: usize,
 }
 
 impl<'l> Model for Cursor<'l> {
-    ghost use Rattle.std.specs.Prelude.{◌≡◌, List, ℕ, drop};
+    ghost use Rattle.std.specs.Prelude.{◌≡◌, ◌<◌, List, ℕ, drop};
     ghost use Rattle.dsr_cells.specs.Cells.{cells};
-    ghost use Rattle.dsr_records.specs.Rows.{cells_left};
 
     ghost Value = { List (List ℕ) };
 
     ghost view = { λ c. cells c.line.now };
 
-    ghost invariant = { λ c. cells_left c.rest ≡ drop c.next (cells c.line.now) };
+    ghost invariant = { λ c. c.next < 256 → cells c.rest.text.now ≡ drop c.next (cells c.line.now) };
 }
 
 impl<'l> Cursor<'l> {
@@ -72,9 +70,33 @@ impl<'l> Cursor<'l> {
     {
         Cursor {
             line,
-            rest: Some(whole),
+            rest: whole,
             next: 0,
         }
+    }
+
+    /// The line.
+    #[inline(always)]
+    pub(crate) fn line(&self) -> &'l str
+        ensures { cells result.now ≡ self.now }
+    {
+        self.line
+    }
+
+    /// The cell at a place, where the cursor stands there. It calls nothing that answers more than a
+    /// number, so that a loop over it has the cursor in registers.
+    #[inline(always)]
+    pub(crate) fn cell_here(&mut self, place: u8) -> Option<&'l str>
+        ensures value { IfSome result (λ c. slice_get self.old place ≡ Some c.now) }
+        ensures same { self.new ≡ self.old }
+    {
+        let place = usize::from(place);
+        if place != self.next {
+            return None;
+        }
+        let (cell, after) = self.rest.first_cell();
+        self.stand_at(place + 1, after);
+        Some(cell)
     }
 
     /// The cell at a place, from 0, where the line has it.
@@ -85,20 +107,34 @@ impl<'l> Cursor<'l> {
     {
         let place = usize::from(place);
         let (cell, after) = self.rest_from(place)?.first_cell();
-        self.rest = after;
-        self.next = place + 1;
+        self.stand_at(place + 1, after);
         Some(cell)
+    }
+
+    /// Stands at the cell at a place, from which on this is left.
+    #[inline(always)]
+    fn stand_at(&mut self, place: usize, rest: Option<Rest<'l>>)
+        requires { cells_left rest ≡ drop place self.old }
+        ensures { self.new ≡ self.old }
+    {
+        if let Some(rest) = rest {
+            self.rest = rest;
+            self.next = place;
+        } else {
+            self.next = NOWHERE;
+        }
     }
 
     /// What is left from the cell at a place on, where the line has it.
     #[inline(always)]
     fn rest_from(&self, place: usize) -> Option<Rest<'l>>
+        requires { place < 256 }
         ensures { cells_left result ≡ drop place self.now }
     {
         if place == self.next {
-            self.rest
-        } else {
-            rest_elsewhere(self.line, self.rest, self.next, place)
+            return Some(self.rest);
         }
+        let rest = rest_elsewhere(self.line, self.rest, self.next, place)?;
+        Some(rest)
     }
 }

@@ -1,22 +1,50 @@
 //! A line of a layout: the record type that stands for a kind, and where its columns are.
 ghost use Rattle.std.specs.Prelude.{◌≡◌, ◌≤◌, length};
+ghost use Rattle.std.specs.Str.{bytes_eq};
+ghost use Rattle.dsr_records.specs.Names.{start_of};
 
 use crate::kinds::Kind;
 use arrayvec::{ArrayString, ArrayVec};
 use std::marker::Model;
 
-/// A record type, which contracts see as its bytes.
+/// The first four bytes of a record type as a number; 0 where it has fewer.
+#[inline(always)]
+pub(crate) fn start(name: &str) -> u32
+    ensures { result ≡ start_of name.now }
+{
+    let bytes = name.as_bytes();
+    if bytes.len() < 4 {
+        return 0;
+    }
+    u32::from_le_bytes([bytes[0], bytes[1], bytes[2], bytes[3]])
+}
+
+/// Whether two texts are equal, where it is seldom asked.
+#[cold]
+#[inline(never)]
+fn is_same(text: &str, other: &str) -> bool
+    ensures { result ≡ bytes_eq text.now other.now }
+{
+    text == other
+}
+
+/// A record type, which contracts see as its bytes. Most have four of them, so that two are compared
+/// as numbers.
 #[derive(Drop)]
 pub(crate) struct TypeName {
     text: ArrayString<16>,
+    start: u32,
 }
 
 impl Model for TypeName {
-    ghost use Rattle.std.specs.Prelude.{List, ℕ};
+    ghost use Rattle.std.specs.Prelude.{◌≡◌, List, ℕ};
+    ghost use Rattle.dsr_records.specs.Names.{start_of};
 
     ghost Value = { List ℕ };
 
     ghost view = { λ a. a.text.bytes };
+
+    ghost invariant = { λ a. a.start ≡ start_of a.text.bytes };
 }
 
 impl TypeName {
@@ -27,7 +55,10 @@ impl TypeName {
     {
         let mut text = ArrayString::new();
         text.push_str(name);
-        TypeName { text }
+        TypeName {
+            text,
+            start: start(name),
+        }
     }
 
     /// The text.
@@ -37,11 +68,33 @@ impl TypeName {
         self.text.as_str()
     }
 
+    /// Whether it is the record type whose first bytes are given with it.
+    #[inline(always)]
+    pub(crate) fn is(&self, name: &str, start: u32) -> bool
+        requires { start ≡ start_of name.now }
+        ensures { result ≡ bytes_eq self.now name.now }
+    {
+        self.start == start && self.continues_as(name)
+    }
+
+    /// The same, where the first bytes are known to be equal.
+    #[inline(always)]
+    fn continues_as(&self, name: &str) -> bool
+        requires { start_of self.now ≡ start_of name.now }
+        ensures { result ≡ bytes_eq self.now name.now }
+    {
+        let own = self.text.as_str();
+        own.len() == name.len() && (name.len() == 4 || is_same(own, name))
+    }
+
     /// An equal record type.
     pub(crate) fn copy(&self) -> TypeName
         ensures { result ≡ self.now }
     {
-        TypeName { text: self.text }
+        TypeName {
+            text: self.text,
+            start: self.start,
+        }
     }
 }
 
@@ -49,6 +102,7 @@ impl Default for TypeName {
     fn default() -> TypeName {
         TypeName {
             text: ArrayString::new(),
+            start: 0,
         }
     }
 }

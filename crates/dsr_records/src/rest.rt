@@ -82,19 +82,6 @@ impl<'l> Rest<'l> {
         }
     }
 
-    /// The same text. Where no TAB is known and bytes are left to look at, the TABs are those of its
-    /// first 64 bytes.
-    #[inline(always)]
-    fn looked_at(self) -> Rest<'l>
-        ensures { result.text ≡ self.entry.text }
-    {
-        if self.tabs == 0 && self.unseen > 0 {
-            Rest::again(self.text)
-        } else {
-            self
-        }
-    }
-
     /// Whether there may be more cells than so many: each byte that is not looked at yet may be a
     /// TAB.
     #[inline(always)]
@@ -110,13 +97,25 @@ impl<'l> Rest<'l> {
     pub(crate) fn first_cell(self) -> (&'l str, Option<Rest<'l>>)
         ensures { cells self.entry.text.now ≡ result.0.now ∷ cells_left result.1 }
     {
-        let rest = self.looked_at();
-        if rest.tabs != 0 {
-            rest.known_cell()
-        } else if rest.unseen == 0 {
-            (rest.text, None)
+        if self.tabs != 0 {
+            self.known_cell()
+        } else if self.unseen == 0 {
+            (self.text, None)
         } else {
-            Rest::long_cell(rest.text)
+            Rest::again(self.text).unknown_cell()
+        }
+    }
+
+    /// The first cell of a text whose first 64 bytes were looked at, and what stands behind the TAB
+    /// that ends it.
+    #[inline(always)]
+    fn unknown_cell(self) -> (&'l str, Option<Rest<'l>>)
+        ensures { cells self.entry.text.now ≡ result.0.now ∷ cells_left result.1 }
+    {
+        if self.tabs != 0 {
+            self.known_cell()
+        } else {
+            Rest::long_cell(self.text)
         }
     }
 

@@ -27,6 +27,7 @@ fn file_number(text: &str) -> Option<u32>
 }
 
 /// The cell of a column that may not be missing.
+#[inline(always)]
 fn there<'l>(row: &Row<'l>, i: usize, column: Column) -> Result<&'l str, RecordFault>
     ensures { MatchResult result (λ text. cell_of row.now i ≡ Some text.now) (λ fault. (cell_of row.now i ≡ None) × (fault ≡ faults.Missing column)) }
 {
@@ -147,6 +148,7 @@ pub(crate) fn read_currency<'l>(row: &Row<'l>, i: usize) -> Result<&'l str, Reco
 }
 
 /// Usages.
+#[inline(always)]
 pub(crate) fn read_usage_count(row: &Row<'_>, i: usize) -> Result<i64, RecordFault>
     ensures { ReadsValue usages_of row.now columns.Usages i result }
 {
@@ -158,6 +160,7 @@ pub(crate) fn read_usage_count(row: &Row<'_>, i: usize) -> Result<i64, RecordFau
 }
 
 /// An amount.
+#[inline(always)]
 pub(crate) fn read_amount(row: &Row<'_>, i: usize) -> Result<Amount, RecordFault>
     ensures { ReadsValue amount_of row.now columns.Amount i result }
 {
@@ -181,6 +184,7 @@ fn count_shares(cell: &str) -> Option<usize>
 }
 
 /// How many shares a list cell of shares has, which may be missing.
+#[inline(always)]
 pub(crate) fn read_share_count(row: &Row<'_>, i: usize) -> Result<usize, RecordFault>
     ensures { ReadsValue share_count row.now columns.Shares i result }
 {

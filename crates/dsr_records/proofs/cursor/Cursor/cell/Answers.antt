@@ -1,4 +1,4 @@
-use Rattle.std.proofs.Common.{◌+◌, sym, ◌∙◌, ap, drop, slice_get}
+use Rattle.std.proofs.Common.{sym, ◌∙◌, ap, slice_get}
 use Rattle.dsr_records.proofs.Drops.{slice_get_none, slice_get_first, drop_next}
 use Rattle.dsr_records.proofs.cursor.Cursor.cell.Goals as goal
 
@@ -7,10 +7,8 @@ returns-in_err-rest_from-clause-value c =
     let none = slice_get_none c.args.self.now c.from-place.result (sym c.in_err-rest_from.ensures) in
     rw c.from_residual.ensures (sym none ∙ ap (slice_get c.args.self.now) c.from-place.ensures)
 
-pub invariant_of-self : goal.invariant_of-self
-invariant_of-self c =
-    let there = drop_next c.args.self.now c.from-place.result _ _ (sym c.in_ok-rest_from.ensures ∙ c.first_cell.ensures) in
-    sym there ∙ ap (drop (c.from-place.result + 1)) (sym c.self.view_is)
+pub stand_at-requires : goal.stand_at-requires
+stand_at-requires c = sym (drop_next c.args.self.now c.from-place.result _ _ (sym c.in_ok-rest_from.ensures ∙ c.first_cell.ensures))
 
 pub returns-clause-value : goal.returns-clause-value
 returns-clause-value c =

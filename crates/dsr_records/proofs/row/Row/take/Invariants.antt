@@ -1,8 +1,0 @@
-use Rattle.std.proofs.Common.{◌≡◌, map, take}
-use Rattle.dsr_records.specs.Records.{cell_in}
-use Rattle.dsr_records.specs.Rows.{behind}
-use Rattle.dsr_records.proofs.row.Row.take.Given as goal
-
-abbrev pub invariant-loop-position : goal.invariant-loop-position
-invariant-loop-position l =
-    (map behind l.self-inside.cells.items ≡ map (cell_in l.fn.line) (take l.position-index l.positions)) × (l.line ≡ l.fn.line)

@@ -1,0 +1,8 @@
+use Rattle.std.proofs.Common.{◌≡◌, map, take}
+use Rattle.dsr_records.specs.Records.{cell_in}
+use Rattle.dsr_records.specs.Rows.{behind}
+use Rattle.dsr_records.proofs.row.Row.take_in_order.Given as goal
+
+abbrev pub invariant-loop-position : goal.invariant-loop-position
+invariant-loop-position l =
+    (map behind l.self-inside.cells.items ≡ map (cell_in l.fn.cursor) (take l.position-index l.positions)) × (l.cursor ≡ l.fn.cursor) × (l.done ≡ l.position-index)
