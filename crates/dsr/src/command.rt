@@ -26,6 +26,6 @@ pub enum CommandFault {
     Shown(Text),
     /// It is at fault, and this text says why.
     Refused(Text),
-    /// A growth was refused.
+    /// Memory was refused.
     Memory,
 }

@@ -90,7 +90,7 @@ pub type Inputs = Vec<Input>;
 pub enum OpenError {
     /// The first file that cannot be opened.
     CannotOpen(Text),
-    /// A growth was refused.
+    /// Memory was refused.
     Memory,
 }
 

@@ -201,7 +201,7 @@ fn collect_error(error: CollectError) -> IntakeError
 ///
 /// # Errors
 ///
-/// `NoFiles`, `TooManyFiles`, `Capacity` and `Reads`, the first that holds: the readers are unchanged.
+/// `NoFiles`, `TooManyFiles`, `Capacity` and `Reads`, the first that applies: the readers are unchanged.
 /// `Memory`, `Thread` and `Broken` come while the files are read.
 pub fn intake<
     R: Source + Send + Drop + 'static,

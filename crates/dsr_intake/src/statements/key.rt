@@ -32,7 +32,7 @@ fn lay_key(room: &mut Vec<u8>, line: &LedgerLine) -> bool
         && lay_cell(room, line.currency.as_str().as_bytes())
 }
 
-/// Lays a cell out behind the others: whether it fits.
+/// Lays a cell out after the others. Answers whether it fits.
 fn lay_cell(room: &mut Vec<u8>, cell: &[u8]) -> bool
     ensures { result ≡ true → room.new.items ≡ room.old.items ++ 9 ∷ cell.now }
 {

@@ -1,4 +1,4 @@
-//! The lines of a statement, each put behind what was put before.
+//! The lines of a statement, each put after what was put before.
 ghost use Rattle.std.specs.Prelude.{◌≡◌, ◌∷◌, [], IfSome};
 ghost use Rattle.std.specs.Fmt.{signed_decimal};
 ghost use Rattle.std.specs.List.{flat_map};

@@ -1,4 +1,4 @@
-//! What a block will touch: every growth that its additions will want.
+//! What a block will touch: all memory that its additions need is taken here.
 ghost use Rattle.std.specs.Prelude.{◌≡◌, ℕ, List, [], OnOk, Some, map};
 ghost use Rattle.std.specs.List.{zip};
 ghost use Rattle.dsr_records.specs.declared.record.Usage.{Usage};
