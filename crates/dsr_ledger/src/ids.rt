@@ -20,10 +20,10 @@ pub enum Noted {
     InRest,
 }
 
-/// The identifiers of a file's blocks. They mostly rise in a file; such as rise are noted without a search.
+/// The identifiers of a file's blocks. They mostly rise in a file; while they do, they are noted without a search.
 #[derive(Drop)]
 pub struct Ids {
-    /// Those that came one above the other since the last that did not.
+    /// Those that rose since the last one that did not.
     pub run: Vec<Text>,
     /// All others.
     pub rest: BTreeSet<Text>,
