@@ -131,7 +131,7 @@ impl FileBooks {
         }
     }
 
-    /// Takes a block, and answers its verdict. After want of memory nothing that counts has changed.
+    /// Takes a block, and answers its verdict. If memory is refused, nothing that counts has changed.
     pub fn book(
         &mut self,
         ledger: &mut Ledger,

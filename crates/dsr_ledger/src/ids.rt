@@ -105,7 +105,7 @@ impl Ids {
         Ok(if is_new { Noted::InRest } else { Noted::Before })
     }
 
-    /// Notes an identifier, and answers how. After want of memory the same identifiers are there.
+    /// Notes an identifier, and answers how. If memory is refused, the same identifiers are there.
     pub fn note(&mut self, alloc: Global, id: &Text) -> Result<Noted, NoMemory>
         ensures same { OnErr result (HaveSame self.old self.new) }
         ensures noted { IfOk result (λ n. IsNoted n self.old self.new id.now) }

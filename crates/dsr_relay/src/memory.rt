@@ -55,8 +55,8 @@ pub(crate) fn memory(alloc: Global, capacity: u32) -> Result<(Supply, Returns), 
 }
 
 impl Supply {
-    /// Memory that can be filled. Where all of it is away, because batches were not given back, the call waits for some to
-    /// come back; where the tap is gone it answers a batch with none.
+    /// Memory that can be filled. If all of it is away, because batches were not given back, the call waits for some to
+    /// come back; if the tap is gone it answers a batch with none.
     fn find<R: Wait>(&mut self, rt: &R) -> Batch {
         if let Ok(used) = self.receiver.try_recv(rt) {
             return used;

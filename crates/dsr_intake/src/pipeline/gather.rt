@@ -101,7 +101,7 @@ fn settle_all<R: Source + Send + Drop + 'static, H: Threads + Wait>(
     }
 }
 
-/// Joins the threads, and says whether one wanted memory.
+/// Joins the threads, and says whether one of them was refused memory.
 fn join_all<R: Source + Send + Drop + 'static, H: Threads>(
     rt: &H,
     threads: Vec<Thread<R>>,

@@ -1,4 +1,4 @@
-//! What an intake is asked to do, and what is refused at once.
+//! The options of a run, and what is refused before anything is read.
 ghost use Rattle.std.specs.Prelude.{◌≡◌};
 ghost use Rattle.dsr_intake.specs.meaning.Options.{standard_options, refusal_of};
 

@@ -14,7 +14,7 @@ use dsr_cells::{Isrc, NoMemory};
 use dsr_records::Work;
 use std::alloc::Global;
 
-/// What a block will touch. The lists are filled anew for each block.
+/// What a block will touch. The lists are filled again for each block.
 #[derive(Drop)]
 pub struct Plan {
     /// The numbers of the usages' summaries.
