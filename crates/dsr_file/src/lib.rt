@@ -20,18 +20,32 @@
 //! `crates/example_reader` is a small program that does the same with a real file:
 //!
 //! ```
-//! /// The events of a file that comes in two pieces: its opening and its end.
+//! /// The event of each of two pieces of a file, where a piece has one at most, and that of its end.
+//! fn events_of(
+//!     alloc: Global,
+//!     first: &[u8],
+//!     second: &[u8],
+//! ) -> Result<(Option<Event>, Option<Event>, Option<Event>), Fail> {
+//!     if first.len() > 4096 || second.len() > 4096 {
+//!         return Err(Fail::new("a long piece"));
+//!     }
+//!     let mut file = FileReader::new(alloc, &Layout::standard())?;
+//!     let (_, of_first) = file.take(first);
+//!     let (_, of_second) = file.take(second);
+//!     let of_end = file.finish(Ending::Whole);
+//!     Ok((of_first, of_second, of_end))
+//! }
+//!
+//! /// The opening of a file comes once its FOOT is whole, and then its end.
 //! #[test]
 //! fn a_file_in_two_pieces(rt: HostRuntime) -> Result<(), Fail> {
-//!     let mut file = FileReader::new(rt.alloc(), &Layout::standard())?;
-//!     let (used, event) = file.take(b"HEAD\tR1\t1\t1\t2024-01-01\t2024-01-31\tS\tL\nFO");
-//!     assert!(rt; used == 40 && event.is_none());
-//!     let (used, event) = file.take(b"OT\t2\t0\t0\n");
-//!     assert!(rt; used == 9);
-//!     let part = event.map(|event| event.part);
-//!     assert!(rt; matches!(part, Some(EventPart::Opened(_))));
-//!     let part = file.finish(Ending::Whole).map(|event| event.part);
-//!     assert!(rt; matches!(part, Some(EventPart::Ended(Outcome::Whole))));
+//!     let first = b"HEAD\tR1\t1\t1\t2024-01-01\t2024-01-31\tS\tL\nFO";
+//!     let (none, opened, ended) = events_of(rt.alloc(), first, b"OT\t2\t0\t0\n")?;
+//!     assert!(rt; none.is_none());
+//!     let opened = opened.map(|event| event.part);
+//!     assert!(rt; matches!(opened, Some(EventPart::Opened(_))));
+//!     let ended = ended.map(|event| event.part);
+//!     assert!(rt; matches!(ended, Some(EventPart::Ended(Outcome::Whole))));
 //!     Ok(())
 //! }
 //! ```

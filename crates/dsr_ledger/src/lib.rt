@@ -20,36 +20,51 @@
 //! **Example**, compiled and proved in `crates/dsr_unit_tests/src/examples/ledger.rt`:
 //!
 //! ```
-//! /// Hands an event of the first file to the books.
-//! fn hand_in(books: &mut Books, event: Event) -> Result<(), Fail>
-//!     ensures { files_count books.new ≡ files_count books.old }
-//! {
-//!     let is_open = books.has_opening(0) && !books.ended(0);
-//!     match event.part {
-//!         EventPart::Opened(opening) if books.opened() < books.files() => {
-//!             books.open_next(Some(opening))?;
-//!         }
-//!         EventPart::Block(block) if is_open && books.blocks(0) < 1 << 37 => {
-//!             books.book(0, &block)?;
-//!         }
-//!         EventPart::Ended(outcome) if is_open && books.opened() > 0 => books.end_file(0, outcome)?,
-//!         _ => return Err(Fail::new("an event that has no place here")),
+//! /// Opens the first file.
+//! fn open(books: &mut Books, opening: Opening) -> Result<(), Fail> {
+//!     if books.opened() < books.files() {
+//!         books.open_next(Some(opening))?;
 //!     }
 //!     Ok(())
 //! }
 //!
-//! /// The report of one file: it has one line of the ledger.
+//! /// Books a block of the first file.
+//! fn book(books: &mut Books, block: &Block) -> Result<(), Fail> {
+//!     if books.has_opening(0) && !books.ended(0) && books.blocks(0) < 1 << 37 {
+//!         books.book(0, block)?;
+//!     }
+//!     Ok(())
+//! }
+//!
+//! /// Ends the first file.
+//! fn end(books: &mut Books, outcome: Outcome) -> Result<(), Fail> {
+//!     if books.opened() > 0 && !books.ended(0) {
+//!         books.end_file(0, outcome)?;
+//!     }
+//!     Ok(())
+//! }
+//!
+//! /// Hands an event of the first file to the books.
+//! fn hand_in(books: &mut Books, event: Event) -> Result<(), Fail> {
+//!     match event.part {
+//!         EventPart::Opened(opening) => open(books, opening),
+//!         EventPart::Block(block) => book(books, &block),
+//!         EventPart::Ended(outcome) => end(books, outcome),
+//!     }
+//! }
+//!
+//! /// The report of one file has one line of the ledger.
 //! #[test]
 //! fn the_report_of_one_file(rt: HostRuntime) -> Result<(), Fail> {
-//!     let mut events = whole_events(rt.alloc(), &Layout::standard(), TEXT, Ending::Whole)?;
+//!     let mut events = events_of(rt.alloc(), TEXT)?;
 //!     let mut books = Books::new(rt.alloc(), 1)?;
-//!     while let Some(event) = events.next() {
-//!         hand_in(&mut books, event)?;
+//!     for _ in 0..events.len() {
+//!         if let Some(event) = events.next() {
+//!             hand_in(&mut books, event)?;
+//!         }
 //!     }
-//!     if books.opened() != 1 || !books.ended(0) {
-//!         return Err(Fail::new("a file that does not end"));
-//!     }
-//!     let report = books.into_report()?;
+//!     // `report` answers `books.into_report()`, once all files are ended.
+//!     let report = report(books)??;
 //!     let amount = report.ledger.get(0).map(|line| line.amount);
 //!     assert_eq!(rt; amount, Some(24_000_000_000));
 //!     Ok(())
