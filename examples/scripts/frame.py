@@ -1,9 +1,12 @@
 #!/usr/bin/env python3
 """frame.py STATEMENT: the ledger as a pandas table with exact amounts (decimal.Decimal), by territory and currency."""
 import sys
-from decimal import Decimal
+from decimal import Decimal, getcontext
 
 import pandas
+
+# Sums are exact below 10^90.
+getcontext().prec = 100
 
 NAMES = ['line', 'isrc', 'territory', 'use_type', 'currency', 'usages', 'amount']
 

@@ -6,7 +6,8 @@ sums of this script, or the amounts as whole units (the column without its point
 """
 import sys
 from collections import defaultdict
-from decimal import Decimal
+
+UNITS = 10 ** 10
 
 
 def rows(path, kind):
@@ -18,14 +19,24 @@ def rows(path, kind):
                 yield cells[1:]
 
 
+def units_of(amount):
+    """An amount in units of 10^-10: it has ten decimals."""
+    return int(amount.replace('.', ''))
+
+
+def amount_of(units):
+    """Units of 10^-10 as an amount."""
+    return f'{"-" if units < 0 else ""}{abs(units) // UNITS}.{abs(units) % UNITS:010}'
+
+
 def main():
-    owed = defaultdict(Decimal)
+    owed = defaultdict(int)
     for isrc, territory, use_type, currency, usages, amount in rows(sys.argv[1], 'LEDGER'):
-        owed[territory, currency] += Decimal(amount)
+        owed[territory, currency] += units_of(amount)
     for isrc, territory, use_type, currency, party, amount in rows(sys.argv[1], 'PARTY'):
-        owed[party, currency] += Decimal(amount)
-    for (name, currency), amount in sorted(owed.items()):
-        print(name, currency, f'{amount:.10f}', sep='\t')
+        owed[party, currency] += units_of(amount)
+    for (name, currency), units in sorted(owed.items()):
+        print(name, currency, amount_of(units), sep='\t')
 
 
 main()

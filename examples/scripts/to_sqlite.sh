@@ -2,6 +2,7 @@
 # to_sqlite.sh STATEMENT DATABASE: the lines of a statement as tables of an SQLite database (ledger, party,
 # unclaimed, reject), and what is owed by territory and currency on standard output. Amounts are whole numbers of
 # units of 0.0000000001, so sums are exact: SQLite's whole numbers have 64 bits, enough for 922 million of a currency.
+# A larger amount is refused here, and a larger sum by SQLite.
 set -euo pipefail
 statement=$1
 database=$2
@@ -18,6 +19,10 @@ for table in ledger party unclaimed reject; do
     rm "$database.$table"
 done
 for table in ledger party unclaimed; do
+    if [ -n "$(sqlite3 "$database" "select amount from $table where abs(cast(amount as real)) > 922000000 limit 1")" ]; then
+        echo "to_sqlite.sh: an amount is too large for 64 bits" >&2
+        exit 1
+    fi
     sqlite3 "$database" "update $table set amount = cast(replace(amount, '.', '') as integer)"
 done
 sqlite3 -separator $'\t' "$database" \

@@ -13,7 +13,7 @@ use std::alloc::{AllocError, Global};
 
 /// The program's version, and the line of the toolchain that proved it.
 const VERSION: &str = "0.9.0
-rattle-kit-13b logic dac8208d650f15bf";
+rattle-kit-13f logic dac8208d650f15bf";
 
 /// The first lines of the help.
 const ABOUT: &str = "Reads the files of one sales report and prints its statement: \
@@ -209,7 +209,7 @@ fn copy_names(alloc: Global, words: &[&str]) -> Result<Names, NoMemory>
     Ok(names)
 }
 
-/// The name of the layout's file, where one was given.
+/// The name of the layout's file, if one was given.
 fn read_layout_name(alloc: Global, matches: &ArgMatches<'_>) -> Result<Option<Text>, NoMemory>
     ensures { IfOk result (λ name. name ≡ first_of (codes "layout") (rows_of (found_of matches.now))) }
 {
@@ -219,7 +219,7 @@ fn read_layout_name(alloc: Global, matches: &ArgMatches<'_>) -> Result<Option<Te
     }
 }
 
-/// Why the command line was not taken, or the text that it asks for.
+/// Why the command line was refused, or the text that it asks for.
 fn fault_of_error(alloc: Global, error: Error) -> CommandFault {
     let Ok(string) = error.to_string(alloc) else {
         return CommandFault::Memory;

@@ -9,13 +9,13 @@ pub type Names = Items<Text>;
 pub struct Asked {
     /// How many messages the relay of a file holds at most: 1 to 1,024.
     pub capacity: u32,
-    /// After how many reads the reading of a file stops: 1 to 16,777,216.
+    /// After how many reads a file is given up: 1 to 16,777,216.
     pub max_reads: u32,
     /// The report's files, in the order given.
     pub files: Names,
     /// The file that has the layout, where one is named.
     pub layout: Option<Text>,
-    /// Whether progress is to be told on standard error.
+    /// Whether progress is to be written to standard error.
     pub progress: bool,
 }
 
@@ -24,8 +24,8 @@ pub struct Asked {
 pub enum CommandFault {
     /// It asks for this text to be printed: the help, or the version.
     Shown(Text),
-    /// It is at fault, and this text says why.
+    /// It has a fault, and this text says which.
     Refused(Text),
-    /// A growth was refused.
+    /// Memory was refused.
     Memory,
 }

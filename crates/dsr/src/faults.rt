@@ -1,4 +1,4 @@
-//! What the program says of a run that failed, and its exit status.
+//! The line for a run that failed, and the exit status.
 ghost use Rattle.std.specs.Prelude.{◌≡◌};
 ghost use Rattle.dsr.specs.Faults.{status_number, fault_line, line_of, closed_line, failed_line};
 ghost use Rattle.dsr.specs.Faults.{cannot_open_line, cannot_read_line, bad_layout_line, layout_fault_text};
@@ -22,7 +22,7 @@ pub fn exit_status(outcome: &Result<Status, RunError>) -> u8
     }
 }
 
-/// Writes the line that tells the fault, and answers whether the writer took it.
+/// Writes the line for a fault, and answers whether the writer took it.
 pub fn write_fault<W: Write>(error: &RunError, out: &mut W) -> bool
     ensures { IsWritten result (W.contents out.old) (W.contents out.new) (fault_line error.now) }
 {
@@ -33,7 +33,7 @@ pub fn write_fault<W: Write>(error: &RunError, out: &mut W) -> bool
     }
 }
 
-/// Writes the line that tells why there is no report.
+/// Writes the line that says why there is no report.
 fn write_intake_fault<W: Write>(error: &IntakeError, out: &mut W) -> bool
     ensures { IsWritten result (W.contents out.old) (W.contents out.new) (fault_line (RunError.Intake error.now)) }
 {
@@ -48,7 +48,7 @@ fn write_intake_fault<W: Write>(error: &IntakeError, out: &mut W) -> bool
     }
 }
 
-/// Writes a line of the program's.
+/// Writes a line that begins with the program's name.
 pub fn write_line<W: Write>(text: &str, out: &mut W) -> bool
     ensures { IsWritten result (W.contents out.old) (W.contents out.new) (line_of text.now) }
 {

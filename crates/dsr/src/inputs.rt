@@ -15,13 +15,13 @@ use std::{fs, io};
 pub enum InputReader {
     /// A file that was opened by its name.
     File(File),
-    /// Standard input, which has no name. It has a buffer of 8 KB in itself, and a source is moved to
-    /// its thread and back by value, so it stands behind a box.
+    /// Standard input, which has no name. It contains a buffer of 8 KB, and a source is moved to
+    /// its thread and back by value, so it is boxed.
     Standard(Box<StdinLock<'static>>),
 }
 
 impl InputReader {
-    /// How many bytes it gives in all, where it tells. A pipe does not.
+    /// How many bytes it gives in all, if that is known. Of a pipe it is not.
     fn size(&self) -> Option<u64> {
         match self {
             InputReader::File(file) => match file.metadata() {
@@ -64,7 +64,7 @@ impl Input {
         }
     }
 
-    /// How many bytes it gives in all, where that is known.
+    /// How many bytes it gives in all, if that is known.
     pub fn size(&self) -> Option<u64> {
         self.size
     }
@@ -90,11 +90,11 @@ pub type Inputs = Vec<Input>;
 pub enum OpenError {
     /// The first file that cannot be opened.
     CannotOpen(Text),
-    /// A growth was refused.
+    /// Memory was refused.
     Memory,
 }
 
-/// Opens the files, or standard input where none is named.
+/// Opens the files, or standard input if none is named.
 pub fn open_inputs<H: Files<File = File> + io::Input<Reader = StdinLock<'static>>>(
     rt: &H,
     alloc: Global,

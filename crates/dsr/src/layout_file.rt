@@ -11,8 +11,9 @@ use std::io::Read;
 pub enum LayoutReadError {
     /// A read failed.
     Read,
+    /// The first fault of the layout.
     Bad(LayoutError),
-    /// A growth was refused.
+    /// Memory was refused.
     Memory,
 }
 

@@ -25,13 +25,13 @@ use std::thread::Threads;
 use std::time::Clock;
 use std::{env, fs, io};
 
-/// The status where the command line, a file or the layout is at fault.
+/// The status for a fault of the command line, of a file or of the layout.
 const REFUSED: u8 = 2;
 
-/// The status where the work could not be done to its end.
+/// The status if the work could not be finished.
 const UNFINISHED: u8 = 3;
 
-/// Does what the program's arguments ask for, and answers the exit status. What goes wrong is told to `fault`.
+/// Does what the program's arguments ask for, and answers the exit status. What goes wrong is written to `fault`.
 pub fn serve<
     H: Env
         + AllocGlobal
@@ -85,7 +85,7 @@ fn words<H: Env + AllocGlobal, F: Write>(
     }
 }
 
-/// Prints a text that was asked for. The status says where it could not be printed.
+/// Prints a text that was asked for. The status says whether it could be printed.
 fn show<W: Write + Drop, F: Write>(text: &Text, out: W, fault: &mut F) -> u8 {
     let mut out = out;
     match print_text(text.as_str().as_bytes(), &mut out) {
@@ -140,7 +140,7 @@ fn read_and_print<
     exit_status(&answer)
 }
 
-/// Reads the files and writes their statement, and tells on standard error how far the reading is.
+/// Reads the files and writes their statement, and writes to standard error how far the reading is.
 fn run_watched<
     H: Threads + Wait + RandomSource + Clock + Eprint + Copy + Send + 'static,
     W: Outlet,
@@ -160,7 +160,7 @@ fn run_watched<
     run(rt, alloc, &mut watched, Box::into_inner(options), out)
 }
 
-/// The options that a command line asks for. Where it names no layout, theirs is the standard one.
+/// The options that a command line asks for. If it names no layout, theirs is the standard one.
 fn options_of<H: Files<File = File>, F: Write>(
     rt: &H,
     alloc: Global,
@@ -203,7 +203,7 @@ fn layout_of<H: Files<File = File>, F: Write>(
     }
 }
 
-/// Tells why there is no layout.
+/// Says why there is no layout.
 fn layout_refused<F: Write>(name: &Text, error: LayoutReadError, fault: &mut F) -> u8 {
     match error {
         LayoutReadError::Read => {
@@ -218,19 +218,19 @@ fn layout_refused<F: Write>(name: &Text, error: LayoutReadError, fault: &mut F) 
     }
 }
 
-/// Tells that a file cannot be opened.
+/// Says that a file cannot be opened.
 fn cannot_open<F: Write>(name: &Text, fault: &mut F) -> u8 {
     write_cannot_open(name, fault);
     REFUSED
 }
 
-/// Tells that the arguments are refused.
+/// Says that the arguments are refused.
 fn refuse<F: Write>(text: &str, fault: &mut F) -> u8 {
     write_line(text, fault);
     REFUSED
 }
 
-/// Tells that memory was refused before the work began.
+/// Says that memory was refused before the work began.
 fn no_memory<F: Write>(fault: &mut F) -> u8 {
     write_line("out of memory", fault);
     UNFINISHED

@@ -1,4 +1,4 @@
-//! How far the reading is, on standard error, where `--progress` asks for it.
+//! How far the reading is, on standard error, if `--progress` asks for it.
 use dsr_cells::NoMemory;
 use std::alloc::Global;
 use std::fmt;
@@ -19,7 +19,7 @@ pub struct ProgressLine {
     pub files: usize,
     /// The bytes that were read.
     pub read: u64,
-    /// The bytes of all files, where that is known.
+    /// The bytes of all files, if that is known.
     pub size: Option<u64>,
     /// The time since the run began, in tenths of a second.
     pub tenths: u64,
@@ -44,7 +44,7 @@ impl fmt::Display for ProgressLine {
     }
 }
 
-/// What the reading of all files has come to so far. Any thread may add to it at any time.
+/// What was read of all files so far. Any thread may add to it at any time.
 #[derive(Drop)]
 struct Counts {
     /// The bytes that were read.
@@ -55,11 +55,11 @@ struct Counts {
     told: AtomicU64,
 }
 
-/// Counts what is read, and tells it. All sources of a report share one count.
+/// Counts what is read, and writes lines of progress. All sources of a report share one count.
 #[derive(Drop)]
 pub struct Progress<H> {
     rt: H,
-    /// When the run began. Where the clock failed there is no time to tell, and so no line.
+    /// When the run began. If the clock failed there is no time, and so no line.
     began: Option<Instant>,
     files: usize,
     size: Option<u64>,
@@ -67,7 +67,7 @@ pub struct Progress<H> {
 }
 
 impl<H: Clock + Eprint + Copy> Progress<H> {
-    /// The progress of a run over so many files, of so many bytes where that is known, which begins now.
+    /// The progress of a run over so many files, of so many bytes if that is known, which begins now.
     pub fn begin(
         rt: &H,
         alloc: Global,
@@ -105,7 +105,7 @@ impl<H: Clock + Eprint + Copy> Progress<H> {
         }
     }
 
-    /// Counts a read of so many bytes, 0 at the end, and writes a line where half a second has passed since the last one.
+    /// Counts a read of so many bytes, 0 at the end, and writes a line if half a second has passed since the last one.
     pub fn count(&self, bytes: usize) {
         if bytes == 0 {
             self.counts.done.fetch_add(1, Ordering::SeqCst);
@@ -121,7 +121,7 @@ impl<H: Clock + Eprint + Copy> Progress<H> {
         }
     }
 
-    /// The milliseconds since the run began, if the clock tells them.
+    /// The milliseconds since the run began, if the clock has them.
     fn millis(&self) -> Option<u64> {
         let passed = self.began?.elapsed(&self.rt).ok()?;
         let seconds = passed.as_secs().saturating_mul(1_000);

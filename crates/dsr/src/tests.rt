@@ -1,3 +1,4 @@
+//! Tests of the command line, the layout's file, and the lines on standard error.
 use crate::arguments::asked;
 use crate::command::{Asked, CommandFault, Names};
 use crate::faults::{

@@ -1,4 +1,4 @@
-//! Sources that tell how far the reading is.
+//! Sources whose reads are counted, for `--progress`.
 ghost use Rattle.std.specs.Prelude.{◌≡◌, false, All, IfOk, map};
 
 use crate::inputs::{Input, Inputs};
@@ -9,7 +9,7 @@ use std::alloc::Global;
 use std::io::Eprint;
 use std::time::Clock;
 
-/// A source whose reads are counted. It gives what it would give otherwise.
+/// A source whose reads are counted. It gives what it would give without that.
 #[derive(Drop)]
 pub struct Watched<H> {
     input: Input,
@@ -33,7 +33,7 @@ impl<H: Clock + Eprint + Copy> Source for Watched<H> {
     }
 }
 
-/// The bytes of all files, where that is known.
+/// The bytes of all files, if that is known.
 fn whole_size(inputs: &Inputs) -> Option<u64> {
     let mut size = 0u64;
     for input in inputs {

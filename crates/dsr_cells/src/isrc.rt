@@ -46,7 +46,7 @@ fn is_isrc(bytes: &[u8]) -> bool
 }
 
 impl Isrc {
-    /// The ISRC that the text spells. None for every other text, as one with hyphens or small letters.
+    /// The ISRC that the text spells. None for every other text, such as one with hyphens.
     pub fn read(text: &str) -> Option<Isrc>
         ensures { result ≡ (if is_isrc_text text.now then Some text.now else None) }
     {

@@ -47,7 +47,7 @@ fn read_first<'c>(
 ///
 /// # Errors
 ///
-/// `NoMemory`: no memory was left for them; the list then has any items.
+/// `NoMemory`: no memory was left for them; the list may then have any items.
 pub fn read_texts_into(alloc: Global, cell: &str, texts: &mut Texts) -> Result<(), NoMemory>
     ensures { OnOk result (texts.new ≡ map value_of (raw_parts cell.now)) }
 {
@@ -64,7 +64,7 @@ pub fn read_texts_into(alloc: Global, cell: &str, texts: &mut Texts) -> Result<(
 ///
 /// # Errors
 ///
-/// `NoMemory`: no memory was left for them; the list then has any items.
+/// `NoMemory`: no memory was left for them; the list may then have any items.
 pub fn read_shares_into(cell: &str, shares: &mut Shares) -> Result<(), NoMemory>
     requires { list_all (λ part. is_some (share_of part)) (raw_parts cell.now) ≡ true }
     ensures { OnOk result (shares.new ≡ map (λ part. unwrap_or (share_of part) 0) (raw_parts cell.now)) }

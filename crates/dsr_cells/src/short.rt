@@ -1,4 +1,4 @@
-//! Texts that are short enough to lie in the value itself.
+//! Texts that are short enough to lie in the value itself (small string optimization).
 ghost use Rattle.std.specs.Prelude.{◌≡◌, ◌≤◌, ◌+◌, length, take, drop};
 ghost use Rattle.std.specs.Int.{w64, from_le_bytes};
 ghost use Rattle.std.specs.Str.{bytes_eq};

@@ -29,7 +29,7 @@ impl Model for Opening {
     ghost invariant = { λ o. HasDistinctIds o.summaries };
 }
 
-/// What an event tells.
+/// What an event says.
 #[derive(Drop)]
 pub enum EventPart {
     /// The head and the summaries are read.
@@ -49,12 +49,12 @@ impl EventPart {
     }
 }
 
-/// An event and its place in the file's list of events, from 0 and below 2^37.
+/// An event and its place in the file's list of events.
 #[derive(Drop)]
 pub struct Event {
-    /// How many events come before it.
+    /// How many events come before it: from 0, below 2^37.
     pub place: u64,
-    /// What it tells.
+    /// What it says.
     pub part: EventPart,
 }
 

@@ -37,7 +37,7 @@ impl EventList {
     ///
     /// # Errors
     ///
-    /// The event itself, where memory is refused; the list stays as it was.
+    /// The event itself, if memory is refused; the list stays as it was.
     pub fn push(&mut self, event: Event) -> Result<(), Event>
         ensures { MatchResult result (λ _. self.new ≡ self.old ++ event ∷ [])
             (λ back. (back ≡ event) × (self.new ≡ self.old)) }
@@ -61,7 +61,7 @@ impl EventList {
         self.events.get(i)
     }
 
-    /// Takes the front event: none where the list is empty.
+    /// Takes the first event; None if the list is empty.
     pub fn next(&mut self) -> Option<Event>
         ensures { MatchOption result ((self.old ≡ []) × (self.new ≡ []))
             (λ event. self.old ≡ event ∷ self.new) }

@@ -9,33 +9,33 @@ use dsr_records::Column;
 pub enum FileFault {
     /// A line has more than 8,192 bytes.
     LongLine,
-    /// A line is no UTF-8.
+    /// A line is not UTF-8 (RFC 3629).
     NotUtf8,
     /// A line has more than 64 cells.
     ManyCells,
-    /// The first cell names no type of record.
+    /// The first cell is not a record type of the layout.
     UnknownRecord,
     /// The line ends before the cell of this column.
     MissingCell(Column),
-    /// The cell of this column is not spelled as its values are.
+    /// The cell of this column is not spelled as the column requires.
     BadCell(Column),
     /// A work has more shares than parties, or fewer.
     Uneven,
-    /// The first record is no HEAD.
+    /// The first record is not HEAD, or there is none.
     NoHead,
-    /// HEAD comes again.
+    /// There is a second HEAD.
     SecondHead,
-    /// A summary comes behind a resource.
+    /// A summary comes after a resource.
     LateSummary,
     /// A work or a usage comes before the first resource.
     NoResource,
-    /// A work comes behind a usage of its block.
+    /// A work comes after a usage of its block.
     LateWork,
     /// A work or a usage names another block than its resource.
     BlockNumber,
     /// A block has no usage.
     NoUsage,
-    /// A record comes behind FOOT.
+    /// A record comes after FOOT.
     AfterFoot,
     /// The text ends without FOOT.
     NoFoot,
@@ -45,11 +45,11 @@ pub enum FileFault {
     ManySummaries,
     /// A block has more than 64 records.
     LongBlock,
-    /// FOOT counts other lines than there are.
+    /// FOOT's count of lines is wrong.
     FootLines,
-    /// FOOT counts other summaries than there are.
+    /// FOOT's count of summaries is wrong.
     FootSummaries,
-    /// FOOT counts other blocks than there are.
+    /// FOOT's count of blocks is wrong.
     FootBlocks,
     /// A read failed.
     Read,

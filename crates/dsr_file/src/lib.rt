@@ -7,12 +7,57 @@
 //!    `stage`, and counts what FOOT will be compared with.
 //! 3. `stage` keeps what the records so far leave open: the head with its summaries, or a block.
 //!    A work or a usage is written into the open block, and a resource over a block that came back.
-//! 4. [`FileReader`] gives the events, each with its place, and the [`Outcome`] last.
-//! 5. [`read_file`] reads a [`Source`] to its end and puts the events into a [`Sink`]. What the
-//!    sink can spare, [`Sink::spare`], goes back to the reader by [`FileReader::reuse`], so that
-//!    no block takes memory anew.
+//! 4. [`FileReader`] (`reader`) gives the events (`event`), each with its place, and the [`Outcome`]
+//!    last: Whole, or the first fault (`fault`) with its line.
+//! 5. [`read_file`] (`reading`) reads a [`Source`] (`source`) to its end, as often as its limit allows
+//!    (`read_count`), and puts the events into a [`Sink`] (`sink`), by the loop in `feeding`. A block
+//!    that the sink can spare ([`Sink::spare`]) goes back to the reader by [`FileReader::reuse`], so
+//!    that no block takes memory anew.
+//! 6. [`whole_events`] (`whole`) gives all events of a text at once, in an [`EventList`]
+//!    (`event_list`).
 //!
-//! `crates/example_reader` is a small program over it.
+//! **Example**, compiled and proved in `crates/dsr_unit_tests/src/examples/file.rt`;
+//! `crates/example_reader` is a small program that does the same with a real file:
+//!
+//! ```
+//! /// The event of each of two pieces of a file, where a piece has one at most, and that of its end.
+//! fn events_of(
+//!     alloc: Global,
+//!     first: &[u8],
+//!     second: &[u8],
+//! ) -> Result<(Option<Event>, Option<Event>, Option<Event>), Fail> {
+//!     if first.len() > 4096 || second.len() > 4096 {
+//!         return Err(Fail::new("a long piece"));
+//!     }
+//!     let mut file = FileReader::new(alloc, &Layout::standard())?;
+//!     let (_, of_first) = file.take(first);
+//!     let (_, of_second) = file.take(second);
+//!     let of_end = file.finish(Ending::Whole);
+//!     Ok((of_first, of_second, of_end))
+//! }
+//!
+//! /// The opening of a file comes once its FOOT is whole, and then its end.
+//! #[test]
+//! fn a_file_in_two_pieces(rt: HostRuntime) -> Result<(), Fail> {
+//!     let first = b"HEAD\tR1\t1\t1\t2024-01-01\t2024-01-31\tS\tL\nFO";
+//!     let (none, opened, ended) = events_of(rt.alloc(), first, b"OT\t2\t0\t0\n")?;
+//!     assert!(rt; none.is_none());
+//!     let opened = opened.map(|event| event.part);
+//!     assert!(rt; matches!(opened, Some(EventPart::Opened(_))));
+//!     let ended = ended.map(|event| event.part);
+//!     assert!(rt; matches!(ended, Some(EventPart::Ended(Outcome::Whole))));
+//!     Ok(())
+//! }
+//! ```
+//!
+//! **The promise.** However the bytes are cut into pieces, the events are those of the text: its
+//! opening, each closed block once and in order, and its outcome. What the
+//! bytes so far say stays right whatever follows ([`laws`]). `read_file` makes no more reads than its
+//! limit, and none after the end, a failed read or a fault.
+//!
+//! **Where to begin.** `specs/Faults.antt` says which record may stand where and what is wrong with a
+//! line, `specs/Texts.antt` which events a text has; `src/reader.rt` and `src/reading.rt` have the
+//! calls.
 #![tactic(auto)]
 
 mod cutter;

@@ -8,7 +8,7 @@ use dsr_records::Block;
 
 /// Takes the events of a file, one after another.
 pub trait Sink {
-    /// What tells one sink from another.
+    /// What distinguishes one sink from another.
     type Name;
 
     /// The events that it took.
@@ -20,7 +20,7 @@ pub trait Sink {
     ///
     /// # Errors
     ///
-    /// The event itself, where the sink does not take it; nothing changes then.
+    /// The event itself, if the sink does not take it; nothing changes then.
     fn put(&mut self, event: Event) -> Result<(), Event>
         requires { IsSomeRun (list self.old ++ event ∷ []) }
         ensures added { OnOk result (list self.new ≡ list self.old ++ event ∷ []) }

@@ -12,7 +12,7 @@ use std::io::Read;
 #[derive(Clone, Copy, PartialEq, Eq)]
 pub struct Failed;
 
-/// A source of bytes, which tells whether a read has failed and counts its reads.
+/// A source of bytes, which knows whether a read has failed and counts its reads.
 pub trait Source {
     /// The bytes that it has left, where they are known, whether a read has failed, and the reads that it has answered.
     ghost told: { Self → Told };

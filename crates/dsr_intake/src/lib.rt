@@ -11,19 +11,34 @@
 //! 6. `statements/room`: all the memory that writing the statement takes is taken before its first byte goes out.
 //! 7. `statements/write`: puts the statement, by `statements/lines`, `statements/cells`, `statements/key` and
 //!    `statements/names`, to whatever takes bytes (`statements/put`): first to `statements/bound`, which adds up how
-//!    many they are at most, then to `statements/pieces`. `statements/status`: whether anybody has to look at it.
+//!    many there are at most, then to `statements/pieces`. `statements/status`: whether it has remarks.
 //! 8. `statements/pieces`: sends what is put to an `outlet`, in pieces of 64 KB, and flushes it at the end. `to_write`
 //!    makes an outlet of a writer of the library.
 //! 9. `pipeline/run`: all of this.
 //!
+//! **Example**, compiled and proved in `crates/dsr_tests/src/example.rt`. `Script` is a reader that gives a text, `Page`
+//! an outlet that keeps what it takes; a program has files and standard output in their place:
+//!
 //! ```
-//! // A run on readers, as `gives` in `crates/dsr_tests/src/runs.rt` makes it; proved with that crate.
-//! let answer = run(rt, alloc, &mut readers, Options::standard(), &mut page);
-//! assert!(answer == Ok(status) && page.bytes() == statement);
+//! /// The statement of one file, which has no remarks.
+//! #[test]
+//! fn the_statement_of_one_file(rt: HostRuntime) -> Result<(), AllocError> {
+//!     let alloc = rt.alloc();
+//!     let mut readers = vec![in alloc; Script::alone(alloc, CLEAN, Step::Full, After::End)?]?;
+//!     let mut page = Page::new(alloc);
+//!     let answer = run(&rt, alloc, &mut readers, Options::standard(), &mut page);
+//!     assert!(rt; answer == Ok(Status::Clean));
+//!     assert_eq!(rt; page.bytes(), CLEAN_STATEMENT);
+//!     Ok(())
+//! }
 //! ```
 //!
-//! `pipeline/errors` has each error with its text. Of the definitions, `specs/meaning` has those that `run` must be
-//! believed by, and `specs/inner` relates to them what the code keeps.
+//! **The promise.** If `run` answers Ok, exactly the statement of the texts that its readers gave was written and then
+//! flushed, and the status is that report's. If there is no report, nothing was written; if a write or the flush fails,
+//! exactly the reported number of first bytes is out.
+//!
+//! **Where to begin.** Of the definitions, `specs/meaning` has those that `run` must be believed by, and `specs/inner`
+//! relates to them what the code keeps. `pipeline/errors` has each error with its text.
 #![tactic(auto)]
 
 mod outlet;

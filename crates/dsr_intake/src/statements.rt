@@ -1,4 +1,4 @@
-//! A report as bytes, and whether anybody has to look at it.
+//! The statement of a report, and whether it has remarks.
 pub(crate) mod bound;
 pub(crate) mod cells;
 pub(crate) mod key;

@@ -15,7 +15,7 @@ use dsr_file::{Opening, Outcome};
 use dsr_records::Block;
 use std::alloc::Global;
 
-/// The books of a report: they take its files' openings, blocks and outcomes, and come to its report. Files are
+/// The books of a report: they take its files' openings, blocks and outcomes, and give its report. Files are
 /// numbered from 0.
 #[derive(Drop)]
 pub struct Books {
@@ -158,7 +158,7 @@ impl Books {
         file.book(&mut self.kept.ledger, &mut self.plan, self.alloc, block)
     }
 
-    /// Ends file k. This wants no memory.
+    /// Ends file k. This takes no memory.
     ///
     /// # Errors
     ///

@@ -36,7 +36,7 @@ fn states(summary: &Summary, found: Sums) -> bool
     i128::from(summary.usages) == found.usages && summary.amount.units() == found.amount
 }
 
-/// Adds the difference of a summary, where what it states is not what is found.
+/// Adds the difference of a summary, if what it states is not what is found.
 fn add_difference(
     differences: &mut Differences,
     alloc: Global,
@@ -82,7 +82,7 @@ fn add_differences(
     Ok(())
 }
 
-/// Adds the differences of a file: none but in a file of ours that ended whole.
+/// Adds the differences of a file. Only a file of ours that ended whole has any.
 fn add_file(differences: &mut Differences, alloc: Global, file: &FileBooks) -> Result<(), NoMemory>
     ensures { OnOk result (differences.new ≡ differences.old ++ differences_kept file.now) }
 {

@@ -42,7 +42,7 @@ pub struct FileBooks {
 }
 
 impl FileBooks {
-    /// Takes a block that is booked. All growths come first.
+    /// Takes a block that is booked. All memory is taken first.
     fn accept(
         &mut self,
         ledger: &mut Ledger,
@@ -69,7 +69,7 @@ impl FileBooks {
         Ok(())
     }
 
-    /// Takes a block that is rejected. All growths come first.
+    /// Takes a block that is rejected. All memory is taken first.
     fn reject(
         &mut self,
         ledger: &Ledger,
@@ -131,7 +131,7 @@ impl FileBooks {
         }
     }
 
-    /// Takes a block, and answers its verdict. After want of memory nothing that counts has changed.
+    /// Takes a block, and answers its verdict. If memory is refused, nothing that counts has changed.
     pub fn book(
         &mut self,
         ledger: &mut Ledger,

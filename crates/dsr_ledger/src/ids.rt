@@ -20,10 +20,10 @@ pub enum Noted {
     InRest,
 }
 
-/// The identifiers of a file's blocks. They mostly rise in a file; such as rise are noted without a search.
+/// The identifiers of a file's blocks. They mostly rise in a file; while they do, they are noted without a search.
 #[derive(Drop)]
 pub struct Ids {
-    /// Those that came one above the other since the last that did not.
+    /// Those that rose since the last one that did not.
     pub run: Vec<Text>,
     /// All others.
     pub rest: BTreeSet<Text>,
@@ -105,7 +105,7 @@ impl Ids {
         Ok(if is_new { Noted::InRest } else { Noted::Before })
     }
 
-    /// Notes an identifier, and answers how. After want of memory the same identifiers are there.
+    /// Notes an identifier, and answers how. If memory is refused, the same identifiers are there.
     pub fn note(&mut self, alloc: Global, id: &Text) -> Result<Noted, NoMemory>
         ensures same { OnErr result (HaveSame self.old self.new) }
         ensures noted { IfOk result (λ n. IsNoted n self.old self.new id.now) }

@@ -1,7 +1,7 @@
-//! What a ledger line is of.
+//! The key of a ledger line.
 use dsr_cells::{Isrc, Text};
 
-/// What a ledger line is of: a recording, and what a summary says of its usages.
+/// The key of a ledger line: a recording, and what a summary says of its usages.
 #[derive(PartialEq, Eq, PartialOrd, Ord, Drop)]
 pub struct Key {
     pub isrc: Isrc,

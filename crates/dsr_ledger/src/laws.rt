@@ -13,7 +13,7 @@ pub fn shares_are_near()
     ensures { (files : List File) → SharesAreNear files }
 {}
 
-/// Where no booked usage of a ledger line has an amount below zero, what is unclaimed is not below zero, and each party's
+/// If no booked usage of a ledger line has an amount below zero, what is unclaimed is not below zero, and each party's
 /// amount is at most the exact sum of its shares, which is less than one unit for each of its parts above it.
 pub fn shares_are_within()
     ensures { (files : List File) → SharesAreWithin files }

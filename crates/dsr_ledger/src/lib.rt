@@ -1,34 +1,80 @@
-//! The books of a report: how its files stand, what is said of each block, the ledger, and the
-//! report.
+//! The books of a report: how its files stand, the verdict of each block, the ledger, and the report.
 //!
 //! The way of a block, and where each stage is written:
 //!
-//! 1. `books` has the calls. A file is opened by its first event (`open`), which tells how it
-//!    stands beside the files before it (`verdict`, [`Standing`]).
-//! 2. `judge` says of a block whether it counts, and else why not (`verdict`, [`Reason`]). `ids`
-//!    knows the identifiers of the blocks before it; `file/summaries` has the file's summaries, in
-//!    the order of the file.
+//! 1. `books` has the calls. A file is opened by its first event (`open`), which decides how it
+//!    stands beside the files before it (`verdict`, [`Standing`]). `file` is what is kept of a file,
+//!    `kept` all that is kept.
+//! 2. `judge` gives the verdict of a block: whether it counts, and if not, why (`verdict`,
+//!    [`Reason`]). `ids` has the identifiers of the blocks before it; `file/summaries` the file's
+//!    summaries, in the order of the file. `counting` adds a rejected block to their sums.
 //! 3. `booking/plan` finds the recording, the seats of its parties, and for each usage a line of
 //!    the recording and its parts, and takes all memory. `booking/apply` adds, and takes none.
-//! 4. `ledger` keeps each party, summary key and recording once. A recording owns its seats and
-//!    lines (`ledger/recording`, `seats`, `line`), a line its sums and parts (`sums`, `parts`).
-//!    Beyond the first 16 an item is found by its number (`ledger/index`).
-//! 5. `assemble` makes the report: `file_lines`, `missing`, `differences`, `rejects`, and the lines
+//! 4. `ledger` keeps each party, summary key (`key`) and recording once: names are interned in maps
+//!    whose hashes have a seed (`seeded`). A recording owns its seats and lines (`ledger/recording`,
+//!    `seats`, `line`), a line its sums and parts (`sums`, `parts`). Beyond the first 16 an item is
+//!    found by its number (`ledger/index`).
+//! 5. `assemble` makes the `report`: `file_lines`, `missing`, `differences`, `rejects`, and the lines
 //!    of the ledger (`assemble/ledger`).
 //!
+//! **Example**, compiled and proved in `crates/dsr_unit_tests/src/examples/ledger.rt`:
+//!
 //! ```
-//! // The report of two files, each a text; see `report_of` and the first test of `tests/books`.
-//! let mut books = Books::new(alloc, 2)?;
-//! books.open_next(Some(opening))?;
-//! books.book(0, &block)?;
-//! books.end_file(0, Outcome::Whole)?;
-//! // .. the second file ..
-//! let report = books.into_report()?;
+//! /// Opens the first file.
+//! fn open(books: &mut Books, opening: Opening) -> Result<(), Fail> {
+//!     if books.opened() < books.files() {
+//!         books.open_next(Some(opening))?;
+//!     }
+//!     Ok(())
+//! }
+//!
+//! /// Books a block of the first file.
+//! fn book(books: &mut Books, block: &Block) -> Result<(), Fail> {
+//!     if books.has_opening(0) && !books.ended(0) && books.blocks(0) < 1 << 37 {
+//!         books.book(0, block)?;
+//!     }
+//!     Ok(())
+//! }
+//!
+//! /// Ends the first file.
+//! fn end(books: &mut Books, outcome: Outcome) -> Result<(), Fail> {
+//!     if books.opened() > 0 && !books.ended(0) {
+//!         books.end_file(0, outcome)?;
+//!     }
+//!     Ok(())
+//! }
+//!
+//! /// Hands an event of the first file to the books.
+//! fn hand_in(books: &mut Books, event: Event) -> Result<(), Fail> {
+//!     match event.part {
+//!         EventPart::Opened(opening) => open(books, opening),
+//!         EventPart::Block(block) => book(books, &block),
+//!         EventPart::Ended(outcome) => end(books, outcome),
+//!     }
+//! }
+//!
+//! /// The report of one file has one line of the ledger.
+//! #[test]
+//! fn the_report_of_one_file(rt: HostRuntime) -> Result<(), Fail> {
+//!     let mut events = events_of(rt.alloc(), TEXT)?;
+//!     let mut books = Books::new(rt.alloc(), 1)?;
+//!     for _ in 0..events.len() {
+//!         if let Some(event) = events.next() {
+//!             hand_in(&mut books, event)?;
+//!         }
+//!     }
+//!     // `report` answers `books.into_report()`, once all files are ended.
+//!     let report = report(books)??;
+//!     let amount = report.ledger.get(0).map(|line| line.amount);
+//!     assert_eq!(rt; amount, Some(24_000_000_000));
+//!     Ok(())
+//! }
 //! ```
 //!
 //! **The promise.** Books stand for a list of files, each with its opening, blocks and outcome, and
-//! each call adds exactly its argument to it, or nothing where memory is refused. The report is that
-//! of exactly these files. No report depends on the seed of the hashes.
+//! each call adds exactly its argument to it, or nothing if memory is refused. The report is that
+//! of exactly these files. No report depends on the seed of the hashes. A line's parties and what is
+//! unclaimed add up to its amount ([`laws`]).
 //!
 //! **Where to begin.** `specs/Reports.antt` says what a report is, `specs/Verdicts.antt` when a block
 //! counts; `src/books.rt` has the calls.

@@ -1,4 +1,4 @@
-//! The report that the books come to.
+//! The report that is made of the books.
 use crate::verdict::{Reason, Standing};
 use dsr_cells::{Day, Isrc, Items, Text};
 use dsr_file::Outcome;
@@ -19,11 +19,11 @@ pub struct ReportKey {
 /// A file, in the order given.
 #[derive(Drop)]
 pub struct FileLine {
-    /// The number that its opening gives it, where it has one.
+    /// FileNumber of its opening, 1 to 9,999; None if it has no opening.
     pub number: Option<u32>,
     /// Whether it counts, and why not.
     pub standing: Standing,
-    /// How many blocks were taken from it.
+    /// How many blocks were taken from it, at most 2^37.
     pub blocks: u64,
     /// How it ended.
     pub outcome: Outcome,
@@ -36,17 +36,17 @@ pub struct Difference {
     pub file: u32,
     /// SummaryRecordId: 1 to 32 bytes of printable ASCII.
     pub summary_id: Text,
-    /// The usages that the summary states.
+    /// The usages that the summary states, below 10^12 either way.
     pub stated_usages: i64,
-    /// The usages of the records that name it.
+    /// The sum of the usages of the records that name it.
     pub found_usages: i128,
-    /// The amount that the summary states, in units of 10^-10, as every amount of a report.
+    /// The amount that the summary states, in units of 10^-10 of its currency.
     pub stated_amount: i128,
-    /// The amount of the records that name it.
+    /// The sum of the amounts of the records that name it, in units of 10^-10.
     pub found_amount: i128,
 }
 
-/// What a party has of a ledger line's amount.
+/// What a party is owed of a ledger line's amount.
 #[derive(Drop)]
 pub struct PartyLine {
     /// The name of the party, as the works spell it.
@@ -66,13 +66,13 @@ pub struct LedgerLine {
     pub use_type: Text,
     /// Currency of these summaries (ISO 4217).
     pub currency: Text,
-    /// How often the recording was used.
+    /// The sum of the booked usages, which may be below zero.
     pub usages: i128,
-    /// What is paid for it, in units of 10^-10 of the currency.
+    /// The sum of their amounts, in units of 10^-10 of the currency.
     pub amount: i128,
     /// The parties that have a part, by the bytes of their names.
     pub parties: Parties,
-    /// The amount without that of the parties.
+    /// The amount minus those of the parties, in units of 10^-10 of the currency.
     pub unclaimed: i128,
 }
 
@@ -107,14 +107,14 @@ pub type LedgerLines = Items<LedgerLine>;
 /// The rejected blocks, by file and then in file order.
 pub type Rejects = Items<Reject>;
 
-/// What the files of a report come to.
+/// The report of a list of files.
 #[derive(Drop)]
 pub struct Report {
-    /// That of the first file that has an opening.
+    /// The key of the first file, in the order given, that has an opening; None if no file has.
     pub key: Option<ReportKey>,
     /// How each file stands.
     pub files: FileLines,
-    /// The numbers of the report's files that were not given.
+    /// The numbers of the report's files that were not given, rising.
     pub missing: Numbers,
     /// The summaries whose numbers are not those of their usages.
     pub differences: Differences,

@@ -1,7 +1,7 @@
-//! A hasher with a seed of the run.
+//! A hasher with a seed of the run, against hash flooding.
 use std::hash::{BuildHasher, FoldHasher, Hasher};
 
-/// Makes hashers into which a seed was written, so that whoever picks the keys can't make them collide.
+/// Makes hashers into which a seed was written, so that whoever chooses the keys can't make them collide.
 #[derive(Clone, Copy)]
 pub struct Seeded {
     first: FoldHasher,

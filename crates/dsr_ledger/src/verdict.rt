@@ -1,4 +1,4 @@
-//! How files stand and what is said of blocks.
+//! How files stand, and the verdicts of blocks.
 
 /// How a file stands in the report.
 #[derive(Clone, Copy, PartialEq, Eq)]
@@ -16,23 +16,23 @@ pub enum Standing {
 /// Why a block is rejected: the first of these that applies.
 #[derive(Clone, Copy, PartialEq, Eq)]
 pub enum Reason {
-    /// Its file is of another report.
+    /// Its file is Foreign: it belongs to another report.
     ForeignFile,
-    /// Its file's number was there before.
+    /// Its file is Doubled: an earlier file of the report has its number.
     DoubledFile,
     /// An earlier block of the file has its identifier.
     DoubledBlock,
     /// Its resource has no ISRC.
     NoIsrc,
-    /// Its resource's ISRC is not spelled as one.
+    /// Its resource's ISRC is not spelled as ISO 3901 says.
     BadIsrc,
     /// A usage names no summary of its file.
     UnknownSummary,
-    /// The shares of all its works are together above 100 percent.
+    /// The shares of all its works add up to more than 100 percent.
     ShareOver,
 }
 
-/// What is said of a block.
+/// The verdict of a block.
 #[derive(Clone, Copy, PartialEq, Eq)]
 pub enum Verdict {
     /// Its usages count.

@@ -93,7 +93,7 @@ impl<'l> CheckedLine<'l> {
     ///
     /// # Errors
     ///
-    /// `NoMemory`: no memory was left for the block's texts, and any block is left.
+    /// `NoMemory`: no memory was left for the block's texts, and the block may have any value.
     pub fn open_block(&self, alloc: Global, block: &mut Block) -> Result<(), NoMemory>
         requires resource { kind_of_record self.now ≡ kinds.Resource }
         ensures opened { OnOk result (OpensBlock self.now block.new) }
@@ -196,8 +196,8 @@ fn check_role<'l>(cursor: Cursor<'l>, role: &RoleLine) -> Result<CheckedLine<'l>
 /// # Errors
 ///
 /// `Many`: the line has more than 64 cells. `Unknown`: the layout does not have its record type.
-/// `Missing` and `Bad`: the first such column, in the order of the columns. `Uneven`: a work has
-/// other numbers of parties and of shares.
+/// `Missing` and `Bad`: the first such column, in the order of the columns. `Uneven`: a work
+/// has more shares than parties, or fewer.
 pub fn check_line<'l>(layout: &Layout, line: &'l str) -> Result<CheckedLine<'l>, RecordFault>
     ensures { result ≡ record_of layout.now line.now }
 {
@@ -220,7 +220,7 @@ pub fn check_line<'l>(layout: &Layout, line: &'l str) -> Result<CheckedLine<'l>,
 ///
 /// # Errors
 ///
-/// The fault that `check_line` tells.
+/// The fault that `check_line` returns.
 pub fn check_record(layout: &Layout, line: &str) -> Result<Kind, RecordFault>
     ensures { result ≡ kind_of layout.now line.now }
 {
@@ -240,7 +240,7 @@ pub fn record_id<'l>(layout: &Layout, line: &'l str) -> Option<&'l str>
 ///
 /// # Errors
 ///
-/// `Fault`: the fault that `check_line` tells. `Memory`: no memory was left for the record's texts.
+/// `Fault`: the fault that `check_line` returns. `Memory`: no memory was left for the record's texts.
 pub fn read_record(alloc: Global, layout: &Layout, line: &str) -> Result<Record, ReadRecordError>
     ensures { AnswersRecord (record_of layout.now line.now) result }
 {

@@ -1,4 +1,4 @@
-//! The TABs of a text's first bytes, as bits: bit k is set where byte k is a TAB.
+//! The TABs of a text's first bytes, as a mask of bits (SIMD): bit k is set where byte k is a TAB.
 ghost use Rattle.std.specs.Prelude.{◌≡◌, ◌+◌, ◌<◌, ◌≤◌, ℕ, length, take};
 ghost use Rattle.std.specs.Simd.Lanes.{chunk};
 ghost use Rattle.dsr_records.specs.Marks.{tab_bits};

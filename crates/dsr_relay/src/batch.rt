@@ -23,11 +23,11 @@ const MOST_UNNOTED: usize = 4096;
 /// Events that go through a relay at once, in memory of their own. Contracts see those that were not taken out.
 #[derive(Drop)]
 pub struct Batch {
-    /// The events, and behind `count` those of earlier rounds, which are stale.
+    /// The events, and after `count` those of earlier rounds, which are stale.
     slots: Vec<Event>,
     /// How many events the batch has, those that were taken out included.
     count: usize,
-    /// How many events were taken out. A stand-in is left of each.
+    /// How many events were taken out. A placeholder is left of each.
     out: usize,
     /// The bytes of the file that were noted while the batch was filled.
     bytes: usize,
@@ -101,7 +101,7 @@ impl Batch {
         self.bytes
     }
 
-    /// Appends an event, and answers the stale one that it was written over, or hands it back where there is no room.
+    /// Appends an event, and answers the stale one that it was written over, or hands it back if there is no room.
     pub(crate) fn push(&mut self, event: Event) -> Result<Option<Event>, Event>
         ensures { MatchResult result (λ _. self.new ≡ self.old ++ event ∷ [])
             (λ back. (back ≡ event) × (self.new ≡ self.old)) }

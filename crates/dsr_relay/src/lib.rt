@@ -1,22 +1,49 @@
 //! One relay for each file: a bounded channel that hands the file's events from its reader's thread to the collector.
 //!
-//! 1. [`open_relay`] makes the two ends, and takes all memory that the relay will ever have (`open`, `memory`).
+//! 1. [`open_relay`] makes the two ends, and takes all memory that the relay will ever have (`open`, `memory`). For
+//!    contracts a relay has a name (`name`).
 //! 2. The [`Feed`] gathers the events that it is given in a [`Batch`] of up to 32, which it puts into the channel as one
-//!    message; where the channel is full, it waits (`feed`, `batch`, `channel`).
-//! 3. The [`Tap`] takes the events one after another, or those of a message at once; where there is none, it waits (`tap`).
-//! 4. A batch whose events are no longer wanted goes back ([`Tap::give_back`]). The feed writes the next events over it,
+//!    message; if the channel is full, it waits (`feed`, `batch`, `channel`).
+//! 3. The [`Tap`] takes the events one after another, or those of a message at once; if there is none, it waits (`tap`).
+//! 4. A batch whose events are no longer needed goes back ([`Tap::give_back`]). The feed writes the next events over it,
 //!    and hands out the blocks that it wrote over ([`Feed::spare`]), so that the reader writes into their memory.
-//! 5. [`Tap::take_in`] joins the two ends and tells what was taken and what is left ([`Settled`]).
+//! 5. [`Tap::take_in`] joins the two ends and says what was taken and what is left ([`Settled`], in `settled`).
 //!
-//! The promise: whatever the schedule of the threads, the events come out once each and in their order, and what was
+//! **Example**, compiled and proved in `crates/dsr_unit_tests/src/examples/relay.rt`:
+//!
+//! ```
+//! /// Sends the end of a file of which nothing was sent, and answers whether it was taken.
+//! fn sends_end<R: Wait>(rt: &R, feed: &mut Feed) -> bool
+//!     requires { feed.old.sent ≡ [] }
+//!     ensures { feed.new.name ≡ feed.old.name }
+//! {
+//!     let part = EventPart::Ended(Outcome::Whole);
+//!     feed.send(rt, Event { place: 0, part }).is_ok()
+//! }
+//!
+//! /// The end of a file goes from one end of a relay to the other. The two ends may be in two threads.
+//! #[test]
+//! fn an_end_goes_through(rt: HostRuntime) -> Result<(), Fail> {
+//!     let Ok((mut feed, mut tap)) = open_relay(rt.alloc(), 16) else {
+//!         return Err(Fail::new("no relay"));
+//!     };
+//!     assert!(rt; sends_end(&rt, &mut feed));
+//!     let taken = tap.take(&rt);
+//!     assert!(rt; taken.is_ok());
+//!     let settled = tap.take_in(feed);
+//!     assert_eq!(rt; (settled.taken, settled.left), (1, 0));
+//!     Ok(())
+//! }
+//! ```
+//!
+//! **The promise.** Whatever the schedule of the threads, the events come out once each and in their order, and what was
 //! taken followed by what is left is what was sent. It rests on a rule (`rule`), which the channel keeps at each of its two
-//! kinds of step, a message in and a message out: what came in, followed by what is in the channel, is what went out. No
-//! clause says that a thread runs, or that a call which waits returns. [`laws`] says what holds of the relays of all files
+//! kinds of step, a message in and a message out: what the tap received, followed by what is in the channel, is what the
+//! feed sent. No clause says that a thread runs, or that a call which waits returns. [`laws`] says what holds of the relays of all files
 //! together.
 //!
-//! Begin with `specs/Views.antt`, what contracts see of the ends, and `specs/Rule.antt`, the rule; then read `feed`, `tap`
-//! and `open`. The first test of `tests.rt` is an example, proved with the crate: an end of a file goes from one end to the
-//! other.
+//! **Where to begin.** `specs/Views.antt` is what contracts see of the ends, and `specs/Rule.antt` the rule; then read
+//! `feed`, `tap` and `open`.
 #![tactic(auto)]
 
 mod batch;

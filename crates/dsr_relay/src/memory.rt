@@ -1,5 +1,5 @@
-//! The memory of batches, which goes round: the feed fills it, and the tap gives it back once its events are no longer
-//! wanted. All of it is taken where a relay is made: that of the batches in the channel, of the one that is filled and of
+//! The memory of batches, a pool of fixed size: the feed fills it, and the tap gives it back once its events are no longer
+//! needed. All of it is taken when a relay is made: that of the batches in the channel, of the one that is filled and of
 //! the one that is emptied. So a send takes none, and events are freed by the thread that made them.
 ghost use Rattle.std.specs.Prelude.{◌≡◌, [], ◌≤◌};
 
@@ -55,8 +55,8 @@ pub(crate) fn memory(alloc: Global, capacity: u32) -> Result<(Supply, Returns), 
 }
 
 impl Supply {
-    /// Memory that can be filled. Where all of it is away, because batches were not given back, the call waits for some to
-    /// come back; where the tap is gone it answers a batch with none.
+    /// Memory that can be filled. If all of it is away, because batches were not given back, the call waits for some to
+    /// come back; if the tap is gone it answers a batch with none.
     fn find<R: Wait>(&mut self, rt: &R) -> Batch {
         if let Ok(used) = self.receiver.try_recv(rt) {
             return used;

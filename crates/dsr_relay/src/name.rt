@@ -1,4 +1,4 @@
-//! What tells one relay from another.
+//! What distinguishes one relay from another.
 ghost use Rattle.std.specs.Prelude.{ℕ};
 ghost use Rattle.atomic_table.specs.Seated.{TableId, table_id_coded};
 ghost use Rattle.atomic_table.specs.declared.badge.Badge.{Badge};

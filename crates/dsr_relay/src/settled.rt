@@ -1,4 +1,4 @@
-//! What the two ends of a relay settle where they meet.
+//! What the two ends of a relay settle when they are joined.
 use crate::feed::Feed;
 use crate::tap::Tap;
 use std::marker::Model;

@@ -39,7 +39,7 @@ impl Model for Tap {
 }
 
 impl Tap {
-    /// Takes the next event. Where there is none yet, the call waits.
+    /// Takes the next event. If there is none yet, the call waits.
     ///
     /// # Errors
     ///
@@ -117,7 +117,7 @@ impl Tap {
         self.returns.give(rt, used);
     }
 
-    /// Takes what is held of the last message, or else the next message. Where there is none yet, the call waits. A batch is
+    /// Takes what is held of the last message, or else the next message. If there is none yet, the call waits. A batch is
     /// given back before the next one is taken: the feed has no other memory for what comes.
     ///
     /// # Errors
@@ -185,8 +185,8 @@ impl Tap {
         Ok(batch)
     }
 
-    /// Gives a batch back that was taken and is no longer wanted: the thread of the feed frees its events and fills its
-    /// memory again. The call waits for no room, and what contracts see of the tap stays as it is.
+    /// Gives a batch back that was taken and is no longer needed: the thread of the feed frees its events and fills its
+    /// memory again. The call does not wait for room, and what contracts see of the tap stays as it is.
     pub fn give_back<R: Wait>(&mut self, rt: &R, batch: Batch)
         ensures { self.new ≡ self.old }
     {
@@ -208,7 +208,7 @@ impl Tap {
         self.held.events().len() as u32
     }
 
-    /// Joins the two ends of one relay, and tells what was taken and what is left of what was sent. It waits for nobody.
+    /// Joins the two ends of one relay, and says what was taken and what is left of what was sent. It never waits.
     pub fn take_in(self, feed: Feed) -> Settled
         requires { self.name ≡ feed.name }
         ensures taken { result.taken ≡ self.taken }

@@ -1,11 +1,17 @@
-//! Tests of the whole way, from the bytes of the files to the statement: worked reports, and readers, writers and relays that fail.
+//! Tests of the whole way, from the bytes of the files to the statement. The expected statements were worked out by hand
+//! from docs/PROFILE.md.
 //!
-//! `texts` has the files, `script` a reader that gives a text as it is told to, `page` an outlet that fails where it is told to.
-//! The expected statements are worked out by hand from the profile.
+//! 1. `texts` has the files and their statements, `script` a reader that gives a text as it is told to, `page` an outlet
+//!    that fails where it is told to, and `runs` a run on them.
+//! 2. `example` is what the lib.rt of dsr_intake shows.
+//! 3. `reports`: reports in one file and in several. `collecting`: the collector alone.
+//! 4. `refusals` and `memory`: what is refused and what fails. `turns`: readers that wait for one another.
 #![tactic(auto)]
 
 #[cfg(test)]
 mod collecting;
+#[cfg(test)]
+mod example;
 #[cfg(test)]
 mod memory;
 #[cfg(test)]

@@ -1,10 +1,15 @@
 //! Worked examples of the calls of each crate below the run: a module for each crate.
 //!
+//! 1. `examples`: those that the lib.rt of each crate shows.
+//! 2. `cells`, `records`, `file`, `relay`, `ledger`: the tests of each crate.
+//!
 //! They stand in a crate of their own, since a crate with tests is proved a second time with them.
 #![tactic(auto)]
 
 #[cfg(test)]
 mod cells;
+#[cfg(test)]
+mod examples;
 #[cfg(test)]
 mod file;
 #[cfg(test)]

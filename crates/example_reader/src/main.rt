@@ -1,4 +1,8 @@
 //! An example of a program over the library: it reads one report file on standard input and prints its blocks.
+//!
+//! 1. `main` makes a reader with the standard layout.
+//! 2. `drain` reads standard input piece by piece, and `feed` gives each piece to the reader.
+//! 3. `show` prints each event, and `end` those that are left at the end of the file.
 #![tactic(auto)]
 
 ghost use Rattle.std.specs.Prelude.{◌≡◌, ◌+◌, ◌≤◌, ◌^◌, None, length};

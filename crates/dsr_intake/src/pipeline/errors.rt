@@ -1,4 +1,4 @@
-//! Why a run, an intake or a collector gives up, with the text of each error.
+//! Why a run, an intake or a collector fails, with the text of each error.
 use thiserror::Error;
 
 /// Why there is no report. The first four are found before anything is read.
@@ -10,11 +10,13 @@ pub enum IntakeError {
     /// There are more than 64 files.
     #[error("too many files")]
     TooManyFiles,
+    /// The capacity of a relay is not 1 to 1,024 messages.
     #[error("capacity out of range")]
     Capacity,
+    /// The limit of reads is not 1 to 16,777,216.
     #[error("reads out of range")]
     Reads,
-    /// A growth was refused.
+    /// Memory was refused.
     #[error("out of memory")]
     Memory,
     /// A thread could not be started.
@@ -28,7 +30,7 @@ pub enum IntakeError {
 /// Why a collector stopped.
 #[derive(Debug, Clone, Copy, PartialEq, Eq, Error)]
 pub enum CollectError {
-    /// A growth was refused, to the collector or to the sender of an event.
+    /// Memory was refused, to the collector or to the sender of an event.
     #[error("out of memory")]
     Memory,
     /// The relay of this tap, counted from 1, closed before Ended was taken.
@@ -36,7 +38,7 @@ pub enum CollectError {
     Closed(u32),
 }
 
-/// Why a statement was not written, or not to its end.
+/// Why a statement was not written, or not completely.
 #[derive(Debug, Clone, Copy, PartialEq, Eq, Error)]
 pub enum RunError {
     /// There is no report, and nothing was written.
@@ -47,5 +49,8 @@ pub enum RunError {
     Memory,
     /// Exactly so many first bytes of the statement were written.
     #[error("write failed after {written} bytes")]
-    Write { written: u64 },
+    Write {
+        /// How many bytes are out.
+        written: u64,
+    },
 }

@@ -10,7 +10,7 @@ use std::sync::Wait;
 /// For how many bytes of a file events may wait in a batch before it goes out.
 const MOST_WAITING: usize = 64 * 1024;
 
-/// Sends the batch out where many bytes were read for it, so that what waits in a relay is bounded in bytes too. Where the
+/// Sends the batch out if many bytes were read for it, so that what waits in a relay is bounded in bytes too. If the
 /// tap is gone the batch may stay.
 fn send_large_batch<H: Wait>(rt: &H, feed: &mut Feed)
     ensures sent { feed.new.sent ≡ feed.old.sent }

@@ -101,7 +101,7 @@ fn settle_all<R: Source + Send + Drop + 'static, H: Threads + Wait>(
     }
 }
 
-/// Joins the threads, and says whether one wanted memory.
+/// Joins the threads, and says whether one of them was refused memory.
 fn join_all<R: Source + Send + Drop + 'static, H: Threads>(
     rt: &H,
     threads: Vec<Thread<R>>,
@@ -201,7 +201,7 @@ fn collect_error(error: CollectError) -> IntakeError
 ///
 /// # Errors
 ///
-/// `NoFiles`, `TooManyFiles`, `Capacity` and `Reads`, the first that holds: the readers are unchanged.
+/// `NoFiles`, `TooManyFiles`, `Capacity` and `Reads`, the first that applies: the readers are unchanged.
 /// `Memory`, `Thread` and `Broken` come while the files are read.
 pub fn intake<
     R: Source + Send + Drop + 'static,

@@ -1,25 +1,25 @@
-//! What an intake is asked to do, and what is refused at once.
+//! The options of a run, and what is refused before anything is read.
 ghost use Rattle.std.specs.Prelude.{◌≡◌};
 ghost use Rattle.dsr_intake.specs.meaning.Options.{standard_options, refusal_of};
 
 use crate::pipeline::errors::IntakeError;
 use dsr_records::Layout;
 
-/// How many files a report is read from at most.
+/// The most files of a report.
 pub(crate) const MOST_FILES: usize = 64;
 
-/// How many messages a relay holds at most.
+/// The highest capacity of a relay, in messages.
 pub(crate) const MOST_MESSAGES: u32 = 1_024;
 
-/// After how many reads the reading of a file stops at the latest.
+/// The highest limit of reads.
 pub(crate) const MOST_READS: u32 = 16_777_216;
 
-/// How an intake goes about its files.
+/// How the files of a report are read.
 #[derive(Drop)]
 pub struct Options {
     /// How many messages the relay of a file holds at most: 1 to 1,024.
     pub capacity: u32,
-    /// After how many reads the reading of a file stops: 1 to 16,777,216.
+    /// After how many reads a file is given up: 1 to 16,777,216.
     pub max_reads: u32,
     /// Where the columns of the records stand.
     pub layout: Layout,

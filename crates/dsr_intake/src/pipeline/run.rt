@@ -24,8 +24,8 @@ use std::thread::Threads;
 ///
 /// # Errors
 ///
-/// `Intake` and `Memory`: nothing was written or flushed. `Write`: exactly so many first bytes of the
-/// statement are out, and the outlet has failed.
+/// `Intake` and `Memory`: nothing was written or flushed. `Write`: exactly the first `written` bytes
+/// of the statement are out, and the outlet has failed.
 pub fn run<
     R: Source + Send + Drop + 'static,
     W: Outlet,

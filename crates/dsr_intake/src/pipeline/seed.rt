@@ -1,7 +1,7 @@
 //! The seed of a run's hashes.
 use std::random::RandomSource;
 
-/// The seed where no random bytes are to be had.
+/// The seed if there are no random bytes.
 const FIXED_SEED: u64 = 0x9E37_79B9_7F4A_7C15;
 
 /// A random seed, so that nobody can choose identifiers and names whose hashes collide. No report depends on it.

@@ -66,7 +66,7 @@ impl<R> Finished<R> {
     }
 }
 
-/// Reads a file and sends its events. Whatever happens, either Ended was sent or the tap is gone, so that nobody waits for more.
+/// Reads a file and sends its events. Whatever happens, either Ended was sent or the tap is gone, so that no end waits for more.
 fn read_and_send<R: Source, H: Wait>(
     rt: &H,
     alloc: Global,

@@ -1,4 +1,4 @@
-//! How many bytes are put at most, told without laying them out.
+//! How many bytes are put at most, counted without laying them out.
 ghost use Rattle.std.specs.Prelude.{◌≡◌, ◌≤◌, ◌+◌, ℕ, length};
 ghost use Rattle.dsr_intake.specs.inner.Bound.{IsUpTo};
 
@@ -13,7 +13,7 @@ const SIGNED_DECIMAL: u64 = 40;
 /// The most bytes of an amount.
 const UNITS: u64 = 64;
 
-/// At least as many as the bytes that were put; the greatest number where these may be too many.
+/// At least as many as the bytes that were put; the greatest number if these may be too many.
 #[derive(Drop)]
 pub(crate) struct Bound {
     pub(crate) most: u64,

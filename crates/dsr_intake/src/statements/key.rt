@@ -10,7 +10,7 @@ use dsr_ledger::LedgerLine;
 /// How many bytes the cells of a key may take to be laid out.
 pub(crate) const KEY_ROOM: usize = 256;
 
-/// The cells of a key, laid out in this room where they fit.
+/// The cells of a key, laid out in this room if they fit.
 pub(crate) fn laid_key<'a>(room: &'a mut Vec<u8>, line: &LedgerLine) -> Option<&'a [u8]>
     ensures { IfSome result (λ k. k.now ≡ tabbed (key_cells line.now)) }
 {
@@ -21,7 +21,7 @@ pub(crate) fn laid_key<'a>(room: &'a mut Vec<u8>, line: &LedgerLine) -> Option<&
     }
 }
 
-/// Lays the cells of a key out, in place of what the room has: whether they fit.
+/// Lays the cells of a key out, in place of what the room has. Answers whether they fit.
 fn lay_key(room: &mut Vec<u8>, line: &LedgerLine) -> bool
     ensures { result ≡ true → room.new.items ≡ tabbed (key_cells line.now) }
 {
@@ -32,7 +32,7 @@ fn lay_key(room: &mut Vec<u8>, line: &LedgerLine) -> bool
         && lay_cell(room, line.currency.as_str().as_bytes())
 }
 
-/// Lays a cell out behind the others: whether it fits.
+/// Lays a cell out after the others. Answers whether it fits.
 fn lay_cell(room: &mut Vec<u8>, cell: &[u8]) -> bool
     ensures { result ≡ true → room.new.items ≡ room.old.items ++ 9 ∷ cell.now }
 {
@@ -41,7 +41,7 @@ fn lay_cell(room: &mut Vec<u8>, cell: &[u8]) -> bool
         && room.extend_from_slice(cell).is_ok()
 }
 
-/// Puts the cells of a line's key, as `key` has them where they are laid out.
+/// Puts the cells of a line's key, as `key` has them if they are laid out.
 pub(crate) fn put_key<P: Put>(out: &mut P, key: Option<&[u8]>, line: &LedgerLine)
     requires { IfSome key (λ k. k.now ≡ tabbed (key_cells line.now)) }
     ensures { Puts P.after out.old out.new (tabbed (key_cells line.now)) }

@@ -1,4 +1,4 @@
-//! The lines of a statement, each put behind what was put before.
+//! The lines of a statement, each put after what was put before.
 ghost use Rattle.std.specs.Prelude.{◌≡◌, ◌∷◌, [], IfSome};
 ghost use Rattle.std.specs.Fmt.{signed_decimal};
 ghost use Rattle.std.specs.List.{flat_map};
@@ -68,7 +68,7 @@ fn put_file_number<P: Put>(out: &mut P, number: Option<u32>)
     }
 }
 
-/// Puts the cells that tell how a file ended.
+/// Puts the cells that say how a file ended.
 fn put_outcome<P: Put>(out: &mut P, outcome: Outcome)
     ensures { Puts P.after out.old out.new (tabbed (outcome_cells outcome)) }
 {
@@ -83,7 +83,7 @@ fn put_outcome<P: Put>(out: &mut P, outcome: Outcome)
     }
 }
 
-/// Puts the column, where a fault names one.
+/// Puts the column, if the fault has one.
 fn put_column<P: Put>(out: &mut P, column: Option<Column>)
     ensures { Puts P.after out.old out.new (tabbed (column_cells column)) }
 {
@@ -134,7 +134,7 @@ pub(crate) fn put_ledger<P: Put>(out: &mut P, room: &mut Vec<u8>, line: &LedgerL
     put_unclaimed(out, key, line)
 }
 
-/// Puts the line of a key's sums. `key` has the key's cells, where they are laid out.
+/// Puts the line of a key's sums. `key` has the key's cells, if they are laid out.
 fn put_sums<P: Put>(out: &mut P, key: Option<&[u8]>, line: &LedgerLine)
     requires { IfSome key (λ k. k.now ≡ tabbed (key_cells line.now)) }
     ensures { Puts P.after out.old out.new (sums_line line.now) }
@@ -146,7 +146,7 @@ fn put_sums<P: Put>(out: &mut P, key: Option<&[u8]>, line: &LedgerLine)
     put_end(out)
 }
 
-/// Puts the lines of a key's parties. `key` has the key's cells, where they are laid out.
+/// Puts the lines of a key's parties. `key` has the key's cells, if they are laid out.
 fn put_parties<P: Put>(out: &mut P, key: Option<&[u8]>, line: &LedgerLine)
     requires { IfSome key (λ k. k.now ≡ tabbed (key_cells line.now)) }
     ensures { Puts P.after out.old out.new (flat_map (party_line line.now) line.now.parties) }
@@ -156,7 +156,7 @@ fn put_parties<P: Put>(out: &mut P, key: Option<&[u8]>, line: &LedgerLine)
     }
 }
 
-/// Puts the line of a party. `key` has the key's cells, where they are laid out.
+/// Puts the line of a party. `key` has the key's cells, if they are laid out.
 fn put_party<P: Put>(out: &mut P, key: Option<&[u8]>, line: &LedgerLine, party: &PartyLine)
     requires { IfSome key (λ k. k.now ≡ tabbed (key_cells line.now)) }
     ensures { Puts P.after out.old out.new (party_line line.now party.now) }
@@ -168,7 +168,7 @@ fn put_party<P: Put>(out: &mut P, key: Option<&[u8]>, line: &LedgerLine, party: 
     put_end(out)
 }
 
-/// Puts the line of what is unclaimed under a key. `key` has the key's cells, where they are laid out.
+/// Puts the line of what is unclaimed under a key. `key` has the key's cells, if they are laid out.
 fn put_unclaimed<P: Put>(out: &mut P, key: Option<&[u8]>, line: &LedgerLine)
     requires { IfSome key (λ k. k.now ≡ tabbed (key_cells line.now)) }
     ensures { Puts P.after out.old out.new (unclaimed_line line.now) }

@@ -63,7 +63,7 @@ impl<'a, W: Outlet> Pieces<'a, W> {
         Pieces { sender, waiting }
     }
 
-    /// Sends what waits, where so many bytes more would be too many.
+    /// Sends what waits, if so many bytes more would be too many.
     fn make_room(&mut self, count: usize)
         ensures { Carries W.told self.old self.new [] }
     {
@@ -72,7 +72,7 @@ impl<'a, W: Outlet> Pieces<'a, W> {
         }
     }
 
-    /// Lets these bytes wait where they are not too many: whether they do.
+    /// Lets these bytes wait if they are not too many. Answers whether they do.
     fn keep(&mut self, bytes: &[u8]) -> bool
         ensures { Carries W.told self.old self.new (if result then bytes.now else []) }
     {

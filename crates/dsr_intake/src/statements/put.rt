@@ -1,10 +1,10 @@
-//! Putting bytes behind one another, whatever takes them.
+//! Putting bytes one after another, whatever takes them.
 ghost use Rattle.std.specs.Prelude.{◌≡◌, true, false, decimal, List, ℕ};
 ghost use Rattle.std.specs.Fmt.{signed_decimal};
 ghost use Rattle.dsr_intake.specs.meaning.Statement.{amount_cell};
 ghost use Rattle.dsr_intake.specs.inner.Puts.{Puts};
 
-/// What takes bytes, numbers and amounts one behind the other.
+/// What takes bytes, numbers and amounts one after another.
 pub(crate) trait Put {
     /// From a start to now these bytes were put.
     ghost after: { Self → Self → List ℕ → Type 0 };

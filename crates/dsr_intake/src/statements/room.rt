@@ -45,7 +45,7 @@ fn lay_days(alloc: Global, key: &Option<ReportKey>) -> Result<Vec<u8>, NoMemory>
     Ok(days)
 }
 
-/// Lays the cell of a day out behind the others.
+/// Lays the cell of a day out after the others.
 fn lay_day(days: &mut Vec<u8>, day: Day) -> Result<(), NoMemory>
     ensures { OnOk result (days.new.items ≡ days.old.items ++ 9 ∷ written_day day) }
 {

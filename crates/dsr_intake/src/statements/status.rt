@@ -1,4 +1,4 @@
-//! Whether anybody has to look at a statement.
+//! Whether a statement has remarks.
 ghost use Rattle.std.specs.Prelude.{◌≡◌};
 ghost use Rattle.std.specs.List.{list_all};
 ghost use Rattle.dsr_intake.specs.meaning.Status.{status_of, is_clean_file};
@@ -7,7 +7,7 @@ use crate::statements::verdict::Status;
 use dsr_file::Outcome;
 use dsr_ledger::{FileLine, Report, Standing};
 
-/// Whether anybody has to look at the statement.
+/// Whether the statement has remarks.
 pub fn status(report: &Report) -> Status
     ensures { result ≡ status_of report.now }
 {

@@ -38,7 +38,7 @@ pub fn statement(alloc: Global, report: &Report) -> Result<Vec<u8>, NoMemory>
 }
 
 /// All the memory that writing the statement takes. It is refused also to a statement that may have
-/// 2^64 - 1 bytes or more, of which no error could tell how much is out.
+/// 2^64 - 1 bytes or more, since no error could say how much of it is out.
 pub(crate) fn room_for(alloc: Global, report: &Report) -> Result<Room, NoMemory>
     ensures days { IfOk result (λ r. IfSome report.now.key (λ k. r.days.items ≡ day_cells k)) }
     ensures short { OnOk result (length (statement_of report.now) < MOST) }

@@ -20,7 +20,7 @@ use crate::report::{LedgerLine, PartyLine};
 use dsr_cells::{Isrc, Items, NoMemory, Text};
 use std::alloc::Global;
 
-/// The part at a place, and one of which nothing is owed past the last.
+/// The part at a place; past the last, a part of nothing.
 fn part_at(parts: &[SeatPart], place: usize) -> SeatPart
     ensures has_part { result.has_part ≡ (owed_at_place parts.now (Some place)).has_part }
     ensures amount { result.amount ≡ (owed_at_place parts.now (Some place)).amount }
@@ -55,7 +55,7 @@ fn party_lines(
     Ok(lines)
 }
 
-/// An amount without that of the parties.
+/// An amount minus those of the parties.
 fn unclaimed(amount: i128, parties: &[PartyLine]) -> i128
     requires { unsigned_abs amount + sum_by (λ p. unsigned_abs p.amount) parties.now < 2 ^ 127 }
     ensures { result ≡ amount -ℤ int_sum_by (λ p. p.amount) parties.now }

@@ -1,4 +1,4 @@
-//! The parts of a line and the lines of a recording, in the order of what they are called.
+//! The parts of a line in the order of their parties' names, and the lines of a recording in that of their keys.
 ghost use Rattle.std.specs.Prelude.{◌≡◌, IfOk, length, map};
 ghost use Rattle.std.specs.List.{position, IsDistinct};
 ghost use Rattle.std.specs.Str.{bytes_eq};

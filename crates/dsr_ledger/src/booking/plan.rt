@@ -1,4 +1,4 @@
-//! What a block will touch: every growth that its additions will want.
+//! What a block will touch: all memory that its additions need is taken here.
 ghost use Rattle.std.specs.Prelude.{◌≡◌, ℕ, List, [], OnOk, Some, map};
 ghost use Rattle.std.specs.List.{zip};
 ghost use Rattle.dsr_records.specs.declared.record.Usage.{Usage};
@@ -14,7 +14,7 @@ use dsr_cells::{Isrc, NoMemory};
 use dsr_records::Work;
 use std::alloc::Global;
 
-/// What a block will touch. The lists are filled anew for each block.
+/// What a block will touch. The lists are filled again for each block.
 #[derive(Drop)]
 pub struct Plan {
     /// The numbers of the usages' summaries.

@@ -80,7 +80,7 @@ impl Summaries {
         })
     }
 
-    /// The number, where it is this summary's.
+    /// The number, if it is this summary's.
     fn hinted(&self, number: usize, id: &Text) -> Option<usize>
         ensures { IfSome result (λ number. index_at self.now id.now ≡ Some number) }
     {
@@ -98,7 +98,7 @@ impl Summaries {
         self.states.get_index_of(id)
     }
 
-    /// The same, where `hint` is tried before. Any will do; the number itself is found soonest.
+    /// The same, with `hint` tried first. It may be any number; the right one saves the search.
     pub fn index_near(&self, id: &Text, hint: usize) -> Option<usize>
         ensures { result ≡ index_at self.now id.now }
     {

@@ -11,7 +11,7 @@ use dsr_cells::NoMemory;
 use std::alloc::Global;
 use std::collections::BTreeMap;
 
-/// So many items of a list are found by going over them. Those behind are searched for.
+/// So many items of a list are found by going over them. Those after them are searched for.
 pub const FEW: usize = 16;
 
 /// An item that is found by its number.
@@ -49,7 +49,7 @@ fn first_place<T: Numbered>(items: &[T], number: u32) -> Option<usize>
         .position(|item| number == item.number())
 }
 
-/// The items behind the first few.
+/// The items after the first few.
 fn behind<T>(items: &[T]) -> &[T]
     ensures { result.now ≡ drop 16 items.now }
 {
@@ -109,7 +109,7 @@ impl Index {
         }
     }
 
-    /// Takes in the number that is put behind the items that the index describes.
+    /// Takes in the number that is put after the items that the index describes.
     fn put<T: Numbered>(&mut self, alloc: Global, items: &[T], number: u32) -> Result<(), NoMemory>
         requires described { Describes self.old (map T.number_of items.now) }
         requires absent { place_in (map T.number_of items.now) number ≡ None }
@@ -141,7 +141,7 @@ impl Index {
         Some(place + FEW)
     }
 
-    /// Takes in the number that is put behind the items of a list, where it does not stand.
+    /// Takes in the number that is put after the items of a list that does not have it.
     pub fn add<T: Numbered>(
         &mut self,
         alloc: Global,

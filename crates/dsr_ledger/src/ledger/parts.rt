@@ -127,7 +127,7 @@ fn add_part(parts: &mut Vec<SeatPart>, place: usize, amount: i128)
     parts[place].add(amount);
 }
 
-/// Adds the share of an amount to the part of its seat, and answers the place behind that. The part at
+/// Adds the share of an amount to the part of its seat, and answers the place after that. The part at
 /// `hint` is looked at first.
 fn add_share(
     parts: &mut Vec<SeatPart>,

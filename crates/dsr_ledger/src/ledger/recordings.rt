@@ -1,4 +1,4 @@
-//! The ledger: the parties, the summary keys, and the recordings.
+//! The ledger: the parties, the summary keys, and the recordings, each interned: kept once, and numbered.
 ghost use Rattle.std.specs.Prelude.{◌≡◌, ℕ, List, Some, length};
 ghost use Rattle.std.specs.Str.{bytes_eq};
 ghost use Rattle.indexmap.specs.IndexMap.{get};
