@@ -1,19 +1,14 @@
 -- Lemmas on the first pipe or backslash of some bytes.
-use Rattle.std.proofs.Common.{arith, ◌≡◌, ◌<◌, ◌≤◌, ◌+◌, ℕ, Bool, List, [], ◌∷◌, length, map, get_or, true, false, not, refl, ap₂, eqb, inl, inr, Some, None, bit_or, w8, Fits}
+use Rattle.std.proofs.Common.{arith, ◌≡◌, ◌<◌, ◌≤◌, ◌+◌, ℕ, Bool, List, [], ◌∷◌, length, map, get_or, true, false, not, refl, eqb, inl, inr, Some, None, bit_or}
 use Rattle.std.specs.List.{position, position_or_len, prefix_len}
-use Rattle.std.specs.Simd.Lanes.{Each1, mask_l}
+use Rattle.std.specs.Simd.Lanes.{mask_l}
 use Rattle.std.proofs.lemmas.List.Sums.{position_or_len_is}
-use Rattle.std.proofs.lemmas.Bool.{cases_Bool, cases_lt, lt-ltb, le-ltb, agree_below_at}
+use Rattle.std.proofs.lemmas.Bool.{cases_Bool, cases_lt, lt-ltb, le-ltb}
 use Rattle.dsr_cells.proofs.RawParts.{is_mark, PlainTo}
 
 -- a byte that is a pipe once bit 32 is set
 abbrev pub is_pipe_with_bit : ℕ → Bool
 is_pipe_with_bit b = eqb (bit_or b 32) 124
-
--- such bytes are the marks
-pub marked : (run : List ℕ) → Each1 (Fits w8) run → map is_pipe_with_bit run ≡ map is_mark run
-marked [] fits = refl
-marked (b ∷ bs) fits = ap₂ (λ m ms. m ∷ ms) (agree_below_at is_pipe_with_bit is_mark 256 b refl (fits.0).fits) (marked bs fits.1)
 
 -- where a bit of a mask is set, not all lanes come before the first
 pub some_lane : (p : ℕ → Bool) (run : List ℕ) → 0 < mask_l (map p run) → prefix_len (λ b. not (p b)) run < length run
