@@ -30,7 +30,8 @@ pub part_fails : (p : ℕ → Bool) (bytes : List ℕ) (at n : ℕ) → list_all
 part_fails p bytes at n fails = cut p at bytes ∙ and_right _ _ (cut p n (drop at bytes) ∙ and_left _ _ fails)
 
 -- where they pass as those before them do, all up to them pass
-pub part_passes : (p : ℕ → Bool) (bytes : List ℕ) (at n : ℕ) → list_all p (take at bytes) ≡ true → list_all p (chunk at n bytes) ≡ true → list_all p (take (at + n) bytes) ≡ true
+pub part_passes : (p : ℕ → Bool) (bytes : List ℕ) (at n : ℕ) → list_all p (take at bytes) ≡ true → list_all p (chunk at n bytes) ≡ true
+    → list_all p (take (at + n) bytes) ≡ true
 part_passes p bytes at n before more =
     cut p at (take (at + n) bytes)
     ∙ ap₂ (λ a b. list_all p a && list_all p b) (take-take at (at + n) bytes (omega arith)) (drop-take at n bytes)

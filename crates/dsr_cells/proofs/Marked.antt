@@ -29,7 +29,8 @@ no_mark text plain =
     rw (none, le-ltb (length text) (length text) (omega arith)) refl
 
 -- n plain bytes from a place on, which may overlap those before it
-pub plain_over : (bytes : List ℕ) (at from n : ℕ) → from ≤ at → PlainTo bytes at → ((k : ℕ) → from ≤ k → k < from + n → is_mark (get_or bytes k 0) ≡ false) → PlainTo bytes (from + n)
+pub plain_over : (bytes : List ℕ) (at from n : ℕ) → from ≤ at → PlainTo bytes at
+    → ((k : ℕ) → from ≤ k → k < from + n → is_mark (get_or bytes k 0) ≡ false) → PlainTo bytes (from + n)
 plain_over bytes at from n over before more k less = elim (cases_lt k at) [
   | inl front ↦ before k front
   | inr back ↦ more k (omega arith) less

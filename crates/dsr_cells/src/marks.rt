@@ -26,7 +26,8 @@ fn marks_of<const N: usize>(bytes: &[u8], at: usize) -> u64
 fn plain_of<const N: usize>(bytes: &[u8], at: usize) -> Option<usize>
     requires few { N ≤ 64 }
     requires within { at + N ≤ length bytes.now }
-    ensures count { unwrap_or result N ≡ prefix_len (λ b. not ((b == 124) || (b == 92))) (chunk at N bytes.now) }
+    ensures count { unwrap_or result N
+        ≡ prefix_len (λ b. not ((b == 124) || (b == 92))) (chunk at N bytes.now) }
     ensures few { IfSome result (λ n. n < N) }
 {
     let marks = marks_of::<N>(bytes, at);

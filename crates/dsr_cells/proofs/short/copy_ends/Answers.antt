@@ -10,7 +10,8 @@ use Rattle.dsr_cells.proofs.short.copy_ends.Goals as goal
 abbrev front_of : List ℕ → List ℕ → ℕ → List ℕ
 front_of bytes text half = put_chunk 0 (take half bytes) (chunk 0 half text)
 
-front_is : (bytes text : List ℕ) (half : ℕ) → half ≤ length text → half ≤ length bytes → front_of bytes text half ≡ take half text
+front_is : (bytes text : List ℕ) (half : ℕ) → half ≤ length text → half ≤ length bytes
+    → front_of bytes text half ≡ take half text
 front_is bytes text half long room = put_chunk_whole (take half bytes) (take half text) (omega (arith, length-take-le half bytes room, length-take-le half text long))
 
 back_is : (bytes text : List ℕ) (half k : ℕ) → half ≤ length text → length text ≤ length bytes → k ≡ half
