@@ -16,28 +16,37 @@
 //! 6. [`whole_events`] (`whole`) gives all events of a text at once, in an [`EventList`]
 //!    (`event_list`).
 //!
-//! **Example**, compiled and proved in `crates/dsr_unit_tests/src/file/reading.rt`;
+//! **Example**, compiled and proved in `crates/dsr_unit_tests/src/examples/file.rt`;
 //! `crates/example_reader` is a small program that does the same with a real file:
 //!
 //! ```
-//! /// Takes from a text three times, from where the last call stopped, and finishes: the letters of the events, and the bytes used.
-//! fn four_events(alloc: Global, bytes: &[u8]) -> Option<([u8; 4], usize)>
-//!     requires { length bytes.now ≤ 10000 }
-//! {
-//!     let mut file = FileReader::new(alloc, &Layout::standard()).ok()?;
-//!     let (first, one) = take(&mut file, bytes);
-//!     let (second, two) = take(&mut file, &bytes[first..]);
-//!     let used = first + second;
-//!     let (third, three) = take(&mut file, &bytes[used..]);
-//!     let used = used + third;
-//!     let four = match file.finish(Ending::Whole) {
-//!         Some(event) => letter(&event),
-//!         None => b' ',
-//!     };
-//!     if file.given() != used as u64 || !file.done() {
-//!         return None;
+//! /// The event of each of two pieces of a file, where a piece has one at most, and that of its end.
+//! fn events_of(
+//!     alloc: Global,
+//!     first: &[u8],
+//!     second: &[u8],
+//! ) -> Result<(Option<Event>, Option<Event>, Option<Event>), Fail> {
+//!     if first.len() > 4096 || second.len() > 4096 {
+//!         return Err(Fail::new("a long piece"));
 //!     }
-//!     Some(([one, two, three, four], used))
+//!     let mut file = FileReader::new(alloc, &Layout::standard())?;
+//!     let (_, of_first) = file.take(first);
+//!     let (_, of_second) = file.take(second);
+//!     let of_end = file.finish(Ending::Whole);
+//!     Ok((of_first, of_second, of_end))
+//! }
+//!
+//! /// The opening of a file comes once its FOOT is whole, and then its end.
+//! #[test]
+//! fn a_file_in_two_pieces(rt: HostRuntime) -> Result<(), Fail> {
+//!     let first = b"HEAD\tR1\t1\t1\t2024-01-01\t2024-01-31\tS\tL\nFO";
+//!     let (none, opened, ended) = events_of(rt.alloc(), first, b"OT\t2\t0\t0\n")?;
+//!     assert!(rt; none.is_none());
+//!     let opened = opened.map(|event| event.part);
+//!     assert!(rt; matches!(opened, Some(EventPart::Opened(_))));
+//!     let ended = ended.map(|event| event.part);
+//!     assert!(rt; matches!(ended, Some(EventPart::Ended(Outcome::Whole))));
+//!     Ok(())
 //! }
 //! ```
 //!

@@ -1,7 +1,7 @@
 //! Tests of the books. Most make the report of a few small files and compare its lines with those that are known to be right.
 //! A call that is refused memory is made once more, so each test passes also where any one growth is refused.
 mod books;
-mod making;
+pub mod making;
 mod many;
 mod parties;
 mod shown;

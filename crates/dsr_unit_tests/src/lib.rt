@@ -1,15 +1,15 @@
-//! Worked examples of the calls of each crate below the run: a module for each crate. Those that the heads of the lib.rt
-//! files show are among them.
+//! Worked examples of the calls of each crate below the run: a module for each crate.
 //!
-//! 1. `cells`, `records`, `file`: the way from a line's cells to the events of a file.
-//! 2. `relay`: events from one thread to another.
-//! 3. `ledger`: the books and their report.
+//! 1. `examples`: those that the lib.rt of each crate shows.
+//! 2. `cells`, `records`, `file`, `relay`, `ledger`: the tests of each crate.
 //!
 //! They stand in a crate of their own, since a crate with tests is proved a second time with them.
 #![tactic(auto)]
 
 #[cfg(test)]
 mod cells;
+#[cfg(test)]
+mod examples;
 #[cfg(test)]
 mod file;
 #[cfg(test)]

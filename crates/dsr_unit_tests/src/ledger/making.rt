@@ -34,7 +34,7 @@ pub fn joined(alloc: Global, first: &str, second: &str, third: &str) -> Result<S
 }
 
 /// The events of a whole text.
-fn events_of(alloc: Global, text: &str) -> Result<EventList, Fail> {
+pub fn events_of(alloc: Global, text: &str) -> Result<EventList, Fail> {
     match events_once(alloc, text)? {
         Ok(events) => Ok(events),
         Err(NoMemory) => Ok(events_once(alloc, text)??),
