@@ -16,20 +16,25 @@
 //!    makes an outlet of a writer of the library.
 //! 9. `pipeline/run`: all of this.
 //!
-//! **Example**, compiled and proved in `crates/dsr_tests/src/example.rt`. `Script` is a reader that gives a text, `Page`
+//! **Example**, compiled and proved in `crates/dsr_tests/src/runs.rt`. `Script` is a reader that gives a text, `Page`
 //! an outlet that keeps what it takes; a program has files and standard output in their place:
 //!
 //! ```
-//! /// The statement of one file, which has no remarks.
-//! #[test]
-//! fn the_statement_of_one_file(rt: HostRuntime) -> Result<(), AllocError> {
-//!     let alloc = rt.alloc();
-//!     let mut readers = vec![in alloc; Script::alone(alloc, CLEAN, Step::Full, After::End)?]?;
+//! /// Whether the statement of what the readers give is this one, flushed once, and what it comes to is this.
+//! pub fn gives<H: Threads + Wait + RandomSource + Copy + Send + 'static>(
+//!     rt: &H,
+//!     alloc: Global,
+//!     readers: Vec<Script>,
+//!     options: Options,
+//!     status: Status,
+//!     statement: &[u8],
+//! ) -> bool
+//!     requires { All (λ r. r.failed ≡ false) readers.items }
+//! {
+//!     let mut readers = readers;
 //!     let mut page = Page::new(alloc);
-//!     let answer = run(&rt, alloc, &mut readers, Options::standard(), &mut page);
-//!     assert!(rt; answer == Ok(Status::Clean));
-//!     assert_eq!(rt; page.bytes(), CLEAN_STATEMENT);
-//!     Ok(())
+//!     let answer = run(rt, alloc, &mut readers, options, &mut page);
+//!     answer == Ok(status) && page.bytes() == statement && page.is_flushed_once()
 //! }
 //! ```
 //!

@@ -9,27 +9,16 @@
 //!    and hands out the blocks that it wrote over ([`Feed::spare`]), so that the reader writes into their memory.
 //! 5. [`Tap::take_in`] joins the two ends and says what was taken and what is left ([`Settled`], in `settled`).
 //!
-//! **Example**, compiled and proved in `crates/dsr_unit_tests/src/examples/relay.rt`:
+//! **Example**, compiled and proved in `crates/dsr_unit_tests/src/relay.rt`:
 //!
 //! ```
-//! /// Sends the end of a file of which nothing was sent, and answers whether it was taken.
-//! fn sends_end<R: Wait>(rt: &R, feed: &mut Feed) -> bool
-//!     requires { feed.old.sent ≡ [] }
-//!     ensures { feed.new.name ≡ feed.old.name }
-//! {
-//!     let part = EventPart::Ended(Outcome::Whole);
-//!     feed.send(rt, Event { place: 0, part }).is_ok()
-//! }
-//!
-//! /// The end of a file goes from one end of a relay to the other. The two ends may be in two threads.
+//! /// An example: the end of a file goes from one end of a relay to the other.
 //! #[test]
 //! fn an_end_goes_through(rt: HostRuntime) -> Result<(), Fail> {
-//!     let Ok((mut feed, mut tap)) = open_relay(rt.alloc(), 16) else {
-//!         return Err(Fail::new("no relay"));
-//!     };
-//!     assert!(rt; sends_end(&rt, &mut feed));
-//!     let taken = tap.take(&rt);
-//!     assert!(rt; taken.is_ok());
+//!     let (mut feed, mut tap) = relay(rt.alloc(), 16)?;
+//!     assert!(rt; send_ended(&rt, &mut feed).is_ok());
+//!     assert!(rt; takes_end(&rt, &mut tap, 0));
+//!     assert!(rt; tap.ended());
 //!     let settled = tap.take_in(feed);
 //!     assert_eq!(rt; (settled.taken, settled.left), (1, 0));
 //!     Ok(())

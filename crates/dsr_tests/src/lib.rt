@@ -2,16 +2,13 @@
 //! from docs/PROFILE.md.
 //!
 //! 1. `texts` has the files and their statements, `script` a reader that gives a text as it is told to, `page` an outlet
-//!    that fails where it is told to, and `runs` a run on them.
-//! 2. `example` is what the lib.rt of dsr_intake shows.
-//! 3. `reports`: reports in one file and in several. `collecting`: the collector alone.
-//! 4. `refusals` and `memory`: what is refused and what fails. `turns`: readers that wait for one another.
+//!    that fails where it is told to, and `runs` a run on them, which the lib.rt of dsr_intake shows.
+//! 2. `reports`: reports in one file and in several. `collecting`: the collector alone.
+//! 3. `refusals` and `memory`: what is refused and what fails. `turns`: readers that wait for one another.
 #![tactic(auto)]
 
 #[cfg(test)]
 mod collecting;
-#[cfg(test)]
-mod example;
 #[cfg(test)]
 mod memory;
 #[cfg(test)]
