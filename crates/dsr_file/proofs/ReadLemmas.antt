@@ -67,11 +67,13 @@ none_before : (reads : ReadCount) → before_last reads [] ≡ []
 none_before reads = take-nil (0 - reads.last)
 
 -- the events of what was given before the last read stay in front
-earlier_more : (layout : LayoutTable) (reads : ReadCount) (given : List ℕ) (es fs : List Placed) → HasEarlier layout reads given es → IsPrefix es fs → HasEarlier layout reads given fs
+earlier_more : (layout : LayoutTable) (reads : ReadCount) (given : List ℕ) (es fs : List Placed)
+    → HasEarlier layout reads given es → IsPrefix es fs → HasEarlier layout reads given fs
 earlier_more layout reads given es fs h grows = prefix_more _ es fs h grows
 
 -- the last read gave nothing
-earlier_all : (layout : LayoutTable) (reads : ReadCount) (given : List ℕ) (es : List Placed) → reads.last ≡ 0 → IsPrefix (so_far layout given) es → HasEarlier layout reads given es
+earlier_all : (layout : LayoutTable) (reads : ReadCount) (given : List ℕ) (es : List Placed)
+    → reads.last ≡ 0 → IsPrefix (so_far layout given) es → HasEarlier layout reads given es
 earlier_all layout reads given es none h =
     subst (λ b. IsPrefix (so_far layout b) es) (sym (ap (λ n. take (length given - n) given) none ∙ take_all (length given - 0) given (omega arith))) h
 
@@ -100,14 +102,17 @@ no_reads layout told r es s = record {
 
 -- the text ends
 end_read : (layout : LayoutTable) (limit : ℕ) (before after : Told) (given : List ℕ) (ending : Ending) (es : List Placed)
-    → Stopped layout limit before after given (Some ending) → HasEarlier layout after.reads given es → HasEvents layout given (Some ending) es → IsRead layout limit before after es
+    → Stopped layout limit before after given (Some ending) → HasEarlier layout after.reads given es → HasEvents layout given (Some ending) es
+    → IsRead layout limit before after es
 end_read layout limit before after given ending es s first (inl h) = inl (record { bytes = given; ending = ending }, inl s, h)
 end_read layout limit before after given ending es s first (inr h) = inr (given, Some ending, s, h, first)
 
 end_refused : (layout : LayoutTable) (limit : ℕ) (before after : Told) (given : List ℕ) (ending : Ending) (es : List Placed) (e : Placed)
-    → (gave : Gave limit before after given) → gave.reads ≤ gave.filled + 1 → HasEarlier layout after.reads given es → BeginsEvents layout given (Some ending) (es ++ e ∷ []) → IsRefused layout limit before after es e
+    → (gave : Gave limit before after given) → gave.reads ≤ gave.filled + 1 → HasEarlier layout after.reads given es
+    → BeginsEvents layout given (Some ending) (es ++ e ∷ []) → IsRefused layout limit before after es e
 end_refused layout limit before after given ending es e g once first h =
-    let text : FileText = record { bytes = given; ending = ending } in (text, given, g, ([], append-nil given), begins_run layout text (es ++ e ∷ []) h, once, first)
+    let text : FileText = record { bytes = given; ending = ending } in
+    (text, given, g, ([], append-nil given), begins_run layout text (es ++ e ∷ []) h, once, first)
 
 cut_off_ended : (layout : LayoutTable) (b : List ℕ) (es : List Placed) → HasEvents layout b None es → has_ended es ≡ false → es ≡ so_far layout b
 cut_off_ended layout b es (inl h) n = h
@@ -227,7 +232,8 @@ module _ (layout : LayoutTable) (before mid after : Told) (reads limit : ℕ) (f
         r.given ++ piece,
         gave,
         ([], append-nil (r.given ++ piece)),
-        begins_run layout text (fs ++ e ∷ []) (subst (λ x. BeginsEvents layout x (Some endings.Read) (fs ++ e ∷ [])) (joined f.used [] ∙ append-nil (r.given ++ piece))
+        begins_run layout text (fs ++ e ∷ [])
+            (subst (λ x. BeginsEvents layout x (Some endings.Read) (fs ++ e ∷ [])) (joined f.used [] ∙ append-nil (r.given ++ piece))
             (begins_later layout (r.given ++ take f.used piece) (drop f.used piece ++ []) endings.Read (fs ++ e ∷ []) f.begins)),
         omega arith,
         earlier grows,
@@ -264,14 +270,16 @@ module _ (layout : LayoutTable) (before mid after : Told) (reads limit : ℕ) (f
   whole_read c e unfailed k h = end_read layout limit before after r.given endings.Whole fs
       (ended_gave c, (refl, e, k ∙ r.kept ∙ unfailed), r.going) first h
 
-  pub whole_refused : (e : Placed) → Consumes mid.remaining after.remaining [] → BeginsEvents layout r.given (Some endings.Whole) (fs ++ e ∷ []) → IsRefused layout limit before after fs e
+  pub whole_refused : (e : Placed) → Consumes mid.remaining after.remaining []
+      → BeginsEvents layout r.given (Some endings.Whole) (fs ++ e ∷ []) → IsRefused layout limit before after fs e
   whole_refused e c h = end_refused layout limit before after r.given endings.Whole fs e (ended_gave c) (omega arith) first h
 
   pub failed_read : Keeps mid.remaining after.remaining → after.failed ≡ true → HasEvents layout r.given (Some endings.Read) fs
       → IsRead layout limit before after fs
   failed_read c f h = end_read layout limit before after r.given endings.Read fs (failed_gave c, (refl, f), r.going) first h
 
-  pub failed_refused : (e : Placed) → Keeps mid.remaining after.remaining → BeginsEvents layout r.given (Some endings.Read) (fs ++ e ∷ []) → IsRefused layout limit before after fs e
+  pub failed_refused : (e : Placed) → Keeps mid.remaining after.remaining
+      → BeginsEvents layout r.given (Some endings.Read) (fs ++ e ∷ []) → IsRefused layout limit before after fs e
   failed_refused e c h = end_refused layout limit before after r.given endings.Read fs e (failed_gave c) (omega arith) first h
 
 -- the limit of reads was reached

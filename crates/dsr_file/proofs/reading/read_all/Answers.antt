@@ -31,7 +31,8 @@ returns-in-Err-clause-refused g c = IfErr-weaker c.finish_all.result _ _
     let r = c.loop.invariant.read layout s in
     failed_refused layout (g.R.Source.told c.args.reader.now) (g.R.Source.told c.loop.reader) (g.R.Source.told c.read.new.self)
     c.loop.counter c.args.max_reads c.loop.file (g.S.Sink.list c.loop.sink) r
-    c.in-Err.ensures.reads (omega (arith, c.loop-test.true)) _ c.finish_all.ensures.grows e c.in-Err.ensures.bytes (h layout r.given r.stands)) c.finish_all.ensures.refused
+    c.in-Err.ensures.reads (omega (arith, c.loop-test.true)) _ c.finish_all.ensures.grows e
+    c.in-Err.ensures.bytes (h layout r.given r.stands)) c.finish_all.ensures.refused
 
 pub returns-in-Ok-eq0-clause-read : goal.returns-in-Ok-eq0-clause-read
 returns-in-Ok-eq0-clause-read g c =
@@ -47,7 +48,8 @@ returns-in-Ok-eq0-clause-read g c =
       all.1,
       whole_read layout (g.R.Source.told c.args.reader.now) (g.R.Source.told c.loop.reader) (g.R.Source.told c.read.new.self)
           c.loop.counter c.args.max_reads c.loop.file (g.S.Sink.list c.loop.sink) r
-          counts (omega (arith, c.loop-test.true)) _ c.finish_all-in-Ok-eq0.ensures.grows none (bytes.1 c.in-Ok-eq0.field-0-test (omega (arith, c.read.auto.piece)))
+          counts (omega (arith, c.loop-test.true)) _ c.finish_all-in-Ok-eq0.ensures.grows none
+          (bytes.1 c.in-Ok-eq0.field-0-test (omega (arith, c.read.auto.piece)))
           c.requires.unfailed c.in-Ok-eq0.ensures.failed all.0,
     )) c.finish_all-in-Ok-eq0.ensures.all
 
@@ -76,7 +78,8 @@ returns-in_err-feed-in-Ok-clause-refused g c =
     c.loop.counter c.args.max_reads c.loop.file c.feed.new.file (g.S.Sink.list c.loop.sink) _ r
     (take c.in-Ok.n c.read.new.piece) c.in-Ok.ensures.bytes.0
     counts (omega (arith, size, c.in-Ok.n-test))
-    few c.in-Ok.ensures.failed (omega (arith, c.loop-test.true)) c.in_err-feed-in-Ok.field-0.0 c.feed.ensures.grows (c.in_err-feed-in-Ok.ensures.refused layout r.given r.stands))
+    few c.in-Ok.ensures.failed (omega (arith, c.loop-test.true)) c.in_err-feed-in-Ok.field-0.0 c.feed.ensures.grows
+    (c.in_err-feed-in-Ok.ensures.refused layout r.given r.stands))
 
 pub returns-then-done-clause-read : goal.returns-then-done-clause-read
 returns-then-done-clause-read g c = λ layout s.
