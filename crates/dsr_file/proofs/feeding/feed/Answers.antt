@@ -3,7 +3,7 @@ use Rattle.std.proofs.lemmas.Result.{err_from_is_err_and}
 use Rattle.dsr_file.specs.Standing.{Stands}
 use Rattle.dsr_file.specs.Feeding.{Fed}
 use Rattle.dsr_file.proofs.StandLemmas.{stands_joined}
-use Rattle.dsr_file.proofs.FeedLemmas.{prefix_self, prefix_event, event_run, fed_all, fed_some}
+use Rattle.dsr_file.proofs.FeedLemmas.{prefix_event, event_run, fed_all, fed_some}
 use Rattle.dsr_file.proofs.feeding.feed.Goals as goal
 
 pub hand_over-requires : goal.hand_over-requires
