@@ -1,7 +1,8 @@
 -- What the reading of a file gives.
-use Rattle.std.proofs.Common.{◌≡◌, ℕ, ◌+◌, ◌-◌, ◌<◌, ◌≤◌, ◌⊎◌, inl, inr, ◌∙◌, sym, ap, refl, subst, Bool, true, false, List, [], ◌++◌, length, take, drop, Option, None, Some, append_assoc, take-append-drop, length-append, take_all, arith}
+use Rattle.std.proofs.Common.{◌≡◌, ℕ, ◌+◌, ◌-◌, ◌<◌, ◌≤◌, ◌⊎◌, inl, inr, ◌∙◌, sym, ap, refl, subst, Bool, true, false, List, [], ◌∷◌, ◌++◌, length, take, drop, Option, None, Some, append_assoc, take-append-drop, length-append, take_all, arith}
 use Rattle.std.proofs.lemmas.List.{append-nil}
-use Rattle.std.proofs.Math.Seq.{take-append_seam}
+use Rattle.std.proofs.Math.Seq.{take-append_seam, take-nil}
+use mathlib.Core.List.{IsPrefix}
 use Rattle.std.specs.Io.KnownBytes.{Consumes, Keeps, IsAtEnd}
 use Rattle.dsr_records.specs.Records.{LayoutTable}
 use Rattle.dsr_file.specs.declared.fault.Ending.{Ending}
@@ -21,7 +22,7 @@ use Rattle.dsr_file.specs.Parts.{events_of, last_of}
 use Rattle.dsr_file.specs.Texts.{events_so_far, placed, readings, text_events, so_far}
 use Rattle.dsr_file.specs.Runs.{FileText, ended, by_memory, BeginsEvents, HasEvents, IsCutOff, EndsWith}
 use Rattle.dsr_file.specs.ReadCounts.{Answered, AddsRead}
-use Rattle.dsr_file.specs.Sources.{Told, Gave, before_last, Stopped, IsRead, IsRefused}
+use Rattle.dsr_file.specs.Sources.{Told, Gave, before_last, HasEarlier, Stopped, IsRead, IsRefused}
 use Rattle.dsr_file.specs.Standing.{Stands, StandsAt, IsDone}
 use Rattle.dsr_file.specs.Feeding.{Fed, FedSome, Reads}
 use Rattle.dsr_file.proofs.LawLemmas.{fault_is_final_lem}
@@ -29,7 +30,7 @@ use Rattle.dsr_file.proofs.RunLemmas.{cut_off_is, cut_off_later}
 use Rattle.dsr_file.proofs.StandLemmas.{ended_last, ends_has_ended, done_ended}
 use Rattle.dsr_file.proofs.EndLemmas.{events_later}
 use Rattle.dsr_file.proofs.PartLemmas.{last_of_push}
-use Rattle.dsr_file.proofs.FeedLemmas.{begins_later, begins_run}
+use Rattle.dsr_file.proofs.FeedLemmas.{prefix_self, prefix_more, begins_later, begins_run}
 
 not_both : true ≡ false → ⊥
 not_both e = cc
@@ -58,6 +59,24 @@ nothing_ended : (layout : LayoutTable) → has_ended (so_far layout []) ≡ fals
 unfolding events_so_far events_of
 nothing_ended layout = refl
 
+nothing_known : (layout : LayoutTable) → so_far layout [] ≡ []
+unfolding events_so_far events_of
+nothing_known layout = refl
+
+none_before : (reads : ReadCount) → before_last reads [] ≡ []
+none_before reads = take-nil (0 - reads.last)
+
+-- the events of what was given before the last read stay in front
+earlier_more : (layout : LayoutTable) (reads : ReadCount) (given : List ℕ) (es fs : List Placed)
+    → HasEarlier layout reads given es → IsPrefix es fs → HasEarlier layout reads given fs
+earlier_more layout reads given es fs h grows = prefix_more _ es fs h grows
+
+-- the last read gave nothing
+earlier_all : (layout : LayoutTable) (reads : ReadCount) (given : List ℕ) (es : List Placed)
+    → reads.last ≡ 0 → IsPrefix (so_far layout given) es → HasEarlier layout reads given es
+earlier_all layout reads given es none h =
+    subst (λ b. IsPrefix (so_far layout b) es) (sym (ap (λ n. take (length given - n) given) none ∙ take_all (length given - 0) given (omega arith))) h
+
 -- reads, and then more reads
 answered_more : (old mid new : ReadCount) (reads filled more some : ℕ) → Answered old mid reads filled → Answered mid new more some
     → Answered old new (reads + more) (filled + some)
@@ -75,20 +94,25 @@ no_reads layout told r es s = record {
   few = omega arith;
   most = omega arith;
   stands = s;
+  known = subst (λ xs. IsPrefix xs es) (sym (nothing_known layout)) (es, refl);
+  earlier = subst (λ xs. IsPrefix xs es) (sym (ap (so_far layout) (none_before told.reads) ∙ nothing_known layout)) (es, refl);
   going = nothing_ended layout;
   kept = refl;
 }
 
 -- the text ends
 end_read : (layout : LayoutTable) (limit : ℕ) (before after : Told) (given : List ℕ) (ending : Ending) (es : List Placed)
-    → Stopped layout limit before after given (Some ending) → HasEvents layout given (Some ending) es → IsRead layout limit before after es
-end_read layout limit before after given ending es s (inl h) = inl (record { bytes = given; ending = ending }, inl s, h)
-end_read layout limit before after given ending es s (inr h) = inr (given, Some ending, s, h)
+    → Stopped layout limit before after given (Some ending) → HasEarlier layout after.reads given es → HasEvents layout given (Some ending) es
+    → IsRead layout limit before after es
+end_read layout limit before after given ending es s first (inl h) = inl (record { bytes = given; ending = ending }, inl s, h)
+end_read layout limit before after given ending es s first (inr h) = inr (given, Some ending, s, h, first)
 
-end_refused : (layout : LayoutTable) (limit : ℕ) (before after : Told) (given : List ℕ) (ending : Ending) (es : List Placed)
-    → Gave limit before after given → BeginsEvents layout given (Some ending) es → IsRefused layout limit before after es
-end_refused layout limit before after given ending es g h =
-    let text : FileText = record { bytes = given; ending = ending } in (text, given, g, ([], append-nil given), begins_run layout text es h)
+end_refused : (layout : LayoutTable) (limit : ℕ) (before after : Told) (given : List ℕ) (ending : Ending) (es : List Placed) (e : Placed)
+    → (gave : Gave limit before after given) → gave.reads ≤ gave.filled + 1 → HasEarlier layout after.reads given es
+    → BeginsEvents layout given (Some ending) (es ++ e ∷ []) → IsRefused layout limit before after es e
+end_refused layout limit before after given ending es e g once first h =
+    let text : FileText = record { bytes = given; ending = ending } in
+    (text, given, g, ([], append-nil given), begins_run layout text (es ++ e ∷ []) h, once, first)
 
 cut_off_ended : (layout : LayoutTable) (b : List ℕ) (es : List Placed) → HasEvents layout b None es → has_ended es ≡ false → es ≡ so_far layout b
 cut_off_ended layout b es (inl h) n = h
@@ -132,6 +156,9 @@ module _ (layout : LayoutTable) (before mid after : Told) (reads limit : ℕ) (f
   stopped : before.failed ≡ false → Stopped layout limit before after (r.given ++ piece) None
   stopped unfailed = (gave, refl, kept ∙ r.kept ∙ unfailed, ap (λ b. has_ended (so_far layout b)) before_it ∙ r.going)
 
+  earlier : IsPrefix es fs → HasEarlier layout after.reads (r.given ++ piece) fs
+  earlier grows = subst (λ b. IsPrefix (so_far layout b) fs) (sym before_it) (prefix_more _ es fs r.known grows)
+
   -- what was used of the piece, and the rest
   joined : (used : ℕ) (more : List ℕ) → (r.given ++ take used piece) ++ (drop used piece ++ more) ≡ (r.given ++ piece) ++ more
   joined used more =
@@ -139,8 +166,8 @@ module _ (layout : LayoutTable) (before mid after : Told) (reads limit : ℕ) (f
       ∙ ap (λ x. x ++ more) (append_assoc r.given (take used piece) (drop used piece) ∙ ap (λ x. r.given ++ x) (take-append-drop used piece))
 
   -- a fault stands in it, or memory was refused in it
-  pub fault_read : before.failed ≡ false → Fed layout new r.given piece fs → IsDone new → IsRead layout limit before after fs
-  fault_read unfailed f d = by_case f.all
+  pub fault_read : before.failed ≡ false → IsPrefix es fs → Fed layout new r.given piece fs → IsDone new → IsRead layout limit before after fs
+  fault_read unfailed grows f d = by_case f.all
     where
       b : List ℕ
       b = r.given ++ take f.used piece
@@ -169,18 +196,21 @@ module _ (layout : LayoutTable) (before mid after : Told) (reads limit : ℕ) (f
         stopped unfailed,
         subst (λ x. IsCutOff (readings layout x endings.Read) fs) (joined f.used [] ∙ append-nil (r.given ++ piece))
             (cut_off_later layout b (drop f.used piece ++ []) endings.Read fs cut),
+        earlier grows,
       )
 
   -- no fault stands in it
-  pub more_reads : Fed layout new r.given piece fs → (IsDone new → ⊥) → Reads layout before after (reads + 1) new fs
-  more_reads f n = record {
+  pub more_reads : IsPrefix es fs → Fed layout new r.given piece fs → (IsDone new → ⊥) → Reads layout before after (reads + 1) new fs
+  more_reads grows f n = record {
     given = r.given ++ piece;
     answered = answered;
     consumed = consumed;
     few = simp length-append (omega (arith, r.few, some));
     most = simp length-append (omega (arith, r.most, few));
     stands = subst (λ x. Stands layout new (r.given ++ x) fs) (all f.whole) f.stands;
-    going = ap has_ended (sym (cut_off_ended layout (r.given ++ piece) fs (subst (λ x. HasEvents layout (r.given ++ x) None fs) (all f.whole) f.all) going)) ∙ going;
+    known = subst (λ xs. IsPrefix xs fs) put (prefix_self fs);
+    earlier = earlier grows;
+    going = ap has_ended (sym put) ∙ going;
     kept = kept ∙ r.kept;
   }
     where
@@ -191,21 +221,30 @@ module _ (layout : LayoutTable) (before mid after : Told) (reads limit : ℕ) (f
       going : has_ended fs ≡ false
       going = ended_not (has_ended fs) (λ t. n ((done_ended layout new (r.given ++ take f.used piece) fs f.stands).1 t))
 
+      put : fs ≡ so_far layout (r.given ++ piece)
+      put = cut_off_ended layout (r.given ++ piece) fs (subst (λ x. HasEvents layout (r.given ++ x) None fs) (all f.whole) f.all) going
+
   -- an event of it was refused
-  pub piece_refused : FedSome layout r.given piece fs → IsRefused layout limit before after fs
-  piece_refused f =
+  pub piece_refused : (e : Placed) → IsPrefix es fs → FedSome layout r.given piece (fs ++ e ∷ []) → IsRefused layout limit before after fs e
+  piece_refused e grows f =
       let text : FileText = record { bytes = r.given ++ piece; ending = endings.Read } in (
         text,
         r.given ++ piece,
         gave,
         ([], append-nil (r.given ++ piece)),
-        begins_run layout text fs (subst (λ x. BeginsEvents layout x (Some endings.Read) fs) (joined f.used [] ∙ append-nil (r.given ++ piece))
-            (begins_later layout (r.given ++ take f.used piece) (drop f.used piece ++ []) endings.Read fs f.begins)),
+        begins_run layout text (fs ++ e ∷ [])
+            (subst (λ x. BeginsEvents layout x (Some endings.Read) (fs ++ e ∷ [])) (joined f.used [] ∙ append-nil (r.given ++ piece))
+            (begins_later layout (r.given ++ take f.used piece) (drop f.used piece ++ []) endings.Read (fs ++ e ∷ []) f.begins)),
+        omega arith,
+        earlier grows,
       )
 
 -- a read gave nothing, after so many reads that each gave bytes: the source has nothing left, or it failed
 module _ (layout : LayoutTable) (before mid after : Told) (reads limit : ℕ) (file : FileReader) (es : List Placed) (r : Reads layout before mid reads file es)
-    (counts : AddsRead mid.reads after.reads 0) (less : reads < limit) (fs : List Placed) where
+    (counts : AddsRead mid.reads after.reads 0) (less : reads < limit) (fs : List Placed) (grows : IsPrefix es fs) where
+  first : HasEarlier layout after.reads r.given fs
+  first = earlier_all layout after.reads r.given fs counts.1 (prefix_more _ es fs r.known grows)
+
   abbrev gave_none : Consumes before.remaining after.remaining r.given → Gave limit before after r.given
   gave_none c = record {
     reads = reads + 1;
@@ -229,21 +268,23 @@ module _ (layout : LayoutTable) (before mid after : Told) (reads limit : ℕ) (f
   pub whole_read : Consumes mid.remaining after.remaining [] → IsAtEnd after.remaining → before.failed ≡ false → after.failed ≡ mid.failed → HasEvents layout r.given (Some endings.Whole) fs
       → IsRead layout limit before after fs
   whole_read c e unfailed k h = end_read layout limit before after r.given endings.Whole fs
-      (ended_gave c, (refl, e, k ∙ r.kept ∙ unfailed), r.going) h
+      (ended_gave c, (refl, e, k ∙ r.kept ∙ unfailed), r.going) first h
 
-  pub whole_refused : Consumes mid.remaining after.remaining [] → BeginsEvents layout r.given (Some endings.Whole) fs → IsRefused layout limit before after fs
-  whole_refused c h = end_refused layout limit before after r.given endings.Whole fs (ended_gave c) h
+  pub whole_refused : (e : Placed) → Consumes mid.remaining after.remaining []
+      → BeginsEvents layout r.given (Some endings.Whole) (fs ++ e ∷ []) → IsRefused layout limit before after fs e
+  whole_refused e c h = end_refused layout limit before after r.given endings.Whole fs e (ended_gave c) (omega arith) first h
 
   pub failed_read : Keeps mid.remaining after.remaining → after.failed ≡ true → HasEvents layout r.given (Some endings.Read) fs
       → IsRead layout limit before after fs
-  failed_read c f h = end_read layout limit before after r.given endings.Read fs (failed_gave c, (refl, f), r.going) h
+  failed_read c f h = end_read layout limit before after r.given endings.Read fs (failed_gave c, (refl, f), r.going) first h
 
-  pub failed_refused : Keeps mid.remaining after.remaining → BeginsEvents layout r.given (Some endings.Read) fs → IsRefused layout limit before after fs
-  failed_refused c h = end_refused layout limit before after r.given endings.Read fs (failed_gave c) h
+  pub failed_refused : (e : Placed) → Keeps mid.remaining after.remaining
+      → BeginsEvents layout r.given (Some endings.Read) (fs ++ e ∷ []) → IsRefused layout limit before after fs e
+  failed_refused e c h = end_refused layout limit before after r.given endings.Read fs e (failed_gave c) (omega arith) first h
 
 -- the limit of reads was reached
 module _ (layout : LayoutTable) (before after : Told) (limit : ℕ) (file : FileReader) (es fs : List Placed)
-    (r : Reads layout before after limit file es) where
+    (r : Reads layout before after limit file es) (grows : IsPrefix es fs) where
   abbrev all_gave : Gave limit before after r.given
   all_gave = record {
     reads = limit;
@@ -256,10 +297,12 @@ module _ (layout : LayoutTable) (before after : Told) (limit : ℕ) (file : File
   }
 
   pub limit_read : before.failed ≡ false → HasEvents layout r.given (Some endings.Reads) fs → IsRead layout limit before after fs
-  limit_read unfailed h = end_read layout limit before after r.given endings.Reads fs (all_gave, (refl, refl, r.kept ∙ unfailed), r.going) h
+  limit_read unfailed h = end_read layout limit before after r.given endings.Reads fs (all_gave, (refl, refl, r.kept ∙ unfailed), r.going)
+      (earlier_more layout after.reads r.given es fs r.earlier grows) h
 
-  pub limit_refused : BeginsEvents layout r.given (Some endings.Reads) fs → IsRefused layout limit before after fs
-  limit_refused h = end_refused layout limit before after r.given endings.Reads fs all_gave h
+  pub limit_refused : (e : Placed) → BeginsEvents layout r.given (Some endings.Reads) (fs ++ e ∷ []) → IsRefused layout limit before after fs e
+  limit_refused e h = end_refused layout limit before after r.given endings.Reads fs e all_gave (omega arith)
+      (earlier_more layout after.reads r.given es fs r.earlier grows) h
 
 pub not_done : {D : Type 0} (t : Bool) → (D → t ≡ true) → t ≡ false → D → ⊥
 not_done t back f d = not_both (sym (back d) ∙ f)

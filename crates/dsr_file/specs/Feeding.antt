@@ -1,6 +1,7 @@
 -- What a reader and a sink hold while a source is read.
 use Rattle.std.specs.Prelude.{◌≡◌, ℕ, ◌*◌, ◌≤◌, ◌⊎◌, false, List, ◌++◌, length, take, None}
 use Rattle.std.specs.Io.KnownBytes.{Consumes}
+use mathlib.Core.List.{IsPrefix}
 use Rattle.dsr_records.specs.Records.{LayoutTable}
 use Rattle.dsr_file.specs.declared.reader.FileReader.{FileReader}
 use Rattle.dsr_file.specs.Placed.{Placed}
@@ -8,7 +9,7 @@ use Rattle.dsr_file.specs.Orderly.{has_ended}
 use Rattle.dsr_file.specs.Texts.{so_far}
 use Rattle.dsr_file.specs.Runs.{BeginsEvents, HasEvents}
 use Rattle.dsr_file.specs.ReadCounts.{Answered}
-use Rattle.dsr_file.specs.Sources.{Told}
+use Rattle.dsr_file.specs.Sources.{Told, HasEarlier}
 use Rattle.dsr_file.specs.Standing.{Stands, IsDone}
 
 -- the reader stands for some bytes and these events
@@ -29,7 +30,7 @@ pub record FedSome (layout : LayoutTable) (bytes piece : List ℕ) (es : List Pl
   pub bound : used ≤ length piece
   pub begins : BeginsEvents layout (bytes ++ take used piece) None es
 
--- after so many reads, each of which gave 1 to 4,096 bytes, no fault stands in what was given
+-- after so many reads, each of which gave 1 to 4,096 bytes, no fault stands in what was given, and its events were put
 pub record Reads (layout : LayoutTable) (before after : Told) (reads : ℕ) (r : FileReader) (es : List Placed) : Type 0 where
   pub given : List ℕ
   pub answered : Answered before.reads after.reads reads reads
@@ -37,5 +38,7 @@ pub record Reads (layout : LayoutTable) (before after : Told) (reads : ℕ) (r :
   pub few : reads ≤ length given
   pub most : length given ≤ 4096 * reads
   pub stands : Stands layout r given es
+  pub known : IsPrefix (so_far layout given) es
+  pub earlier : HasEarlier layout after.reads given es
   pub going : has_ended (so_far layout given) ≡ false
   pub kept : after.failed ≡ before.failed

@@ -1,5 +1,5 @@
 -- What a refused reading of a file leaves.
-use Rattle.std.specs.Prelude.{◌≡◌, ℕ, List, [], ◌∷◌, ◌++◌, Result, Ok, Err}
+use Rattle.std.specs.Prelude.{◌≡◌, ℕ, List, [], Result, Ok, Err}
 use Rattle.dsr_records.specs.Records.{LayoutTable}
 use Rattle.dsr_file.specs.declared.reading.ReadFileError.{ReadFileError}
 use Rattle.dsr_file.specs.declared.reading.ReadFileError.TheVariants.{Memory, Refused}
@@ -9,7 +9,7 @@ use Rattle.dsr_file.specs.Sources.{Told, IsRefused}
 -- for want of memory nothing was read or put; a refused event follows what was put
 abbrev pub IsRefusal : LayoutTable → ℕ → Told → Told → List Placed → ReadFileError → Type 0
 IsRefusal layout limit before after es Memory = (after ≡ before) × (es ≡ [])
-IsRefusal layout limit before after es (Refused e) = IsRefused layout limit before after (es ++ e ∷ [])
+IsRefusal layout limit before after es (Refused e) = IsRefused layout limit before after es e
 
 -- an answer whose error is the event that the sink refused
 abbrev pub refused_event : {O : Type 0} → Result O Placed → Result O ReadFileError

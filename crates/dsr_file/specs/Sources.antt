@@ -1,5 +1,5 @@
 -- What a source gave, and what the reading of a file put.
-use Rattle.std.specs.Prelude.{◌≡◌, ℕ, ◌+◌, ◌-◌, ◌*◌, ◌≤◌, ◌⊎◌, Bool, true, false, List, ◌++◌, length, take, Option, None, Some}
+use Rattle.std.specs.Prelude.{◌≡◌, ℕ, ◌+◌, ◌-◌, ◌*◌, ◌≤◌, ◌⊎◌, Bool, true, false, List, [], ◌∷◌, ◌++◌, length, take, Option, None, Some}
 use Rattle.std.specs.Io.KnownBytes.{Consumes, IsAtEnd}
 use mathlib.Core.List.{IsPrefix}
 use Rattle.dsr_records.specs.Records.{LayoutTable}
@@ -56,17 +56,23 @@ GaveText layout limit before after text =
     Stopped layout limit before after text.bytes (Some text.ending)
     ⊎ ((given : List ℕ) × Stopped layout limit before after given None × IsPrefix given text.bytes × IsSettledBy layout given text)
 
--- want of memory ended the events of what the source gave, with how it ended where it did
+-- the list begins with the events of what was given before the last read
+abbrev pub HasEarlier : LayoutTable → ReadCount → List ℕ → List Placed → Type 0
+HasEarlier layout reads given es = IsPrefix (so_far layout (before_last reads given)) es
+
+-- want of memory ended the events of what the source gave, with how it ended where it did; those of what was given before the last read came first
 abbrev pub GaveForMemory : LayoutTable → ℕ → Told → Told → List Placed → Type 0
 GaveForMemory layout limit before after es =
     (given : List ℕ) × (told : Option Ending) × Stopped layout limit before after given told × IsCutOff (known_lines layout given told) es
+    × HasEarlier layout after.reads given es
 
 -- the list has the events of a text that the source gave, or those that want of memory ended
 abbrev pub IsRead : LayoutTable → ℕ → Told → Told → List Placed → Type 0
 IsRead layout limit before after es =
     ((text : FileText) × GaveText layout limit before after text × (es ≡ events_of_text layout text)) ⊎ GaveForMemory layout limit before after es
 
--- the list followed by the event is a run of a text that begins with what the source gave
-abbrev pub IsRefused : LayoutTable → ℕ → Told → Told → List Placed → Type 0
-IsRefused layout limit before after es =
-    (text : FileText) × (given : List ℕ) × Gave limit before after given × IsPrefix given text.bytes × IsRun layout text es
+-- the list followed by the event is a run of a text that begins with what the source gave; one read at most gave nothing, and the events of what was given before the last read were put
+abbrev pub IsRefused : LayoutTable → ℕ → Told → Told → List Placed → Placed → Type 0
+IsRefused layout limit before after es e =
+    (text : FileText) × (given : List ℕ) × (gave : Gave limit before after given) × IsPrefix given text.bytes × IsRun layout text (es ++ e ∷ [])
+    × (gave.reads ≤ gave.filled + 1) × HasEarlier layout after.reads given es

@@ -1,5 +1,6 @@
 //! Bytes into a reader, and its events into a sink.
 ghost use Rattle.std.specs.Prelude.{◌≡◌, ◌++◌, ◌∷◌, [], ◌+◌, ◌≤◌, ◌^◌, length, List, ℕ, Some, None, OnOk, IfOk, IfErr};
+ghost use mathlib.Core.List.{IsPrefix};
 ghost use Rattle.dsr_records.specs.Records.{LayoutTable};
 ghost use Rattle.dsr_file.specs.Placed.{Placed};
 ghost use Rattle.dsr_file.specs.Runs.{IsSomeRun, BeginsEvents, HasEvents, EndsWith};
@@ -39,6 +40,7 @@ pub(crate) fn feed<S: Sink>(file: &mut FileReader, piece: &[u8], sink: &mut S) -
     ensures open { ending_told file.new ≡ None }
     ensures used { OnOk result (bytes_used file.new ≤ bytes_used file.old + length piece.now) }
     ensures name { S.name sink.new ≡ S.name sink.old }
+    ensures grows { IsPrefix (S.list sink.old) (S.list sink.new) }
     ensures fed { OnOk result ((layout : LayoutTable) (b : List ℕ)
         → Stands layout file.old b (S.list sink.old)
         → Fed layout file.new b piece.now (S.list sink.new)) }
@@ -69,6 +71,7 @@ pub(crate) fn finish_all<S: Sink>(
     requires open { ending_told file.old ≡ None }
     requires known { IsKnown file.old (S.list sink.old) }
     ensures name { S.name sink.new ≡ S.name sink.old }
+    ensures grows { IsPrefix (S.list sink.old) (S.list sink.new) }
     ensures all { IfOk result (λ o. (layout : LayoutTable) (b : List ℕ)
         → Stands layout file.old b (S.list sink.old)
         → HasEvents layout b (Some ending) (S.list sink.new) × EndsWith (S.list sink.new) o) }

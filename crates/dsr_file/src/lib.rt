@@ -2,7 +2,8 @@
 //!
 //! The way of a byte:
 //!
-//! 1. `cutter` cuts the bytes into lines. A line that lies whole in the piece is not copied.
+//! 1. `cutter` cuts the bytes into lines, at the line feeds that `line_feed` finds. A line that lies
+//!    whole in the piece is not copied.
 //! 2. `grammar` takes each line: it has `dsr_records` check it, finds its place by the table in
 //!    `stage`, and counts what FOOT will be compared with.
 //! 3. `stage` keeps what the records so far leave open: the head with its summaries, or a block.

@@ -1,5 +1,5 @@
 //! The reading of a file from a source to its end.
-ghost use Rattle.std.specs.Prelude.{◌≡◌, ◌++◌, ◌∷◌, [], ◌<◌, ◌≤◌, ◌^◌, false, length, IfOk, OnOk, IfErr};
+ghost use Rattle.std.specs.Prelude.{◌≡◌, [], ◌<◌, ◌≤◌, ◌^◌, false, length, IfOk, OnOk, IfErr};
 ghost use Rattle.dsr_records.specs.Records.{LayoutTable};
 ghost use Rattle.dsr_file.specs.Runs.{EndsWith};
 ghost use Rattle.dsr_file.specs.Sources.{IsRead, IsRefused};
@@ -86,7 +86,7 @@ fn read_all<R: Source, S: Sink>(
         × IsRead layout max_reads (R.told reader.old) (R.told reader.new) (S.list sink.new)) }
     ensures refused { IfErr result (λ e. (layout : LayoutTable)
         → Stands layout file.old [] (S.list sink.old)
-        → IsRefused layout max_reads (R.told reader.old) (R.told reader.new) (S.list sink.new ++ e ∷ [])) }
+        → IsRefused layout max_reads (R.told reader.old) (R.told reader.new) (S.list sink.new) e) }
 {
     let mut piece = [0u8; PIECE];
     for _ in 0..max_reads {

@@ -24,7 +24,7 @@ module _ (options : Options) (before after : Told) (sent : List Placed) where
         | inr cut ↦ given_from_unclean (memory_is_unclean _ _ sent cut.3.events_are)
       ]
 
-  given_from_refused : (e : Placed) → IsRefused options.layout options.max_reads before after (sent ++ e ∷ []) → IsGiven options before after sent
+  given_from_refused : (e : Placed) → IsRefused options.layout options.max_reads before after sent e → IsGiven options before after sent
   given_from_refused e h =
       record { given = λ clean. let none = clean_is_whole sent (e ∷ []) (run_orderly options.layout h.0 _ h.4) clean in cc }
 

@@ -3,7 +3,7 @@ use Rattle.std.proofs.lemmas.Result.{err_from_is_err_and}
 use Rattle.dsr_file.specs.Standing.{Stands}
 use Rattle.dsr_file.specs.Feeding.{Fed}
 use Rattle.dsr_file.proofs.StandLemmas.{stands_joined}
-use Rattle.dsr_file.proofs.FeedLemmas.{event_run, fed_all, fed_some}
+use Rattle.dsr_file.proofs.FeedLemmas.{prefix_event, event_run, fed_all, fed_some}
 use Rattle.dsr_file.proofs.feeding.feed.Goals as goal
 
 pub hand_over-requires : goal.hand_over-requires
@@ -17,6 +17,7 @@ loop-event-preserved g c = record {
   count = omega (arith, c.hand_over.ensures.used, c.take-more.ensures.used, c.loop-event.invariant.count);
   ending = c.hand_over.ensures.ending ∙ c.take-more.ensures.«open»;
   name = c.in_ok-hand_over-in-Some.ensures.name ∙ c.loop-event.invariant.name;
+  grows = prefix_event _ _ _ c.in-Some.event c.loop-event.invariant.grows c.in_ok-hand_over-in-Some.ensures.added;
   stands = λ layout b s.
       subst (λ x. Stands layout c.hand_over.new.file (b ++ take (c.loop-event.used + c.take-more.result.0) c.args.piece.now) x) (sym c.in_ok-hand_over-in-Some.ensures.added)
       (c.hand_over.ensures.stands layout _ _ (stands_joined layout c.take-more.new.self b c.args.piece.now (g.S.Sink.list c.loop-event.sink) c.loop-event.used c.take-more.result.0 c.take-more.result.1 (Some c.in-Some.event) c.loop-event.invariant.bound c.in-Some.is (c.take-more.ensures.stands layout _ _ (c.loop-event.invariant.stands layout b s))));

@@ -22,7 +22,7 @@ returns-in-Err-clause-read g c = IfOk-weaker c.finish_all.result _ _
       all.1,
       failed_read layout (g.R.Source.told c.args.reader.now) (g.R.Source.told c.loop.reader) (g.R.Source.told c.read.new.self)
           c.loop.counter c.args.max_reads c.loop.file (g.S.Sink.list c.loop.sink) r
-          c.in-Err.ensures.reads (omega (arith, c.loop-test.true)) _ c.in-Err.ensures.bytes c.in-Err.ensures.failed all.0,
+          c.in-Err.ensures.reads (omega (arith, c.loop-test.true)) _ c.finish_all.ensures.grows c.in-Err.ensures.bytes c.in-Err.ensures.failed all.0,
     )) c.finish_all.ensures.all
 
 pub returns-in-Err-clause-refused : goal.returns-in-Err-clause-refused
@@ -31,7 +31,8 @@ returns-in-Err-clause-refused g c = IfErr-weaker c.finish_all.result _ _
     let r = c.loop.invariant.read layout s in
     failed_refused layout (g.R.Source.told c.args.reader.now) (g.R.Source.told c.loop.reader) (g.R.Source.told c.read.new.self)
     c.loop.counter c.args.max_reads c.loop.file (g.S.Sink.list c.loop.sink) r
-    c.in-Err.ensures.reads (omega (arith, c.loop-test.true)) _ c.in-Err.ensures.bytes (h layout r.given r.stands)) c.finish_all.ensures.refused
+    c.in-Err.ensures.reads (omega (arith, c.loop-test.true)) _ c.finish_all.ensures.grows e
+    c.in-Err.ensures.bytes (h layout r.given r.stands)) c.finish_all.ensures.refused
 
 pub returns-in-Ok-eq0-clause-read : goal.returns-in-Ok-eq0-clause-read
 returns-in-Ok-eq0-clause-read g c =
@@ -47,7 +48,8 @@ returns-in-Ok-eq0-clause-read g c =
       all.1,
       whole_read layout (g.R.Source.told c.args.reader.now) (g.R.Source.told c.loop.reader) (g.R.Source.told c.read.new.self)
           c.loop.counter c.args.max_reads c.loop.file (g.S.Sink.list c.loop.sink) r
-          counts (omega (arith, c.loop-test.true)) _ none (bytes.1 c.in-Ok-eq0.field-0-test (omega (arith, c.read.auto.piece)))
+          counts (omega (arith, c.loop-test.true)) _ c.finish_all-in-Ok-eq0.ensures.grows none
+          (bytes.1 c.in-Ok-eq0.field-0-test (omega (arith, c.read.auto.piece)))
           c.requires.unfailed c.in-Ok-eq0.ensures.failed all.0,
     )) c.finish_all-in-Ok-eq0.ensures.all
 
@@ -62,7 +64,7 @@ returns-in-Ok-eq0-clause-refused g c =
     let r = c.loop.invariant.read layout s in
     whole_refused layout (g.R.Source.told c.args.reader.now) (g.R.Source.told c.loop.reader) (g.R.Source.told c.read.new.self)
     c.loop.counter c.args.max_reads c.loop.file (g.S.Sink.list c.loop.sink) r
-    counts (omega (arith, c.loop-test.true)) _ none (h layout r.given r.stands)) c.finish_all-in-Ok-eq0.ensures.refused
+    counts (omega (arith, c.loop-test.true)) _ c.finish_all-in-Ok-eq0.ensures.grows e none (h layout r.given r.stands)) c.finish_all-in-Ok-eq0.ensures.refused
 
 pub returns-in_err-feed-in-Ok-clause-refused : goal.returns-in_err-feed-in-Ok-clause-refused
 returns-in_err-feed-in-Ok-clause-refused g c =
@@ -76,7 +78,8 @@ returns-in_err-feed-in-Ok-clause-refused g c =
     c.loop.counter c.args.max_reads c.loop.file c.feed.new.file (g.S.Sink.list c.loop.sink) _ r
     (take c.in-Ok.n c.read.new.piece) c.in-Ok.ensures.bytes.0
     counts (omega (arith, size, c.in-Ok.n-test))
-    few c.in-Ok.ensures.failed (omega (arith, c.loop-test.true)) (c.in_err-feed-in-Ok.ensures.refused layout r.given r.stands))
+    few c.in-Ok.ensures.failed (omega (arith, c.loop-test.true)) c.in_err-feed-in-Ok.field-0.0 c.feed.ensures.grows
+    (c.in_err-feed-in-Ok.ensures.refused layout r.given r.stands))
 
 pub returns-then-done-clause-read : goal.returns-then-done-clause-read
 returns-then-done-clause-read g c = λ layout s.
@@ -90,7 +93,7 @@ returns-then-done-clause-read g c = λ layout s.
           c.loop.counter c.args.max_reads c.loop.file c.feed.new.file (g.S.Sink.list c.loop.sink) (g.S.Sink.list c.feed.new.sink) r
           (take c.in-Ok.n c.read.new.piece) c.in-Ok.ensures.bytes.0
           counts (omega (arith, size, c.in-Ok.n-test))
-          few c.in-Ok.ensures.failed (omega (arith, c.loop-test.true)) c.requires.unfailed fed (c.done.ensures.phase.0 c.if-done.true),
+          few c.in-Ok.ensures.failed (omega (arith, c.loop-test.true)) c.requires.unfailed c.feed.ensures.grows fed (c.done.ensures.phase.0 c.if-done.true),
     )
 
 pub loop-preserved : goal.loop-preserved
@@ -109,7 +112,7 @@ loop-preserved g c =
           (take c.in-Ok.n c.read.new.piece) c.in-Ok.ensures.bytes.0
           counts (omega (arith, size, c.in-Ok.n-test))
           few c.in-Ok.ensures.failed (omega (arith, c.loop-test.true))
-          (c.in_ok-feed-in-Ok.ensures.fed layout r.given r.stands) (not_done c.done.result c.done.ensures.phase.1 c.if-done.false);
+          c.feed.ensures.grows (c.in_ok-feed-in-Ok.ensures.fed layout r.given r.stands) (not_done c.done.result c.done.ensures.phase.1 c.if-done.false);
     }
 
 pub returns-clause-read : goal.returns-clause-read
@@ -122,7 +125,7 @@ returns-clause-read g c =
     let all = h layout r.given r.stands in (
       all.1,
       limit_read layout (g.R.Source.told c.args.reader.now) (g.R.Source.told c.loop.reader)
-          c.args.max_reads c.loop.file (g.S.Sink.list c.loop.sink) _ r c.requires.unfailed all.0,
+          c.args.max_reads c.loop.file (g.S.Sink.list c.loop.sink) _ r c.finish_all-2.ensures.grows c.requires.unfailed all.0,
     )) c.finish_all-2.ensures.all
 
 pub returns-clause-refused : goal.returns-clause-refused
@@ -133,4 +136,4 @@ returns-clause-refused g c =
     let r = subst (λ n. Reads layout (g.R.Source.told c.args.reader.now)
     (g.R.Source.told c.loop.reader) n c.loop.file (g.S.Sink.list c.loop.sink)) end (c.loop.invariant.read layout s) in
     limit_refused layout (g.R.Source.told c.args.reader.now) (g.R.Source.told c.loop.reader)
-    c.args.max_reads c.loop.file (g.S.Sink.list c.loop.sink) _ r (h layout r.given r.stands)) c.finish_all-2.ensures.refused
+    c.args.max_reads c.loop.file (g.S.Sink.list c.loop.sink) _ r c.finish_all-2.ensures.grows e (h layout r.given r.stands)) c.finish_all-2.ensures.refused

@@ -1,4 +1,3 @@
-use Rattle.std.proofs.Common.{sym}
 use Rattle.dsr_file.proofs.ReadLemmas.{all_kept}
 use Rattle.dsr_file.proofs.whole.whole_events.Goals as goal
 
