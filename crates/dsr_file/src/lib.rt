@@ -38,7 +38,6 @@
 //! }
 //!
 //! /// The opening of a file comes once its FOOT is whole, and then its end.
-//! #[test]
 //! fn a_file_in_two_pieces(rt: HostRuntime) -> Result<(), Fail> {
 //!     let first = b"HEAD\tR1\t1\t1\t2024-01-01\t2024-01-31\tS\tL\nFO";
 //!     let (none, opened, ended) = events_of(rt.alloc(), first, b"OT\t2\t0\t0\n")?;

@@ -54,7 +54,6 @@
 //! }
 //!
 //! /// The report of one file has one line of the ledger.
-//! #[test]
 //! fn the_report_of_one_file(rt: HostRuntime) -> Result<(), Fail> {
 //!     let mut events = events_of(rt.alloc(), TEXT)?;
 //!     let mut books = Books::new(rt.alloc(), 1)?;

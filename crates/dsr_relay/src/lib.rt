@@ -13,7 +13,6 @@
 //!
 //! ```
 //! /// An example: the end of a file goes from one end of a relay to the other.
-//! #[test]
 //! fn an_end_goes_through(rt: HostRuntime) -> Result<(), Fail> {
 //!     let (mut feed, mut tap) = relay(rt.alloc(), 16)?;
 //!     assert!(rt; send_ended(&rt, &mut feed).is_ok());

@@ -162,10 +162,8 @@ fn length_of(lines: u64, bytes: &[u8]) -> usize {
 
 /// A source that gives a byte by each read is read up to its end, or up to the line at which memory is refused.
 #[test]
-fn no_read_after_the_end_or_want_of_memory(rt: HostRuntime) {
-    let Ok(bytes) = text(rt.alloc(), FILE, "", b"\n") else {
-        return;
-    };
+fn no_read_after_the_end(rt: HostRuntime) -> Result<(), AllocError> {
+    let bytes = text(rt.alloc(), FILE, "", b"\n")?;
     let mut events = EventList::new(rt.alloc());
     let mut source = in_pieces(bytes.as_slice(), 1, false);
     let reads = match read_file(
@@ -181,9 +179,10 @@ fn no_read_after_the_end_or_want_of_memory(rt: HostRuntime) {
         }
         Ok(_) => 0,
         Err(ReadFileError::Memory) => 0,
-        Err(ReadFileError::Refused(_)) => return,
+        Err(ReadFileError::Refused(_)) => return Ok(()),
     };
     assert!(rt; source.reads as usize == reads);
+    Ok(())
 }
 
 #[test]
