@@ -3,10 +3,9 @@
 
   measure.py [--repeats N] COMMAND [COMMAND ...] -- FILE [FILE ...]
 
-A command is one word of the shell's, quoted where it has several: '{}' in it stands for the files. A command
-without '{}' is given the first file on standard input. Standard output is thrown away. For each command one run
-is not measured; then all run in turn, N times (5). The last column is the least seconds by those of the last
-command.
+A command is one argument, quoted if it has several words; '{}' in it is replaced by the files. A command without
+'{}' gets the first file on standard input. Standard output is discarded. Each command runs once for its peak memory;
+then all run in turn, N times (5). The last column is the least seconds divided by those of the last command.
 """
 import os
 import shlex
@@ -18,7 +17,7 @@ import time
 
 
 def peak(words, given):
-    """The megabytes of one run at its peak. Without the command `time` this is at least what this process takes."""
+    """The peak megabytes of one run. Without the command `time` it is at least that of this process."""
     timer = shutil.which('time')
     if timer is None:
         return run(words, given)[1] / 1024

@@ -4,10 +4,10 @@
   report.py FOLDER [--bytes N] [--files N] [--isrcs N] [--works N] [--parties N] [--usages N] [--summaries N]
             [--recordings FILE] [--each-first]
 
---bytes is the size of all files together (about), --isrcs how many recordings there are, --works the works of a
-block, --parties the parties of a work, --usages the usages of a block, --summaries the summaries of a file. With
---recordings the ISRCs are the lines of FILE, and --isrcs says nothing. With --each-first the first blocks of a file
-name each recording once, in turn.
+--bytes is the approximate size of all files together, --isrcs the number of recordings, --works the works of a block,
+--parties the parties of a work, --usages the usages of a block, --summaries the summaries of a file. With --recordings
+the ISRCs are the lines of FILE, and --isrcs is ignored. With --each-first the first blocks of a file name each
+recording once, in turn.
 """
 import argparse
 import os

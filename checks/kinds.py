@@ -5,7 +5,7 @@ OWNERS = [f'{a}{b}{c}' for a in 'ABCDEFGHIJ' for b in 'KLMNOPQRST' for c in 'UVW
 
 
 class Writer:
-    """A report's file that grows up to some size, and counts for its FOOT."""
+    """A file of a report that grows to about a size, and counts for its FOOT."""
 
     def __init__(self, out, size, summaries=12):
         self.rng = random.Random('odd')
@@ -38,7 +38,7 @@ class Writer:
         self.blocks += 1
 
     def isrc(self, many=1000):
-        """A recording, of so many."""
+        """One of `many` recordings."""
         song = self.rng.randrange(many)
         return f'GB{OWNERS[song // 100_000 % 1000]}24{song % 100_000:05d}'
 
@@ -117,7 +117,7 @@ def long_lists(w):
 
 
 def wide(w):
-    """Blocks of 64 records of which 62 are works with 1,300 parties: what costs most to keep, for its bytes."""
+    """Blocks of 64 records, 62 of them works with 1,300 parties: the most memory for their bytes."""
     works = [('|'.join('abcdefgh'[at % 8] for at in range(1300)), '|'.join(['0'] * 1300))] * 62
     while w.left > 0:
         w.block(w.blocks, w.isrc(), works=works, usages=1)
@@ -142,7 +142,7 @@ KINDS = [
 
 
 def write(path, size, kind, summaries=12):
-    """Writes a report of this kind and about this size, and answers its size."""
+    """Writes a report of this kind and about this size, and returns its size."""
     with open(path, 'wb') as out:
         writer = Writer(out, size, summaries)
         kind(writer)

@@ -1,5 +1,5 @@
-// Preloaded into a program, this refuses one growth of its memory: the call of malloc or realloc whose number is REFUSE_NTH,
-// counted from 1. Where that call comes, the file REFUSE_MARK is made.
+// Preloaded into a program, this refuses one allocation: the call of malloc or realloc with the number REFUSE_NTH, counted
+// from 1. When that call is made, it creates the file REFUSE_MARK.
 #include <fcntl.h>
 #include <stdlib.h>
 #include <unistd.h>

@@ -1,4 +1,4 @@
-"""Runs a program from outside, with a bound of time, and tells what it used."""
+"""Runs a program with a time limit, and measures what it used."""
 import os
 import signal
 import subprocess
@@ -7,7 +7,7 @@ import tempfile
 import threading
 import time
 
-# A small process between ours and the program: a new process's peak of memory begins with that of the one that made it.
+# A small process between ours and the program: the peak memory of a new process starts at that of its parent.
 STARTER = '''
 import os, sys, time
 told = int(sys.argv[1])
@@ -23,8 +23,8 @@ os.write(told, f'{status} {seconds} {used.ru_maxrss} {used.ru_utime + used.ru_st
 class Answer:
     """How a run ended: its status (below zero: the signal that ended it), what it wrote, and what it used.
 
-    The megabytes are those at the peak; they are told where the run was not prepared, and are at least those of the
-    process that started it, some 9. `processor` is the seconds of all processors together.
+    The megabytes are the peak; they are known only without `prepare`, and are at least those of the process that
+    started it, about 9. `processor` is the CPU time in seconds.
     """
 
     def __init__(self, status, output, error, seconds, megabytes, processor, late):
@@ -41,9 +41,9 @@ class Answer:
 
 
 class Run:
-    """A program that runs. Standard input is the file `given`, or a pipe that `feed` writes to, or empty.
+    """A running program. Standard input is the file `given`, or a pipe that `feed` writes to, or empty.
 
-    `out` and `err` are files in the place of ones whose content is told; `prepare` is called in the new process.
+    `out` and `err` are files in place of the ones whose content the answer has; `prepare` is called in the new process.
     """
 
     def __init__(self, words, folder=None, given=None, feed=None, out=None, err=None, prepare=None):
@@ -70,7 +70,7 @@ class Run:
         os.killpg(self.process.pid, signal.SIGKILL)
 
     def end(self, seconds=60):
-        """The answer of the program; it is killed where it does not end in so many seconds."""
+        """The answer of the program; it is killed if it does not end within this many seconds."""
         late = []
         timer = threading.Timer(seconds, lambda: (late.append(True), self.stop()))
         timer.start()
@@ -87,7 +87,7 @@ class Run:
 
 
 def content(file):
-    """The bytes of a file that a program wrote, which is closed."""
+    """The bytes of a file that a program wrote; closes it."""
     if file is None:
         return b''
     with file:
@@ -100,7 +100,7 @@ def run(words, seconds=60, **given):
 
 
 def write_to(pipe, feed):
-    """Feeds a pipe and closes it; a reader that has gone is no fault."""
+    """Feeds a pipe and closes it; a reader that is gone is no error."""
     try:
         feed(pipe)
     except BrokenPipeError:
@@ -110,14 +110,14 @@ def write_to(pipe, feed):
 
 
 class Count:
-    """Counts checks, says those that fail or are skipped, and ends the program."""
+    """Counts checks, prints those that fail or are skipped, and ends the program."""
 
     def __init__(self):
         self.passed = 0
         self.failed = 0
 
     def check(self, name, problems):
-        """One check with what is wrong of it."""
+        """One check, with what is wrong with it."""
         problems = list(problems)
         self.passed += not problems
         self.failed += bool(problems)

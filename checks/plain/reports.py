@@ -1,6 +1,6 @@
 """A seeded generator of reports: several files, layouts, and faults of every kind.
 
-A report is built whole and right, and is then spoilt a few times. The first cases of a run each apply one spoiling
+A report is built whole and valid, and is then spoilt a few times. The first cases of a run each apply one spoiling
 of the list, so that a short run meets all of them; the later ones draw several.
 """
 import random
@@ -46,7 +46,7 @@ class Record:
 
 
 class Layout:
-    """Where the columns stand, the types of the records, and the bytes of the layout's file."""
+    """The places of the columns, the types of the records, and the bytes of the layout file."""
 
     def __init__(self, rng, standard):
         self.standard = standard
@@ -164,7 +164,7 @@ def count(records):
 
 
 def comments(rng, records, layout):
-    """Lines that are skipped, and records of skipped types, where they may stand."""
+    """Lines that are skipped, and records of skipped types, at places where they are allowed."""
     for record in records:
         while rng.random() < 0.08:
             record.before.append(rng.choice((b'', b'#', b'# a comment', b'#\t\t\t', '#caf\u00e9'.encode(), b'#' + b'\t' * 70)))
@@ -181,7 +181,7 @@ def comments(rng, records, layout):
 
 
 def whole(rng, message, file, files, layout, like=None):
-    """A file that is right."""
+    """A valid file."""
     first = head(rng, message, file, files)
     if like is not None:
         for name in ('UsageStartDate', 'UsageEndDate'):

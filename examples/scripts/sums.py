@@ -1,7 +1,7 @@
 #!/usr/bin/env python3
 """sums.py STATEMENT: what is owed by territory and currency, and to each party, as exact sums.
 
-Python's whole numbers have no limit, so nothing is rounded. A spreadsheet adds in floating point: give it the
+Python's integers have no limit, so nothing is rounded. A spreadsheet adds in floating point: give it the
 sums of this script, or the amounts as whole units (the column without its point), and no amounts with decimals.
 """
 import sys

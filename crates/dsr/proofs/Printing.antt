@@ -17,7 +17,7 @@ joined_next parts i d lt =
     let p = slice_index_or parts i d in
     ap joined (take_more parts i d lt) ∙ (joined_append (take i parts) (p ∷ []) ∙ ap (λ l. joined (take i parts) ++ l) (append-nil p.now))
 
--- all parts: those before one, that one, and those behind it
+-- all parts: those before one, that one, and those after it
 pub joined_at : (parts : List (Bor (List ℕ))) (i : ℕ) (d : Bor (List ℕ)) → i < length parts
     → joined parts ≡ joined (take i parts) ++ ((slice_index_or parts i d).now ++ joined (drop (i + 1) parts))
 joined_at parts i d lt =
@@ -25,7 +25,7 @@ joined_at parts i d lt =
     ap joined (sym (take-append-drop (i + 1) parts)) ∙ (joined_append (take (i + 1) parts) (drop (i + 1) parts)
     ∙ (ap (λ l. l ++ rest) (joined_next parts i d lt) ∙ append_assoc (joined (take i parts)) (slice_index_or parts i d).now rest))
 
--- a line of which the front and a part of what follows went out
+-- a line of which the front and a part of the rest were written
 pub written_in_part : (a b : Option (List ℕ)) (line front part rest : List ℕ) (n : ℕ) → line ≡ front ++ (part ++ rest)
     → n ≤ length part → Appends a b (front ++ take n part) → IsWritten false a b line
 written_in_part a b line front part rest n is le out =

@@ -1,4 +1,4 @@
--- What a command line asks for. What words say under a command's options is clap's definition.
+-- What a command line asks for. How its words are parsed by a command's rules is clap's definition.
 use Rattle.std.specs.Prelude.{◌≡◌, ◌≤◌, ℕ, Bool, pos, true, false, List, [], ◌∷◌, Option, Some, None, codes, unwrap_or}
 use Rattle.std.specs.Str.Parse.{IsNumeral, digits_value, without_leading_plus}
 use Rattle.clap.specs.Lexer.{usize_max}
@@ -8,10 +8,11 @@ use Rattle.clap.specs.declared.builder.action.ArgAction.TheVariants.{Set, SetTru
 use Rattle.clap.specs.declared.builder.value_parser.ValueParser.TheVariants as vp
 use Rattle.dsr.specs.declared.command.Asked.{Asked}
 
--- an option with one value, and one whose value is a whole number from 1 to the most
+-- an option with one value
 abbrev pub option_rule : Text → Rule
 option_rule name = record (new_rule name) { long = Some name; action = Some Set; value_names = 1 }
 
+-- an option with one value, a whole number from 1 to `most`, inclusive
 abbrev pub number_rule : Text → ℕ → Rule
 number_rule name most = record (option_rule name) { parser = Some (vp.Signed (pos 1) (pos most)) }
 
@@ -19,23 +20,24 @@ number_rule name most = record (option_rule name) { parser = Some (vp.Signed (po
 abbrev pub flag_rule : Text → Rule
 flag_rule name = record (new_rule name) { long = Some name; action = Some SetTrue }
 
--- the words that are no options: any number of names
+-- the positional arguments: any number of file names
 abbrev pub names_rule : Rule
 names_rule = record (new_rule (codes "FILE")) {
   action = Some Append;
   range = Some (record { start_inclusive = 0; end_inclusive = usize_max });
 }
 
--- the program's command line; the program's name is not among its words
+-- the program's command before its arguments; the program's name is not among the words that it parses
 unfoldable pub bare_command : App
 bare_command = on_top (λ s. record s { no_binary_name = true; has_version = true }) (new_app (codes "dsr"))
 
+-- the program's command, with its four options and the file names
 unfoldable pub command_line : App
 command_line = with_rule (with_rule (with_rule (with_rule (with_rule bare_command
     (number_rule (codes "capacity") 1024)) (number_rule (codes "max-reads") 16777216))
     (option_rule (codes "layout"))) (flag_rule (codes "progress"))) names_rule
 
--- the number is the standard one where none is given, and else the one given
+-- the number is the one given, or the default if none is given
 abbrev pub IsNumberAsked : ℕ → ℕ → Option Text → ℕ → Type 0
 IsNumberAsked standard most None number = number ≡ standard
 IsNumberAsked standard most (Some text) number = IsNumeral 10 (without_leading_plus text)
@@ -43,12 +45,12 @@ IsNumberAsked standard most (Some text) number = IsNumeral 10 (without_leading_p
     → digits_value 10 (without_leading_plus text) ≤ most
     → number ≡ digits_value 10 (without_leading_plus text)
 
--- the flag is set where it is given, and where it is not it has its default, which is false
+-- the flag is true if it is given, and false if it is not
 abbrev pub IsFlagAsked : Option Text → Bool → Type 0
 IsFlagAsked None flag = flag ≡ false
 IsFlagAsked (Some text) flag = (text ≡ codes "true" → flag ≡ true) × (text ≡ codes "false" → flag ≡ false)
 
--- what the rows of a command line ask for
+-- what the parsed rows of a command line ask for
 pub record IsAskedBy (rows : List Row) (asked : Asked) : Type 0 where
   pub capacity : IsNumberAsked 16 1024 (one_of (codes "capacity") rows) asked.capacity
   pub reads : IsNumberAsked 4194304 16777216 (one_of (codes "max-reads") rows) asked.max_reads

@@ -1,4 +1,4 @@
--- The exit status of a run, and the line that tells its fault.
+-- The exit status of a run, and the line for its error.
 use Rattle.std.specs.Prelude.{ℕ, List, [], ◌∷◌, ◌++◌, codes, decimal, Result, Ok, Err}
 use Rattle.dsr_intake.specs.declared.pipeline.errors.IntakeError.{IntakeError}
 use Rattle.dsr_intake.specs.declared.pipeline.errors.IntakeError.TheVariants as intake
@@ -10,12 +10,13 @@ use Rattle.dsr_records.specs.declared.layout_fault.LayoutError.{LayoutError}
 use Rattle.dsr_records.specs.declared.layout_fault.LayoutFault.{LayoutFault}
 use Rattle.dsr_records.specs.declared.layout_fault.LayoutFault.TheVariants as layout
 
+-- the exit status of a run: 0 clean, 1 with remarks, 3 if it failed
 abbrev pub status_number : Result Status RunError → ℕ
 status_number (Ok Clean) = 0
 status_number (Ok Remarks) = 1
 status_number (Err error) = 3
 
--- a line of the program's
+-- a line of the program on standard error
 abbrev pub line_of : List ℕ → List ℕ
 line_of text = codes "dsr: " ++ text ++ 10 ∷ []
 
@@ -34,7 +35,7 @@ intake_line intake.Memory = line_of (codes "out of memory")
 intake_line intake.Thread = line_of (codes "cannot start a thread")
 intake_line (intake.Broken file) = closed_line file
 
--- the line that tells the fault
+-- the line for a failed run
 abbrev pub fault_line : RunError → List ℕ
 fault_line (run.Intake error) = intake_line error
 fault_line run.Memory = line_of (codes "out of memory")
@@ -52,13 +53,15 @@ layout_fault_text layout.BadPosition = codes "BadPosition"
 layout_fault_text layout.ManySkips = codes "ManySkips"
 layout_fault_text layout.MissingRole = codes "MissingRole"
 
--- the lines of a file that cannot be opened, of a layout that cannot be read, and of a layout's first fault
+-- the line for a file that cannot be opened
 abbrev pub cannot_open_line : List ℕ → List ℕ
 cannot_open_line name = codes "dsr: cannot open " ++ (name ++ 10 ∷ [])
 
+-- the line for a layout file that cannot be read
 abbrev pub cannot_read_line : List ℕ → List ℕ
 cannot_read_line name = codes "dsr: cannot read " ++ (name ++ 10 ∷ [])
 
+-- the line for the first fault of a layout
 abbrev pub bad_layout_line : LayoutError → List ℕ
 bad_layout_line error = codes "dsr: bad layout at line "
     ++ (decimal error.line ++ (codes ": " ++ (layout_fault_text error.fault ++ 10 ∷ [])))

@@ -9,12 +9,12 @@ abbrev pub sources_of : List (List ℕ) → List (Option (List ℕ))
 sources_of [] = None ∷ []
 sources_of (name ∷ names) = map Some (name ∷ names)
 
--- the refusal of this file
+-- the error says that this file cannot be opened, or that memory was refused
 abbrev pub IsRefusalOf : List ℕ → OpenError → Type 0
 IsRefusalOf name (CannotOpen refused) = refused ≡ name
 IsRefusalOf name Memory = Unit {0}
 
--- the refusal of one of these files
+-- the error says that one of these files cannot be opened, or that memory was refused
 abbrev pub IsRefusal : List (List ℕ) → OpenError → Type 0
 IsRefusal names (CannotOpen refused) = Any (λ name. refused ≡ name) names
 IsRefusal names Memory = Unit {0}

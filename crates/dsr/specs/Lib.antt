@@ -1,4 +1,4 @@
--- definitions to believe
+-- the definitions to be trusted
 pub mod CommandLine
 pub mod Inputs
 pub mod Faults

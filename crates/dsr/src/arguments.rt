@@ -11,7 +11,7 @@ use dsr_cells::{NoMemory, Text};
 use dsr_intake::Options;
 use std::alloc::{AllocError, Global};
 
-/// The program's version, and the line of the toolchain that proved it.
+/// The program's version, and that of the toolchain that proved it.
 const VERSION: &str = "0.9.0
 rattle-kit-13f logic dac8208d650f15bf";
 
@@ -131,7 +131,7 @@ fn command<'a>(alloc: Global) -> Result<Command<'a>, AllocError>
         .arg(names_argument(alloc))
 }
 
-/// What the words after the program's name ask for.
+/// What the arguments after the program's name ask for.
 pub fn asked(alloc: Global, words: &[String]) -> Result<Asked, CommandFault>
     ensures capacity { IfOk result (λ a. (1 ≤ a.capacity) × (a.capacity ≤ 1024)) }
     ensures reads { IfOk result (λ a. (1 ≤ a.max_reads) × (a.max_reads ≤ 16777216)) }
@@ -150,7 +150,7 @@ pub fn asked(alloc: Global, words: &[String]) -> Result<Asked, CommandFault>
     }
 }
 
-/// What the matches of a command line say.
+/// The values of a parsed command line.
 fn read_matches(alloc: Global, matches: &ArgMatches<'_>) -> Result<Asked, NoMemory>
     ensures capacity { IfOk result (λ a. (1 ≤ a.capacity) × (a.capacity ≤ 1024)) }
     ensures reads { IfOk result (λ a. (1 ≤ a.max_reads) × (a.max_reads ≤ 16777216)) }
@@ -166,7 +166,7 @@ fn read_matches(alloc: Global, matches: &ArgMatches<'_>) -> Result<Asked, NoMemo
     })
 }
 
-/// The number that was given, or the standard one. The parser takes no number that is out of range.
+/// The number that was given, or the default. The parser refuses a number that is out of range.
 fn number_or(matches: &ArgMatches<'_>, id: &str, standard: u32, most: u32) -> u32
     requires some { 1 ≤ standard }
     requires within { standard ≤ most }
@@ -197,7 +197,7 @@ fn read_names(alloc: Global, matches: &ArgMatches<'_>) -> Result<Names, NoMemory
     }
 }
 
-/// The names, in their order.
+/// Copies the names, in order.
 fn copy_names(alloc: Global, words: &[&str]) -> Result<Names, NoMemory>
     ensures { IfOk result (λ names. names ≡ map (λ w. w.now) words.now) }
 {
@@ -209,7 +209,7 @@ fn copy_names(alloc: Global, words: &[&str]) -> Result<Names, NoMemory>
     Ok(names)
 }
 
-/// The name of the layout's file, if one was given.
+/// The name of the layout file, if one was given.
 fn read_layout_name(alloc: Global, matches: &ArgMatches<'_>) -> Result<Option<Text>, NoMemory>
     ensures { IfOk result (λ name. name ≡ first_of (codes "layout") (rows_of (found_of matches.now))) }
 {

@@ -22,7 +22,7 @@ pub fn exit_status(outcome: &Result<Status, RunError>) -> u8
     }
 }
 
-/// Writes the line for a fault, and answers whether the writer took it.
+/// Writes the line for an error, and returns whether the writer took all of it.
 pub fn write_fault<W: Write>(error: &RunError, out: &mut W) -> bool
     ensures { IsWritten result (W.contents out.old) (W.contents out.new) (fault_line error.now) }
 {
@@ -33,7 +33,7 @@ pub fn write_fault<W: Write>(error: &RunError, out: &mut W) -> bool
     }
 }
 
-/// Writes the line that says why there is no report.
+/// Writes the line for an error without a report.
 fn write_intake_fault<W: Write>(error: &IntakeError, out: &mut W) -> bool
     ensures { IsWritten result (W.contents out.old) (W.contents out.new) (fault_line (RunError.Intake error.now)) }
 {

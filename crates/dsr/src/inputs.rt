@@ -15,13 +15,13 @@ use std::{fs, io};
 pub enum InputReader {
     /// A file that was opened by its name.
     File(File),
-    /// Standard input, which has no name. It contains a buffer of 8 KB, and a source is moved to
-    /// its thread and back by value, so it is boxed.
+    /// Standard input, which has no name. It is boxed since it contains a buffer of 8 KiB, and a
+    /// source is moved to its thread and back by value.
     Standard(Box<StdinLock<'static>>),
 }
 
 impl InputReader {
-    /// How many bytes it gives in all, if that is known. Of a pipe it is not.
+    /// Its size in bytes, if that is known; a pipe's is not.
     fn size(&self) -> Option<u64> {
         match self {
             InputReader::File(file) => match file.metadata() {
@@ -42,7 +42,7 @@ impl Read for InputReader {
     }
 }
 
-/// The source of a file of the report, under the name that the file was opened by. Standard input has none.
+/// The source of a file of the report, with the name by which it was opened; standard input has none.
 #[derive(Drop)]
 pub struct Input {
     name: Option<Text>,
@@ -64,7 +64,7 @@ impl Input {
         }
     }
 
-    /// How many bytes it gives in all, if that is known.
+    /// Its size in bytes, if that is known.
     pub fn size(&self) -> Option<u64> {
         self.size
     }

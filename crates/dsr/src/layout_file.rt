@@ -1,4 +1,4 @@
-//! Reading a layout's file.
+//! Reading a layout file.
 ghost use Rattle.std.specs.Prelude.{IfOk, IfErr};
 ghost use Rattle.dsr.specs.LayoutFile.{IsTaken, IsLayoutAnswer, IsNoBytes};
 
@@ -11,7 +11,7 @@ use std::io::Read;
 pub enum LayoutReadError {
     /// A read failed.
     Read,
-    /// The first fault of the layout.
+    /// The bytes are no layout; this is their first fault.
     Bad(LayoutError),
     /// Memory was refused.
     Memory,
@@ -20,8 +20,8 @@ pub enum LayoutReadError {
 /// The most bytes that are read: one more than a layout may have.
 const MOST_BYTES: usize = 65_537;
 
-/// The layout that the reader's bytes spell, or their first fault. No more than 65,537 bytes are read, each read
-/// but the last giving one at least.
+/// The layout that the reader's bytes spell, or their first fault. At most 65,537 bytes are read, and every read
+/// but the last gives at least one.
 pub fn read_layout<R: Read>(alloc: Global, reader: &mut R) -> Result<Layout, LayoutReadError>
     ensures { IsLayoutAnswer (R.remaining reader.old) (R.remaining reader.new) result }
 {
@@ -32,7 +32,7 @@ pub fn read_layout<R: Read>(alloc: Global, reader: &mut R) -> Result<Layout, Lay
     }
 }
 
-/// All bytes of the reader, or more of them than a layout may have.
+/// All bytes of the reader, or the first 65,537 if there are more.
 fn read_bytes<R: Read>(alloc: Global, reader: &mut R) -> Result<Vec<u8>, LayoutReadError>
     ensures taken { IfOk result (λ v. IsTaken (R.remaining reader.old) (R.remaining reader.new) v.items) }
     ensures good { IfErr result IsNoBytes }

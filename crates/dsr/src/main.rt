@@ -2,15 +2,15 @@
 //!
 //! Its stages, in order:
 //!
-//! 1. `arguments`: what the words of the command line ask for (`command`).
+//! 1. `arguments`: what the command line asks for (`command`).
 //! 2. `print`: the help and the version, if they are asked for.
 //! 3. `layout_file`: the layout, if one is named.
 //! 4. `inputs`: a source for each file, or standard input alone; with `--progress`, `watched` counts what
-//!    they give and `progress` writes it to standard error.
+//!    they give, and `progress` writes the counts to standard error.
 //! 5. `run` of dsr_intake: reads the sources and writes the statement.
 //! 6. `faults`: the line that says what went wrong, and the exit status.
 //!
-//! `program` goes through them. No crate calls this one: a program that needs its work calls `run` of dsr_intake, or
+//! `program` runs these stages. No crate depends on this one: another program calls `run` of dsr_intake, or
 //! reads a file by `FileReader` as `crates/example_reader` does.
 #![tactic(auto)]
 

@@ -5,7 +5,7 @@ ghost use Rattle.dsr.specs.Printing.{IsWritten, joined};
 
 use std::io::Write;
 
-/// Writes the whole text and flushes. The fault is how many of its bytes went out.
+/// Writes the whole text and flushes. The error is how many of its bytes were written.
 pub fn print_text<W: Write>(text: &[u8], out: &mut W) -> Result<(), usize>
     ensures whole { OnOk result (Appends (W.contents out.old) (W.contents out.new) text.now) }
     ensures part { IfErr result (λ n. (n ≤ length text.now)
@@ -24,7 +24,7 @@ pub fn print_text<W: Write>(text: &[u8], out: &mut W) -> Result<(), usize>
     }
 }
 
-/// Writes the parts one after another: whether the writer took them all.
+/// Writes the parts one after another, and returns whether the writer took all of them.
 pub fn write_parts<W: Write>(parts: &[&str], out: &mut W) -> bool
     ensures { IsWritten result (W.contents out.old) (W.contents out.new) (joined parts.now) }
 {

@@ -1,4 +1,4 @@
-//! The program's way from its arguments to its exit status.
+//! From the program's arguments to its exit status.
 ghost use Rattle.std.specs.Prelude.{◌≡◌, false, All, IfOk, None};
 ghost use Rattle.dsr_records.specs.Layouts.{standard_layout};
 
@@ -28,10 +28,10 @@ use std::{env, fs, io};
 /// The status for a fault of the command line, of a file or of the layout.
 const REFUSED: u8 = 2;
 
-/// The status if the work could not be finished.
+/// The status if the run could not be finished.
 const UNFINISHED: u8 = 3;
 
-/// Does what the program's arguments ask for, and answers the exit status. What goes wrong is written to `fault`.
+/// Does what the program's arguments ask for, and returns the exit status. Errors are written to `fault`.
 pub fn serve<
     H: Env
         + AllocGlobal
@@ -64,7 +64,7 @@ pub fn serve<
     }
 }
 
-/// The words after the program's name.
+/// The arguments after the program's name.
 fn words<H: Env + AllocGlobal, F: Write>(
     rt: &H,
     alloc: Global,
@@ -85,7 +85,7 @@ fn words<H: Env + AllocGlobal, F: Write>(
     }
 }
 
-/// Prints a text that was asked for. The status says whether it could be printed.
+/// Prints a text that was asked for, and returns the exit status.
 fn show<W: Write + Drop, F: Write>(text: &Text, out: W, fault: &mut F) -> u8 {
     let mut out = out;
     match print_text(text.as_str().as_bytes(), &mut out) {
@@ -140,7 +140,7 @@ fn read_and_print<
     exit_status(&answer)
 }
 
-/// Reads the files and writes their statement, and writes to standard error how far the reading is.
+/// Reads the files and writes their statement, with progress on standard error.
 fn run_watched<
     H: Threads + Wait + RandomSource + Clock + Eprint + Copy + Send + 'static,
     W: Outlet,
@@ -160,7 +160,7 @@ fn run_watched<
     run(rt, alloc, &mut watched, Box::into_inner(options), out)
 }
 
-/// The options that a command line asks for. If it names no layout, theirs is the standard one.
+/// The options that a command line asks for, with the standard layout if it names none.
 fn options_of<H: Files<File = File>, F: Write>(
     rt: &H,
     alloc: Global,
@@ -182,7 +182,7 @@ fn options_of<H: Files<File = File>, F: Write>(
     }
 }
 
-/// The layout of the file that is named, or the standard one.
+/// The layout in the named file, or the standard one if none is named.
 fn layout_of<H: Files<File = File>, F: Write>(
     rt: &H,
     alloc: Global,
@@ -203,7 +203,7 @@ fn layout_of<H: Files<File = File>, F: Write>(
     }
 }
 
-/// Says why there is no layout.
+/// Writes why there is no layout.
 fn layout_refused<F: Write>(name: &Text, error: LayoutReadError, fault: &mut F) -> u8 {
     match error {
         LayoutReadError::Read => {
@@ -218,19 +218,19 @@ fn layout_refused<F: Write>(name: &Text, error: LayoutReadError, fault: &mut F) 
     }
 }
 
-/// Says that a file cannot be opened.
+/// Writes that a file cannot be opened.
 fn cannot_open<F: Write>(name: &Text, fault: &mut F) -> u8 {
     write_cannot_open(name, fault);
     REFUSED
 }
 
-/// Says that the arguments are refused.
+/// Writes that the arguments are refused.
 fn refuse<F: Write>(text: &str, fault: &mut F) -> u8 {
     write_line(text, fault);
     REFUSED
 }
 
-/// Says that memory was refused before the work began.
+/// Writes that memory was refused before anything was read.
 fn no_memory<F: Write>(fault: &mut F) -> u8 {
     write_line("out of memory", fault);
     UNFINISHED

@@ -1,4 +1,4 @@
-//! How far the reading is, on standard error, if `--progress` asks for it.
+//! Progress of the reading, on standard error, if `--progress` asks for it.
 use dsr_cells::NoMemory;
 use std::alloc::Global;
 use std::fmt;
@@ -10,16 +10,16 @@ use std::time::{Clock, Instant};
 /// The least time between two lines, in milliseconds.
 const PAUSE: u64 = 500;
 
-/// A line on standard error.
+/// A line of progress.
 #[derive(Clone, Copy)]
 pub struct ProgressLine {
-    /// The files that have ended, or whose reads failed.
+    /// The number of files that have ended, or whose reads failed.
     pub done: u64,
-    /// All files.
+    /// The number of all files.
     pub files: usize,
-    /// The bytes that were read.
+    /// The number of bytes read.
     pub read: u64,
-    /// The bytes of all files, if that is known.
+    /// The size of all files in bytes, if that is known.
     pub size: Option<u64>,
     /// The time since the run began, in tenths of a second.
     pub tenths: u64,
@@ -47,11 +47,11 @@ impl fmt::Display for ProgressLine {
 /// What was read of all files so far. Any thread may add to it at any time.
 #[derive(Drop)]
 struct Counts {
-    /// The bytes that were read.
+    /// The number of bytes read.
     read: AtomicU64,
-    /// The files that have ended, or whose reads failed.
+    /// The number of files that have ended, or whose reads failed.
     done: AtomicU64,
-    /// When the last line was written, in milliseconds since the run began.
+    /// The time of the last line, in milliseconds since the run began.
     told: AtomicU64,
 }
 
@@ -59,7 +59,7 @@ struct Counts {
 #[derive(Drop)]
 pub struct Progress<H> {
     rt: H,
-    /// When the run began. If the clock failed there is no time, and so no line.
+    /// When the run began; None if the clock failed, and then no line is written.
     began: Option<Instant>,
     files: usize,
     size: Option<u64>,
@@ -67,7 +67,8 @@ pub struct Progress<H> {
 }
 
 impl<H: Clock + Eprint + Copy> Progress<H> {
-    /// The progress of a run over so many files, of so many bytes if that is known, which begins now.
+    /// The progress of a run that begins now, over `files` files of `size` bytes in all, if that is
+    /// known.
     pub fn begin(
         rt: &H,
         alloc: Global,
@@ -105,7 +106,7 @@ impl<H: Clock + Eprint + Copy> Progress<H> {
         }
     }
 
-    /// Counts a read of so many bytes, 0 at the end, and writes a line if half a second has passed since the last one.
+    /// Counts a read of `bytes` bytes, 0 at the end, and writes a line if the last one was half a second ago.
     pub fn count(&self, bytes: usize) {
         if bytes == 0 {
             self.counts.done.fetch_add(1, Ordering::SeqCst);
@@ -121,14 +122,14 @@ impl<H: Clock + Eprint + Copy> Progress<H> {
         }
     }
 
-    /// The milliseconds since the run began, if the clock has them.
+    /// The milliseconds since the run began, if the clock gives them.
     fn millis(&self) -> Option<u64> {
         let passed = self.began?.elapsed(&self.rt).ok()?;
         let seconds = passed.as_secs().saturating_mul(1_000);
         Some(seconds.saturating_add(passed.subsec_millis() as u64))
     }
 
-    /// Whether no other thread has written a line since the last one that this thread knows of.
+    /// Claims the next line. False if another thread has claimed it since `told` was read.
     fn is_our_turn(&self, told: u64, now: u64) -> bool {
         let told_word = &self.counts.told;
         told_word

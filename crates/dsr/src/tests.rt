@@ -1,4 +1,4 @@
-//! Tests of the command line, the layout's file, and the lines on standard error.
+//! Tests of the command line, the layout file, and the lines on standard error.
 use crate::arguments::asked;
 use crate::command::{Asked, CommandFault, Names};
 use crate::faults::{
@@ -15,7 +15,7 @@ use dsr_records::{LayoutError, LayoutFault};
 use std::alloc::{AllocError, Global};
 use std::fs;
 
-/// What a command line of these words asks for.
+/// What a command line with these arguments asks for.
 fn asked_by(alloc: Global, words: &[&str]) -> Result<Result<Asked, CommandFault>, AllocError> {
     let mut strings = Vec::new(alloc);
     for word in words {
@@ -96,7 +96,7 @@ fn version(rt: HostRuntime) -> Result<(), AllocError> {
     Ok(())
 }
 
-/// Whether the line that tells a fault is this one.
+/// Whether the line for an error is this one.
 fn tells(alloc: Global, error: RunError, line: &[u8]) -> bool {
     let mut out = Vec::new(alloc);
     write_fault(&error, &mut out) && out.as_slice() == line

@@ -9,7 +9,7 @@ use std::alloc::Global;
 use std::io::Eprint;
 use std::time::Clock;
 
-/// A source whose reads are counted. It gives what it would give without that.
+/// A source whose reads are counted. It gives what the source inside gives.
 #[derive(Drop)]
 pub struct Watched<H> {
     input: Input,
@@ -33,7 +33,7 @@ impl<H: Clock + Eprint + Copy> Source for Watched<H> {
     }
 }
 
-/// The bytes of all files, if that is known.
+/// The size of all files in bytes, if that is known.
 fn whole_size(inputs: &Inputs) -> Option<u64> {
     let mut size = 0u64;
     for input in inputs {
@@ -42,7 +42,7 @@ fn whole_size(inputs: &Inputs) -> Option<u64> {
     Some(size)
 }
 
-/// The sources, whose reads are counted from now on.
+/// Wraps the sources, so that their reads are counted.
 pub fn watch<H: Clock + Eprint + Copy>(
     rt: &H,
     alloc: Global,

@@ -1,4 +1,4 @@
-//! The books under measure.
+//! Measuring the books.
 
 use crate::taker::{Taker, no_memory};
 use dsr_cells::NoMemory;
@@ -12,18 +12,18 @@ use std::time::{Clock, Instant};
 /// The most blocks that a file can have.
 const MOST_BLOCKS: u64 = 1 << 37;
 
-/// How many blocks wait, so that the clock is asked once for all of them.
+/// The number of blocks that wait, so that the clock is read once for all of them.
 const WAITING: usize = 4096;
 
-/// How many events a message of a relay has.
+/// The number of events in a message of a relay.
 const MESSAGE: usize = 32;
 
 /// What was measured.
 #[derive(Clone, Copy, Drop)]
 pub struct Figures {
-    /// How many blocks were booked.
+    /// The number of blocks that were booked.
     pub blocks: u64,
-    /// How many lines the ledger has.
+    /// The number of lines of the ledger.
     pub lines: usize,
     /// The nanoseconds of booking a block.
     pub block: u128,
@@ -40,7 +40,7 @@ pub struct Measured {
     nanos: u128,
 }
 
-/// Books a block of the file, where the books can take it: whether they took it.
+/// Books a block of the file if the books can take it, and returns whether they took it.
 fn book(books: &mut Books, block: &Block) -> Result<bool, NoMemory> {
     if !books.has_opening(0) || books.ended(0) || books.blocks(0) >= MOST_BLOCKS {
         return Ok(false);
@@ -49,7 +49,7 @@ fn book(books: &mut Books, block: &Block) -> Result<bool, NoMemory> {
     Ok(true)
 }
 
-/// Books the blocks of a message: how many the books took.
+/// Books the blocks of a message, and returns how many the books took.
 fn book_message(books: &mut Books, events: &[Event]) -> Result<u64, NoMemory> {
     let mut booked = 0u64;
     for event in events {
@@ -60,7 +60,7 @@ fn book_message(books: &mut Books, events: &[Event]) -> Result<u64, NoMemory> {
     Ok(booked)
 }
 
-/// Books all blocks: how many the books took.
+/// Books all blocks, and returns how many the books took.
 fn book_all(books: &mut Books, events: &[Event]) -> Result<u64, NoMemory> {
     let mut booked = 0u64;
     for message in events.chunks(MESSAGE) {
@@ -69,7 +69,7 @@ fn book_all(books: &mut Books, events: &[Event]) -> Result<u64, NoMemory> {
     Ok(booked)
 }
 
-/// The report of one file that has ended; none where it has not.
+/// The report of one file that has ended; None if it has not.
 fn report_of(books: Books) -> Result<Option<Report>, NoMemory> {
     if books.files() != 1 || books.opened() != 1 || !books.ended(0) {
         return Ok(None);
@@ -77,7 +77,7 @@ fn report_of(books: Books) -> Result<Option<Report>, NoMemory> {
     Ok(Some(books.into_report()?))
 }
 
-/// Makes the report: how many lines its ledger has.
+/// Makes the report, and returns the number of lines of its ledger.
 fn ledger_lines(books: Books) -> Result<usize, NoMemory> {
     match report_of(books)? {
         Some(report) => Ok(report.ledger.len()),
@@ -86,7 +86,7 @@ fn ledger_lines(books: Books) -> Result<usize, NoMemory> {
 }
 
 impl Measured {
-    /// Books of one file, which is not opened.
+    /// Books of one file, which is not opened yet.
     pub fn new(alloc: Global) -> Result<Measured, NoMemory> {
         Ok(Measured {
             books: Books::new(alloc, 1)?,
@@ -123,7 +123,7 @@ impl Measured {
         Ok(())
     }
 
-    /// Lets a block wait, and books all that wait where they are many.
+    /// Lets a block wait, and books all that wait once they are many.
     fn wait<C: Clock>(&mut self, clock: &C, event: Event) -> io::Result<()> {
         self.waiting
             .push(event)
@@ -154,7 +154,7 @@ impl Measured {
         self.books
     }
 
-    /// Makes the report, and says what was measured.
+    /// Makes the report, and returns what was measured.
     pub fn report<C: Clock>(self, clock: &C) -> io::Result<Figures> {
         let (blocks, nanos) = (self.blocks, self.nanos);
         let start = Instant::now(clock)?;

@@ -1,4 +1,4 @@
-//! Gives the bytes of an input to the reader, and its events to a taker.
+//! Passes the bytes of an input to the reader, and its events to a taker.
 ghost use Rattle.std.specs.Prelude.{◌≡◌, ◌+◌, ◌≤◌, ◌^◌, None, length};
 ghost use Rattle.dsr_file.specs.Standing.{bytes_used, ending_told};
 
@@ -9,10 +9,10 @@ use std::alloc::Global;
 use std::io::{self, Read};
 use std::time::Clock;
 
-/// The most bytes that one reader takes.
+/// The most bytes that a reader takes.
 const MOST: u64 = 1 << 36;
 
-/// Gives a piece to the reader, and what comes of it to the taker.
+/// Passes a piece to the reader, and the resulting events to the taker.
 fn feed<C: Clock, T: Taker>(
     clock: &C,
     file: &mut FileReader,
@@ -37,7 +37,7 @@ fn feed<C: Clock, T: Taker>(
     Ok(())
 }
 
-/// Reads to the end, a failure or the first fault.
+/// Reads until the end, a failed read, the first fault or the limit.
 fn drain<C: Clock, T: Taker, R: Read>(
     clock: &C,
     file: &mut FileReader,
@@ -58,7 +58,7 @@ fn drain<C: Clock, T: Taker, R: Read>(
     Ok(())
 }
 
-/// Tells the reader that the input is at its end, and gives what comes of that to the taker.
+/// Reports the end of the input to the reader, and passes the resulting events to the taker.
 fn end<C: Clock, T: Taker>(clock: &C, file: &mut FileReader, taker: &mut T) -> io::Result<()>
     requires { ending_told file.old ≡ None }
 {
@@ -71,7 +71,8 @@ fn end<C: Clock, T: Taker>(clock: &C, file: &mut FileReader, taker: &mut T) -> i
     Ok(())
 }
 
-/// Gives the bytes of an input to the reader, and its events to the taker: how many bytes there were.
+/// Passes the bytes of an input to the reader, and its events to the taker. Returns the number of
+/// bytes.
 fn read_through<C: Clock, T: Taker, R: Read>(
     clock: &C,
     file: &mut FileReader,
@@ -85,7 +86,7 @@ fn read_through<C: Clock, T: Taker, R: Read>(
     Ok(file.given())
 }
 
-/// Gives the events of an input to a taker: how many bytes it had.
+/// Passes the events of an input to a taker. Returns the number of bytes.
 pub fn read_all<C: Clock, T: Taker, R: Read>(
     clock: &C,
     alloc: Global,

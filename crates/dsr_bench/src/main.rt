@@ -1,8 +1,8 @@
-//! Measures the reader alone, or the books alone. It reads a report file on standard input and prints what there was.
+//! Measures the reader or the books. It reads a report file from standard input, and prints counts and times.
 //!
-//! 1. `taker`: what the events go to. Without an argument the blocks are counted, and the reader writes over their memory.
-//! 2. `books`: with the argument `--books` they are booked and the report is made. How long that took goes to standard error.
-//! 3. `drive`: gives the bytes of the input to the reader and its events to the taker.
+//! 1. `taker`: where the events go. Without an argument they are counted, and the reader reuses the blocks' memory.
+//! 2. `books`: with `--books` the blocks are booked and the report is made. The times go to standard error.
+//! 3. `drive`: passes the bytes of the input to the reader and its events to the taker.
 #![tactic(auto)]
 
 mod books;

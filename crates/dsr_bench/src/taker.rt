@@ -1,4 +1,4 @@
-//! What the events of a file go to.
+//! Where the events of a file go.
 
 use dsr_cells::NoMemory;
 use dsr_file::{Event, EventPart};
@@ -8,14 +8,14 @@ use std::time::Clock;
 
 /// What takes the events of a file.
 pub trait Taker {
-    /// Takes an event. It answers the block whose memory the reader may use again, where there is one.
+    /// Takes an event. Returns a block whose memory the reader may reuse, if there is one.
     fn take<C: Clock>(&mut self, clock: &C, event: Event) -> io::Result<Option<Block>>;
 }
 
 /// Counts the events.
 #[derive(Clone, Copy, Default, Drop)]
 pub struct Counted {
-    /// How many events there were.
+    /// The number of events.
     pub events: u64,
 }
 
@@ -29,7 +29,7 @@ impl Taker for Counted {
     }
 }
 
-/// A failure for want of memory.
+/// The error that memory was refused.
 pub fn no_memory(_: NoMemory) -> io::Error {
     io::ErrorKind::OutOfMemory.into()
 }

@@ -14,6 +14,7 @@ use crate::sink::Sink;
 
 /// Puts an event of the reader into the sink, and gives the reader the block that the sink can
 /// spare.
+#[inline(always)]
 fn hand_over<S: Sink>(file: &mut FileReader, event: Event, sink: &mut S) -> Result<(), Event>
     requires { IsSomeRun (S.list sink.old ++ event ∷ []) }
     ensures added { OnOk result (S.list sink.new ≡ S.list sink.old ++ event ∷ []) }
@@ -25,7 +26,10 @@ fn hand_over<S: Sink>(file: &mut FileReader, event: Event, sink: &mut S) -> Resu
     ensures left { events_left file.new ≡ events_left file.old }
     ensures ending { ending_told file.new ≡ ending_told file.old }
 {
-    sink.put(event)?;
+    match sink.put(event) {
+        Ok(()) => {}
+        Err(back) => return Err(back),
+    }
     if let Some(block) = sink.spare() {
         file.reuse(block);
     }

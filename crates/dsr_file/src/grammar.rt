@@ -8,7 +8,7 @@ use crate::event::EventPart;
 use crate::fault::{Ending, FileFault, Outcome};
 use crate::stage::Stage;
 use dsr_records::{
-    Block, CheckedLine, Foot, Kind, Layout, Record, RecordFault, check_line, text_of,
+    Block, CheckedLine, Foot, Kind, Layout, Record, RecordFault, TypedLine, text_of,
 };
 use std::alloc::Global;
 
@@ -40,7 +40,7 @@ pub(crate) struct Grammar {
 
 impl Grammar {
     ghost use Rattle.dsr_file.specs.declared.grammar.Step.{Step};
-    ghost use Rattle.dsr_file.specs.Readings.{Reading, SkippedLine, Holds, reading, of_utf8};
+    ghost use Rattle.dsr_file.specs.Readings.{Reading, SkippedLine, Holds, reading, of_record, of_utf8};
     ghost use Rattle.dsr_records.specs.declared.record.Record.TheVariants as the;
     ghost use Rattle.dsr_file.specs.Grammars.{Keeps, LineSteps, RecordSteps, IsRecord, kept_count_fault};
     ghost use Rattle.dsr_records.specs.declared.kinds.Kind.TheVariants as kinds;
@@ -101,6 +101,7 @@ impl Grammar {
     }
 
     /// Takes the work or the usage of a line, which has no early fault.
+    #[inline(always)]
     fn add_member(&mut self, alloc: Global, line: &CheckedLine<'_>) -> Step
         requires lines { self.old.lines < 2 ^ 40 - 1 }
         requires free { IsFree self.old.stage line.now }
@@ -142,6 +143,7 @@ impl Grammar {
     }
 
     /// Opens the block of a resource line, which has no early fault, over the spare block.
+    #[inline(always)]
     fn open(
         &mut self,
         alloc: Global,
@@ -165,6 +167,7 @@ impl Grammar {
     }
 
     /// Tests a record, and takes it where it has no early fault.
+    #[inline(always)]
     fn record(
         &mut self,
         alloc: Global,
@@ -248,13 +251,78 @@ impl Grammar {
             self.skip_line();
             return Step::Good;
         }
-        match &check_line(layout, text) {
-            Err(fault) => Step::Faulty(file_fault(*fault)),
-            Ok(line) => self.checked(alloc, line, spare, closed),
+        let mut line = TypedLine::new();
+        match line.find(layout, text) {
+            Err(fault) => Step::Faulty(file_fault(fault)),
+            Ok(()) => self.typed(alloc, &line, spare, closed),
+        }
+    }
+
+    /// Takes a line of a known record type. What follows is compiled for each kind that blocks are
+    /// made of, so that it asks for the kind no more.
+    #[inline(always)]
+    fn typed(
+        &mut self,
+        alloc: Global,
+        line: &TypedLine<'_>,
+        spare: &mut Option<Block>,
+        closed: &mut Option<EventPart>,
+    ) -> Step
+        requires lines { self.old.lines < 2 ^ 40 - 1 }
+        requires none { closed.old ≡ None }
+        ensures steps { (ls : List Reading) → Keeps self.old ls
+            → LineSteps ls (of_record line.now) result closed.new self.new }
+        ensures counts { self.new.lines ≤ self.old.lines + 1 }
+    {
+        match line.kind() {
+            Kind::Usage => self.tested(alloc, line, spare, closed),
+            Kind::Work => self.tested(alloc, line, spare, closed),
+            Kind::Resource => self.tested(alloc, line, spare, closed),
+            _ => self.tested_apart(alloc, line, spare, closed),
+        }
+    }
+
+    /// The same as `tested`, for the kinds of which a file has few lines.
+    #[inline(never)]
+    fn tested_apart(
+        &mut self,
+        alloc: Global,
+        line: &TypedLine<'_>,
+        spare: &mut Option<Block>,
+        closed: &mut Option<EventPart>,
+    ) -> Step
+        requires lines { self.old.lines < 2 ^ 40 - 1 }
+        requires none { closed.old ≡ None }
+        ensures steps { (ls : List Reading) → Keeps self.old ls
+            → LineSteps ls (of_record line.now) result closed.new self.new }
+        ensures counts { self.new.lines ≤ self.old.lines + 1 }
+    {
+        self.tested(alloc, line, spare, closed)
+    }
+
+    /// Tests the cells of a line, and takes its record where they have no fault.
+    #[inline(always)]
+    fn tested(
+        &mut self,
+        alloc: Global,
+        line: &TypedLine<'_>,
+        spare: &mut Option<Block>,
+        closed: &mut Option<EventPart>,
+    ) -> Step
+        requires lines { self.old.lines < 2 ^ 40 - 1 }
+        requires none { closed.old ≡ None }
+        ensures steps { (ls : List Reading) → Keeps self.old ls
+            → LineSteps ls (of_record line.now) result closed.new self.new }
+        ensures counts { self.new.lines ≤ self.old.lines + 1 }
+    {
+        match line.check() {
+            Err(fault) => Step::Faulty(file_fault(fault)),
+            Ok(line) => self.checked(alloc, &line, spare, closed),
         }
     }
 
     /// Takes a line without a fault of its own.
+    #[inline(always)]
     fn checked(
         &mut self,
         alloc: Global,

@@ -1,5 +1,5 @@
 //! Where a file stands: what its records so far leave to be known.
-ghost use Rattle.std.specs.Prelude.{◌≡◌, ◌++◌, ◌∷◌, [], ◌+◌, ◌<◌, ◌≤◌, true, length, None, OnOk, OnErr, IfOk};
+ghost use Rattle.std.specs.Prelude.{◌≡◌, ◌++◌, ◌∷◌, [], ◌+◌, ◌<◌, ◌≤◌, true, length, None, OnOk, OnErr, OnSome, IfOk, IfSome};
 ghost use Rattle.std.specs.List.{list_any};
 ghost use Rattle.std.specs.Str.{bytes_eq};
 ghost use Rattle.std.specs.Option.{option_map};
@@ -44,6 +44,7 @@ pub(crate) enum Stage {
 }
 
 /// The fault of a record of this kind that stands there, if any.
+#[inline(always)]
 fn place_fault(before: Before, kind: Kind) -> Option<FileFault>
     ensures { result ≡ place before kind }
 {
@@ -84,6 +85,7 @@ fn twice_or_many(summaries: &Summaries, id: &str) -> Option<FileFault>
 }
 
 /// The fault of a work or a usage with this identifier behind the records of a block.
+#[inline(always)]
 fn number_or_long(block: &Block, id: &str) -> Option<FileFault>
     ensures { result ≡ member_fault block.now.id (block_length block.now) id.now }
 {
@@ -99,6 +101,7 @@ fn number_or_long(block: &Block, id: &str) -> Option<FileFault>
 
 impl Stage {
     /// The column of the place table.
+    #[inline(always)]
     fn before(&self) -> Before
         ensures { result ≡ column_at self.now }
     {
@@ -115,6 +118,7 @@ impl Stage {
     }
 
     /// The fault of a record of this kind and with this identifier, where it stands in its place.
+    #[inline(always)]
     fn kept_fault(&self, kind: Kind, id: Option<&str>) -> Option<FileFault>
         ensures { result ≡ kept_fault self.now kind (option_map (λ i. i.now) id.entry) }
     {
@@ -129,6 +133,7 @@ impl Stage {
     }
 
     /// The first fault of a record of this kind and with this identifier.
+    #[inline(always)]
     pub(crate) fn fault(&self, kind: Kind, id: Option<&str>) -> Option<FileFault>
         ensures { result ≡ stage_fault self.now kind (option_map (λ i. i.now) id.entry) }
     {
@@ -185,6 +190,7 @@ impl Stage {
 
     /// Opens the block of a resource line, which has no fault, over the spare block, and gives the
     /// event that the line closes. Want of memory closes nothing.
+    #[inline(always)]
     pub(crate) fn open(
         &mut self,
         alloc: Global,
@@ -198,12 +204,31 @@ impl Stage {
         ensures given { OnOk result (closed.new ≡ given_by self.old line.now) }
         ensures memory { OnErr result (has_texts line.now ≡ true) }
     {
-        let mut block = spare.take().unwrap_or_else(|| Block::empty(alloc));
-        let Ok(()) = line.open_block(alloc, &mut block) else {
-            return Err(NoMemory);
-        };
-        self.close(Stage::Open(block), closed);
+        let block = spare.get_or_insert_with(|| Block::empty(alloc));
+        line.open_block(alloc, block)?;
+        self.go_on(spare, closed);
         Ok(())
+    }
+
+    /// Goes on to the block that was written over the spare one, and gives what was open.
+    #[inline(always)]
+    fn go_on(&mut self, spare: &mut Option<Block>, closed: &mut Option<EventPart>)
+        requires none { closed.old ≡ None }
+        ensures next { IfSome spare.old (λ block. self.new ≡ Stage.Open block) }
+        ensures given { OnSome spare.old (closed.new ≡ part_given self.old) }
+    {
+        if let Stage::Open(open) = self {
+            if let Some(block) = spare {
+                mem::swap(open, block);
+            }
+            if let Some(block) = spare.take() {
+                *closed = Some(EventPart::Block(block));
+            }
+            return;
+        }
+        if let Some(block) = spare.take() {
+            self.close(Stage::Open(block), closed);
+        }
     }
 
     fn add_summary(&mut self, summary: Summary) -> Result<(), NoMemory>
@@ -219,6 +244,7 @@ impl Stage {
     }
 
     /// Takes the work or the usage of a line, which has no fault. Want of memory changes nothing.
+    #[inline(always)]
     pub(crate) fn add_member(
         &mut self,
         alloc: Global,

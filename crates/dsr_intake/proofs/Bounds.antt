@@ -1,4 +1,4 @@
--- How many bytes numbers and amounts have at most.
+-- The most bytes of numbers and amounts.
 use Rattle.std.proofs.Common.{arith, ◌≡◌, ℕ, ◌+◌, ◌-◌, ◌^◌, ◌≤◌, ◌<◌, ◌/◌, ◌%◌, ◌++◌, ◌∷◌, List, length, replicate, true, false, length-append, lit<, min}
 use Rattle.std.specs.Prelude.{ℤ, pos, negsuc, Bool, unsigned_abs}
 use Rattle.std.specs.Int.{is_negative, w128}

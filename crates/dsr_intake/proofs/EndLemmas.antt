@@ -32,7 +32,7 @@ clean_is_ended (Opened o) h = cc
 clean_is_ended (Block b) h = cc
 clean_is_ended (Ended o) h = refl
 
--- where a list has a clean end, an Ended stands last
+-- if a list has a clean end, its last event is an Ended
 clean_last : (xs : List Placed) → ends_clean xs ≡ true → (i : ℕ) × (e : Placed) × (slice_get xs i ≡ Some e) × (is_ended e.part ≡ true) × (i + 1 ≡ length xs)
 clean_last [] h = cc
 clean_last (x ∷ []) h = (0, x, refl, clean_is_ended x.part h, refl)
@@ -51,7 +51,7 @@ placed_push : (n : ℕ) (parts : List EventPart) (p : EventPart) → (m : ℕ)
 placed_push n [] p = (n, refl)
 placed_push n (q ∷ parts) p = let r = placed_push (n + 1) parts p in (r.0, ap (λ l. record { place = n; part = q } ∷ l) r.1)
 
--- events that want of memory ends have no clean end
+-- events that end with Memory have no clean end
 pub memory_is_unclean : (parts : List EventPart) (line : ℕ) (es : List Placed) → es ≡ placed 0 (parts ++ Ended (Fault line Memory) ∷ []) → ends_clean es
     ≡ false
 memory_is_unclean parts line es h =

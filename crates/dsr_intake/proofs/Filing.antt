@@ -1,4 +1,4 @@
--- The file that a list of events tells of, event by event.
+-- The file of a list of events, event by event.
 use Rattle.std.proofs.Common.{◌≡◌, ℕ, zero, suc, ◌+◌, ◌<◌, ◌≤◌, ◌^◌, ◌||◌, true, false, List, [], ◌∷◌, ◌++◌, length, take, drop, get_or, Some, IsSome, refl}
 use Rattle.std.proofs.Common.{sym, ap, subst, ◌∙◌, arith, add-one, append_assoc, length-append, set, slice_get}
 use Rattle.std.specs.List.{filter_map}
@@ -59,7 +59,7 @@ module _ (n : ℕ) where
   later_at k (part.Block b) some f = refl
   later_at k (part.Ended o) some f = refl
 
--- an event that has not ended tells no outcome
+-- an event that is no Ended has no outcome
 no_outcome : (es : List Placed) → has_ended es ≡ false → filter_map outcome_in es ≡ []
 no_outcome [] h = refl
 no_outcome (e ∷ es) h = no_outcome_at e.place e.part es h (no_outcome es (none_at e.place e.part es h))
@@ -81,12 +81,12 @@ get_end (y ∷ xs) x = get_end xs x
 pub later_part : (es : List Placed) (e : Placed) → IsOrderly (es ++ e ∷ []) → 0 < length es → is_opening e.part ≡ false
 later_part es e o some = later_at e.place (length es) e.part some (o.parts (length es) e (get_end es e))
 
--- a later event tells of its part
+-- a later event adds its part
 pub file_more : (es : List Placed) (e : Placed) → IsOrderly (es ++ e ∷ []) → 0 < length es → has_ended es ≡ false → file_of (es ++ e ∷ [])
     ≡ with_part (file_of es) e.part
 file_more es e o some h = more_at e.place es e.part (later_part es e o some) (no_outcome es h)
 
--- a file that has not ended may take a further event, whose place shows that there is room
+-- a file that has not ended can take one more event, whose place shows that there is room
 pub going : (es : List Placed) → IsOrderly es → 0 < length es → has_ended es ≡ false → length es < 2 ^ 37 → IsGoing (file_of es)
 going es o some h short =
     record { running = ap first (no_outcome es h); opened = opened_first es o some h; short = omega (arith, blocks_le es) }
@@ -106,7 +106,7 @@ knows_more a b k f g w p = (set w.0 k g, p w.0 w.1 w.2, get_set_same w.0 k f g w
 pub changes_none : (a : Books) (k : ℕ) (f : File) → Changes a a k f f
 changes_none a k f files stands at = subst (Stands a) (sym (ap (set files k) (sym (get_or_from_slice_get files k f f at)) ∙ set-get_or files k f)) stands
 
--- event i of those that follow, after the others before it
+-- event i of those that follow, after those before it
 pub record FollowsNext (taken events : List Placed) (i : ℕ) (e : Placed) : Type 0 where
   pub orderly : IsOrderly ((taken ++ take i events) ++ e ∷ [])
   pub running : has_ended (taken ++ take i events) ≡ false

@@ -29,9 +29,9 @@ gave_more told options [] (y ∷ ss) ts r s t h new = absurd h
 gave_more told options (x ∷ rs) [] ts r s t h new = absurd h
 gave_more told options (x ∷ rs) (y ∷ ss) [] r s t h new = absurd h
 
--- `H` is a handle of a thread, of which `reader`, `name` and `terms` tell what the thread was given
+-- `H` is a handle of a thread; `reader`, `name` and `terms` give what the thread was given
 module _ {R H : Type 0} (told : R → Told) (options : Options) (reader : H → R) (name : H → Name) (terms : H → Options) where
-  -- some threads run, and the readers that are left are to be started
+  -- some threads run, and those of the remaining readers are not started yet
   pub record Starting (all : List R) (hs : List H) (ts : List TapView) (left : List R) : Type 0 where
     pub readers : map reader hs ++ left ≡ all
     pub names : map name hs ≡ map (λ t. t.name) ts
@@ -54,7 +54,7 @@ module _ {R H : Type 0} (told : R → Told) (options : Options) (reader : H → 
         fresh = All-tail (λ x. (told x).failed ≡ false) r left s.fresh;
       }
 
-  -- some threads are joined, and the ones that are left still run
+  -- some threads are joined, and the others still run
   pub record Joining (all : List R) (lists : List (List Placed)) (hs : List H) (ts : List TapView) (news : List R) : Type 0 where
     pub names : map name hs ≡ map (λ t. t.name) ts
     pub terms_are : All (λ h. terms h ≡ options) hs
@@ -70,7 +70,7 @@ module _ {R H : Type 0} (told : R → Told) (options : Options) (reader : H → 
   joining_none hs ts names terms_are drained =
       record { names = names; terms_are = terms_are; drained = drained; texts = []; before = []; gave = tt; readers = refl; taken = refl }
 
-  -- each thread that is left has its tap
+  -- each thread that still runs has its tap
   pub joining_tap : (all : List R) (lists : List (List Placed)) (h : H) (hs : List H) (news : List R) → Joining all lists (h ∷ hs) [] news → ⊥
   joining_tap all lists h hs news j = let e = j.names in cc
 
@@ -78,7 +78,7 @@ module _ {R H : Type 0} (told : R → Told) (options : Options) (reader : H → 
       → Joining all lists (h ∷ hs) (t ∷ ts) news → name h ≡ t.name
   joining_name all lists h hs t ts news j = let e = j.names in cc
 
-  -- what the join told of one thread
+  -- the result of joining one thread
   pub record Settled (h : H) (t : TapView) (new : R) : Type 0 where
     pub sent : List Placed
     pub left : List Placed
@@ -116,7 +116,7 @@ module _ {R H : Type 0} (told : R → Told) (options : Options) (reader : H → 
   )
   joining_done all lists (t ∷ ts) news j = let e = j.names in cc
 
--- where what was taken is the texts' events, the files are the texts'
+-- if the events taken are those of the texts, so are the files
 pub files_of : (layout : LayoutTable) (ts : List TapView) (texts : List FileText) → map (λ t. t.taken) ts ≡ map (events_of_text layout) texts
     → map (λ t. file_of t.taken) ts ≡ map (λ t. file_of (events_of_text layout t)) texts
 files_of layout [] [] h = refl

@@ -19,7 +19,7 @@ then {P} {after} {p} {q} {r} {xs} {ys} first second =
 pub turn : {P : Type 0} {after : P → P → List ℕ → Type 0} {p q : P} {xs ys : List ℕ} → Puts after p q xs → xs ≡ ys → Puts after p q ys
 turn {P} {after} {p} {q} puts e = subst (λ l. Puts after p q l) e puts
 
--- the lines of one item more
+-- the lines of one more item
 pub more : {P : Type 0} {after : P → P → List ℕ → Type 0} {p q r : P} {X : Type 0} (f : X → List ℕ) (xs : List X) (i : ℕ) (x d : X) → i < length xs
     → x ≡ get_or xs i d → Puts after p q (flat_map f (take i xs)) → Puts after q r (f x) → Puts after p r (flat_map f (take (i + 1) xs))
 more f xs i x d less is before now =
@@ -31,7 +31,7 @@ pub all : {P : Type 0} {after : P → P → List ℕ → Type 0} {p q : P} {X : 
     → Puts after p q (flat_map f (take i xs)) → Puts after p q (flat_map f xs)
 all f xs i end puts = turn puts (ap (flat_map f) (take_all i xs end))
 
--- the line of one file more
+-- the line of one more file
 pub file_lines_more : (place : ℕ) (files : List FileLine) (f : FileLine)
     → file_lines place (files ++ f ∷ []) ≡ file_lines place files ++ file_line (place + length files) f
 file_lines_more place [] f =
@@ -52,16 +52,16 @@ more_files {P} {after} {p} {q} {r} {f} files i place d less at before now is =
     let line = ap (file_lines 1) next ∙ file_lines_more 1 was f in
     turn (then before (turn now (ap (λ n. file_line n f) here))) (sym line)
 
--- the same number, told another way
+-- the same number, in another form
 pub signed : {P : Type 0} {after : P → P → List ℕ → Type 0} {p q : P} {n : ℤ} (m : ℤ)
     → Puts after p q (9 ∷ signed_decimal n) → n ≡ m → Puts after p q (9 ∷ signed_decimal m)
 signed m puts same = turn puts (ap (λ x. 9 ∷ signed_decimal x) same)
 
--- the same cell, told another way
+-- the same cell, in another form
 pub cell : {P : Type 0} {after : P → P → List ℕ → Type 0} {p q : P} {x : List ℕ} (y : List ℕ) → Puts after p q (9 ∷ x) → x ≡ y → Puts after p q (9 ∷ y)
 cell y puts same = turn puts (ap (λ l. 9 ∷ l) same)
 
--- the cells of a report's line, of which the two days are put at once
+-- the cells of a report's line, with the two days put at once
 pub days_within : (head id files first last days end : List ℕ)
     → head ++ (id ++ (files ++ ((first ++ (last ++ [])) ++ (days ++ end))))
     ≡ head ++ ((id ++ (files ++ (first ++ (last ++ (days ++ []))))) ++ end)

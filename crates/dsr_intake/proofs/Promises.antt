@@ -1,4 +1,4 @@
--- What a thread's list is, by what the reading of its file answered.
+-- A thread's list of events, by the result of reading its file.
 use Rattle.std.proofs.Common.{◌≡◌, false, List, [], ◌∷◌, ◌++◌, inl, inr, ap, Result, Ok, Err, IfErr}
 use Rattle.std.specs.Prelude.{OnOk}
 use Rattle.dsr_file.specs.declared.fault.Outcome.{Outcome}

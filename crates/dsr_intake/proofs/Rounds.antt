@@ -30,7 +30,7 @@ use Rattle.dsr_intake.proofs.Filing.{get_end, get_set_same}
 abbrev event : ℕ → EventPart → Placed
 event n p = record { place = n; part = p }
 
--- the list with a file changed is the same by either word
+-- the list with a file changed is the same by either definition
 pub block_is_set : (files : List File) (k : ℕ) (f : File) (b : BlockParts) → IsFileAt files k f → with_block files k b ≡ set files k (add_block b f)
 block_is_set [] k f b at = absurd (cc)
 block_is_set (g ∷ files) zero f b at = let e : g ≡ f = cc in ap (λ h. add_block b h ∷ files) e
@@ -97,7 +97,7 @@ take_whole zero (t ∷ ts) h = absurd (omega arith)
 take_whole (suc k) [] h = refl
 take_whole (suc k) (t ∷ ts) h = ap (λ l. t ∷ l) (take_whole k ts (omega arith))
 
--- the files below k are opened, and nothing is taken of the others
+-- the files below k are opened, and no event of the others is taken
 pub record Opening (all now : List TapView) (k : ℕ) (books : Books) : Type 0 where
   pub names : map (λ t. t.name) now ≡ map (λ t. t.name) all
   pub tapped : (j : ℕ) (t : TapView) → j < k → slice_get now j ≡ Some t → IsTapped t
@@ -137,7 +137,7 @@ opening_done all now k books o h = (
   rw (take_whole k now h) at o.stands,
 )
 
--- a further message of file k
+-- one more message of file k
 pub round_more : (now : List TapView) (k : ℕ) (books new : Books) (t u : TapView) → slice_get now k ≡ Some t → Stands books (map (λ x. file_of x.taken) now)
     → Changes books new k (file_of t.taken) (file_of u.taken) → Stands new (map (λ x. file_of x.taken) (set now k u))
 round_more now k books new t u at stands changes =
@@ -170,7 +170,7 @@ files_ended books ts stands count h =
     let len = length-map ts (λ t. file_of t.taken) in
     all_ended books (map (λ t. file_of t.taken) ts) stands (len ∙ count) (λ k below. ended_at ts k h (omega (arith, len, below)))
 
--- a file that goes on takes a block, and may end
+-- a file that has not ended can take a block, and can end
 pub going_books : (books : Books) (k : ℕ) (f : File) → Knows books k f → IsGoing f → CanBook books k
 going_books books k f known going =
     can_book books known.0 k known.1 (rw known.2 going.opened) (rw known.2 (ap is_some going.running)) (rw known.2 going.short)
@@ -183,17 +183,17 @@ going_ends books k f known going =
 pub next_opens : (books : Books) (k : ℕ) → IsNext books k → opened_count books < files_count books
 next_opens books k next = omega (arith, opened_is books next.0 next.1, next.2, next.3)
 
--- a file that was opened without an opening may end at once
+-- a file that was opened without an opening can end at once
 pub opened_ends : (a b : Books) (k : ℕ) → IsNext a k → ((files : List File) → Stands a files → Stands b (files ++ opened None ∷ [])) → CanEnd b k
 opened_ends a b k next opens =
     let f = opened None in
     let at : slice_get (next.0 ++ f ∷ []) k ≡ Some f = subst (λ i. slice_get (next.0 ++ f ∷ []) i ≡ Some f) next.2 (get_end next.0 f) in
     can_end b (next.0 ++ f ∷ []) k (opens next.0 next.1) (slice_get_within (next.0 ++ f ∷ []) k f at) (rw at refl)
 
--- the tap that was lent stands at its place
+-- the tap that was borrowed is at its place
 pub lent : (now : List TapView) (k : ℕ) (t : TapView) → k < length now → t ≡ get_or now k t → slice_get now k ≡ Some t
 lent now k t low h = slice_get_read now (length now) k t refl low h
 
--- taps with the same names are as many
+-- lists of taps with the same names have the same length
 pub same_count : (xs ys : List TapView) → map (λ t. t.name) xs ≡ map (λ t. t.name) ys → length xs ≡ length ys
 same_count xs ys e = sym (length-map xs (λ t. t.name)) ∙ ap length e ∙ length-map ys (λ t. t.name)

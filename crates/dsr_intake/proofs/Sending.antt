@@ -1,4 +1,4 @@
--- What is out, step by step.
+-- What was written, step by step.
 use Rattle.std.proofs.Common.{arith, ◌≡◌, ℕ, ◌+◌, ◌-◌, ◌^◌, ◌≤◌, ◌++◌, List, length, take, min, true, false, ◌∙◌, ap, refl, [], append_assoc, length-append, Result, Ok, Err, IfErr}
 use Rattle.std.specs.Result.{OnOk}
 use Rattle.std.proofs.Math.Seq.{take-append-add}
@@ -39,7 +39,7 @@ cut_after sent bytes w k v a b c h t e = (
   },
 )
 
--- more may be said to have been sent once the outlet has failed
+-- once the outlet has failed, more may count as sent
 broken_more : (sent bytes : List ℕ) (w n : ℕ) (a b : Written) → IsBroken sent w n a b → IsBroken (sent ++ bytes) w n a b
 broken_more sent bytes w n a b h =
     record {
@@ -59,7 +59,7 @@ module _ {W : Type 0} (told : W → Written) where
   pub puts_from : (p q : Pieces W) (bytes : List ℕ) → Carries told p q bytes → Puts (Carries told) p q bytes
   puts_from p q bytes carries = record { carries = λ start put h. carry_then start p q put bytes h carries }
 
-  -- what is put once the outlet has failed, and nothing waits any more
+  -- what is put once the outlet has failed and nothing waits
   pub carry_failed : (p q : Pieces W) (bytes : List ℕ) → p.sender.failed ≡ true → q.sender ≡ p.sender → q.waiting.now.items ≡ []
       → Carries told p q bytes
   carry_failed p q bytes failed same empty = (
@@ -71,7 +71,7 @@ module _ {W : Type 0} (told : W → Written) where
         (put ++ bytes, rw (same, failed, h.2, append_assoc h.0 p.waiting.now.items bytes) (was.0, now), rw (empty, append-nil (put ++ bytes)) refl),
   )
 
-  -- where nothing waits, what was put was sent
+  -- if nothing waits, what was put was sent
   pub all_sent : (p : Pieces W) (put : List ℕ) (before : Written) → p.waiting.now.items ≡ [] → Holds told put before p
       → IsSent p.sender.failed put p.sender.written before (told p.sender.out.now)
   all_sent p put before empty h = let e : put ≡ h.0 = h.2 ∙ rw (empty, append-nil h.0) refl in rw e h.1

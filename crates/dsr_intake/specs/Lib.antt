@@ -1,3 +1,3 @@
--- What `run` must be believed by, and what relates the code to it.
+-- The definitions on which the promise of `run` rests, and those that relate the code to them.
 pub mod meaning
 pub mod inner

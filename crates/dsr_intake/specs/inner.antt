@@ -1,4 +1,4 @@
--- Words that relate what the code keeps to them.
+-- The definitions that relate the code to them.
 pub mod Ends
 pub mod Stops
 pub mod Ready

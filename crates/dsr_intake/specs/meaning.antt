@@ -1,4 +1,5 @@
--- Definitions to believe: what is refused, what a statement says, of which texts it is, and what a run answers for.
+-- The definitions to be trusted: what is refused, the bytes of a statement, the texts it is of, and the result of a
+-- run.
 pub mod Options
 pub mod Names
 pub mod Statement

@@ -1,16 +1,17 @@
-//! Where a statement goes.
+//! The destination of a statement.
 ghost use Rattle.std.specs.Prelude.{◌≡◌, ◌<◌, ◌≤◌, ◌+◌, true, false, length, take, MatchResult, IfOk};
 ghost use Rattle.std.specs.Io.KnownBytes.{WriteAppends, Keeps};
 ghost use Rattle.dsr_intake.specs.meaning.Written.{Written, IsTaken, IsCut};
 
 use dsr_file::Failed;
 
-/// What takes the bytes of a statement.
+/// A destination for the bytes of a statement.
 pub trait Outlet {
-    /// What it holds, whether it has failed, and how it was flushed.
+    /// What it holds, whether it has failed, how often it was flushed, and whether it has unflushed
+    /// bytes.
     ghost told: { Self → Written };
 
-    /// Takes the first bytes of a piece that is not empty, and tells how many.
+    /// Takes one or more first bytes of a piece, which is not empty, and returns how many.
     ///
     /// # Errors
     ///
@@ -27,7 +28,7 @@ pub trait Outlet {
             × MatchResult result (λ _. (told self.new).unflushed ≡ true)
             (λ _. (told self.new).unflushed ≡ (told self.old).unflushed) };
 
-    /// Passes on what it took.
+    /// Flushes the bytes that it took.
     ///
     /// # Errors
     ///
@@ -48,7 +49,7 @@ pub trait Outlet {
         ensures { result ≡ (told self.now).failed };
 }
 
-/// Writes all bytes. The fault is how many of them went out.
+/// Writes all bytes. The error is how many of them were written.
 pub(crate) fn write_all<W: Outlet>(out: &mut W, bytes: &[u8]) -> Result<(), usize>
     ensures written { MatchResult result
         (λ _. IsTaken bytes.now (W.told out.old) (W.told out.new))

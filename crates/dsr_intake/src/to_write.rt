@@ -1,4 +1,4 @@
-//! An outlet over a writer of the library.
+//! An outlet over a `std::io::Write`.
 ghost use Rattle.std.specs.Prelude.{◌≡◌, false};
 
 use crate::outlet::Outlet;
@@ -15,7 +15,7 @@ pub struct ToWrite<W> {
 }
 
 impl<W: Write> ToWrite<W> {
-    /// The outlet over this writer, which has not failed.
+    /// An outlet over this writer, which has not failed.
     pub fn new(writer: W) -> ToWrite<W>
         ensures { ⟦<ToWrite<W> as Outlet>⟧.told result
             ≡ record {
@@ -33,7 +33,7 @@ impl<W: Write> ToWrite<W> {
         }
     }
 
-    /// The writer, with what was written.
+    /// Returns the writer, with what was written.
     pub(crate) fn into_writer(self) -> W
         ensures { result ≡ self.writer }
     {
@@ -49,7 +49,7 @@ impl<W: Write> Outlet for ToWrite<W> {
       unflushed = s.unflushed;
     } };
 
-    /// An answer of 0 bytes is a failure.
+    /// A write of 0 bytes is a failure.
     fn write(&mut self, piece: &[u8]) -> Result<usize, Failed> {
         match self.writer.write(piece) {
             Ok(n) if n > 0 => {

@@ -1,4 +1,4 @@
--- What is told of the files that are kept is what is told of the files that they stand for.
+-- The report's parts made of the files' states are those of the files that they represent.
 use Rattle.std.proofs.Common.{◌≡◌, ℕ, zero, suc, ◌+◌, ◌^◌, ◌≤◌, length, arith, Bool, true, false, cond, not, ◌&&◌, ◌||◌, List, [], ◌∷◌, ◌++◌, append_assoc, refl, sym, ◌∙◌, ap}
 use Rattle.std.specs.Prelude.{Option, None, Some, option_map, map, filter, find, if◌then◌else◌}
 use Rattle.std.specs.List.{flat_map, list_any, range_with_len, AllByRecursion}
@@ -32,7 +32,7 @@ use Rattle.dsr_ledger.proofs.SumLemmas.{zero-add}
 use Rattle.dsr_ledger.proofs.FilesLemmas.{openings_are, length-stand}
 use Rattle.dsr_ledger.proofs.SmallBookings.{IsShort, bookings_small}
 
--- lists that are told file by file
+-- lists that are made file by file
 module _ {W : Type 0} (g : FileBooks → W) (h : Filed → W) (agree : (f : FileBooks) (d : Filed) → FileStands f d → g f ≡ h d) where
   pub map_stands : (n : ℕ) (e : List (Option OpeningParts)) (fs : List FileBooks) (files : List File) → FilesStand n e fs files → map g fs ≡ map h (filed_after n e files)
   map_stands n e [] [] s = refl
@@ -65,7 +65,7 @@ line_stands f d s = λ i. record {
 pub number_stands : (n : ℕ) (f : FileBooks) (d : Filed) → FileStands f d → is_number_kept n f ≡ (is_ours d.standing && has_number n d.file.opening)
 number_stands n f d s = λ i. is_ours (s.standing i) && has_number n (s.opening i)
 
--- the numbers that are not in a set that has those that are there
+-- the numbers that are not in a set of the numbers that are there
 pub not_in_is : (head : Option Head) (numbers : BTreeSet ℕ) (ds : List Filed) → ((n : ℕ) → contains nat_cmp numbers n ≡ is_there n ds) → not_in (option_map key_of head) numbers ≡ missing_for head ds
 not_in_is None numbers ds is = refl
 not_in_is (Some head) numbers ds is = λ i. filter (λ n. not (is n i)) (range_with_len 1 head.number_of_files)
@@ -83,7 +83,7 @@ filter_range_more p n =
     ∙ ap (filter p) (range_more 1 n ∙ ap (λ b. range_with_len 1 n ++ b ∷ []) e)
     ∙ filter-append p (range_with_len 1 n) ((n + 1) ∷ [])
 
--- what is kept of a summary that is there has the sums of the usages that name it
+-- the state of a summary that is there has the sums of the usages that name it
 sums_found : (ss : List Summary) (us : List Usage) (id : List ℕ) → list_any (λ s. bytes_eq id s.id) ss ≡ true → sums_shown (found_in ss us id) ≡ record { usages = int_sum_by (λ u. u.usages) (naming id us); amount = int_sum_by (λ u. u.amount) (naming id us) }
 sums_found [] us id h = absurd (cc)
 sums_found (s ∷ ss) us id h =
@@ -96,7 +96,7 @@ here_too : (p : Summary → Bool) (done : List Summary) (s : Summary) (ss : List
 here_too p [] s ss h = ap (λ b. b || list_any p ss) h
 here_too p (t ∷ done) s ss h = elim (p t) as (λ b. (b || list_any p (done ++ s ∷ ss)) ≡ true) [ true ↦ refl | false ↦ here_too p done s ss h ]
 
--- each summary beside what is kept of it
+-- each summary with its state
 differences_found : (place : ℕ) (m : Summaries) (us : List Usage) (done ss all : List Summary) → all ≡ done ++ ss → ((id : List ℕ) → shown_at m id ≡ found_in all us id) → map (λ s. difference_to place (sums_shown (shown_at m s.id)) s) ss ≡ map (difference place us) ss
 differences_found place m us done [] all split is = refl
 differences_found place m us done (s ∷ ss) all split is =
@@ -138,7 +138,7 @@ short_files : (files : List File) → AllByRecursion IsSmallFile files → AllBy
 short_files [] h = tt
 short_files (f ∷ files) h = (record { few = h.0.few; range = h.0.range }, short_files files h.1)
 
--- the lines of books that are reached are of small bookings
+-- the lines of reachable books have small bookings
 pub small_lines : (kept : Kept) → length kept.files.items ≤ 64 → IsReached kept → AreOfSmall kept.ledger
 small_lines kept few r =
     let long = length-stand 1 [] kept.files.items r.files r.stands.each in
@@ -148,7 +148,7 @@ small_lines kept few r =
       small = bookings_small r.files (omega arith) (short_files r.files r.small);
     }
 
--- the parts of the report, as they were told of what is kept
+-- the parts of the report, as they were made of the states
 pub record Assembled (kept : Kept) (numbers : BTreeSet ℕ) (r : Report) : Type 0 where
   pub key : r.key ≡ option_map key_of (first_head (openings_of kept.files.items))
   pub lines : r.files ≡ map line_kept kept.files.items

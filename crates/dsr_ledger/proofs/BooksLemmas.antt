@@ -47,7 +47,7 @@ summaries_fit_reached kept k f r is id = λ x e.
     let at = file_at 1 [] kept.files.items y.files k f y.stands.each is in
     summaries_fit f at.filed at.stands (at.own_small y.small) id x e)
 
--- what one file's answer means for the books
+-- what the result of one file means for the books
 pub record Answered {A : Type 0} (f g : FileBooks) (b : BlockParts) (res : Result Verdict A) (old new : Kept) (k : ℕ) : Type 0 where
   pub at : slice_get old.files.items k ≡ Some f
   pub room : f.blocks < 2 ^ 37
@@ -151,7 +151,7 @@ pub opened_next : (old new : Kept) (f : FileBooks) (o : Option OpeningParts) (fi
 opened_next old new f o files one items ledger h =
     (one.standing ∙ ap (λ e. standing e o) (openings_are 1 [] old.files.items files h.each), stands_opened old new files f o one items ledger h)
 
--- where nothing was opened
+-- if nothing was opened
 pub not_opened : (old new : Kept) (files : List File) → new.files.items ≡ old.files.items → new.ledger ≡ old.ledger → Stands old files → Stands new files
 not_opened old new files items ledger h = record {
   each = subst (λ fs. FilesStand 1 [] fs files) (sym items) h.each;

@@ -1,4 +1,4 @@
--- What a caller knows of books that stand for a list of files.
+-- What a caller knows of books that represent a list of files.
 use Rattle.std.proofs.Common.{◌≡◌, ℕ, zero, suc, ◌^◌, ◌<◌, true, false, List, [], ◌∷◌, ◌++◌, length, refl, sym, ◌∙◌, ap, subst}
 use Rattle.std.specs.Prelude.{Option, is_some, slice_get}
 use Rattle.std.specs.Option.{option_map_or}
@@ -31,7 +31,7 @@ ended_told kept files h k = tell (λ f. is_some f.outcome) (λ f. is_some f.outc
 pub blocks_told : (kept : Kept) (files : List File) → inner.Stands kept files → (k : ℕ) → option_map_or (λ f. f.blocks) (slice_get kept.files.items k) 0 ≡ blocks_in files k
 blocks_told kept files h k = tell (λ f. f.blocks) (λ f. length f.blocks) 0 (λ f d s. s.blocks) 1 [] kept.files.items files h.each k
 
--- what a clause asks, from the list of files
+-- what a clause requires, from the list of files
 pub opened_is : (books : Books) (files : List File) → Stands books files → opened_count books ≡ length files
 opened_is books files h = length-stand 1 [] books.kept.files.items files h.each
 

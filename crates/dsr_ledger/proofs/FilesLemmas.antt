@@ -1,4 +1,4 @@
--- The files that are kept, and one of them.
+-- The states of the files, and one of them.
 use Rattle.std.proofs.Common.{◌≡◌, ℕ, zero, suc, ◌+◌, ◌<◌, List, [], ◌∷◌, ◌++◌, append_assoc, append-nil, Bool, true, false, true≢false, length, get_or, set, refl, sym, ap, subst, arith}
 use Rattle.std.specs.Prelude.{Option, Some, map, slice_get, unwrap_or}
 use Rattle.std.specs.Option.{option_map_or}
@@ -15,14 +15,14 @@ use Rattle.dsr_ledger.specs.Books.{IsSmallFile}
 same_Some : {X : Type 0} (x y : X) → Some x ≡ Some y → x ≡ y
 same_Some x y e = ap (λ o. unwrap_or o x) e
 
--- a change of a file that leaves its opening
+-- a change of a file that keeps its opening
 abbrev pub changed : (File → List BlockParts) → (File → Option Outcome) → File → File
 changed B O f = record { opening = f.opening; blocks = B f; outcome = O f }
 
 abbrev pub changed_in : (File → List BlockParts) → (File → Option Outcome) → Filed → Filed
 changed_in B O d = record { place = d.place; standing = d.standing; file = changed B O d.file }
 
--- file k of the files that stand
+-- file k of the represented files
 pub record FileAt (n : ℕ) (e : List (Option OpeningParts)) (fs : List FileBooks) (files : List File) (k : ℕ) (f : FileBooks) : Type 0 where
   pub filed : Filed
   pub at : slice_get (filed_after n e files) k ≡ Some filed
@@ -56,7 +56,7 @@ file_at n e (x ∷ fs) (file ∷ files) (suc k) f h is =
       small = λ B O s t. (s.0, rest.small B O s.1 t);
     }
 
--- the file at an index that is there
+-- the file at an index within the list
 pub item_at : {X : Type 0} (xs : List X) (k : ℕ) (x : X) → k < length xs → x ≡ get_or xs k x → slice_get xs k ≡ Some x
 item_at [] k x below is = absurd (omega arith)
 item_at (y ∷ xs) zero x below is = ap Some (sym is)

@@ -1,4 +1,4 @@
--- Fewer usages fit where more do.
+-- Fewer usages fit if more do.
 use Rattle.std.proofs.Common.{ℕ, ◌≤◌, arith}
 use Rattle.dsr_ledger.specs.declared.sums.Sums.{Sums}
 use Rattle.dsr_ledger.specs.Ranges.{SumsFit}

@@ -1,4 +1,4 @@
--- Identifiers that are noted and taken out.
+-- Identifiers that are noted and forgotten.
 use Rattle.std.proofs.Common.{◌≡◌, ℕ, zero, suc, ◌≤◌, Bool, true, false, cond, List, [], ◌∷◌, ◌++◌, take, refl, sym, ap, ◌∙◌, subst}
 use Rattle.std.specs.Prelude.{◌||◌, not}
 use Rattle.std.specs.List.{list_any}
@@ -35,7 +35,7 @@ below_with old new id top is below here q e =
       | false ↦ λ _ f. below q f
     ] refl (sym (is q) ∙ e)
 
--- an identifier that was noted and taken out again
+-- an identifier that was noted and then forgotten
 pub taken_out : (was : List ℕ → Bool) (id q : List ℕ) → was id ≡ false → cond (bytes_eq id q) false (cond (bytes_eq id q) true (was q)) ≡ was q
 taken_out was id q absent =
     elim (bytes_eq id q) as (λ b. bytes_eq id q ≡ b → cond b false (cond b true (was q)) ≡ was q) [
@@ -47,7 +47,7 @@ pub not_true : (b : Bool) → not b ≡ true → b ≡ false
 not_true false e = refl
 not_true true e = absurd (cc)
 
--- what is there once an identifier was noted
+-- the set once an identifier was noted
 pub noted_so : (n : Noted) (old new : Ids) (id : List ℕ) → IsNoted n old new id → was_before n ≡ is_in old id
 noted_so Before old new id h = sym h.0
 noted_so InRun old new id h = sym h.0
@@ -66,7 +66,7 @@ noted_is InRun old new id h q =
     ap (λ run. is_among run new.rest q) h.1 ∙ ap (λ b. list_any (bytes_eq q) (old.run.items ++ id ∷ []) || b) (h.2 q) ∙ one_more old.run.items old.rest id q
 noted_is InRest old new id h q = ap (λ run. is_among run new.rest q) h.1 ∙ h.2 q
 
--- what was put among the rest of a run's first part is in the run
+-- what was moved to the rest from the first part of a run is in the run
 pub gathered : (q : List ℕ) (run : List (List ℕ)) (i : ℕ) (b : Bool) → (list_any (bytes_eq q) run || (list_any (bytes_eq q) (take i run) || b)) ≡ (list_any (bytes_eq q) run || b)
 gathered q [] zero b = refl
 gathered q [] (suc i) b = refl

@@ -1,4 +1,4 @@
--- The index of a list of numbers: where they rise, and one more number.
+-- The index of a list of numbers: if they ascend, and with one more number.
 use Rattle.std.proofs.Common.{◌≡◌, ℕ, zero, suc, ◌+◌, ◌-◌, ◌<◌, ◌≤◌, Bool, true, false, true≢false, cond, List, [], ◌∷◌, ◌++◌, length, length-append, take, get_or, nat_eq, Result, Ok, Err, refl, sym, ap, subst, ◌∙◌, arith}
 use Rattle.std.specs.Prelude.{Option, None, Some, map, slice_get, slice_index}
 use Rattle.std.specs.List.{position_from}
@@ -38,7 +38,7 @@ differ a b h = by (nat_eq a b) refl
     by false e = refl
     by true e = absurd (h ((same_number a b).0 e))
 
--- the place of a number by what stands before it
+-- the place of a number by the numbers before it
 pub placed_at : (ns : List ℕ) (i n : ℕ) → i < length ns → get_or ns i 0 ≡ n → ((k : ℕ) → k < i → get_or ns k 0 ≡ n → ⊥) → place_in ns n ≡ Some i
 placed_at ns i n below here before =
     position_from-zero (nat_eq n) ns
@@ -49,7 +49,7 @@ pub placed_nowhere : (ns : List ℕ) (n : ℕ) → ((k : ℕ) → k < length ns 
 placed_nowhere ns n all =
     position_from-zero (nat_eq n) ns ∙ position_from-none (nat_eq n) ns 0 0 (λ k l. differ n (get_or ns k 0) (λ e. all k l (sym e)))
 
--- numbers that rise: each stands once
+-- numbers that ascend are distinct
 pub placed_rising : (ns : List ℕ) (i : ℕ) → Rise ns → i < length ns → place_in ns (get_or ns i 0) ≡ Some i
 placed_rising ns i rise below = placed_at ns i (get_or ns i 0) below refl (λ k l e. let less = rise k i l below in absurd (omega arith))
 
@@ -64,7 +64,7 @@ rising_apart ns rise i n at =
     let here = same_Some (get_or ns i 0) n (sym (got_or ns i 0 below) ∙ at) in
     subst (λ m. place_in ns m ≡ Some i) here (placed_rising ns i rise below)
 
--- a number above the last one more
+-- one more number, above the last one
 pub rise_more : (ns : List ℕ) (n : ℕ) → Rise ns → ((last : ℕ) → slice_get ns (length ns - 1) ≡ Some last → last < n) → Rise (ns ++ n ∷ [])
 rise_more ns n rise above i j less within =
     let long = length-append ns (n ∷ []) in
@@ -90,7 +90,7 @@ rise_more ns n rise above i j less within =
           | false ↦ λ e. let other : i ≡ k → ⊥ = λ s. true≢false (sym ((same_number i k).1 s) ∙ e) in let before = rise i k (omega arith) below in omega arith
         ] refl
 
--- what a binary search finds among items whose numbers rise
+-- what a binary search finds among items whose numbers ascend
 module _ {X : Type 0} (number : X → ℕ) (n : ℕ) where
   module _ (xs : List X) (d : X) (rise : Rise (map number xs)) where
     read : (i : ℕ) → i < length xs → get_or (map number xs) i 0 ≡ number (get_or xs i d)
@@ -128,7 +128,7 @@ pub placed_more : (at new : ℕ → Option ℕ) (ns : List ℕ) (n : ℕ) → pl
 placed_more at new ns n none all is q =
     is q ∙ ap (cond (nat_eq n q) (Some (length ns))) (all q) ∙ sym (place_more nat_eq same_number ns n q none)
 
--- places of the first numbers of some that rise, with the next one
+-- places of the first of some ascending numbers, with the next one
 pub place_next : (ns : List ℕ) (i n : ℕ) → Rise ns → slice_get ns i ≡ Some n → (at new : ℕ → Option ℕ) → ((q : ℕ) → at q ≡ place_in (take i ns) q) → ((q : ℕ) → new q ≡ cond (nat_eq n q) (Some i) (at q)) → (q : ℕ) → new q ≡ place_in (take (i + 1) ns) q
 place_next ns i n rise here at new all is q =
     let below = within ns i n here in

@@ -1,4 +1,4 @@
--- An `IndexMap` whose keys' equality is equality of values: the number of a key, and a value that is written by its number.
+-- An `IndexMap` whose keys' equality is equality of values: the number of a key, and a value written by its number.
 use Rattle.std.proofs.Common.{◌≡◌, ℕ, zero, suc, ◌+◌, Bool, true, false, true≢false, cond, List, [], ◌∷◌, get_or, refl, sym, ap, ◌∙◌, subst, arith}
 use Rattle.std.specs.Prelude.{Option, None, Some, is_some, option_map, slice_get, position, unwrap_or}
 use Rattle.std.specs.List.{IsDistinct, position_from, list_any, AllByRecursion}
@@ -56,7 +56,7 @@ module _ {K : Type 0} (eq : K → K → Bool) (decides : (a b : K) → Decides (
     pub value_here : (q : K) → index_of eq m q ≡ Some i → get eq m q ≡ Some v
     value_here q e = ap (get eq m) (sym (key_is q e)) ∙ own_value
 
-    -- a value that is written by its number: it is had there, and the other keys have what they had
+    -- a value that is written by its number: its key has it, and the other keys have what they had
     pub written : (w : V) (q : K) → get eq (with_value_at m i w) q ≡ cond (eq k q) (Some w) (get eq m q)
     written w q = (updates-with_value_at m i w laws unique k v at).0 q
 
@@ -64,7 +64,7 @@ module _ {K : Type 0} (eq : K → K → Bool) (decides : (a b : K) → Decides (
     written_here w q e = written w q ∙ ap (λ b. cond b (Some w) (get eq m q)) ((decides k q).1 (key_is q e))
 
     module _ {W : Type 0} (read : V → W) (w : V) where
-      -- a value that is written over one of which the same is read: nothing that is read changes
+      -- a value that reads the same as the one it replaces: nothing that is read changes
       pub kept : read w ≡ read v → (q : K) → option_map read (get eq (with_value_at m i w) q) ≡ option_map read (get eq m q)
       kept same q =
           ap (option_map read) (written w q)
@@ -73,7 +73,7 @@ module _ {K : Type 0} (eq : K → K → Bool) (decides : (a b : K) → Decides (
             | false ↦ λ _. refl
           ] refl
 
-      -- a value that is written over one of which is read what f changes: at its key f changes what is read, and nowhere else
+      -- a value that reads as f of the one it replaces: at its key f changes what is read, and nowhere else
       pub changed : (f : W → W) → read w ≡ f (read v) → (q : K) → option_map read (get eq (with_value_at m i w) q) ≡ cond (eq k q) (option_map f (option_map read (get eq m q))) (option_map read (get eq m q))
       changed f change q =
           ap (option_map read) (written w q)

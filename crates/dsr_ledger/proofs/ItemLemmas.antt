@@ -1,4 +1,4 @@
--- Items that have numbers: one more, or one written over.
+-- Items that have numbers: one more, or one replaced.
 use Rattle.std.proofs.Common.{◌≡◌, ℕ, zero, suc, ◌<◌, cond, List, [], ◌∷◌, ◌++◌, length, take, set, get_or, nat_eq, refl, sym, ap, subst, ◌∙◌, arith}
 use Rattle.std.specs.Prelude.{Option, None, Some, map, slice_get}
 use Rattle.std.specs.Option.{option_map, option_and_then}
@@ -17,7 +17,7 @@ module _ {X : Type 0} (number : X → ℕ) where
   abbrev pub item_in : List X → ℕ → Option ℕ
   item_in xs n = place_in (numbers xs) n
 
-  -- an item is written that keeps its number
+  -- an item is replaced by one with the same number
   pub numbers_kept : (xs : List X) (i : ℕ) (x w : X) → x ≡ get_or xs i x → number w ≡ number x → numbers (set xs i w) ≡ numbers xs
   numbers_kept xs i x w is same = map-set_same number xs i w x (same ∙ ap number is)
 
@@ -33,7 +33,7 @@ module _ {X : Type 0} (number : X → ℕ) where
       ∙ place_more nat_eq same_number (numbers xs) (number x) q none
       ∙ ap (λ n. cond (nat_eq (number x) q) (Some n) (item_in xs q)) (length-map xs number)
 
-  -- the item of a number that had none
+  -- the item for a number that had none
   pub item_there : (xs : List X) (x : X) → item_in xs (number x) ≡ None → item_in (xs ++ x ∷ []) (number x) ≡ Some (length xs)
   item_there xs x none = item_more xs x (number x) none ∙ ap (λ b. cond b (Some (length xs)) (item_in xs (number x))) ((same_number (number x) (number x)).1 refl)
 
@@ -48,13 +48,13 @@ module _ {X : Type 0} (number : X → ℕ) where
   place_among n q xs = position-map (nat_eq q) number (take n xs) ∙ ap (λ ns. place_in ns q) (sym (take-map number n xs))
 
   module _ {W : Type 0} (read : X → W) (none : W) where
-    -- an item more of which nothing is read
+    -- one more item, of which nothing is read
     pub items_pushed : (xs : List X) (x : X) → item_in xs (number x) ≡ None → read x ≡ none → (o : Option ℕ) → read_at read none (xs ++ x ∷ []) (option_and_then (item_in (xs ++ x ∷ [])) o) ≡ read_at read none xs (option_and_then (item_in xs) o)
     items_pushed xs x absent nothing None = refl
     items_pushed xs x absent nothing (Some q) =
         read_pushed nat_eq same_number read none (item_in xs) (item_in (xs ++ x ∷ [])) (number x) xs x (items_are_numbered xs) absent (λ r. item_more xs x r absent) nothing q
 
-    -- an item is written of which the same is read
+    -- an item is replaced by one that reads the same
     pub items_written : (xs : List X) (i : ℕ) (x w : X) → i < length xs → x ≡ get_or xs i x → number w ≡ number x → read w ≡ read x → (o : Option ℕ) → read_at read none (set xs i w) (option_and_then (item_in (set xs i w)) o) ≡ read_at read none xs (option_and_then (item_in xs) o)
     items_written xs i x w below is same alike None = refl
     items_written xs i x w below is same alike (Some q) =

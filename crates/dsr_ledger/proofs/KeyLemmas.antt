@@ -24,7 +24,7 @@ both_Equal Less b e = absurd (cc)
 both_Equal Equal b e = (refl, e)
 both_Equal Greater b e = absurd (cc)
 
--- keys that compare alike are one
+-- keys that compare equal are the same
 pub key_exact : (a b : Key) → key_cmp a b ≡ Equal → a ≡ b
 key_exact a b e =
     let first = both_Equal _ _ e in
@@ -53,7 +53,7 @@ key_eq-itself a =
     and_from _ _ ((bytes_eq-Decides a.isrc a.isrc).1 refl)
     (and_from _ _ ((bytes_eq-Decides a.territory a.territory).1 refl) (and_from _ _ ((bytes_eq-Decides a.use_type a.use_type).1 refl) ((bytes_eq-Decides a.currency a.currency).1 refl)))
 
--- keys are equal only where they are one
+-- keys are equal only if they are the same
 pub same_key : (a b : Key) → Decides (key_eq a b) (a ≡ b)
 same_key a b = (key_eq-is a b, λ e. subst (λ k. key_eq a k ≡ true) e (key_eq-itself a))
 

@@ -1,4 +1,4 @@
--- What the ledger keeps, when a party, a summary key, a recording, a seat or a line is made, or a line is changed.
+-- The ledger's tallies when a party, a summary key, a recording, a seat or a line is added, or a line is changed.
 use Rattle.std.proofs.Common.{◌≡◌, ℕ, ◌<◌, ◌≤◌, Bool, true, false, true≢false, cond, ◌&&◌, List, [], ◌∷◌, ◌++◌, length, length-append, get_or, nat_eq, ⊎_elim, refl, sym, ap, subst, ◌∙◌, arith}
 use Rattle.std.specs.Prelude.{Option, None, Some, Result, Ok, Err, OnOk, OnErr, slice_get, option_map}
 use Rattle.std.specs.Option.{option_and_then}
@@ -51,7 +51,7 @@ parties_are_numbered ks = places_are_numbered bytes_eq bytes_eq-Decides ks
 pub summary_keys_are_numbered : (ks : List SummaryKey) → IsNumbered (λ q. position (summary_key_eq q) ks) (length ks)
 summary_keys_are_numbered ks = places_are_numbered summary_key_eq same_summary_key ks
 
--- nothing is kept where there are no lines
+-- without lines each tally is empty
 pub no_lines : (seat : List ℕ → Option ℕ) (number : Option ℕ) → lines_tally seat [] number ≡ no_tally
 no_lines seat None = refl
 no_lines seat (Some k) = refl
@@ -65,7 +65,7 @@ key_here {V} m i k v at q e =
     let here : slice_get (keys m) i ≡ Some k = slice_get-map (λ (x : List ℕ × V). x.0) m.entries i ∙ ap (option_map (λ (x : List ℕ × V). x.0)) at in
     sym (get_or_from_slice_get (keys m) i k q here) ∙ sym ((bytes_eq-Decides q (get_or (keys m) i q)).0 (position-Some (bytes_eq q) (keys m) i q e).1)
 
--- a recording is written by its number
+-- a recording is replaced by its number
 module _ {S : Type 0} (m : IndexMap (List ℕ) Recording S) (i : ℕ) (k : List ℕ) (v w : Recording) (unique : IsUnique bytes_eq m) (at : slice_get m.entries i ≡ Some (k, v)) where
   pub got : get bytes_eq m k ≡ Some v
   got = own_value bytes_eq bytes_eq-Decides nat_list_eq_equiv m i k v unique at
@@ -100,7 +100,7 @@ module _ {S : Type 0} (m : IndexMap (List ℕ) Recording S) (i : ℕ) (k : List 
       by true e = subst P (same_Some w r e) one
       by false e = all q r e
 
--- a party that is given a number has a seat nowhere
+-- a party that gets a new number has no seat yet
 pub seats_kept : (old new : List ℕ → Option ℕ) (name : List ℕ) (m : ℕ) (r : Recording) → old name ≡ None → ((q : List ℕ) → new q ≡ cond (bytes_eq name q) (Some m) (old q)) → AreBelow m (seat_numbers r.seats) → seat_of new r ≡ seat_of old r
 seats_kept old new name m r none is below = λ j q. by_new_key bytes_eq bytes_eq-Decides old new name m (seat_numbers r.seats) none is below q j
 
@@ -182,7 +182,7 @@ line_here ledger isrc key es recording line shares r h found =
       };
     }
 
--- a party that is given a number changes nothing that is kept
+-- giving a party a number changes no tally
 pub party_tally : (old new : List ℕ → Option ℕ) (name : List ℕ) (m : ℕ) (number : Option ℕ) → old name ≡ None → ((q : List ℕ) → new q ≡ cond (bytes_eq name q) (Some m) (old q)) → (o : Option Recording) → ((r : Recording) → o ≡ Some r → AreBelow m (seat_numbers r.seats)) → recording_tally new number o ≡ recording_tally old number o
 party_tally old new name m number none is None below = refl
 party_tally old new name m number none is (Some r) below = ap (λ seat. lines_tally seat r.lines.items number) (seats_kept old new name m r none is (below r refl))
@@ -191,7 +191,7 @@ pub party_seats : (old new : List ℕ → Option ℕ) (name : List ℕ) (m : ℕ
 party_seats old new name m none is q None below = refl
 party_seats old new name m none is q (Some r) below = ap (λ seat. seat q) (seats_kept old new name m r none is (below r refl))
 
--- a summary key that is given a number has a line nowhere
+-- a summary key that gets a new number has no line yet
 module _ (old new : SummaryKey → Option ℕ) (key : SummaryKey) (m : ℕ) (none : old key ≡ None) (is : (q : SummaryKey) → new q ≡ cond (summary_key_eq key q) (Some m) (old q)) (q : SummaryKey) where
   key_places : (r : Recording) → AreBelow m (line_keys r.lines.items) → place_by new (line_keys r.lines.items) q ≡ place_by old (line_keys r.lines.items) q
   key_places r below = by_new_key summary_key_eq same_summary_key old new key m (line_keys r.lines.items) none is below q
@@ -204,7 +204,7 @@ module _ (old new : SummaryKey → Option ℕ) (key : SummaryKey) (m : ℕ) (non
   key_kept party None below = refl
   key_kept party (Some r) below = ap (read_at (line_tally (seat_of party r)) no_tally r.lines.items) (key_places r (below r refl))
 
--- a recording is made
+-- a recording is added
 module _ (isrc : List ℕ) (w : Recording) (old new : List ℕ → Option Recording) (is : (q : List ℕ) → new q ≡ cond (bytes_eq isrc q) (Some w) (old q)) where
   pub each_made : (P : Recording → Type 0) → ((q : List ℕ) (r : Recording) → old q ≡ Some r → P r) → P w → (q : List ℕ) (r : Recording) → new q ≡ Some r → P r
   each_made P all one q r e = by (bytes_eq isrc q) (sym (is q) ∙ e)
@@ -225,7 +225,7 @@ module _ (isrc : List ℕ) (w : Recording) (old new : List ℕ → Option Record
 pub unchanged : {S : Type 0} (m n : IndexMap (List ℕ) Recording S) → IsUnchanged m n → (q : List ℕ) → get bytes_eq n q ≡ get bytes_eq m q
 unchanged m n e q = ap (λ es. lookup (bytes_eq q) es) e
 
--- a recording is made, or memory was refused
+-- a recording is added, or memory was refused
 pub each_inserted : {A E : Type 0} (r : Result A E) (isrc : List ℕ) (w : Recording) (old new : List ℕ → Option Recording) → OnOk r ((q : List ℕ) → new q ≡ cond (bytes_eq isrc q) (Some w) (old q)) → OnErr r ((q : List ℕ) → new q ≡ old q)
     → (P : Recording → Type 0) → ((q : List ℕ) (x : Recording) → old q ≡ Some x → P x) → P w → (q : List ℕ) (x : Recording) → new q ≡ Some x → P x
 each_inserted (Ok a) isrc w old new is same P all one = each_made isrc w old new is P all one

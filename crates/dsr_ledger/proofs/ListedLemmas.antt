@@ -25,7 +25,7 @@ use Rattle.dsr_ledger.specs.Listed.{named_places, AreListed}
 use Rattle.dsr_ledger.proofs.IndexMapLemmas.{number_at}
 use Rattle.dsr_ledger.proofs.OrderLemmas.{strictly_sorted}
 
--- things of which none is like one before it
+-- items none of which equals an earlier one
 distinct_from_apart : {X : Type 0} (alike : X → X → Bool) (xs : List X) → ((i j : ℕ) (x y : X) → i < j → slice_get xs i ≡ Some x → slice_get xs j ≡ Some y → alike x y ≡ false) → IsDistinct alike xs
 unfolding IsDistinct
 distinct_from_apart alike [] h = tt
@@ -43,7 +43,7 @@ nat_symm a b h = by (nat_eq b a) refl
     by true e = absurd (true≢false (sym ((Decides-eqb a b).1 (sym ((Decides-eqb b a).0 e))) ∙ h))
     by false e = refl
 
--- numbers of which none stands twice
+-- distinct numbers
 apart_distinct : (ns : List ℕ) → AreApart ns → IsDistinct nat_eq ns
 apart_distinct ns apart =
     distinct_from_apart nat_eq ns (λ i j x y below e f.
@@ -68,7 +68,7 @@ module _ {K : Type 0} where
     abbrev pub number : K → Option ℕ
     number q = position (eq q) ks
 
-    -- a name is that of a number where it has the number
+    -- a name is that of a number if it has the number
     same_number : (n : ℕ) (x q : K) → slice_get ks n ≡ Some x → eq q x ≡ option_map_or (λ m. nat_eq m n) (number q) false
     same_number n x q at = by (eq q x) refl
       where

@@ -38,7 +38,7 @@ module _ {K : Type 0} (same : K → K → Bool) (decides : (a b : K) → Decides
         | false ↦ λ _. e
       ] refl
 
-  -- a key more takes no number that another had
+  -- one more key gets no number that another had
   pub fresh_more : (old new : K → Option ℕ) (k : K) (n : ℕ) → ((q : K) → new q ≡ cond (same k q) (Some n) (old q)) → (q : K) (i : ℕ) → new q ≡ Some i → i < n → old q ≡ Some i
   fresh_more old new k n is q i e below =
       ⊎_elim (λ s. absurd (let m = s.1 in omega arith)) (λ s. s.1) (either (same k q) n i (old q) (sym (is q) ∙ e))
@@ -65,7 +65,7 @@ module _ {K : Type 0} (same : K → K → Bool) (decides : (a b : K) → Decides
     value_set (y ∷ vs) v w x (suc i) zero at e = inl e
     value_set (y ∷ vs) v w x (suc i) (suc j) at e = ⊎_elim (λ s. inl s) (λ s. inr (ap suc s.0, s.1)) (value_set vs v w x i j at e)
 
-    -- a value that keeps its name is written over
+    -- a value is replaced by one with the same name
     pub named_set : (number : K → Option ℕ) (vs : List V) (i : ℕ) (v w : V) → AreNamed number name vs → slice_get vs i ≡ Some v → name w ≡ name v → AreNamed number name (set vs i w)
     named_set number vs i v w h at kept j x e =
         ⊎_elim (λ s. h j x s) (λ s. ap number (ap name (sym s.1) ∙ kept) ∙ h i v at ∙ ap Some (sym s.0)) (value_set vs v w x i j at e)
@@ -84,7 +84,7 @@ module _ {K : Type 0} (same : K → K → Bool) (decides : (a b : K) → Decides
     read_before vs v None h = refl
     read_before vs v (Some i) h = ap (λ o. option_map_or read o none) (push_before vs v i (h i refl))
 
-    -- a new key with a value: it is read there, and what is read of the other keys stays
+    -- a new key with a value: it is read there, and the other keys read as before
     pub read_added : (old new : K → Option ℕ) (k : K) (vs : List V) (v : V) → IsNumbered old (length vs) → ((q : K) → new q ≡ cond (same k q) (Some (length vs)) (old q)) → (q : K) → read_at read none (vs ++ v ∷ []) (new q) ≡ cond (same k q) (read v) (read_at read none vs (old q))
     read_added old new k vs v h is q =
         ap (read_at read none (vs ++ v ∷ [])) (is q)
@@ -119,7 +119,7 @@ module _ {K : Type 0} (same : K → K → Bool) (decides : (a b : K) → Decides
     read_other number k q vs i w (Some j) e h at other =
         ap (λ o. option_map_or read o none) (set_other vs i j w (λ same_number. other (h.apart k q i at (sym e ∙ ap Some (sym same_number)))))
 
-    -- a value that is written at a key: it is read there, and what is read of the other keys stays
+    -- a value that is written at a key: it is read there, and the other keys read as before
     pub read_set : (number : K → Option ℕ) (k : K) (vs : List V) (i : ℕ) (w : V) → IsNumbered number (length vs) → number k ≡ Some i → (q : K) → read_at read none (set vs i w) (number q) ≡ cond (same k q) (read w) (read_at read none vs (number q))
     read_set number k vs i w h at q =
         elim (same k q) as (λ b. same k q ≡ b → read_at read none (set vs i w) (number q) ≡ cond b (read w) (read_at read none vs (number q))) [
@@ -136,7 +136,7 @@ module _ {K : Type 0} (same : K → K → Bool) (decides : (a b : K) → Decides
     pub read_here : (number : K → Option ℕ) (k : K) (vs : List V) (i : ℕ) (v : V) → IsNumbered number (length vs) → number k ≡ Some i → v ≡ get_or vs i v → read_at read none vs (number k) ≡ read v
     read_here number k vs i v h at is = ap (read_at read none vs) at ∙ item_read vs i v (h.below k i at) is
 
-    -- a value that is changed at a key: what is read there changes so, and what is read of the other keys stays
+    -- a value that is changed at a key: what is read there changes so, and the other keys read as before
     pub read_changed : (f : W → W) (number : K → Option ℕ) (k : K) (vs : List V) (i : ℕ) (v w : V) → IsNumbered number (length vs) → number k ≡ Some i → v ≡ get_or vs i v → read w ≡ f (read v) → (q : K) → read_at read none (set vs i w) (number q) ≡ cond (same k q) (f (read_at read none vs (number q))) (read_at read none vs (number q))
     read_changed f number k vs i v w h at is change q =
         read_set number k vs i w h at q
@@ -145,7 +145,7 @@ module _ {K : Type 0} (same : K → K → Bool) (decides : (a b : K) → Decides
           | false ↦ λ _. refl
         ] refl
 
-    -- a value that is written over one of which the same is read
+    -- a value that reads the same as the one it replaces
     pub read_set_same : (vs : List V) (i : ℕ) (v w : V) → slice_get vs i ≡ Some v → read w ≡ read v → (o : Option ℕ) → read_at read none (set vs i w) o ≡ read_at read none vs o
     read_set_same vs i v w at alike None = refl
     read_set_same vs i v w at alike (Some j) = by vs i j at
@@ -159,7 +159,7 @@ module _ {K : Type 0} (same : K → K → Bool) (decides : (a b : K) → Decides
 
 -- the place of a key among keys
 
--- over what a function gives of each element
+-- over a function's values
 position_from-map : {X Y : Type 0} (p : Y → Bool) (f : X → Y) (xs : List X) (n : ℕ) → position_from (λ x. p (f x)) n xs ≡ position_from p n (map f xs)
 position_from-map p f [] n = refl
 position_from-map p f (x ∷ xs) n = ap (cond (p (f x)) (Some n)) (position_from-map p f xs (n + 1))
@@ -200,7 +200,7 @@ position-push p xs y h =
     ∙ ap (λ m. cond (p y) (Some m) (position_from p 0 xs)) (omega arith)
     ∙ ap (cond (p y) (Some (length xs))) (sym (position_from-zero p xs))
 
--- where none of the first i elements passes
+-- if none of the first i elements passes
 position_from-taken : {X : Type 0} (p : X → Bool) (xs : List X) (i n : ℕ) (d : X) → i ≤ length xs → ((k : ℕ) → k < i → p (get_or xs k d) ≡ false) → position_from p n (take i xs) ≡ None
 position_from-taken p xs zero n d le h = refl
 position_from-taken p [] (suc i) n d le h = absurd (omega arith)
@@ -231,7 +231,7 @@ module _ {K : Type 0} (same : K → K → Bool) (decides : (a b : K) → Decides
     apart = λ k l i e f. (decides k (get_or ks i k)).0 (position-Some (same k) ks i k e).1 ∙ sym ((decides l (get_or ks i k)).0 (position-Some (same l) ks i k f).1);
   }
 
-  -- a key more, that was not among them
+  -- one more key, which was not among them
   pub place_more : (ks : List K) (k q : K) → place ks k ≡ None → place (ks ++ k ∷ []) q ≡ cond (same k q) (Some (length ks)) (place ks q)
   place_more ks k q none =
       position-push (same q) ks k (λ e. ap (place ks) ((decides q k).0 e) ∙ none)
@@ -242,7 +242,7 @@ module _ {K : Type 0} (same : K → K → Bool) (decides : (a b : K) → Decides
       turned false true h g = h.1 (sym (g.0 refl))
       turned false false h g = refl
 
-  -- no key stands twice
+  -- the keys are distinct
   abbrev Apart : List K → Type 0
   Apart ks = (i : ℕ) (k : K) → slice_get ks i ≡ Some k → place ks k ≡ Some i
 
@@ -260,7 +260,7 @@ module _ {K : Type 0} (same : K → K → Bool) (decides : (a b : K) → Decides
   pub place_before : (ks : List K) (i : ℕ) (k : K) → Apart ks → slice_get ks i ≡ Some k → place (take i ks) k ≡ None
   place_before ks i k h at = position-before (same k) ks i k (h i k at)
 
--- what stands at a place
+-- the item at a place
 pub got_or : {X : Type 0} (xs : List X) (i : ℕ) (d : X) → i < length xs → slice_get xs i ≡ Some (get_or xs i d)
 got_or [] i d below = absurd (omega arith)
 got_or (x ∷ xs) zero d below = refl

@@ -1,4 +1,4 @@
--- How files are opened.
+-- The opening of files.
 use Rattle.std.proofs.Common.{◌≡◌, ℕ, zero, suc, ◌<◌, Bool, List, [], ◌∷◌, ◌++◌, length, get_or, true, false, cond, refl, sym, ◌∙◌, ap, true≢false, arith}
 use Rattle.std.specs.Prelude.{Option, None, Some, option_map, is_some, find, ◌||◌}
 use Rattle.std.specs.List.{list_any}

@@ -1,4 +1,4 @@
--- What is kept by keys, in the order of the keys.
+-- Entries in the order of their keys.
 use Rattle.std.proofs.Common.{◌≡◌, List, [], ◌∷◌, Bool, true, false, cond, T, suc, refl, sym, ◌∙◌, ap, subst, arith}
 use Rattle.std.specs.Prelude.{All, Option, None, Some, map, filter, is_some, ◌&&◌, ◌||◌}
 use Rattle.std.specs.List.{list_any, AllByRecursion, AllPairs, IsDistinct}
@@ -35,7 +35,7 @@ module _ {K : Type 0} (R : K → K → Ordering) (total : IsTotalOrder R) (exact
   sorted_same f [] = refl
   sorted_same f (e ∷ es) = λ i. below_same f e.0 es i && sorted_same f es i
 
-  -- what is found among the values of a function
+  -- what is found among a function's values
   find-made : {X : Type 0} (f : K → X) (ks : List K) (q : K) → find R q (map (λ k. (k, f k)) ks) ≡ cond (list_any (eq_by_cmp R q) ks) (Some (f q)) None
   find-made f [] q = refl
   find-made f (k ∷ ks) q =
@@ -75,7 +75,7 @@ module _ {K : Type 0} (R : K → K → Ordering) (total : IsTotalOrder R) (exact
   found_or_not None b x h = ap (λ t. cond t (Some x) None) (sym (h refl))
   found_or_not (Some v) b x h = refl
 
-  -- the same of entries that are in order
+  -- the same for entries in order
   ordered_is : {V X : Type 0} (f : K → X) (ks : List K) (p : K → Bool) (es : List (K × V)) → T (is_sorted R es) → ((q : K) → p q ≡ list_any (eq_by_cmp R q) ks) → ((q : K) → find R q es ≡ None → p q ≡ false) → kept f p es ≡ in_order R f ks
   ordered_is {X = X} f ks p es sorted is absent =
       let these = kept f p es in
@@ -89,8 +89,7 @@ module _ {K : Type 0} (R : K → K → Ordering) (total : IsTotalOrder R) (exact
       ∙ sym (find-made f ks q) ∙ sym (finite.get-from_entries total made q)) in
       sym (finite.entries-from_sorted R these up) ∙ ap finite.entries same
 
-  -- entries in order, of which those are kept whose keys are in a list: what f gives of them is what it gives of the keys of the
-  -- list, each once and in their order
+  -- entries in order, filtered by keys in a list: f maps them to what it gives for the list's keys, each once, in order
   pub in_order_is : {V X : Type 0} (f : K → X) (ks : List K) (p : K → Bool) (es : List (K × V)) → IsStrictlySortedBy R (keys_of es) → ((q : K) → p q ≡ list_any (eq_by_cmp R q) ks) → ((q : K) → find R q es ≡ None → p q ≡ false) → kept f p es ≡ in_order R f ks
   in_order_is f ks p es sorted is absent = ordered_is f ks p es (subst T (sym (sorted_true es sorted)) tt) is absent
 
@@ -119,7 +118,7 @@ module _ {K : Type 0} (R : K → K → Ordering) (total : IsTotalOrder R) (exact
   kept_keys : {X : Type 0} (f : K → X) (ks : List K) → keys_of (in_order R f ks) ≡ map (λ e. e.0) (filter (λ e. passes ks e.0) (in_order R f ks))
   kept_keys {X = X} f ks = sym (ap keys_of (all_pass f ks)) ∙ map-map (λ (e : K × X). e.0) (λ (e : K × X). (e.0, f e.0)) (filter (λ e. passes ks e.0) (in_order R f ks))
 
-  -- each key in order has what f gives of it
+  -- each key in order has the value that f gives
   pub values_in_order : {X : Type 0} (f : K → X) (ks : List K) → in_order R f ks ≡ map (λ k. (k, f k)) (keys_of (in_order R f ks))
   values_in_order {X = X} f ks =
       sym (all_pass f ks)
@@ -143,7 +142,7 @@ less_than Less h k = refl
 less_than Equal h k = absurd (cc)
 less_than Greater h k = absurd (cc)
 
--- things in the order of their keys, of which no two are alike, are strictly in order
+-- items sorted by distinct keys are in strict order
 module _ {X K : Type 0} (key : X → K) {R : K → K → Ordering} (total : IsTotalOrder R) (alike : X → X → Bool) (ties : (a b : X) → is_eq (R (key a) (key b)) ≡ alike a b) where
   abbrev comes_before : X → X → Bool
   comes_before a b = is_lt (R (key a) (key b))

@@ -1,4 +1,4 @@
--- Parts added one after another.
+-- Parts added one by one.
 use Rattle.std.proofs.Common.{◌≡◌, ℕ, zero, suc, ◌+◌, ◌^◌, ◌<◌, ◌≤◌, List, [], ◌∷◌, ◌++◌, append-nil, length, length-append, take, get_or, Bool, true, false, cond, refl, sym, ◌∙◌, ap, subst, arith}
 use Rattle.std.specs.Prelude.{sum_by, ℤ, ◌+ℤ◌, ◌||◌, nat_lt, filter, unsigned_abs, Option, Some}
 use Rattle.std.specs.Int.RustNames.{FitsSigned}
@@ -26,7 +26,7 @@ owed_of-push ps x = λ i. record {
   amount = (int_sum_by-append rounded ps (x ∷ []) ∙ ap (λ z. int_sum_by rounded ps +ℤ z) (add-zero (rounded x))) i;
 }
 
--- what a party has after one more part
+-- what a party is owed after one more part
 pub owed_more : (o n old : Owed) (q : List ℕ) (ps : List Part) (x : Part) → o ≡ owed_plus old (owed_for q ps) → n ≡ cond (is_for q x) (owed_with (rounded x) o) o → n ≡ owed_plus old (owed_for q (ps ++ x ∷ []))
 owed_more o n old q ps x was is =
     is ∙ ap (λ y. cond (is_for q x) (owed_with (rounded x) y) y) was

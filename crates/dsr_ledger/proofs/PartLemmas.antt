@@ -1,4 +1,4 @@
--- The parts of a line: one more, and those of shares.
+-- The parts of a line: one more part, and parts by shares.
 use Rattle.std.proofs.Common.{◌≡◌, ℕ, zero, suc, ◌+◌, ◌<◌, ◌≤◌, List, [], ◌∷◌, ◌++◌, length, take, refl, sym, ap, subst, ◌∙◌, arith}
 use Rattle.std.specs.Prelude.{ℤ, Option, None, Some, map, slice_get, unsigned_abs}
 use Rattle.std.proofs.lemmas.List.{length-map}
@@ -22,14 +22,14 @@ parts_stay ps = record { owed = λ seat. refl; places = λ s i e. e }
 pub parts_twice : (a b c : List SeatPart) → PartsGrow a b → PartsGrow b c → PartsGrow a c
 parts_twice a b c g h = record { owed = λ seat. h.owed seat ∙ g.owed seat; places = λ s i e. h.places s i (g.places s i e) }
 
--- a part more of which nothing is owed
+-- one more part, of which nothing is owed
 pub parts_more : (ps : List SeatPart) (p : SeatPart) → part_in ps p.seat ≡ None → owed_kept p ≡ nothing_owed → PartsGrow ps (ps ++ p ∷ [])
 parts_more ps p none nothing = record {
   owed = λ seat. items_pushed seat_of_part owed_kept nothing_owed ps p none nothing seat;
   places = items_grow seat_of_part ps p none;
 }
 
--- parties have different places where they have different seats
+-- parties with different seats have different places
 pub places_are_numbered_by : (seat : List ℕ → Option ℕ) (n : ℕ) (ps : List SeatPart) → IsNumbered seat n → IsNumbered (place_by seat (part_seats ps)) (length ps)
 places_are_numbered_by seat n ps h = subst (IsNumbered (place_by seat (part_seats ps))) (length-map ps seat_of_part) (by_numbered seat n (part_seats ps) h)
 
@@ -41,7 +41,7 @@ pub parts_kept : (ss : List SeatShare) (old new : List SeatPart) → Grows (part
 parts_kept [] old new g h = tt
 parts_kept (s ∷ ss) old new g h = (part_kept old new s g h.0, parts_kept ss old new g h.1)
 
--- the parts before one, and its own, are no more than all
+-- the parts before one, and that one, are no more than all
 pub prefix_size : (a : ℤ) (es : List (List ℕ × ℕ)) (i : ℕ) (e : List ℕ × ℕ) → slice_get es i ≡ Some e → parts_size (map (part_of a) (take i es)) + unsigned_abs (rounded (part_of a e)) ≤ parts_size (map (part_of a) es)
 prefix_size a [] i e at = absurd (not_Some e at)
 prefix_size a (x ∷ es) zero e at =

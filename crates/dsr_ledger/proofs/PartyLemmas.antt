@@ -53,11 +53,11 @@ sum-map : {X Y : Type 0} (f : Y → ℤ) (g : X → Y) (xs : List X) → int_sum
 sum-map f g [] = refl
 sum-map f g (x ∷ xs) = ap (λ z. f (g x) +ℤ z) (sum-map f g xs)
 
--- a number under the names that are this one
+-- a number for each name that is this one
 abbrev named : List ℕ → ℤ → List ℕ → ℤ
 named party a n = cond (bytes_eq party n) a (pos 0)
 
--- where it is none of them
+-- if it is none of them
 named_none : (party : List ℕ) (a : ℤ) (names : List (List ℕ)) → AllByRecursion (λ n. bytes_eq party n ≡ false) names → int_sum_by (named party a) names ≡ pos 0
 named_none party a [] h = refl
 named_none party a (n ∷ names) h =
@@ -65,7 +65,7 @@ named_none party a (n ∷ names) h =
     let rest = named_none party a names h.1 in
     omega (arith, ints)
 
--- where it is one of them, and they differ
+-- if it is one of them, and they are distinct
 named_once : (party : List ℕ) (a : ℤ) (names : List (List ℕ)) → IsDistinct bytes_eq names → list_any (bytes_eq party) names ≡ true → int_sum_by (named party a) names ≡ a
 unfolding IsDistinct
 named_once party a [] distinct one = absurd (true≢false (sym one))
@@ -253,7 +253,7 @@ small_amount (b ∷ bs) h =
     let add = abs-add b.usage.amount (amount_sum bs) in
     omega arith
 
--- nothing runs over where the amounts of the parties are taken off one by one
+-- subtracting the parties' amounts one by one does not overflow
 pub line_fits : (bs : List Booking) → AreSmall bs → unsigned_abs (amount_sum bs) + sum_by (λ p. unsigned_abs p.amount) (party_lines bs) < 2 ^ 127
 line_fits bs h =
     let few = h.few in
@@ -278,7 +278,7 @@ taken_size (x ∷ ps) (suc i) p below is =
     let add = abs-add x.amount (int_sum_by (λ y. y.amount) (take i ps)) in
     omega arith
 
--- what is left of an amount
+-- an amount minus the parties' amounts
 pub left_fits : (a : ℤ) (ps : List PartyLine) (i : ℕ) (p : PartyLine) (left : ℤ) → left ≡ a -ℤ int_sum_by (λ x. x.amount) (take i ps) → i < length ps → p ≡ get_or ps i p → unsigned_abs a + sum_by (λ x. unsigned_abs x.amount) ps < 2 ^ 127 → FitsSigned w128 (left -ℤ p.amount)
 left_fits a ps i p left was below is room =
     let size = taken_size ps i p below is in
@@ -291,7 +291,7 @@ amount_fits ps i p a below is room =
     let near : unsigned_abs p.amount < 2 ^ 127 = omega arith in
     fits_signed_from_abs w128 _ near
 
--- a party has a part where it is among the parts' parties
+-- a party has a part if it is among the parts' parties
 pub some_for : (q : List ℕ) (ps : List Part) → nat_lt 0 (length (filter (is_for q) ps)) ≡ list_any (eq_by_cmp text_cmp q) (map (λ p. p.party) ps)
 some_for q [] = refl
 some_for q (p ∷ ps) =

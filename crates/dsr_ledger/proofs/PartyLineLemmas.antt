@@ -45,7 +45,7 @@ lines_by_name parts owed (e ∷ es) h =
       | false ↦ rest
     ]
 
--- a party has a part where it is among the parts' parties
+-- a party has a part if it is among the parts' parties
 some_for : (q : List ℕ) (ps : List Part) → nat_lt 0 (length (filter (is_for q) ps)) ≡ list_any (eq_by_cmp text_cmp q) (map (λ p. p.party) ps)
 some_for q [] = refl
 some_for q (p ∷ ps) =
@@ -56,7 +56,7 @@ some_for q (p ∷ ps) =
     ]
     ∙ ap (λ b. b || list_any (eq_by_cmp text_cmp q) (map (λ p. p.party) ps)) tie
 
--- the lines of all parts by name are those of the bookings that they stand for
+-- the lines of all parts by name are those of the bookings that they represent
 pub party_lines_are : (parts : List SeatPart) (seat : List ℕ → Option ℕ) (es : List (List ℕ × ℕ)) (bs : List Booking) → AreListed text_cmp seat es → ((q : List ℕ) → owed_at_place parts (seat q) ≡ owed_for q (all_parts bs)) → seat_lines parts es ≡ party_lines bs
 unfolding party_lines
 party_lines_are parts seat es bs listed is =

@@ -1,4 +1,4 @@
--- The places of parties that are given by seats.
+-- The places of parties by their seats.
 use Rattle.std.proofs.Common.{◌≡◌, ℕ, zero, suc, ◌+◌, ◌<◌, Bool, true, false, true≢false, cond, List, [], ◌∷◌, length, get_or, nat_eq, refl, sym, ap, ◌∙◌, arith}
 use Rattle.std.specs.Prelude.{Option, None, Some, is_some, map, option_map, slice_get}
 use Rattle.std.specs.Option.{option_and_then}
@@ -15,7 +15,7 @@ use Rattle.dsr_ledger.proofs.ReportLemmas.{all_at}
 abbrev pub at_seats : List ℕ → List ℕ → List ℕ
 at_seats ns ss = map (λ s. get_or ns s 0) ss
 
--- what stands in a list stands at a seat
+-- each item of a list is at a seat
 pub seats_within : (n : ℕ) (ss : List ℕ) → AreApart ss → AreBelow n ss → AllByRecursion (λ s. s < n) ss
 seats_within n ss apart below = all_at (λ s. s < n) ss (λ i s at. below s i (apart i s at))
 
@@ -23,7 +23,7 @@ module _ (ns : List ℕ) (apart : AreApart ns) where
   own_seat : (s : ℕ) → s < length ns → place_in ns (get_or ns s 0) ≡ Some s
   own_seat s below = apart s (get_or ns s 0) (got_or ns s 0 below)
 
-  -- a number is that of a seat where it has the seat
+  -- a number is that of a seat if it has the seat
   alike : (m s : ℕ) → s < length ns → (o : Option ℕ) → place_in ns m ≡ o → (a : Bool) → nat_eq m (get_or ns s 0) ≡ a → (b : ℕ → Bool) → ((t : ℕ) → b t ≡ nat_eq t s) → (k : ℕ) (r : Option ℕ) (f : ℕ → Option ℕ) → r ≡ option_and_then f o → cond a (Some k) r ≡ option_and_then (λ t. cond (b t) (Some k) (f t)) o
   alike m s below None e true h b is k r f rest = absurd (not_Some s (sym e ∙ ap (place_in ns) ((same_number m (get_or ns s 0)).0 h) ∙ own_seat s below))
   alike m s below None e false h b is k r f rest = rest

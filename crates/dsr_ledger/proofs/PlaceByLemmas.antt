@@ -29,7 +29,7 @@ module _ {K : Type 0} where
   }
 
   module _ (same : K → K → Bool) (decides : (a b : K) → Decides (same a b) (a ≡ b)) where
-    -- a key that is given a number past those that have a place has none, and the others keep theirs
+    -- a key with a number past those that have a place has no place, and the others keep theirs
     pub by_new_key : (old new : K → Option ℕ) (k : K) (m : ℕ) (ns : List ℕ) → old k ≡ None → ((q : K) → new q ≡ cond (same k q) (Some m) (old q)) → AreBelow m ns → (q : K) → place_by new ns q ≡ place_by old ns q
     by_new_key old new k m ns none is below q =
         ap (option_and_then (place_in ns)) (is q)
@@ -42,7 +42,7 @@ module _ {K : Type 0} where
         nowhere None e = refl
         nowhere (Some i) e = absurd (let less = below m i e in omega arith)
 
-    -- a number is added: its key has the last place, and the others keep theirs
+    -- a number is appended: its key has the last place, and the others keep theirs
     pub by_new_number : (number : K → Option ℕ) (k : K) (n m : ℕ) (ns : List ℕ) → IsNumbered number m → number k ≡ Some n → place_in ns n ≡ None → (q : K) → place_by number (ns ++ n ∷ []) q ≡ cond (same k q) (Some (length ns)) (place_by number ns q)
     by_new_number number k n m ns h has none q = by (number q) refl
       where

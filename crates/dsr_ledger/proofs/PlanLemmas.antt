@@ -1,4 +1,4 @@
--- What is planned of one usage of a block.
+-- The plan of one usage of a block.
 use Rattle.std.proofs.Common.{◌≡◌, ℕ, zero, suc, ◌<◌, List, [], ◌∷◌, get_or, length, cond, refl, sym, ap, ◌∙◌, subst, arith}
 use Rattle.std.specs.Prelude.{Option, None, Some, map, option_map, slice_get}
 use Rattle.std.specs.List.{flat_map}
@@ -66,7 +66,7 @@ step_of ledger summaries isrc works us i u plan h at =
       with_parts = λ t q. ap (λ ps. cond (key_eq (key_under isrc z.related.summary_key) q) (tally_with u ps t) t) (parts_of_shares u.amount works);
     }
 
--- what is kept of a summary, with no usages more
+-- the state of a summary, with no more usages
 pub shown_none : (id : List ℕ) (o : Option Shown) → o ≡ option_map (shown_with id []) o
 shown_none id None = refl
 shown_none id (Some s) = λ j. Some (record { place = s.place; sums = record { usages = sym (add-zero s.sums.usages) j; amount = sym (add-zero s.sums.amount) j } })

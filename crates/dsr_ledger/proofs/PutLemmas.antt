@@ -1,4 +1,4 @@
--- A list with a part put in: the bookings after a block.
+-- A list with items inserted: the bookings after a block.
 use Rattle.std.proofs.Common.{◌≡◌, ℕ, zero, suc, List, [], ◌∷◌, ◌++◌, append_assoc, append-nil, Bool, true, false, refl, sym, ◌∙◌, ap, arith}
 use Rattle.std.specs.Prelude.{◌||◌, ◌+ℤ◌, Option, Some, slice_get, unwrap_or}
 use Rattle.std.specs.List.{flat_map}
@@ -21,7 +21,7 @@ use Rattle.dsr_ledger.specs.Stands.{LedgerStands}
 use Rattle.dsr_ledger.proofs.JudgedLemmas.{judged_more}
 use Rattle.dsr_ledger.proofs.TallyPlusLemmas.{key_tally-append}
 
--- the list `new` is `old` with `more` put in somewhere
+-- the list `new` is `old` with `more` inserted somewhere
 pub record PutsIn {X : Type 0} (old more new : List X) : Type 0 where
   pub front : List X
   pub back : List X
@@ -42,7 +42,7 @@ filed_bookings-push d b =
 same_Some : {X : Type 0} (x y : X) → Some x ≡ Some y → x ≡ y
 same_Some x y e = ap (λ o. unwrap_or o x) e
 
--- a further block puts its bookings in, and no others
+-- one more block inserts its bookings, and no others
 pub puts_in : (n : ℕ) (e : List (Option OpeningParts)) (files : List File) (k : ℕ) (b : BlockParts) (d : Filed) → slice_get (filed_after n e files) k ≡ Some d → PutsIn (bookings_after n e files) (verdict_bookings (summaries_of d.file.opening) (b, verdict_of d b)) (bookings_after n e (with_block files k b))
 puts_in n e [] k b d at = absurd (cc)
 puts_in n e (f ∷ fs) zero b d at =
@@ -91,7 +91,7 @@ tally_plus-swap a b c = λ i. record {
   owed = λ q. owed_plus-swap (a.owed q) (b.owed q) (c.owed q) i;
 }
 
--- bookings that are put in add their tallies
+-- bookings that are inserted add their tallies
 put_tally : (old more new : List Booking) (q : Key) → PutsIn old more new → key_tally new q ≡ tally_plus (key_tally old q) (key_tally more q)
 put_tally old more new q h =
     ap (λ l. key_tally l q) h.is
@@ -100,7 +100,7 @@ put_tally old more new q h =
     ∙ tally_plus-swap (key_tally h.front q) (key_tally more q) (key_tally h.back q)
     ∙ ap (λ s. tally_plus s (key_tally more q)) (sym (ap (λ l. key_tally l q) h.was ∙ key_tally-append h.front h.back q))
 
--- so the lines stand for the bookings with those of the block
+-- so the lines represent the bookings with those of the block
 pub lines_took : (files : List File) (k : ℕ) (b : BlockParts) (v : Verdict) (d : Filed) (old new : Ledger) → slice_get (filed_after 1 [] files) k ≡ Some d → v ≡ verdict_of d b → ((q : Key) → tally_at new q ≡ tally_plus (tally_at old q) (key_tally (verdict_bookings (summaries_of d.file.opening) (b, v)) q)) → LedgerStands old (bookings files) → LedgerStands new (bookings (with_block files k b))
 lines_took files k b v d old new at is tallies h q =
     let m = verdict_bookings (summaries_of d.file.opening) (b, verdict_of d b) in

@@ -1,4 +1,4 @@
--- What lines keep, when one is made, widened or changed, and when a seat is given.
+-- The tallies of lines when a line is added, widened or changed, and when a seat is given.
 use Rattle.std.proofs.Common.{◌≡◌, ℕ, zero, suc, ◌<◌, ◌≤◌, Bool, true, false, cond, List, [], ◌∷◌, ◌++◌, length, length-append, set, get_or, nat_eq, ⊎_elim, refl, sym, ap, subst, ◌∙◌, arith}
 use Rattle.std.specs.Prelude.{Option, None, Some, Result, Ok, Err, IfOk, slice_get}
 use Rattle.std.specs.Option.{option_and_then, option_map, option_map_or}
@@ -20,7 +20,7 @@ use Rattle.dsr_ledger.proofs.ItemLemmas.{numbers_kept, items_are_numbered, items
 abbrev pub key_of : Line → ℕ
 key_of l = l.key
 
--- the parts of a line are those of so many seats
+-- the seats of a line's parts are below a bound
 abbrev pub IsWithin : ℕ → Line → Type 0
 IsWithin seats l = AreBelow seats (part_seats l.parts.items.items)
 
@@ -39,7 +39,7 @@ grow_pushed ls l none nothing = record {
   wide = λ ss i h. record { line = h.line; there = still_there ls l h.line i h.there; wide = h.wide };
 }
 
--- seats that have parts in a line have them in the one that is written over it
+-- seats that have parts in a line have them in the one that replaces it
 abbrev pub KeepsParts : Line → Line → Type 0
 KeepsParts l w = (ss : List SeatShare) → HaveParts ss l.parts.items.items → HaveParts ss w.parts.items.items
 
@@ -62,7 +62,7 @@ written_there [] i w below = absurd (omega arith)
 written_there (x ∷ ls) zero w below = refl
 written_there (x ∷ ls) (suc i) w below = written_there ls i w (omega arith)
 
--- a line is written of which the same is kept
+-- a line is replaced by one with the same tally
 pub grow_written : (ls : List Line) (i : ℕ) (l w : Line) → i < length ls → l ≡ get_or ls i l → w.key ≡ l.key → ((seat : List ℕ → Option ℕ) → line_tally seat w ≡ line_tally seat l) → KeepsParts l w → LinesGrow ls (set ls i w)
 grow_written ls i l w below is same alike f = record {
   tallies = λ seat number. items_written key_of (line_tally seat) no_tally ls i l w below is same (alike seat) number;
@@ -70,7 +70,7 @@ grow_written ls i l w below is same alike f = record {
   wide = wide_written ls i l w below is f;
 }
 
--- a line is written of which more is kept
+-- a line is replaced by one with a greater tally
 pub tally_changed : (seat : List ℕ → Option ℕ) (f : Tally → Tally) (ls : List Line) (i : ℕ) (l w : Line) (key : ℕ) → l ≡ get_or ls i l → w.key ≡ l.key → line_tally seat w ≡ f (line_tally seat l) → line_in ls key ≡ Some i
     → (q : ℕ) → lines_tally seat (set ls i w) (Some q) ≡ cond (nat_eq key q) (f (lines_tally seat ls (Some q))) (lines_tally seat ls (Some q))
 tally_changed seat f ls i l w key is same change at q =

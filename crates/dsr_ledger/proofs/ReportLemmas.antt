@@ -48,7 +48,7 @@ pub all_at : {X : Type 0} (P : X → Type 0) (xs : List X) → ((i : ℕ) (x : X
 all_at P [] h = tt
 all_at P (x ∷ xs) h = (h 0 x refl, all_at P xs (λ i y e. h (suc i) y e))
 
--- what is made of those that pass, with one more
+-- the results for those that pass, with one more
 module _ {X Y : Type 0} (f : X → Y) (p : X → Bool) (xs : List X) (x : X) where
   pub more_kept : p x ≡ true → map f (filter p (xs ++ x ∷ [])) ≡ map f (filter p xs) ++ f x ∷ []
   more_kept h =
@@ -61,7 +61,7 @@ module _ {X Y : Type 0} (f : X → Y) (p : X → Bool) (xs : List X) (x : X) whe
 both_kept : {X Y : Type 0} (f : X → Y) (p : X → Bool) (xs ys : List X) → map f (filter p (xs ++ ys)) ≡ map f (filter p xs) ++ map f (filter p ys)
 both_kept f p xs ys = ap (map f) (filter-append p xs ys) ∙ map-append f (filter p xs) (filter p ys)
 
--- of entries that are strictly in order, each is found by its key
+-- each of entries in strict order is found by its key
 pub own_found : {K : Type 0} {R : K → K → Ordering} → IsTotalOrder R → (es : List (K × ℕ)) (i : ℕ) (e : K × ℕ) → IsStrictlySortedBy R (keys_of es) → slice_get es i ≡ Some e → find R e.0 es ≡ Some e.1
 unfolding IsStrictlySortedBy
 own_found total [] i e sorted at = absurd (true≢false (sym (ap is_some at)))
@@ -81,7 +81,7 @@ place_below number ns k i at = by (number k) at
     by None e = absurd (true≢false (sym (ap is_some e)))
     by (Some n) e = (position-Some _ ns i n e).0
 
--- what the lines of a recording keep of a summary key whose line stands at this place
+-- the tally of a recording's lines for a summary key whose line is at this place
 pub line_there : (seat : List ℕ → Option ℕ) (number : SummaryKey → Option ℕ) (ls : List Line) (k : SummaryKey) (i : ℕ) (l : Line) → place_by number (line_keys ls) k ≡ Some i → slice_get ls i ≡ Some l → lines_tally seat ls (number k) ≡ line_tally seat l
 line_there seat number ls k i l at there = ap (read_at (line_tally seat) no_tally ls) at ∙ ap (λ o. option_map_or (line_tally seat) o no_tally) there
 
@@ -120,7 +120,7 @@ module _ (number : SummaryKey → Option ℕ) (ls : List Line) (items : List (Bo
   pub place_within : e.1 < length ls
   place_within = let below = place_below number (line_keys ls) e.0.now e.1 own_place in let long = length-map ls (λ (l : Line). l.key) in omega arith
 
-  -- what is kept under the key is what its line has
+  -- the tally of the key is that of its line
   pub own_tally : (seat : List ℕ → Option ℕ) (l : Line) → slice_get ls e.1 ≡ Some l → line_tally seat l ≡ lines_tally seat ls (number e.0.now)
   own_tally seat l there = sym (line_there seat number ls e.0.now e.1 l own_place there)
 
@@ -175,7 +175,7 @@ pub all_append : {X : Type 0} (P : X → Type 0) (xs ys : List X) → AllByRecur
 all_append P [] ys a b = b
 all_append P (x ∷ xs) ys a b = (a.0, all_append P xs ys a.1 b)
 
--- the recordings before these were written: for some keys in order, which are all that have a booking
+-- the recordings before these were written, for some keys in order: all that have a booking
 pub record IsWritten (books : Ledger) (rest : List (List ℕ × Recording)) (out : List LedgerLine) : Type 0 where
   pub entries : List (Key × ℕ)
   pub order : IsStrictlySortedBy key_cmp (keys_of entries)
@@ -199,7 +199,7 @@ module _ (books : Ledger) where
   abbrev summary_keys : List SummaryKey
   summary_keys = books.summary_keys.keys
 
-  -- what is kept of a recording of the ledger
+  -- the state of a recording of the ledger
   pub has_bookings : (isrc : List ℕ) (r : Recording) (bs : List Booking) → get bytes_eq books.recordings isrc ≡ Some r → LedgerStands books bs → HasBookings parties summary_keys isrc r bs
   has_bookings isrc r bs at stand k =
       sym (ap (recording_tally (party_number books) (key_number books k)) at) ∙ stand (key_under isrc k)
@@ -260,7 +260,7 @@ module _ (books : Ledger) where
           not_booked q r (ap (get bytes_eq books.recordings) is ∙ own.own.0) (adds.absent q is also)
       by q none also missing false f = was.absent q none (ap (λ b. cond b (Some r) (lookup (bytes_eq q.isrc) rest)) f ∙ missing)
 
-  -- a key has a booking where it is among the bookings' keys
+  -- a key has a booking if it is among the bookings' keys
   some_at : (q : Key) (bs : List Booking) → nat_lt 0 (length (at_key q bs)) ≡ list_any (eq_by_cmp key_cmp q) (map (λ b. b.key) bs)
   some_at q [] = refl
   some_at q (b ∷ bs) =
@@ -318,7 +318,7 @@ each_of : {X : Type 0} (P : X → Type 0) (p : X → Bool) (xs : List X) → All
 each_of P p [] h = h
 each_of P p (x ∷ xs) h = elim (p x) as (λ b. AllByRecursion P (cond b (x ∷ filter p xs) (filter p xs))) [ true ↦ (h.0, each_of P p xs h.1) | false ↦ each_of P p xs h.1 ]
 
--- the bookings of a key are small where all are
+-- the bookings of a key are small if all are
 pub small_at : (key : Key) (bs : List Booking) → AreSmall bs → AreSmall (at_key key bs)
 small_at key bs h = record {
   few = let less = fewer (is_at_key key) bs in let few = h.few in omega arith;

@@ -27,7 +27,7 @@ module _ {A B : Type 0} (R : A → B → Type 0) where
   zip_long (x ∷ xs) [] h = absurd h
   zip_long (x ∷ xs) (u ∷ us) h = ap suc (zip_long xs us h.1)
 
-  -- what stands at place i on both sides
+  -- the items at place i of both lists
   pub record ZipStep (xs : List A) (us : List B) (i : ℕ) (x : A) : Type 0 where
     pub other : B
     pub there : slice_get us i ≡ Some other
@@ -57,7 +57,7 @@ seats_below seat n below [] es h = tt
 seats_below seat n below (s ∷ ss) [] h = absurd h
 seats_below seat n below (s ∷ ss) (e ∷ es) h = (below e.0 s.seat h.0.0, seats_below seat n below ss es h.1)
 
--- a further row of shares
+-- more shares appended
 pub seated_more : (was is : List ℕ → Option ℕ) (old mid new : List SeatShare) (es fs : List (List ℕ × ℕ)) → Grows was is → SeatedMore was old mid es → SeatedMore is mid new fs → SeatedMore is old new (es ++ fs)
 seated_more was is old mid new es fs g h k = record {
   more = h.more ++ k.more;
@@ -83,7 +83,7 @@ parts_of_shares a (w ∷ works) =
     ∙ ap (λ l. work_parts a w ++ l) (parts_of_shares a works)
     ∙ sym (flat_map-cons (work_parts a) w works)
 
--- the item whose value stands at place i, and the value of the item there
+-- the item whose value is at place i, and the value of the item there
 pub record ValueAt {X : Type 0} (f : X → Option ℕ) (xs : List X) (ns : List ℕ) (i n : ℕ) (x : X) : Type 0 where
   pub item : slice_get xs i ≡ Some x
   pub value : slice_get ns i ≡ Some n

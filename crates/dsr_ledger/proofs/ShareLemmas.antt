@@ -1,4 +1,4 @@
--- The parts of a booking are together no more than its amount, since the shares of its works are together no more than a whole.
+-- The parts of a booking add up to at most its amount, since the shares of its works add up to at most 100 percent.
 use Rattle.std.proofs.Common.{◌≡◌, ℕ, ◌+◌, ◌*◌, ◌≤◌, List, [], ◌∷◌, ◌∙◌, ap, arith}
 use Rattle.std.specs.Prelude.{ℤ, pos, negsuc, ◌*ℤ◌, sum, sum_by, map, unsigned_abs}
 use Rattle.std.specs.Int.RustNames.{int_div}
@@ -49,7 +49,7 @@ works_size a (w ∷ works) =
     let total : unsigned_abs a * share_total (w ∷ works) ≡ unsigned_abs a * sum w.shares + unsigned_abs a * share_total works = ap (λ n. unsigned_abs a * n) (sum_by-cons (λ (x : WorkParts). sum x.shares) w works) ∙ spread (unsigned_abs a) (sum w.shares) (share_total works) in
     omega arith
 
--- so where the shares are no more than a whole, the parts are no more than the amount
+-- so if the shares are at most 100 percent, the parts are no more than the amount
 pub parts_within : (a : ℤ) (works : List WorkParts) → share_total works ≤ 1000000 → parts_size (flat_map (work_parts a) works) ≤ unsigned_abs a
 parts_within a works whole =
     let h = works_size a works in
@@ -64,7 +64,7 @@ sum_size (x ∷ ps) =
     let add = abs-add (rounded x) (int_sum_by rounded ps) in
     omega arith
 
--- nothing is claimed beyond an amount that is not below zero
+-- no more is claimed than an amount that is not negative
 pub left_over_not_negative : (b : Booking) → pos 0 ≤ℤ b.usage.amount → share_total b.works ≤ 1000000 → pos 0 ≤ℤ left_over b
 left_over_not_negative b h whole =
     let size = sum_size (parts_of b) in

@@ -1,4 +1,4 @@
--- What is found for summaries, usage after usage.
+-- The states of summaries, usage by usage.
 use Rattle.std.proofs.Common.{◌≡◌, ℕ, ◌+◌, ◌^◌, ◌≤◌, List, [], ◌∷◌, ◌++◌, length, Bool, refl, sym, ◌∙◌, ap, subst, arith}
 use Rattle.std.specs.Prelude.{◌+ℤ◌, Option, None, Some, option_map, filter}
 use Rattle.std.specs.Option.{ForSome}
@@ -54,7 +54,7 @@ shown_fits_at (Some s) id us i n m few room small h = λ x e.
     let is : shown_with id us s ≡ x = cc in
     subst (ShownFits m) is (shown_fits_after id us s i n m few room small (h s refl))
 
--- usages that are added change no place
+-- added usages change no summary key
 pub same_place : (id : List ℕ) (us : List Usage) (o : Option Shown) → option_map (λ s. s.place) (option_map (shown_with id us) o) ≡ option_map (λ s. s.place) o
 same_place id us None = refl
 same_place id us (Some s) = refl

@@ -1,4 +1,4 @@
--- How many bookings there can be, and how large their numbers.
+-- The greatest number of bookings, and the range of their numbers.
 use Rattle.std.proofs.Common.{◌≡◌, ℕ, suc, ◌+◌, ◌*◌, ◌^◌, ◌<◌, ◌≤◌, Bool, true, false, List, [], ◌∷◌, ◌++◌, length, length-append, refl, sym, ◌∙◌, ap, subst, arith}
 use Rattle.std.specs.Prelude.{not, nat_lt, ◌==◌, Option, None, Some, option_map, find}
 use Rattle.std.specs.Option.{ForSome}
@@ -41,7 +41,7 @@ booked_last [] false r e = refl
 booked_last ((true, q) ∷ xs) x r e = absurd (cc)
 booked_last ((false, q) ∷ xs) x r e = booked_last xs x r e
 
--- the shares of a booked block are no more than a whole
+-- the shares of a booked block add up to at most 100 percent
 booked_shares : (s : Standing) (seen : Bool) (known : List ℕ → Bool) (b : BlockParts) → verdict_by s seen known b ≡ Booked → share_total b.works ≤ 1000000
 unfolding verdict_by
 booked_shares s seen known b e = ltb-false 1000000 (share_total b.works) (booked_last (
@@ -128,7 +128,7 @@ found_fits (Some s) id us i n m few room small u a = λ x e.
     let is : shown_with id us (nothing_found s) ≡ x = cc in
     subst (ShownFits m) is (shown_fits_after id us (nothing_found s) i n m few room small (record { usages = omega arith; amount = omega arith }))
 
--- and so they do in what is found for a file's summaries
+-- and 63 more usages fit into the sums of a file's summaries
 pub summaries_fit : (f : FileBooks) (d : Filed) → FileStands f d → IsSmallFile d.file → (id : List ℕ) → ForSome (shown_at f.summaries id) (ShownFits 63)
 summaries_fit f d h small id =
     let P : Option Shown → Type 0 = λ o. ForSome o (ShownFits 63) in

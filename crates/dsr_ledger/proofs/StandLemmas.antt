@@ -1,4 +1,4 @@
--- What is kept still stands for the file after a block.
+-- The state of a file represents it after a block too.
 use Rattle.std.proofs.Common.{◌≡◌, ℕ, ◌+◌, List, [], ◌∷◌, ◌++◌, length, length-append, append-nil, Bool, true, false, cond, refl, sym, ◌∙◌, ap, arith}
 use Rattle.std.specs.Prelude.{◌||◌, Option, None, Some, option_map, is_some, find}
 use Rattle.std.specs.List.{flat_map, list_any}
@@ -26,7 +26,7 @@ use Rattle.dsr_ledger.proofs.SummaryLemmas.{known_shown, is_some-map}
 use Rattle.dsr_ledger.proofs.ShownLemmas.{shown_with-append}
 use Rattle.dsr_ledger.proofs.JudgedLemmas.{rejects_more}
 
--- the summaries that are kept are those of the file
+-- the summaries of the state are those of the file
 known_is : (f : FileBooks) (d : Filed) → FileStands f d → (id : List ℕ) → is_known f.summaries id ≡ is_summary (summaries_of d.file.opening) id
 known_is f d h id =
     sym (known_shown f.summaries id) ∙ ap is_some (h.summaries id) ∙ is_some-map _ (find (λ s. bytes_eq id s.id) (summaries_of d.file.opening))
@@ -42,7 +42,7 @@ place-found id us (Some s) = refl
 places_are : (f : FileBooks) (d : Filed) → FileStands f d → place_at f.summaries ≡ place_named (summaries_of d.file.opening)
 places_are f d h = λ i id. (ap (option_map (λ s. s.place)) (h.summaries id) ∙ place-found id (usages_in d.file.blocks) (find (λ s. bytes_eq id s.id) (summaries_of d.file.opening))) i
 
--- a further usage is found
+-- one more usage is counted
 found_more : (os : List Summary) (us vs : List Usage) (id : List ℕ) → option_map (shown_with id vs) (found_in os us id) ≡ found_in os (us ++ vs) id
 found_more os us vs id = both (find (λ s. bytes_eq id s.id) os)
   where
@@ -92,7 +92,7 @@ took d f g b v seen old new h judged_so same t ids =
       range = t.range;
     }
 
--- where nothing that counts has changed
+-- if the state still represents the same file
 pub stands_same : (f g : FileBooks) (d : Filed) → FileStands f d → IsSameFile f g → FileStands g d
 stands_same f g d h t = record {
   place = t.place ∙ h.place;

@@ -18,7 +18,7 @@ summary_key_total =
     then_total (on_total (λ (k : SummaryKey). k.territory) nat_list_cmp_total)
     (then_total (on_total (λ (k : SummaryKey). k.use_type) nat_list_cmp_total) (on_total (λ (k : SummaryKey). k.currency) nat_list_cmp_total))
 
--- summary keys that compare alike are one
+-- summary keys that compare equal are the same
 summary_key_exact : (a b : SummaryKey) → summary_key_cmp a b ≡ Equal → a ≡ b
 summary_key_exact a b e =
     let first = both_Equal _ _ e in
@@ -49,7 +49,7 @@ summary_key_eq-itself a =
     and_from _ _ ((bytes_eq-Decides a.territory a.territory).1 refl)
     (and_from _ _ ((bytes_eq-Decides a.use_type a.use_type).1 refl) ((bytes_eq-Decides a.currency a.currency).1 refl))
 
--- summary keys are equal only where they are one
+-- summary keys are equal only if they are the same
 pub same_summary_key : (a b : SummaryKey) → Decides (summary_key_eq a b) (a ≡ b)
 same_summary_key a b = (summary_key_eq-is a b, λ e. subst (λ k. summary_key_eq a k ≡ true) e (summary_key_eq-itself a))
 

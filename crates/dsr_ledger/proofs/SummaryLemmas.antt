@@ -1,4 +1,4 @@
--- What is kept of summaries, after a usage was counted.
+-- The states of summaries after a usage was counted.
 use Rattle.std.proofs.Common.{◌≡◌, ℕ, List, [], ◌∷◌, Bool, true, false, cond, true≢false, refl, sym, ◌∙◌, ap}
 use Rattle.std.specs.Prelude.{◌+ℤ◌, Option, None, Some, is_some, option_map}
 use Rattle.std.specs.Str.{bytes_eq}
@@ -16,12 +16,12 @@ pub is_some-map : {A B : Type 0} (f : A → B) (o : Option A) → is_some (optio
 is_some-map f None = refl
 is_some-map f (Some x) = refl
 
--- something is kept of each summary that has a number
+-- each summary that has a number has a state
 pub known_shown : (summaries : Summaries) (id : List ℕ) → is_some (shown_at summaries id) ≡ is_known summaries id
 known_shown summaries id =
     is_some-map shown (get bytes_eq summaries.states id) ∙ sym (some_index (bytes_eq id) summaries.states.entries)
 
--- a usage under another name adds nothing
+-- a usage of another summary adds nothing
 other_name : (id : List ℕ) (u : Usage) (s : Shown) → bytes_eq id u.summary_id ≡ false → s ≡ shown_with id (u ∷ []) s
 other_name id u s h = λ i. record {
   place = s.place;

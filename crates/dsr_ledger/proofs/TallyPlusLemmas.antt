@@ -1,4 +1,4 @@
--- Tallies of bookings one after another.
+-- Tallies of concatenated bookings.
 use Rattle.std.proofs.Common.{◌≡◌, ℕ, ◌+◌, ◌*◌, ◌^◌, ◌≤◌, List, [], ◌∷◌, ◌++◌, length, Bool, true, false, cond, append-nil, sym, ◌∙◌, ap, subst, arith, length-append}
 use Rattle.std.specs.Prelude.{◌+ℤ◌, Option, None, Some, filter, unsigned_abs, sum_by}
 use Rattle.std.specs.List.{flat_map, AllByRecursion}
@@ -118,7 +118,7 @@ small_parts (b ∷ bs) h =
     let cut = ap (sum_by size) (flat_map-cons parts_of b bs) ∙ sum_by-append size (parts_of b) (all_parts bs) in
     omega arith
 
--- n more usages fit where m more do, after some of them
+-- n more usages fit if m more do, after some of them
 pub tally_fits_after : (t : Tally) (bs : List Booking) (q : Key) (i n m : ℕ) → length bs ≤ i → i + m ≤ n → AllByRecursion IsSmall bs → TallyFits n t → TallyFits m (tally_plus t (key_tally bs q))
 tally_fits_after t bs q i n m few room small h =
     let own = at_key q bs in
@@ -140,7 +140,7 @@ tally_fits_after t bs q i n m few room small h =
           omega arith;
     }
 
--- nothing, with more
+-- the empty tally plus another
 pub tally_plus-none_left : (t : Tally) → tally_plus (tally_of []) t ≡ t
 tally_plus-none_left t = λ i. record {
   is_booked = t.is_booked;

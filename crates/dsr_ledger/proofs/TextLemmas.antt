@@ -10,7 +10,7 @@ use Rattle.std.proofs.lemmas.Map.Lookups.{exact_bytes}
 use Rattle.std.proofs.lemmas.Bool.Decides.{same_from_decides}
 use Rattle.dsr_ledger.specs.Keys.{text_cmp}
 
--- texts that compare alike are one
+-- texts that compare equal are the same
 pub text_tie : (a b : List ℕ) → Decides (is_eq (text_cmp a b)) (a ≡ b)
 text_tie a b = (
   λ t. exact_bytes a b ((Equal-is (text_cmp a b)).0 t),

@@ -1,4 +1,4 @@
--- Numbers that compare alike are one.
+-- Numbers that compare equal are the same.
 use Rattle.std.proofs.Common.{◌≡◌, ℕ, nat_eq, sym}
 use Rattle.std.specs.Cmp.{unsigned_ties}
 use Rattle.std.specs.Ordering.{is_eq, nat_cmp}

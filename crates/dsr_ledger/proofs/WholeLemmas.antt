@@ -1,4 +1,4 @@
--- The shares of a booked block are together no more than a whole.
+-- The shares of a booked block add up to at most 100 percent.
 use Rattle.std.proofs.Common.{◌≡◌, ℕ, ◌≤◌, length, List, [], ◌∷◌, ◌++◌, Bool, true, false, refl, sym, subst}
 use Rattle.std.specs.Prelude.{Option, None, Some, nat_lt, not, ◌==◌}
 use Rattle.std.specs.List.{flat_map, list_any, AllByRecursion}
@@ -25,7 +25,7 @@ IsWhole b = share_total b.works ≤ 1000000
 rejected : (reason : Reason) → Rejected reason ≡ Booked → ⊥
 rejected reason e = absurd (cc)
 
--- where no reason applies
+-- if no reason applies
 no_reason : (reasons : List (Bool × Reason)) → first_reason reasons ≡ Booked → AllByRecursion (λ e. e.0 ≡ false) reasons
 no_reason [] h = tt
 no_reason ((true, reason) ∷ rest) h = absurd (rejected reason h)
@@ -83,6 +83,6 @@ filed_whole d =
     let summaries = summaries_of d.file.opening in
     all_flat IsWhole IsJudged (verdict_bookings summaries) (λ e h. verdict_whole summaries e.0 e.1 h) (judged_in d) (all_judged d.standing summaries [] d.file.blocks)
 
--- each booking of files is of a block whose shares are together no more than a whole
+-- each booking of files is of a block whose shares add up to at most 100 percent
 pub bookings_whole : (files : List File) → AllByRecursion IsWhole (bookings files)
 bookings_whole files = all_flat IsWhole (λ _. Unit {0}) filed_bookings (λ d _. filed_whole d) (filed files) (all_of (λ _. Unit {0}) (λ _. tt) (filed files))

@@ -1,4 +1,4 @@
--- What the report tells of the files, from what is kept of them.
+-- The parts of the report that are made of the files' states.
 use Rattle.std.specs.Prelude.{ℕ, pos, Bool, not, ◌&&◌, Option, None, Some, List, [], filter, map, option_map, if◌then◌else◌}
 use Rattle.std.specs.List.{range_with_len}
 use Rattle.std.specs.BTreeSet.{BTreeSet, contains}
@@ -15,7 +15,7 @@ use Rattle.dsr_ledger.specs.Findings.{is_ours, ended_whole, differs, has_number}
 use Rattle.dsr_ledger.specs.Summaries.{shown_at, Shown}
 use Rattle.dsr_ledger.specs.Reports.{outcome_of}
 
--- the line of a file
+-- the report's line of a file
 abbrev pub line_kept : FileBooks → FileLine
 line_kept f = record {
   number = option_map (λ o. o.head.file_number) f.opening;
@@ -24,21 +24,21 @@ line_kept f = record {
   outcome = outcome_of f.outcome;
 }
 
--- the file is one of ours and has this number
+-- the file has the standing Ours and this file number
 abbrev pub is_number_kept : ℕ → FileBooks → Bool
 is_number_kept n f = is_ours f.standing && has_number n f.opening
 
--- of the numbers from 1 to that of the report's files, those that are not in the set
+-- the file numbers from 1 to the report's number of files, inclusive, that are not in the set
 abbrev pub not_in : Option ReportKey → BTreeSet ℕ → List ℕ
 not_in None numbers = []
 not_in (Some key) numbers = filter (λ n. not (contains nat_cmp numbers n)) (range_with_len 1 key.number_of_files)
 
--- the sums of what is kept of a summary
+-- the sums of a summary's state; zeros if there is none
 abbrev pub sums_shown : Option Shown → Sums
 sums_shown None = record { usages = pos 0; amount = pos 0 }
 sums_shown (Some s) = s.sums
 
--- what a summary states beside these sums
+-- the usages and the amount that a summary states, with these sums as those found
 abbrev pub difference_to : ℕ → Sums → Summary → Difference
 difference_to place found s = record {
   file = place;
@@ -49,11 +49,11 @@ difference_to place found s = record {
   found_amount = found.amount;
 }
 
--- the summaries that state something else than is kept of them
+-- the differences of the summaries that state other sums than were found
 abbrev pub differences_to : ℕ → Summaries → List Summary → List Difference
 differences_to place summaries ss = filter differs (map (λ s. difference_to place (sums_shown (shown_at summaries s.id)) s) ss)
 
--- the differences of a file: none but in a file of ours that ended whole
+-- the differences of a file: none unless its standing is Ours and it ended whole
 abbrev pub differences_kept : FileBooks → List Difference
 differences_kept f =
     if is_ours f.standing && ended_whole f.outcome then differences_to f.place f.summaries (summaries_of f.opening) else []

@@ -1,4 +1,4 @@
--- What a block changes in what is kept of its file.
+-- What a block changes in the state of its file.
 use Rattle.std.specs.Prelude.{◌≡◌, ℕ, ◌+◌, ◌≤◌, List, [], ◌∷◌, ◌++◌, length, Option, option_map}
 use Rattle.std.specs.List.{AllByRecursion}
 use Rattle.dsr_records.specs.Blocks.{BlockParts}
@@ -16,7 +16,7 @@ use Rattle.dsr_ledger.specs.Recordings.{tally_at}
 use Rattle.dsr_ledger.specs.declared.ledger.recordings.Ledger.{Ledger}
 use Rattle.dsr_ledger.specs.declared.key.Key.{Key}
 
--- nothing that counts has changed
+-- the two states represent the same file
 pub record IsSameFile (f g : FileBooks) : Type 0 where
   pub place : g.place ≡ f.place
   pub opening : g.opening ≡ f.opening
@@ -27,17 +27,17 @@ pub record IsSameFile (f g : FileBooks) : Type 0 where
   pub rejects : g.rejects.items ≡ f.rejects.items
   pub outcome : g.outcome ≡ f.outcome
 
--- the records of a block are few, and the numbers of its usages small
+-- a block has at most 63 usages, each in range
 pub record IsBlockInRange (b : BlockParts) : Type 0 where
   pub few : length b.usages ≤ 63
   pub range : AllByRecursion IsInRange b.usages
 
--- what a block with this verdict adds
+-- the bookings of a block with this verdict: none if it is rejected
 abbrev pub bookings_by : (List ℕ → Option SummaryKey) → BlockParts → Verdict → List Booking
 bookings_by place b Booked = usage_bookings place b.resource.isrc b.works b.usages
 bookings_by place b (Rejected reason) = []
 
--- one more block with this verdict, but for the identifiers
+-- the file has one more block, with this verdict; nothing is said of the identifiers
 pub record TakesBlock (f g : FileBooks) (old new : Ledger) (b : BlockParts) (v : Verdict) : Type 0 where
   pub place : g.place ≡ f.place
   pub opening : g.opening ≡ f.opening

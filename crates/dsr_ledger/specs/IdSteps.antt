@@ -8,21 +8,21 @@ use Rattle.dsr_ledger.specs.declared.ids.Noted.TheVariants.{Before, InRun, InRes
 use Rattle.dsr_ledger.specs.Keys.{text_cmp}
 use Rattle.dsr_ledger.specs.Ids.{is_among}
 
--- whether an identifier is there
+-- an identifier is in the set
 abbrev pub is_in : Ids → List ℕ → Bool
 is_in ids q = is_among ids.run.items ids.rest q
 
--- the same identifiers are there
+-- the two sets have the same identifiers
 abbrev pub HaveSame : Ids → Ids → Type 0
 HaveSame old new = (q : List ℕ) → is_in new q ≡ is_in old q
 
--- whether an identifier that was noted so was there before
+-- an identifier that was noted so was in the set before
 abbrev pub was_before : Noted → Bool
 was_before Before = true
 was_before InRun = false
 was_before InRest = false
 
--- what is there after an identifier was noted
+-- the set after an identifier was noted
 abbrev pub IsNoted : Noted → Ids → Ids → List ℕ → Type 0
 IsNoted Before old new id = (is_in old id ≡ true) × HaveSame old new
 IsNoted InRun old new id = (is_in old id ≡ false) × (new.run.items ≡ old.run.items ++ id ∷ []) × ((q : List ℕ) → contains text_cmp new.rest q ≡ contains text_cmp old.rest q)

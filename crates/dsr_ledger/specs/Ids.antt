@@ -1,18 +1,18 @@
--- The identifiers that are kept of a file's blocks, and their ranks.
+-- The set of the identifiers of a file's blocks, and their ranks.
 use Rattle.std.specs.Prelude.{ℕ, ◌+◌, ◌-◌, ◌*◌, ◌^◌, ◌%◌, Bool, List, ◌||◌, length, drop}
 use Rattle.std.specs.List.{list_any, fold}
 use Rattle.std.specs.Str.{bytes_eq}
 use Rattle.std.specs.BTreeSet.{contains, BTreeSet}
 use Rattle.dsr_ledger.specs.Keys.{text_cmp}
 
--- a number with one more byte, as far as 64 bits hold it
+-- a number with one more byte appended, modulo 2^64
 abbrev pub with_byte : ℕ → ℕ → ℕ
 with_byte number byte = (number * 256 % 2 ^ 64 + byte) % 2 ^ 64
 
--- the length of an identifier, and the number that its last eight bytes are
+-- the rank of an identifier: its length times 2^64, plus its last eight bytes as a big-endian number
 unfoldable pub rank_of : List ℕ → ℕ
 rank_of id = length id * 2 ^ 64 + fold with_byte 0 (drop (length id - 8) id)
 
--- whether an identifier is in a run or among the rest
+-- an identifier is in the run or among the rest
 abbrev pub is_among : List (List ℕ) → BTreeSet (List ℕ) → List ℕ → Bool
 is_among run rest q = list_any (bytes_eq q) run || contains text_cmp rest q

@@ -1,4 +1,4 @@
--- The keys' equality and order.
+-- The equality and the order of the ledger's keys.
 use Rattle.std.specs.Prelude.{ℕ, List, Bool, ◌&&◌, map}
 use Rattle.std.specs.Cmp.Lexicographic.{slice_cmp}
 use Rattle.std.specs.Ordering.{nat_cmp, ordering_then}
@@ -12,18 +12,17 @@ key_eq a b =
     bytes_eq a.isrc b.isrc
     && (bytes_eq a.territory b.territory && (bytes_eq a.use_type b.use_type && bytes_eq a.currency b.currency))
 
--- the order of texts: by their bytes, where a text that begins another comes first
+-- the order of texts: lexicographic by bytes, so a proper prefix comes first
 abbrev pub text_cmp : List ℕ → List ℕ → Ordering
 text_cmp = slice_cmp nat_cmp
 
--- the order of keys: by the recording, then by territory, use type and currency
+-- the order of keys: by ISRC, then territory, then use type, then currency
 abbrev pub key_cmp : Key → Key → Ordering
 key_cmp a b =
     ordering_then (text_cmp a.isrc b.isrc)
     (ordering_then (text_cmp a.territory b.territory)
     (ordering_then (text_cmp a.use_type b.use_type) (text_cmp a.currency b.currency)))
 
--- what f gives of each of these keys, each key once, in their order: the entries of a finite map, which come in the order of
--- its keys
+-- each of these keys once, in order, with its value by f: the entries of a finite map, in the order of its keys
 abbrev pub in_order : {K X : Type 0} → (K → K → Ordering) → (K → X) → List K → List (K × X)
 in_order cmp f ks = finite.entries (finite.from_entries {R = cmp} (map (λ k. (k, f k)) ks))

@@ -1,4 +1,4 @@
--- The ledger: for each key, sums over all bookings of that key.
+-- The ledger: for each key, the sums over all its bookings.
 use Rattle.std.specs.Prelude.{ℤ, Bool, List, filter, map}
 use Rattle.dsr_ledger.specs.declared.key.Key.{Key}
 use Rattle.dsr_ledger.specs.declared.report.PartyLine.{PartyLine}
@@ -15,13 +15,16 @@ is_at_key key b = key_eq b.key key
 abbrev pub at_key : Key → List Booking → List Booking
 at_key key bs = filter (is_at_key key) bs
 
+-- the sum of the usages of bookings
 abbrev pub usages_sum : List Booking → ℤ
 usages_sum bs = int_sum_by (λ b. b.usage.usages) bs
 
+-- the sum of the amounts of bookings, in units
 abbrev pub amount_sum : List Booking → ℤ
 amount_sum bs = int_sum_by (λ b. b.usage.amount) bs
 
--- the parties that have a part in these bookings, each once, by the bytes of their names, with the sums of their parts
+-- the parties that have a part in these bookings, each once, in the byte order of their names, with the sums of their
+-- parts
 unfoldable pub party_lines : List Booking → List PartyLine
 party_lines bs =
     map (λ e. record { party = e.0; amount = e.1 }) (in_order text_cmp (party_amount bs) (map (λ q. q.party) (all_parts bs)))

@@ -1,4 +1,4 @@
--- The definitions to believe: what a report is.
+-- The definitions to be trusted: what a report is.
 pub mod Sums
 pub mod Files
 pub mod Verdicts
@@ -9,7 +9,7 @@ pub mod Ledger
 pub mod Findings
 pub mod Reports
 pub mod Laws
--- Words that relate what is kept to them.
+-- The definitions that relate the state of the books to them.
 pub mod Numbered
 pub mod Indexes
 pub mod SummaryKeys

@@ -9,23 +9,23 @@ use Rattle.dsr_ledger.specs.declared.file.summaries.Summaries.{Summaries}
 use Rattle.dsr_ledger.specs.Recordings.{line_at, IsWideAt}
 use Rattle.dsr_ledger.specs.Summaries.{shown_at, index_at}
 
--- what is kept of each summary stays, and so does its number
+-- each summary has the same sums, key and number
 pub record SameSummaries (old new : Summaries) : Type 0 where
   pub shown : (id : List ℕ) → shown_at new id ≡ shown_at old id
   pub index : (id : List ℕ) → index_at new id ≡ index_at old id
 
--- the line of the recording under which a usage counts whose summary has this key; it has a part for the seat of each share
+-- the recording's line for a usage whose summary has this key; it has a part for the seat of each share
 pub record IsLined (ledger : Ledger) (isrc : List ℕ) (shares : List SeatShare) (key : Option SummaryKey) (i : ℕ) : Type 0 where
   pub summary_key : SummaryKey
   pub key_is : key ≡ Some summary_key
   pub line_is : line_at ledger isrc summary_key ≡ Some i
   pub wide : IsWideAt ledger isrc shares i
 
--- a line for each usage, where summaries have these keys
+-- the line of each usage, where `key` gives the summary key of an identifier
 abbrev pub AreLined : Ledger → (List ℕ → Option SummaryKey) → List ℕ → List SeatShare → List Usage → List ℕ → Type 0
 AreLined ledger key isrc shares us is = AllZip (λ u i. IsLined ledger isrc shares (key u.summary_id) i) us is
 
--- a line for one more usage
+-- the line of one more usage is appended
 pub record LinedMore (ledger : Ledger) (key : List ℕ → Option SummaryKey) (isrc : List ℕ) (shares : List SeatShare) (u : Usage) (old new : List ℕ) : Type 0 where
   pub line : ℕ
   pub items : new ≡ old ++ line ∷ []

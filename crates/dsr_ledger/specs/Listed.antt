@@ -1,4 +1,4 @@
--- The parts of a line and the lines of a recording, in the order of what they are called.
+-- The parts of a line in the order of the parties' names, and the lines of a recording in key order.
 use Rattle.std.specs.Prelude.{◌≡◌, ℕ, List, ◌++◌, Option, None, position, map, filter}
 use Rattle.std.specs.Str.{bytes_eq}
 use Rattle.std.specs.List.{AllByRecursion}
@@ -20,49 +20,49 @@ use Rattle.dsr_ledger.specs.Bookings.{Booking, key_under}
 use Rattle.dsr_ledger.specs.Ledger.{at_key, line_of}
 use Rattle.dsr_ledger.specs.Tallies.{key_tally, line_keys, lines_tally}
 
--- names with their places
+-- the names, with their places
 abbrev pub named_places : {K : Type 0} → List (Bor K × ℕ) → List (K × ℕ)
 named_places es = map (λ e. (e.0.now, e.1)) es
 
--- these are all names that have a place, each once, in order, with their places
+-- all names that have a place, each once, in order, with their places
 pub record AreListed {K : Type 0} (cmp : K → K → Ordering) (place : K → Option ℕ) (es : List (K × ℕ)) : Type 0 where
   pub order : IsStrictlySortedBy cmp (keys_of es)
   pub found : (q : K) → find cmp q es ≡ place q
 
--- the parties of a line by the bytes of their names, with the places of their parts
+-- the parties of a line in the byte order of their names, with the places of their parts
 abbrev pub ArePartsOf : (List ℕ → Option ℕ) → List (Bor (List ℕ) × ℕ) → Type 0
 ArePartsOf place es = AreListed text_cmp place (named_places es)
 
--- the summary keys of a recording in their order, with the places of their lines
+-- the summary keys of a recording in order, with the places of their lines
 abbrev pub AreLinesOf : (SummaryKey → Option ℕ) → List (Bor SummaryKey × ℕ) → Type 0
 AreLinesOf line es = AreListed summary_key_cmp line (named_places es)
 
--- the lines of those of these keys that have a booking
+-- the ledger lines of the keys that have a booking
 abbrev pub booked_lines : {V : Type 0} → List Booking → List (Key × V) → List LedgerLine
 booked_lines bs es = map (λ e. line_of e.0 (at_key e.0 bs)) (filter (λ e. (key_tally bs e.0).is_booked) es)
 
--- the entries of a recording's lines, by whole keys
+-- the entries of a recording's lines, by the ledger's keys
 abbrev pub entries_under : List ℕ → List (Bor SummaryKey × ℕ) → List (Key × ℕ)
 entries_under isrc es = map (λ e. (key_under isrc e.0.now, e.1)) es
 
--- the number that one of these names has
+-- the number of a party: its place among the names
 abbrev pub party_in : List (List ℕ) → List ℕ → Option ℕ
 party_in parties q = position (bytes_eq q) parties
 
 abbrev pub key_in : List SummaryKey → SummaryKey → Option ℕ
 key_in keys k = position (summary_key_eq k) keys
 
--- what is kept of a recording under each summary key is what these bookings make
+-- each summary key has in a recording the tally of these bookings
 abbrev pub HasBookings : List (List ℕ) → List SummaryKey → List ℕ → Recording → List Booking → Type 0
 HasBookings parties keys isrc r bs = (k : SummaryKey) → lines_tally (seat_of (party_in parties) r) r.lines.items (key_in keys k) ≡ key_tally bs (key_under isrc k)
 
--- these bookings are small, and so is what is kept of a recording
+-- a recording has the tallies of some bookings whose sums fit
 pub record IsOfSmallAt (parties : List (List ℕ)) (keys : List SummaryKey) (isrc : List ℕ) (r : Recording) : Type 0 where
   pub bookings : List Booking
   pub has : HasBookings parties keys isrc r bookings
   pub small : AreSmall bookings
 
--- the lines of a recording were added, for its keys in order
+-- the ledger lines of a recording were appended, in the order of their keys
 pub record AddsLines (parties : List (List ℕ)) (keys : List SummaryKey) (isrc : List ℕ) (r : Recording) (old new : List LedgerLine) : Type 0 where
   pub entries : List (Key × ℕ)
   pub order : IsStrictlySortedBy key_cmp (keys_of entries)

@@ -1,4 +1,4 @@
--- The openings that are kept.
+-- The openings in the files' states.
 use Rattle.std.specs.Prelude.{ℕ, List, Option, None, Some, map, if◌then◌else◌}
 use Rattle.std.specs.Str.{bytes_eq}
 use Rattle.dsr_records.specs.declared.record.Summary.{Summary}

@@ -1,4 +1,4 @@
--- Bookings whose sums fit.
+-- Bookings whose sums fit into 128 bits.
 use Rattle.std.specs.Prelude.{◌≡◌, ℕ, Option, ◌≤◌, ◌<◌, ◌^◌, List, length, unsigned_abs}
 use Rattle.std.specs.List.{AllByRecursion}
 use Rattle.dsr_ledger.specs.declared.ledger.line.Line.{Line}
@@ -8,23 +8,23 @@ use Rattle.dsr_ledger.specs.Verdicts.{share_total}
 use Rattle.dsr_ledger.specs.Tallies.{line_tally, tally_of}
 use Rattle.dsr_ledger.specs.Stands.{LedgerStands}
 
--- the amount of a booking is small, and the shares of its works are together no more than a whole
+-- the amount of a booking is below 10^22 units either way, and the shares of its works add up to at most 100 percent
 pub record IsSmall (b : Booking) : Type 0 where
   pub amount : unsigned_abs b.usage.amount < 10 ^ 22
   pub whole : share_total b.works ≤ 1000000
 
--- few bookings, each small
+-- at most 2^49 bookings, each small
 pub record AreSmall (bs : List Booking) : Type 0 where
   pub few : length bs ≤ 2 ^ 49
   pub each : AllByRecursion IsSmall bs
 
--- what is kept of a line is what some small bookings make
+-- the tally of a line is that of some small bookings
 pub record IsOfSmall (seat : List ℕ → Option ℕ) (line : Line) : Type 0 where
   pub bookings : List Booking
   pub tally : line_tally seat line ≡ tally_of bookings
   pub small : AreSmall bookings
 
--- what is kept of each key is what some small bookings make
+-- the ledger represents some small bookings
 pub record AreOfSmall (ledger : Ledger) : Type 0 where
   pub bookings : List Booking
   pub stand : LedgerStands ledger bookings

@@ -1,4 +1,4 @@
--- What is planned of a block before anything is added.
+-- The plan of a block, made before anything is added.
 use Rattle.std.specs.Prelude.{◌≡◌, ℕ, List, Some, map}
 use Rattle.dsr_records.specs.declared.record.Usage.{Usage}
 use Rattle.dsr_records.specs.Works.{WorkParts}
@@ -10,7 +10,7 @@ use Rattle.dsr_ledger.specs.Recordings.{recording_number, seat_at}
 use Rattle.dsr_ledger.specs.Seated.{AreSeated, shares_of}
 use Rattle.dsr_ledger.specs.Summaries.{index_at, place_at}
 
--- the recording, the seats of the works' parties, and the summaries and the lines of the usages
+-- a plan has the number of the recording, the seats of the works' parties, and the summary and the line of each usage
 pub record IsPlanned (ledger : Ledger) (summaries : Summaries) (isrc : List ℕ) (works : List WorkParts) (us : List Usage) (plan : Plan) : Type 0 where
   pub recording_is : recording_number ledger isrc ≡ Some plan.recording
   pub seated : AreSeated (seat_at ledger isrc) plan.shares.items (shares_of works)

@@ -1,4 +1,4 @@
--- What the ledger keeps of each key.
+-- The ledger's tally of each key, and the numbers of its items.
 use Rattle.std.specs.Prelude.{◌≡◌, ℕ, List, Option, None, Some}
 use Rattle.std.specs.Option.{option_and_then}
 use Rattle.std.specs.List.{position}
@@ -27,16 +27,16 @@ key_number ledger key = position (summary_key_eq key) ledger.summary_keys.keys
 abbrev pub recording_number : Ledger → List ℕ → Option ℕ
 recording_number ledger isrc = index_of bytes_eq ledger.recordings isrc
 
--- the seat of a party in a recording, where parties have these numbers
+-- the seat of a party in a recording, where `party` gives the numbers of parties
 abbrev pub seat_of : (List ℕ → Option ℕ) → Recording → List ℕ → Option ℕ
 seat_of party r name = place_by party (seat_numbers r.seats) name
 
--- what is kept of a summary key with this number in a recording, if there is one
+-- the tally of the summary key with this number in a recording; zeros if there is none
 abbrev pub recording_tally : (List ℕ → Option ℕ) → Option ℕ → Option Recording → Tally
 recording_tally party number None = no_tally
 recording_tally party number (Some r) = lines_tally (seat_of party r) r.lines.items number
 
--- what is kept of a key
+-- the ledger's tally of a key
 abbrev pub tally_at : Ledger → Key → Tally
 tally_at ledger key = recording_tally (party_number ledger) (key_number ledger (summary_key_in key)) (get bytes_eq ledger.recordings key.isrc)
 
@@ -52,13 +52,13 @@ line_at ledger isrc key = option_and_then (λ r. place_by (key_number ledger) (l
 abbrev pub IsWideAt : Ledger → List ℕ → List SeatShare → ℕ → Type 0
 IsWideAt ledger isrc shares i = (r : Recording) → get bytes_eq ledger.recordings isrc ≡ Some r → IsWide shares r.lines.items i
 
--- the same is kept of each key, and what has a number or a seat keeps it
+-- the tallies and the numbers of recordings are the same, and each party keeps its seats
 pub record KeepsSeats (old new : Ledger) : Type 0 where
   pub tallies : (q : Key) → tally_at new q ≡ tally_at old q
   pub recordings : (isrc : List ℕ) → recording_number new isrc ≡ recording_number old isrc
   pub seats : (isrc : List ℕ) → Grows (seat_at old isrc) (seat_at new isrc)
 
--- the same is kept of each key, no seat is given, and what is a line, or a wide one, stays so
+-- the tallies, the numbers of recordings and the seats are the same, lines keep their places, and wide lines stay wide
 pub record KeepsLines (old new : Ledger) : Type 0 where
   pub tallies : (q : Key) → tally_at new q ≡ tally_at old q
   pub recordings : (isrc : List ℕ) → recording_number new isrc ≡ recording_number old isrc
@@ -66,14 +66,15 @@ pub record KeepsLines (old new : Ledger) : Type 0 where
   pub lines : (isrc : List ℕ) → Grows (line_at old isrc) (line_at new isrc)
   pub wide : (isrc : List ℕ) (shares : List SeatShare) (i : ℕ) → IsWideAt old isrc shares i → IsWideAt new isrc shares i
 
--- recordings, seats and lines are numbered as they were, and wide lines stay wide
+-- recordings, seats and lines have the same numbers, and wide lines stay wide
 pub record SameNumbers (old new : Ledger) : Type 0 where
   pub recordings : (isrc : List ℕ) → recording_number new isrc ≡ recording_number old isrc
   pub seats : (isrc name : List ℕ) → seat_at new isrc name ≡ seat_at old isrc name
   pub lines : (isrc : List ℕ) (key : SummaryKey) → line_at new isrc key ≡ line_at old isrc key
   pub wide : (isrc : List ℕ) (shares : List SeatShare) (i : ℕ) → IsWideAt old isrc shares i → IsWideAt new isrc shares i
 
--- a recording, a line in it, which is wide, and shares at the seats of their parties
+-- the numbers of a recording and of its line for a summary key; the line is wide, and the shares are at their parties'
+-- seats
 pub record IsLineOf (ledger : Ledger) (isrc : List ℕ) (key : SummaryKey) (es : List (List ℕ × ℕ)) (recording line : ℕ) (shares : List SeatShare) : Type 0 where
   pub recording_is : recording_number ledger isrc ≡ Some recording
   pub line_is : line_at ledger isrc key ≡ Some line

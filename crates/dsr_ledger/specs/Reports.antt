@@ -11,6 +11,7 @@ use Rattle.dsr_ledger.specs.Bookings.{bookings}
 use Rattle.dsr_ledger.specs.Ledger.{ledger}
 use Rattle.dsr_ledger.specs.Findings.{differences, missing_for, rejects}
 
+-- the report key of a head
 abbrev pub key_of : Head → ReportKey
 key_of h = record {
   message_id = h.message_id;
@@ -19,11 +20,12 @@ key_of h = record {
   last_day = h.last_day;
 }
 
--- how a file ended; a report is only made of files that ended, and the other value is never met
+-- the outcome of a file; a report is made only of files that have ended, so the value for None is never used
 abbrev pub outcome_of : Option Outcome → Outcome
 outcome_of None = Whole
 outcome_of (Some o) = o
 
+-- the report's line of a file
 abbrev pub file_line : Filed → FileLine
 file_line d = record {
   number = option_map (λ o. o.head.file_number) d.file.opening;
@@ -36,10 +38,11 @@ file_line d = record {
 abbrev pub report_head : List File → Option Head
 report_head files = first_head (map (λ f. f.opening) files)
 
+-- the missing file numbers of a report, ascending; none if no file has an opening
 unfoldable pub missing : List File → List ℕ
 missing files = missing_for (report_head files) (filed files)
 
--- the report of files that ended
+-- the report of files that have all ended
 unfoldable pub report_of : List File → Report
 report_of files = record {
   key = option_map key_of (report_head files);

@@ -1,4 +1,4 @@
--- What is kept stands for a list of files.
+-- The state of the books represents a list of files.
 use Rattle.std.specs.Prelude.{◌≡◌, ℕ, suc, Option, List, [], ◌∷◌, ◌++◌, ⊤, length}
 use Rattle.std.specs.List.{list_any}
 use Rattle.dsr_records.specs.Blocks.{BlockParts}
@@ -17,7 +17,7 @@ use Rattle.dsr_ledger.specs.Tallies.{tally_plus, key_tally}
 use Rattle.dsr_ledger.specs.Recordings.{tally_at}
 use Rattle.dsr_ledger.specs.FileSteps.{IsBlockInRange}
 
--- what is kept of a file stands for it
+-- the state of a file represents it
 pub record FileStands (f : FileBooks) (d : Filed) : Type 0 where
   pub place : f.place ≡ d.place
   pub opening : f.opening ≡ d.file.opening
@@ -28,7 +28,7 @@ pub record FileStands (f : FileBooks) (d : Filed) : Type 0 where
   pub rejects : f.rejects.items ≡ rejects_in d
   pub outcome : f.outcome ≡ d.file.outcome
 
--- file by file, from this place on, after files with the earlier openings
+-- each state represents its file, the first at this place, after files with the earlier openings
 abbrev pub FilesStand : ℕ → List (Option OpeningParts) → List FileBooks → List File → Type 0
 FilesStand place earlier [] [] = ⊤
 FilesStand place earlier [] (file ∷ files) = ⊥
@@ -36,11 +36,11 @@ FilesStand place earlier (f ∷ fs) [] = ⊥
 FilesStand place earlier (f ∷ fs) (file ∷ files) =
     FileStands f (record { place = place; standing = standing earlier file.opening; file = file }) × FilesStand (suc place) (earlier ++ file.opening ∷ []) fs files
 
--- what is kept of each key is what the bookings make
+-- the ledger has for each key the tally of these bookings
 abbrev pub LedgerStands : Ledger → List Booking → Type 0
 LedgerStands ledger bs = (key : Key) → tally_at ledger key ≡ key_tally bs key
 
--- a block was taken with this verdict: its file stands for one more block, and the ledger has its bookings
+-- a block was taken with this verdict: its file has one more block, and the ledger has its bookings added
 pub record Took (d : Filed) (b : BlockParts) (v : Verdict) (g : FileBooks) (old new : Ledger) : Type 0 where
   pub is_verdict : v ≡ verdict_of d b
   pub stands : FileStands g (with_one d b)

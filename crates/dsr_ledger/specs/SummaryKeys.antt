@@ -10,12 +10,12 @@ use Rattle.dsr_ledger.specs.Keys.{text_cmp}
 abbrev pub summary_key_eq : SummaryKey → SummaryKey → Bool
 summary_key_eq a b = bytes_eq a.territory b.territory && (bytes_eq a.use_type b.use_type && bytes_eq a.currency b.currency)
 
--- the order of summary keys: by territory, use type and currency
+-- the order of summary keys: by territory, then use type, then currency
 abbrev pub summary_key_cmp : SummaryKey → SummaryKey → Ordering
 summary_key_cmp a b =
     ordering_then (text_cmp a.territory b.territory)
     (ordering_then (text_cmp a.use_type b.use_type) (text_cmp a.currency b.currency))
 
--- the parts of a key beside the recording
+-- a key without its ISRC
 abbrev pub summary_key_in : Key → SummaryKey
 summary_key_in key = record { territory = key.territory; use_type = key.use_type; currency = key.currency }

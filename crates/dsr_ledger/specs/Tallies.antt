@@ -1,4 +1,4 @@
--- What is kept of a key, and what bookings make of it.
+-- The tally of a key: by its bookings, and as a line has it.
 use Rattle.std.specs.Prelude.{◌≡◌, ℕ, ◌+◌, ◌*◌, ◌^◌, ◌<◌, ◌≤◌, ℤ, ◌+ℤ◌, Bool, true, ◌||◌, nat_lt, List, [], length, map, Option, Some, slice_get, unsigned_abs}
 use Rattle.std.specs.Option.{option_and_then}
 use Rattle.dsr_records.specs.declared.record.Usage.{Usage}
@@ -12,7 +12,7 @@ use Rattle.dsr_ledger.specs.Numbered.{AreBelow, Grows, read_at, place_in}
 use Rattle.dsr_ledger.specs.Owed.{Owed, owed_in, owed_for, owed_plus, part_seats}
 use Rattle.dsr_ledger.specs.Seated.{HaveParts}
 
--- whether a booking counts, the sums, and what each party is owed
+-- whether there is a booking, the sums of usages and amounts (in units), and what each party is owed
 pub record Tally : Type 0 where
   pub is_booked : Bool
   pub usages : ℤ
@@ -30,7 +30,7 @@ tally_of bs = record {
 abbrev pub no_tally : Tally
 no_tally = tally_of []
 
--- what the bookings of a key make
+-- the tally of a key's bookings
 abbrev pub key_tally : List Booking → Key → Tally
 key_tally bs key = tally_of (at_key key bs)
 
@@ -42,7 +42,7 @@ tally_plus a b = record {
   owed = λ q. owed_plus (a.owed q) (b.owed q);
 }
 
--- with one more usage, of which parties have these parts
+-- a tally with one more usage, of which parties have these parts
 abbrev pub tally_with : Usage → List Part → Tally → Tally
 tally_with u parts t = record {
   is_booked = true;
@@ -51,13 +51,13 @@ tally_with u parts t = record {
   owed = λ q. owed_plus (t.owed q) (owed_for q parts);
 }
 
--- n more usages can be added
+-- n more usages in range can be added within 128 bits
 pub record TallyFits (n : ℕ) (t : Tally) : Type 0 where
   pub usages : unsigned_abs t.usages + n * 2 ^ 63 < 2 ^ 127
   pub amount : unsigned_abs t.amount + n * 10 ^ 22 < 2 ^ 127
   pub owed : (q : List ℕ) → unsigned_abs (t.owed q).amount + n * 10 ^ 22 < 2 ^ 127
 
--- what is kept in a line, where parties have these seats
+-- the tally of a line, where `seat` gives the seats of parties
 abbrev pub line_tally : (List ℕ → Option ℕ) → Line → Tally
 line_tally seat l = record {
   is_booked = l.is_booked;
@@ -70,25 +70,25 @@ line_tally seat l = record {
 abbrev pub line_keys : List Line → List ℕ
 line_keys ls = map (λ l. l.key) ls
 
--- the place of the line of a summary key with this number
+-- the place of the line for the summary key with this number
 abbrev pub line_in : List Line → ℕ → Option ℕ
 line_in ls key = place_in (line_keys ls) key
 
--- what these lines keep of a summary key that has this number, or none
+-- the tally of these lines for the summary key with this number; zeros if there is none
 abbrev pub lines_tally : (List ℕ → Option ℕ) → List Line → Option ℕ → Tally
 lines_tally seat ls number = read_at (line_tally seat) no_tally ls (option_and_then (line_in ls) number)
 
--- the parts of all lines are those of so many seats
+-- the seats of all lines' parts are below `seats`
 abbrev pub AreWithin : ℕ → List Line → Type 0
 AreWithin seats ls = (i : ℕ) (l : Line) → slice_get ls i ≡ Some l → AreBelow seats (part_seats l.parts.items.items)
 
--- there is a line at this place, and the seats of all these shares have parts in it
+-- there is a line at this place, and it has a part for the seat of each share
 pub record IsWide (shares : List SeatShare) (ls : List Line) (i : ℕ) : Type 0 where
   pub line : Line
   pub there : slice_get ls i ≡ Some line
   pub wide : HaveParts shares line.parts.items.items
 
--- lines of which the same is kept: there are more, or some are wider
+-- the tallies are the same, lines keep their places, and wide lines stay wide; there may be more lines or parts
 pub record LinesGrow (old new : List Line) : Type 0 where
   pub tallies : (seat : List ℕ → Option ℕ) (number : Option ℕ) → lines_tally seat new number ≡ lines_tally seat old number
   pub numbers : Grows (line_in old) (line_in new)

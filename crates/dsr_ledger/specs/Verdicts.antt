@@ -15,7 +15,7 @@ use Rattle.dsr_ledger.specs.declared.verdict.Reason.TheVariants.{ForeignFile, Do
 use Rattle.dsr_ledger.specs.declared.verdict.Verdict.{Verdict}
 use Rattle.dsr_ledger.specs.declared.verdict.Verdict.TheVariants.{Booked, Rejected}
 
--- the first reason that applies
+-- rejected for the first reason that applies, booked if none does
 abbrev pub first_reason : List (Bool × Reason) → Verdict
 first_reason [] = Booked
 first_reason ((true, reason) ∷ rest) = Rejected reason
@@ -33,18 +33,19 @@ is_doubled Ours = false
 is_doubled Foreign = false
 is_doubled Headless = false
 
+-- a block has this BlockId
 abbrev pub has_id : List ℕ → BlockParts → Bool
 has_id id b = bytes_eq b.id id
 
 abbrev pub names_unknown : (List ℕ → Bool) → Usage → Bool
 names_unknown known u = not (known u.summary_id)
 
--- the shares of all works
+-- the sum of the shares of all works, in millionths: 1,000,000 is 100 percent
 abbrev pub share_total : List WorkParts → ℕ
 share_total works = sum_by (λ w. sum w.shares) works
 
--- the verdict of a block in a file that stands so, where `seen` says that the file had its identifier before, and `known`
--- which summaries the file has
+-- the verdict of a block in a file with this standing, where `seen` says whether an earlier block of the file has its
+-- BlockId, and `known` which summaries the file has; the shares of all its works may add up to 100 percent, not more
 unfoldable pub verdict_by : Standing → Bool → (List ℕ → Bool) → BlockParts → Verdict
 verdict_by stands seen known b = first_reason (
     (is_foreign stands, ForeignFile)
@@ -56,11 +57,11 @@ verdict_by stands seen known b = first_reason (
     ∷ (nat_lt 1000000 (share_total b.works), ShareOver)
     ∷ [])
 
--- a summary of the file has this identifier
+-- one of the summaries has this identifier
 abbrev pub is_summary : List Summary → List ℕ → Bool
 is_summary summaries id = is_some (find (λ s. bytes_eq id s.id) summaries)
 
--- the verdict of a block in a file that stands so, has these summaries and had these blocks before, whatever their verdicts
+-- the verdict of a block in a file with this standing, these summaries and these earlier blocks, booked or rejected
 abbrev pub verdict : Standing → List Summary → List BlockParts → BlockParts → Verdict
 verdict stands summaries earlier b = verdict_by stands (list_any (has_id b.id) earlier) (is_summary summaries) b
 
@@ -74,7 +75,7 @@ judged stands summaries earlier (b ∷ bs) =
 abbrev pub judged_in : Filed → List (BlockParts × Verdict)
 judged_in d = judged d.standing (summaries_of d.file.opening) [] d.file.blocks
 
--- the verdict of a further block of a file
+-- the verdict of the next block of a file
 abbrev pub verdict_of : Filed → BlockParts → Verdict
 verdict_of d b = verdict d.standing (summaries_of d.file.opening) d.file.blocks b
 
@@ -82,6 +83,6 @@ abbrev pub verdict_after : Option Filed → BlockParts → Verdict
 verdict_after None b = Booked
 verdict_after (Some d) b = verdict_of d b
 
--- the verdict of a further block of file k, from 0
+-- the verdict of the next block of file k, from 0
 abbrev pub verdict_in : List File → ℕ → BlockParts → Verdict
 verdict_in files k b = verdict_after (slice_get (filed files) k) b

@@ -1,4 +1,4 @@
-//! The report, from all that is kept.
+//! The report, from the state of the books.
 ghost use Rattle.std.specs.Prelude.{◌≡◌, ◌≤◌, ℕ, List, IfOk, length, map};
 ghost use Rattle.std.specs.List.{flat_map, list_any};
 ghost use Rattle.std.specs.BTreeSet.{contains};
@@ -24,7 +24,7 @@ use dsr_cells::NoMemory;
 use std::alloc::Global;
 use std::collections::BTreeSet;
 
-/// What the report takes from the files while they are kept.
+/// What the report takes from the files before they are moved.
 #[derive(Drop)]
 struct Told {
     lines: FileLines,

@@ -1,3 +1,3 @@
-//! The booking of a block: what it will touch, and then its additions.
+//! The booking of a block: first its plan, then its additions.
 pub mod apply;
 pub mod plan;

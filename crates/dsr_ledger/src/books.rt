@@ -15,8 +15,8 @@ use dsr_file::{Opening, Outcome};
 use dsr_records::Block;
 use std::alloc::Global;
 
-/// The books of a report: they take its files' openings, blocks and outcomes, and give its report. Files are
-/// numbered from 0.
+/// The books of a report: they take the openings, blocks and outcomes of its files, and make its
+/// report. Files are numbered from 0.
 #[derive(Drop)]
 pub struct Books {
     files: u32,
@@ -37,11 +37,11 @@ impl Books {
     ghost use Rattle.dsr_ledger.specs.Reports.{report_of};
     ghost use Rattle.dsr_ledger.specs.BooksWords.{Stands, files_count, opened_count, has_opening_at, ended_at, blocks_at, CanBook, CanEnd, AllEnded};
 
-    /// New books of a report in so many files, from 1 to 64, of which none is open, with a fixed seed.
+    /// New books of a report in `files` files, 1 to 64, with no file opened. The seed is fixed.
     ///
     /// # Errors
     ///
-    /// `NoMemory`: no memory was left for the files.
+    /// `NoMemory`: out of memory for the files.
     pub fn new(alloc: Global, files: u32) -> Result<Books, NoMemory>
         requires some { 1 ≤ files }
         requires most { files ≤ 64 }
@@ -51,11 +51,12 @@ impl Books {
         Books::with_seed(alloc, files, 0)
     }
 
-    /// The same, with this seed for the hashes of identifiers and names. No report depends on the seed.
+    /// Like `new`, with this seed for the hashes of identifiers and names. No report depends on the
+    /// seed.
     ///
     /// # Errors
     ///
-    /// `NoMemory`: no memory was left for the files.
+    /// `NoMemory`: out of memory for the files.
     pub fn with_seed(alloc: Global, files: u32, seed: u64) -> Result<Books, NoMemory>
         requires some { 1 ≤ files }
         requires most { files ≤ 64 }
@@ -76,14 +77,14 @@ impl Books {
         })
     }
 
-    /// How many files there will be.
+    /// The number of files of the report, opened or not.
     pub fn files(&self) -> u32
         ensures { result ≡ files_count self.now }
     {
         self.files
     }
 
-    /// How many files were opened.
+    /// The number of files that were opened.
     pub fn opened(&self) -> u32
         ensures value { result ≡ opened_count self.now }
         ensures stands { (files : List File) → Stands self.now files → result ≡ length files }
@@ -91,7 +92,7 @@ impl Books {
         self.kept.files.len() as u32
     }
 
-    /// How many blocks were taken from file k; 0 for a file that is not opened.
+    /// The number of blocks taken from file k; 0 if it is not opened.
     pub fn blocks(&self, k: u32) -> u64
         ensures value { result ≡ blocks_at self.now k }
         ensures stands { (files : List File) → Stands self.now files → result ≡ blocks_in files k }
@@ -102,7 +103,7 @@ impl Books {
         }
     }
 
-    /// Whether file k is ended.
+    /// Whether file k has ended.
     pub fn ended(&self, k: u32) -> bool
         ensures value { result ≡ ended_at self.now k }
         ensures stands { (files : List File) → Stands self.now files → result ≡ ended_in files k }
@@ -124,11 +125,11 @@ impl Books {
         }
     }
 
-    /// Opens the next file in the order given, and answers how it stands.
+    /// Opens the next file in the order given, and returns its standing.
     ///
     /// # Errors
     ///
-    /// `NoMemory`: no memory was left for the file, and nothing has changed.
+    /// `NoMemory`: out of memory; nothing has changed.
     pub fn open_next(&mut self, opening: Option<Opening>) -> Result<Standing, NoMemory>
         requires { opened_count self.old < files_count self.old }
         ensures count { files_count self.new ≡ files_count self.old }
@@ -142,11 +143,11 @@ impl Books {
         Ok(standing)
     }
 
-    /// Takes a block of file k, and answers its verdict.
+    /// Takes a block of file k, and returns its verdict.
     ///
     /// # Errors
     ///
-    /// `NoMemory`: no memory was left for the block, and nothing has changed.
+    /// `NoMemory`: out of memory; nothing has changed.
     pub fn book(&mut self, k: u32, block: &Block) -> Result<Verdict, NoMemory>
         requires { CanBook self.old k }
         ensures count { files_count self.new ≡ files_count self.old }
@@ -158,11 +159,11 @@ impl Books {
         file.book(&mut self.kept.ledger, &mut self.plan, self.alloc, block)
     }
 
-    /// Ends file k. This takes no memory.
+    /// Ends file k. This allocates nothing.
     ///
     /// # Errors
     ///
-    /// None: the answer is always Ok.
+    /// None: the result is always Ok.
     pub fn end_file(&mut self, k: u32, outcome: Outcome) -> Result<(), NoMemory>
         requires { CanEnd self.old k }
         ensures ends { IsOk result }
@@ -174,12 +175,12 @@ impl Books {
         Ok(())
     }
 
-    /// The report of the files, which all ended. Its texts are moved out of the books, but for the identifiers in its
-    /// differences.
+    /// The report of the files, which have all ended. The texts of its key and its rejects are moved
+    /// out of the books, its other texts are copied.
     ///
     /// # Errors
     ///
-    /// `NoMemory`: no memory was left for the report, and the books are gone.
+    /// `NoMemory`: out of memory; the books are dropped.
     pub fn into_report(self) -> Result<Report, NoMemory>
         requires { AllEnded self }
         ensures { (files : List File) → Stands self files → IfOk result (λ r. r ≡ report_of files) }

@@ -1,4 +1,4 @@
-//! How the usages of a rejected block are counted under their summaries.
+//! Counting the usages of a rejected block under their summaries.
 ghost use Rattle.std.specs.Prelude.{◌≡◌, ℕ, List, [], ◌∷◌, option_map, length};
 ghost use Rattle.std.specs.List.{AllByRecursion};
 ghost use Rattle.std.specs.Option.{ForSome};

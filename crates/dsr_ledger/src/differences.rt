@@ -1,4 +1,4 @@
-//! The differences between what summaries state and what is found for them.
+//! The differences between the sums that summaries state and the sums of the usages that name them.
 ghost use Rattle.std.specs.Prelude.{◌≡◌, ◌++◌, ◌∷◌, [], ◌&&◌, IfOk, OnOk, filter};
 ghost use Rattle.std.specs.List.{flat_map};
 ghost use Rattle.std.specs.Ordering.{int_eq};
@@ -16,7 +16,7 @@ use dsr_file::Outcome;
 use dsr_records::Summary;
 use std::alloc::Global;
 
-/// What is found for a summary.
+/// The sums of the usages that name a summary.
 fn found_for(summaries: &Summaries, summary: &Summary) -> Sums
     ensures { result ≡ sums_shown (shown_at summaries.now summary.now.id) }
 {
@@ -29,14 +29,14 @@ fn found_for(summaries: &Summaries, summary: &Summary) -> Sums
     }
 }
 
-/// Whether a summary states what is found for it.
+/// Whether a summary states the sums that were found for it.
 fn states(summary: &Summary, found: Sums) -> bool
     ensures { result ≡ (int_eq summary.now.usages found.usages && int_eq summary.now.amount found.amount) }
 {
     i128::from(summary.usages) == found.usages && summary.amount.units() == found.amount
 }
 
-/// Adds the difference of a summary, if what it states is not what is found.
+/// Adds the difference of a summary, if it states other sums than were found.
 fn add_difference(
     differences: &mut Differences,
     alloc: Global,
@@ -82,7 +82,7 @@ fn add_differences(
     Ok(())
 }
 
-/// Adds the differences of a file. Only a file of ours that ended whole has any.
+/// Adds the differences of a file. Only a file of the report that ended whole has any.
 fn add_file(differences: &mut Differences, alloc: Global, file: &FileBooks) -> Result<(), NoMemory>
     ensures { OnOk result (differences.new ≡ differences.old ++ differences_kept file.now) }
 {

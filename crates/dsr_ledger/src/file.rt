@@ -1,4 +1,4 @@
-//! What is kept of a file.
+//! The books' state of a file.
 ghost use Rattle.std.specs.Prelude.{◌≡◌, ◌+◌, ◌<◌, ◌^◌, ◌≤◌, ◌∷◌, ◌++◌, [], ℕ, List, OnOk, OnErr, IfOk, Some, map, if◌then◌else◌, true};
 ghost use Rattle.std.specs.Option.{ForSome};
 ghost use Rattle.dsr_ledger.specs.Verdicts.{share_total, verdict_by};
@@ -25,16 +25,16 @@ use dsr_file::{Opening, Outcome};
 use dsr_records::Block;
 use std::alloc::Global;
 
-/// What is kept of a file.
+/// The books' state of a file.
 #[derive(Drop)]
 pub struct FileBooks {
     /// Its place in the order given, from 1.
     pub place: u32,
     pub opening: Option<Opening>,
     pub standing: Standing,
-    /// How many blocks were taken.
+    /// The number of blocks taken.
     pub blocks: u64,
-    /// The identifiers of all blocks, whatever their verdicts.
+    /// The identifiers of all blocks, booked or rejected.
     pub ids: Ids,
     pub summaries: Summaries,
     pub rejects: Vec<Reject>,
@@ -42,7 +42,7 @@ pub struct FileBooks {
 }
 
 impl FileBooks {
-    /// Takes a block that is booked. All memory is taken first.
+    /// Takes a block that is booked. All memory is allocated before anything is added.
     fn accept(
         &mut self,
         ledger: &mut Ledger,
@@ -69,7 +69,7 @@ impl FileBooks {
         Ok(())
     }
 
-    /// Takes a block that is rejected. All memory is taken first.
+    /// Takes a block that is rejected. All memory is allocated before anything is added.
     fn reject(
         &mut self,
         ledger: &Ledger,
@@ -95,7 +95,7 @@ impl FileBooks {
         Ok(())
     }
 
-    /// Takes a block whose identifier was seen before, or not, and answers its verdict.
+    /// Takes a block and returns its verdict. `seen` says whether its identifier was seen before.
     fn take(
         &mut self,
         ledger: &mut Ledger,
@@ -131,7 +131,8 @@ impl FileBooks {
         }
     }
 
-    /// Takes a block, and answers its verdict. If memory is refused, nothing that counts has changed.
+    /// Takes a block and returns its verdict. If memory is refused, nothing that a report shows has
+    /// changed.
     pub fn book(
         &mut self,
         ledger: &mut Ledger,

@@ -9,30 +9,31 @@ use dsr_cells::{NoMemory, Text};
 use std::alloc::Global;
 use std::collections::BTreeSet;
 
-/// How an identifier was noted.
+/// Where an identifier was noted.
 #[derive(Clone, Copy, PartialEq, Eq)]
 pub enum Noted {
     /// It was there before.
     Before,
-    /// It is above all others, and was put last in the run.
+    /// Its rank is above all others, and it was appended to the run.
     InRun,
     /// It was put among the rest.
     InRest,
 }
 
-/// The identifiers of a file's blocks. They mostly rise in a file; while they do, they are noted without a search.
+/// The identifiers of a file's blocks. They mostly ascend in a file; while they do, they are noted
+/// without a search.
 #[derive(Drop)]
 pub struct Ids {
-    /// Those that rose since the last one that did not.
+    /// The ascending ones since the last one that did not ascend.
     pub run: Vec<Text>,
     /// All others.
     pub rest: BTreeSet<Text>,
-    /// None has a greater rank.
+    /// No identifier has a greater rank.
     pub top: u128,
     ghost below: { (q : List ℕ) → is_among run.items rest q ≡ true → rank_of q ≤ top },
 }
 
-/// The number that these bytes are, the first of them most, as far as 64 bits hold it.
+/// The big-endian number of these bytes, modulo 2^64.
 fn number_of(bytes: &[u8]) -> u64
     ensures { result ≡ fold with_byte 0 bytes.now }
 {
@@ -44,7 +45,8 @@ fn number_of(bytes: &[u8]) -> u64
 }
 
 #[tactic(auto, unfolding(crate::specs::Ids::rank_of))]
-/// An identifier's rank: by its length, then by its last bytes. Numbers rank as they rise.
+/// An identifier's rank: by its length, then by its last eight bytes. Decimal numbers rank in their
+/// order.
 fn rank(id: &Text) -> u128
     ensures { result ≡ rank_of id.now }
 {
@@ -53,7 +55,7 @@ fn rank(id: &Text) -> u128
     bytes.len() as u128 * (1 << 64) + u128::from(number)
 }
 
-/// Puts the identifiers of a run among the rest.
+/// Adds the identifiers of a run to the rest.
 fn gather(rest: &mut BTreeSet<Text>, alloc: Global, run: &[Text]) -> Result<(), NoMemory>
     ensures same { OnErr result ((q : List ℕ) → is_among run.now rest.new q ≡ is_among run.now rest.old q) }
     ensures all { OnOk result ((q : List ℕ) → contains text_cmp rest.new q ≡ is_among run.now rest.old q) }
@@ -93,7 +95,7 @@ impl Ids {
         }
     }
 
-    /// Puts an identifier among the rest, and before it the run.
+    /// Moves the run to the rest, and adds an identifier to it.
     fn put(&mut self, alloc: Global, id: &Text) -> Result<Noted, NoMemory>
         requires { rank_of id.now ≤ self.old.top }
         ensures same { OnErr result (HaveSame self.old self.new) }
@@ -105,7 +107,8 @@ impl Ids {
         Ok(if is_new { Noted::InRest } else { Noted::Before })
     }
 
-    /// Notes an identifier, and answers how. If memory is refused, the same identifiers are there.
+    /// Notes an identifier, and returns where. If memory is refused, the same identifiers are
+    /// there.
     pub fn note(&mut self, alloc: Global, id: &Text) -> Result<Noted, NoMemory>
         ensures same { OnErr result (HaveSame self.old self.new) }
         ensures noted { IfOk result (λ n. IsNoted n self.old self.new id.now) }
@@ -119,7 +122,7 @@ impl Ids {
         Ok(Noted::InRun)
     }
 
-    /// Takes an identifier out that was noted last. The same are there as before it was.
+    /// Takes out the identifier that was noted last, so that the same are there as before.
     pub fn forget(&mut self, id: &Text, noted: Noted)
         ensures { (was : Ids) → IsNoted noted was self.old id.now → HaveSame was self.new }
     {

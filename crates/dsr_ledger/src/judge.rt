@@ -9,9 +9,9 @@ use crate::verdict::{Reason, Standing, Verdict};
 use dsr_cells::{Isrc, NoMemory};
 use dsr_records::{Block, Usage, Work};
 
-/// Finds the numbers of the summaries that usages name. Answers whether each usage names one.
+/// Finds the numbers of the summaries that usages name. Returns whether each usage names one.
 ///
-/// Usages mostly name summaries in file order: the one after the last is tried before any search.
+/// Usages mostly name summaries in file order, so the one after the last one found is tried first.
 fn find_summaries(
     summaries: &Summaries,
     usages: &[Usage],
@@ -35,7 +35,7 @@ fn find_summaries(
     Ok(true)
 }
 
-/// The shares of all works are above a whole.
+/// Whether the shares of all works add up to more than 100 percent.
 fn shares_over(works: &[Work]) -> bool
     ensures { result ≡ nat_lt 1000000 (share_total works.now) }
 {
@@ -53,8 +53,8 @@ fn shares_over(works: &[Work]) -> bool
 }
 
 #[tactic(auto, unfolding(crate::specs::Verdicts::verdict_by))]
-/// The recording of a block that is booked, or why it is rejected. Where it is booked, finds the numbers of the
-/// summaries that its usages name.
+/// The recording of a block that is booked, or why it is rejected. If it is booked, `numbers` has
+/// the numbers of the summaries that its usages name.
 pub fn judge(
     standing: Standing,
     seen: bool,

@@ -1,4 +1,4 @@
-//! All that is kept.
+//! The state of the books.
 ghost use Rattle.std.specs.Prelude.{◌≡◌, option_map, slice_get};
 
 use crate::file::FileBooks;
@@ -12,7 +12,7 @@ pub struct Kept {
 }
 
 impl Kept {
-    /// File k, where it was opened.
+    /// File k, if it was opened.
     pub fn file(&self, k: u32) -> Option<&FileBooks>
         ensures { option_map (λ f. f.now) result ≡ slice_get self.now.files.items k }
     {

@@ -1,4 +1,4 @@
-//! The ledger: what is booked of each recording.
+//! The ledger: the bookings of each recording.
 pub mod index;
 pub mod line;
 pub mod parts;

@@ -1,19 +1,21 @@
-//! The books of a report: how its files stand, the verdict of each block, the ledger, and the report.
+//! The books of a report: the standing of each file, the verdict of each block, the ledger, and the
+//! report.
 //!
-//! The way of a block, and where each stage is written:
+//! The path of a block, and the module of each stage:
 //!
-//! 1. `books` has the calls. A file is opened by its first event (`open`), which decides how it
-//!    stands beside the files before it (`verdict`, [`Standing`]). `file` is what is kept of a file,
-//!    `kept` all that is kept.
+//! 1. `books` has the public functions. A file is opened by its first event (`open`), which decides
+//!    its standing after the files before it (`verdict`, [`Standing`]). `file` is the state of a
+//!    file, `kept` the state of all files with the ledger.
 //! 2. `judge` gives the verdict of a block: whether it counts, and if not, why (`verdict`,
-//!    [`Reason`]). `ids` has the identifiers of the blocks before it; `file/summaries` the file's
-//!    summaries, in the order of the file. `counting` adds a rejected block to their sums.
+//!    [`Reason`]). `ids` has the identifiers of the blocks before it, `file/summaries` the file's
+//!    summaries, in file order. `counting` adds the usages of a rejected block to their sums.
 //! 3. `booking/plan` finds the recording, the seats of its parties, and for each usage a line of
-//!    the recording and its parts, and takes all memory. `booking/apply` adds, and takes none.
-//! 4. `ledger` keeps each party, summary key (`key`) and recording once: names are interned in maps
-//!    whose hashes have a seed (`seeded`). A recording owns its seats and lines (`ledger/recording`,
-//!    `seats`, `line`), a line its sums and parts (`sums`, `parts`). Beyond the first 16 an item is
-//!    found by its number (`ledger/index`).
+//!    the recording and its parts, and allocates all memory. `booking/apply` adds, and allocates
+//!    none.
+//! 4. `ledger` stores each party, summary key (`ledger/summary_key`) and recording once, interned in
+//!    maps with seeded hashers (`seeded`). A recording owns its seats and lines (`ledger/recording`,
+//!    `seats`, `line`), a line its sums and parts (`sums`, `parts`). Items after the first 16 are
+//!    found by an index (`ledger/index`). `key` is the key of a ledger line, which only specs use.
 //! 5. `assemble` makes the `report`: `file_lines`, `missing`, `differences`, `rejects`, and the lines
 //!    of the ledger (`assemble/ledger`).
 //!
@@ -44,7 +46,7 @@
 //!     Ok(())
 //! }
 //!
-//! /// Hands an event of the first file to the books.
+//! /// Passes an event of the first file to the books.
 //! fn hand_in(books: &mut Books, event: Event) -> Result<(), Fail> {
 //!     match event.part {
 //!         EventPart::Opened(opening) => open(books, opening),
@@ -62,7 +64,7 @@
 //!             hand_in(&mut books, event)?;
 //!         }
 //!     }
-//!     // `report` answers `books.into_report()`, once all files are ended.
+//!     // `report` returns `books.into_report()`, once all files have ended.
 //!     let report = report(books)??;
 //!     let amount = report.ledger.get(0).map(|line| line.amount);
 //!     assert_eq!(rt; amount, Some(24_000_000_000));
@@ -72,11 +74,11 @@
 //!
 //! **The promise.** Books stand for a list of files, each with its opening, blocks and outcome, and
 //! each call adds exactly its argument to it, or nothing if memory is refused. The report is that
-//! of exactly these files. No report depends on the seed of the hashes. A line's parties and what is
-//! unclaimed add up to its amount ([`laws`]).
+//! of exactly these files. No report depends on the seed of the hashes. The amounts of a line's
+//! parties and the unclaimed amount add up to its amount ([`laws`]).
 //!
 //! **Where to begin.** `specs/Reports.antt` says what a report is, `specs/Verdicts.antt` when a block
-//! counts; `src/books.rt` has the calls.
+//! counts; `src/books.rt` has the public functions.
 #![tactic(auto)]
 
 mod assemble;

@@ -12,7 +12,7 @@ use dsr_cells::{Items, NoMemory};
 use std::alloc::Global;
 use std::collections::BTreeSet;
 
-/// Adds the number of a file of ours.
+/// Adds the number of a file if its standing is Ours.
 fn add_number(numbers: &mut BTreeSet<u32>, file: &FileBooks) -> Result<(), NoMemory>
     ensures { OnOk result ((n : ℕ) → contains nat_cmp numbers.new n ≡ (contains nat_cmp numbers.old n || is_number_kept n file.now)) }
 {
@@ -22,7 +22,7 @@ fn add_number(numbers: &mut BTreeSet<u32>, file: &FileBooks) -> Result<(), NoMem
     Ok(())
 }
 
-/// The numbers of the files that are ours.
+/// The numbers of the files whose standing is Ours.
 pub fn own_numbers(alloc: Global, files: &[FileBooks]) -> Result<BTreeSet<u32>, NoMemory>
     ensures { IfOk result (λ s. (n : ℕ) → contains nat_cmp s n ≡ list_any (is_number_kept n) files.now) }
 {
@@ -33,7 +33,7 @@ pub fn own_numbers(alloc: Global, files: &[FileBooks]) -> Result<BTreeSet<u32>, 
     Ok(numbers)
 }
 
-/// Adds a number that is not in the set.
+/// Adds a number to `absent`, unless it is in the set.
 fn add_absent(absent: &mut Numbers, number: u32, numbers: &BTreeSet<u32>) -> Result<(), NoMemory>
     ensures { OnOk result (absent.new ≡ absent.old ++ filter (λ n. not (contains nat_cmp numbers.now n)) (number ∷ [])) }
 {
@@ -43,7 +43,7 @@ fn add_absent(absent: &mut Numbers, number: u32, numbers: &BTreeSet<u32>) -> Res
     absent.push(number).map_err(|_number| NoMemory)
 }
 
-/// The numbers from 1 to a last one that are not in the set, rising.
+/// The numbers from 1 to `last`, inclusive, that are not in the set, ascending.
 fn absent_numbers(alloc: Global, last: u32, numbers: &BTreeSet<u32>) -> Result<Numbers, NoMemory>
     ensures { IfOk result (λ l. l ≡ filter (λ n. not (contains nat_cmp numbers.now n)) (range_with_len 1 last)) }
 {
@@ -54,7 +54,7 @@ fn absent_numbers(alloc: Global, last: u32, numbers: &BTreeSet<u32>) -> Result<N
     Ok(absent)
 }
 
-/// The missing numbers of a report, rising; none where it has no key.
+/// The missing numbers of a report, ascending; none if it has no key.
 pub fn missing_numbers(
     alloc: Global,
     key: &Option<ReportKey>,

@@ -1,4 +1,4 @@
-//! How a file is opened.
+//! Opening a file.
 ghost use Rattle.std.specs.Prelude.{◌≡◌, ◌+◌, ◌<◌, ◌≤◌, List, [], ◌∷◌, ◌++◌, ℕ, Some, None, OnOk, IfOk, option_map, length};
 ghost use Rattle.std.specs.List.{list_any};
 ghost use Rattle.dsr_ledger.specs.Files.{opened, is_same_report, has_number_of, is_of_report, first_head, standing, summaries_of};
@@ -26,7 +26,7 @@ fn same_report(a: &Head, b: &Head) -> bool
         && a.last_day == b.last_day
 }
 
-/// Whether the file is of the report of these and itself.
+/// Whether the opening has the key of the report of these files and itself.
 fn is_of_their_report(files: &[FileBooks], opening: &Opening) -> bool
     ensures { result ≡ is_of_report (first_head (openings_of files.now ++ Some opening.now ∷ [])) opening.now.head }
 {
@@ -38,7 +38,7 @@ fn is_of_their_report(files: &[FileBooks], opening: &Opening) -> bool
     true
 }
 
-/// Whether a file is of the same report and has the number.
+/// Whether a file is of the same report as the head and has its file number.
 fn has_number(head: &Head, opening: &Option<Opening>) -> bool
     ensures { result ≡ has_number_of head.now opening.now }
 {
@@ -50,7 +50,7 @@ fn has_number(head: &Head, opening: &Option<Opening>) -> bool
     }
 }
 
-/// Whether one of the files is of the same report and has the number.
+/// Whether one of the files is of the same report as the opening and has its file number.
 fn is_number_taken(files: &[FileBooks], opening: &Opening) -> bool
     ensures { result ≡ list_any (has_number_of opening.now.head) (openings_of files.now) }
 {
@@ -63,7 +63,7 @@ fn is_number_taken(files: &[FileBooks], opening: &Opening) -> bool
 }
 
 #[tactic(auto, unfolding(crate::specs::Files::standing))]
-/// How a file stands after these.
+/// The standing of a file after these.
 fn standing_after(files: &[FileBooks], opening: &Option<Opening>) -> Standing
     ensures { result ≡ standing (openings_of files.now) opening.now }
 {
@@ -81,7 +81,7 @@ fn standing_after(files: &[FileBooks], opening: &Option<Opening>) -> Standing
     }
 }
 
-/// What is kept of these summaries, which no usage names so far.
+/// The states of these summaries, before any usage.
 fn summaries_of(alloc: Global, seeded: Seeded, stated: &[Summary]) -> Result<Summaries, NoMemory>
     ensures { IfOk result (λ m. (id : List ℕ) → shown_at m id ≡ found_in stated.now [] id) }
 {
@@ -92,7 +92,7 @@ fn summaries_of(alloc: Global, seeded: Seeded, stated: &[Summary]) -> Result<Sum
     Ok(summaries)
 }
 
-/// The same, of a file that may have no opening.
+/// The same, for a file that may have no opening.
 fn summaries_for(
     alloc: Global,
     seeded: Seeded,
@@ -106,7 +106,7 @@ fn summaries_for(
     }
 }
 
-/// What is kept of a file that is opened after these.
+/// The state of a file that is opened after these.
 pub fn open_after(
     files: &[FileBooks],
     alloc: Global,

@@ -1,4 +1,4 @@
-//! The key of a report and its rejected blocks, which are taken out of the files.
+//! The key of a report and its rejected blocks, moved out of the files.
 ghost use Rattle.std.specs.Prelude.{◌≡◌, ◌++◌, IfOk, OnOk, option_map};
 ghost use Rattle.std.specs.List.{flat_map};
 ghost use Rattle.dsr_ledger.specs.Files.{first_head};
@@ -12,7 +12,7 @@ use dsr_file::Opening;
 use dsr_records::Head;
 use std::alloc::Global;
 
-/// The key that a head gives.
+/// The report key of a head.
 fn key_of(head: Head) -> ReportKey
     ensures { result ≡ key_of head }
 {
@@ -24,7 +24,7 @@ fn key_of(head: Head) -> ReportKey
     }
 }
 
-/// The key of a report whose first files came to this key, or to none, with the next file's opening.
+/// The key of a report after one more file, whose earlier files gave this key or none.
 fn key_after(key: Option<ReportKey>, opening: Option<Opening>) -> Option<ReportKey>
     ensures { result ≡ first_of key (option_map (λ o. key_of o.head) opening) }
 {
@@ -35,7 +35,7 @@ fn key_after(key: Option<ReportKey>, opening: Option<Opening>) -> Option<ReportK
     }
 }
 
-/// Adds rejected blocks at the end.
+/// Appends rejected blocks.
 fn add_rejects(rejects: &mut Rejects, more: Vec<Reject>) -> Result<(), NoMemory>
     ensures { OnOk result (rejects.new ≡ rejects.old ++ more.items) }
 {

@@ -1,9 +1,9 @@
-//! The report that is made of the books.
+//! The report that the books make.
 use crate::verdict::{Reason, Standing};
 use dsr_cells::{Day, Isrc, Items, Text};
 use dsr_file::Outcome;
 
-/// Which report it is.
+/// The key of a report.
 #[derive(Drop)]
 pub struct ReportKey {
     /// MessageId, which all files of a report share: 1 to 64 bytes of printable ASCII.
@@ -23,7 +23,7 @@ pub struct FileLine {
     pub number: Option<u32>,
     /// Whether it counts, and why not.
     pub standing: Standing,
-    /// How many blocks were taken from it, at most 2^37.
+    /// The number of blocks taken from it, at most 2^37.
     pub blocks: u64,
     /// How it ended.
     pub outcome: Outcome,
@@ -38,15 +38,15 @@ pub struct Difference {
     pub summary_id: Text,
     /// The usages that the summary states, below 10^12 either way.
     pub stated_usages: i64,
-    /// The sum of the usages of the records that name it.
+    /// The sum of the usages of the records that name it, in blocks booked or rejected.
     pub found_usages: i128,
     /// The amount that the summary states, in units of 10^-10 of its currency.
     pub stated_amount: i128,
-    /// The sum of the amounts of the records that name it, in units of 10^-10.
+    /// The sum of the amounts of these records, in units of 10^-10 of its currency.
     pub found_amount: i128,
 }
 
-/// What a party is owed of a ledger line's amount.
+/// A party's part of a ledger line's amount.
 #[derive(Drop)]
 pub struct PartyLine {
     /// The name of the party, as the works spell it.
@@ -72,7 +72,7 @@ pub struct LedgerLine {
     pub amount: i128,
     /// The parties that have a part, by the bytes of their names.
     pub parties: Parties,
-    /// The amount minus those of the parties, in units of 10^-10 of the currency.
+    /// The amount minus the amounts of the parties, in units of 10^-10 of the currency.
     pub unclaimed: i128,
 }
 
@@ -85,14 +85,14 @@ pub struct Reject {
     pub position: u64,
     /// BlockId: 1 to 32 bytes of printable ASCII.
     pub block_id: Text,
-    /// Why it does not count.
+    /// Why it is rejected.
     pub reason: Reason,
 }
 
 /// The files' lines, in the order given.
 pub type FileLines = Items<FileLine>;
 
-/// The numbers of missing files, rising.
+/// The numbers of missing files, ascending.
 pub type Numbers = Items<u32>;
 
 /// The differences, by file and then in file order.
@@ -112,14 +112,14 @@ pub type Rejects = Items<Reject>;
 pub struct Report {
     /// The key of the first file, in the order given, that has an opening; None if no file has.
     pub key: Option<ReportKey>,
-    /// How each file stands.
+    /// The line of each file, in the order given.
     pub files: FileLines,
-    /// The numbers of the report's files that were not given, rising.
+    /// The numbers of the report's files that were not given, ascending.
     pub missing: Numbers,
     /// The summaries whose numbers are not those of their usages.
     pub differences: Differences,
-    /// What is owed, and to whom.
+    /// The ledger: the booked usages and amounts, and each party's part.
     pub ledger: LedgerLines,
-    /// The blocks that were left out.
+    /// The rejected blocks.
     pub rejects: Rejects,
 }

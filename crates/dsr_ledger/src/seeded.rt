@@ -1,7 +1,7 @@
-//! A hasher with a seed of the run, against hash flooding.
+//! Hashers with a seed, against hash flooding.
 use std::hash::{BuildHasher, FoldHasher, Hasher};
 
-/// Makes hashers into which a seed was written, so that whoever chooses the keys can't make them collide.
+/// Builds hashers from a seed, so that whoever chooses the keys cannot make them collide.
 #[derive(Clone, Copy)]
 pub struct Seeded {
     first: FoldHasher,

@@ -24,7 +24,7 @@ impl Sums {
     }
 }
 
-/// Every usage is in range: its type says so.
+/// Shows that every usage is in range, by its types.
 pub fn check_range(usage: &Usage)
     ensures { IsInRange usage.now }
 {

@@ -1,6 +1,6 @@
-//! How files stand, and the verdicts of blocks.
+//! The standings of files, and the verdicts of blocks.
 
-/// How a file stands in the report.
+/// The standing of a file in the report.
 #[derive(Clone, Copy, PartialEq, Eq)]
 pub enum Standing {
     /// Its opening has the report's key, and no earlier file has its number.
@@ -35,8 +35,8 @@ pub enum Reason {
 /// The verdict of a block.
 #[derive(Clone, Copy, PartialEq, Eq)]
 pub enum Verdict {
-    /// Its usages count.
+    /// Its usages are in the ledger.
     Booked,
-    /// Nothing of it counts, for this reason.
+    /// Nothing of it is in the ledger, for this reason.
     Rejected(Reason),
 }

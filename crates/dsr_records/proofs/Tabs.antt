@@ -1,5 +1,5 @@
 -- Lemmas on the TABs of a line.
-use Rattle.std.proofs.Common.{◌≡◌, ◌+◌, ◌-◌, ◌<◌, ◌≤◌, ℕ, Bool, List, not, eqb, ltb, length, count_by, refl, sym, arith, inl, inr}
+use Rattle.std.proofs.Common.{◌≡◌, ◌+◌, ◌-◌, ◌<◌, ◌≤◌, ℕ, Bool, false, List, not, eqb, ltb, length, count_by, refl, sym, arith, inl, inr}
 use Rattle.std.proofs.lemmas.Bool.{cases_lt, le-ltb, lt-ltb}
 use Rattle.std.proofs.lemmas.List.Splits.{length-slice_split}
 use Rattle.std.proofs.lemmas.List.Sums.{length-filter}
@@ -31,3 +31,9 @@ many_cells line long =
           let many : 64 < length (cells line) = omega (arith, split, sum, long, less) in
           rw (le-ltb _ _ less, lt-ltb _ _ many) refl
     ]
+
+-- a line of fewer than 64 bytes has at most 64 cells
+pub few_cells : (line : List ℕ) → length line < 64 → ltb 64 (length (cells line)) ≡ false
+few_cells line short =
+    let few : length (cells line) ≤ 64 = omega (arith, length-slice_split is_tab line, both line, short) in
+    le-ltb _ _ few

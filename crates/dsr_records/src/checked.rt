@@ -5,6 +5,7 @@ ghost use Rattle.std.specs.Option.{option_map, unwrap_or};
 ghost use Rattle.dsr_cells.specs.Cells.{cells};
 ghost use Rattle.dsr_records.specs.Blocks.{OpensBlock, with_member};
 ghost use Rattle.dsr_records.specs.declared.kinds.Kind.TheVariants as kinds;
+ghost use Rattle.dsr_records.specs.declared.record.Record.TheVariants as records;
 ghost use Rattle.dsr_records.specs.Checked.{record_seen};
 ghost use Rattle.dsr_records.specs.Records.{cell_in};
 ghost use Rattle.dsr_records.specs.Reads.{AnswersRecord, kind_of_record, id_of_record, has_texts};
@@ -42,6 +43,7 @@ impl<'l> Model for CheckedLine<'l> {
 
 impl<'l> CheckedLine<'l> {
     /// The kind of the line's record.
+    #[inline(always)]
     pub fn kind(&self) -> Kind
         ensures { result ≡ kind_of_record self.now }
     {
@@ -57,6 +59,7 @@ impl<'l> CheckedLine<'l> {
     }
 
     /// The identifier of a summary, or that of the block of a resource, a work or a usage.
+    #[inline(always)]
     pub fn id(&self) -> Option<&'l str>
         ensures { option_map (λ i. i.now) result ≡ id_of_record self.now }
     {
@@ -94,6 +97,7 @@ impl<'l> CheckedLine<'l> {
     /// # Errors
     ///
     /// `NoMemory`: no memory was left for the block's texts, and the block may have any value.
+    #[inline(always)]
     pub fn open_block(&self, alloc: Global, block: &mut Block) -> Result<(), NoMemory>
         requires resource { kind_of_record self.now ≡ kinds.Resource }
         ensures opened { OnOk result (OpensBlock self.now block.new) }
@@ -111,6 +115,7 @@ impl<'l> CheckedLine<'l> {
     /// # Errors
     ///
     /// `NoMemory`: no memory was left for the record's texts, and the block is unchanged.
+    #[inline(always)]
     pub fn append_to(&self, alloc: Global, block: &mut Block) -> Result<(), NoMemory>
         requires room { 1 + length block.old.works + length block.old.usages < 64 }
         ensures added { OnOk result (block.new ≡ with_member block.old self.now) }
@@ -146,13 +151,17 @@ fn counts_many_cells(line: &str) -> bool
     line.len() >= 64 && !has_others(line.as_bytes(), line.len() - 64)
 }
 
-/// Whether a line has more than 64 cells. The TABs among its first bytes mostly tell that it has
-/// not.
+/// Whether a line has more than 64 cells. A short line has not, and the TABs among the first bytes of
+/// a longer one mostly show that it has not.
+#[tactic(auto, using(crate::proofs::Tabs::few_cells))]
 #[inline(always)]
 fn has_many_cells(line: &str, whole: &Rest<'_>) -> bool
     requires { whole.now.text.now ≡ line.now }
     ensures { result ≡ nat_lt 64 (length (cells line.now)) }
 {
+    if line.len() < 64 {
+        return false;
+    }
     whole.may_have_more(64) && counts_many_cells(line)
 }
 
@@ -181,14 +190,97 @@ fn check_row<'l>(row: &Row<'l>, kind: Kind) -> Result<CheckedLine<'l>, RecordFau
     Ok(CheckedLine { found })
 }
 
-/// Checks the cells of a line by the layout line of its record type.
-#[inline(always)]
-fn check_role<'l>(cursor: Cursor<'l>, role: &RoleLine) -> Result<CheckedLine<'l>, RecordFault>
-    ensures { result ≡ record_by_row (map (cell_in cursor.entry) role.now.positions) role.now.kind }
-{
-    let mut row = Row::new();
-    row.take(cursor, role.positions.as_slice());
-    check_row(&row, role.kind)
+/// A line whose record type is known to the layout: its kind, and the cells of the kind's columns, not
+/// yet checked. Contracts see it as what the check finds: its record, or its first fault.
+#[derive(Drop)]
+pub struct TypedLine<'l> {
+    row: Row<'l>,
+    kind: Kind,
+}
+
+impl<'l> Model for TypedLine<'l> {
+    ghost use Rattle.std.specs.Prelude.{Result};
+    ghost use Rattle.dsr_records.specs.declared.record.Record.{Record as RecordValue};
+    ghost use Rattle.dsr_records.specs.declared.kinds.RecordFault.{RecordFault as FaultValue};
+    ghost use Rattle.dsr_records.specs.Values.{record_by_row};
+
+    ghost Value = { Result RecordValue FaultValue };
+
+    ghost view = { λ t. record_by_row t.row t.kind };
+}
+
+impl<'l> TypedLine<'l> {
+    /// A skipped record, until a line is found.
+    #[inline(always)]
+    pub fn new() -> TypedLine<'l>
+        ensures { result ≡ Ok records.Skipped }
+    {
+        TypedLine {
+            row: Row::new(),
+            kind: Kind::Skipped,
+        }
+    }
+
+    /// Finds the kind of a line by a layout, and the cells of its columns. It takes no memory.
+    ///
+    /// # Errors
+    ///
+    /// `Many`: the line has more than 64 cells. `Unknown`: the layout does not have its record type.
+    #[inline(always)]
+    pub fn find(&mut self, layout: &Layout, line: &'l str) -> Result<(), RecordFault>
+        ensures { MatchResult result (λ _. self.new ≡ record_of layout.now line.now)
+            (λ fault. record_of layout.now line.now ≡ Err fault) }
+    {
+        let whole = Rest::of(line);
+        if has_many_cells(line, &whole) {
+            return Err(RecordFault::Many);
+        }
+        let mut cursor = Cursor::at(line, whole);
+        let name = record_type(&mut cursor);
+        match layout.role(name) {
+            Some(role) => {
+                self.take(cursor, role);
+                Ok(())
+            }
+            None if layout.skips(name) => {
+                self.kind = Kind::Skipped;
+                self.row.clear();
+                Ok(())
+            }
+            None => Err(RecordFault::Unknown),
+        }
+    }
+
+    /// Takes the cells of a line's columns, by the layout line of its record type.
+    #[inline(always)]
+    fn take(&mut self, cursor: Cursor<'l>, role: &RoleLine)
+        ensures { self.new ≡ record_by_row (map (cell_in cursor.entry) role.now.positions) role.now.kind }
+    {
+        self.kind = role.kind;
+        self.row.clear();
+        self.row.take(cursor, role.positions.as_slice());
+    }
+
+    /// The kind of the line's record type.
+    #[inline(always)]
+    pub fn kind(&self) -> Kind
+        ensures { IfOk self.now (λ r. result ≡ kind_of_record r) }
+    {
+        self.kind
+    }
+
+    /// Checks the cells: the line's record, not yet copied, or its first fault. It takes no memory.
+    ///
+    /// # Errors
+    ///
+    /// `Missing` and `Bad`: the first such column, in the order of the columns. `Uneven`: a work has
+    /// more shares than parties, or fewer.
+    #[inline(always)]
+    pub fn check(&self) -> Result<CheckedLine<'l>, RecordFault>
+        ensures { result ≡ self.now }
+    {
+        check_row(&self.row, self.kind)
+    }
 }
 
 /// Checks a line by a layout: its record, not yet copied, or its first fault. It takes no memory.
@@ -201,19 +293,9 @@ fn check_role<'l>(cursor: Cursor<'l>, role: &RoleLine) -> Result<CheckedLine<'l>
 pub fn check_line<'l>(layout: &Layout, line: &'l str) -> Result<CheckedLine<'l>, RecordFault>
     ensures { result ≡ record_of layout.now line.now }
 {
-    let whole = Rest::of(line);
-    if has_many_cells(line, &whole) {
-        return Err(RecordFault::Many);
-    }
-    let mut cursor = Cursor::at(line, whole);
-    let name = record_type(&mut cursor);
-    match layout.role(name) {
-        Some(role) => check_role(cursor, role),
-        None if layout.skips(name) => Ok(CheckedLine {
-            found: RecordLine::Skipped,
-        }),
-        None => Err(RecordFault::Unknown),
-    }
+    let mut typed = TypedLine::new();
+    typed.find(layout, line)?;
+    typed.check()
 }
 
 /// The kind of a line by a layout, or its first fault.

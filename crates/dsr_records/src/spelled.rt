@@ -38,6 +38,7 @@ fn there<'l>(row: &Row<'l>, i: usize, column: Column) -> Result<&'l str, RecordF
 }
 
 /// An identifier of at most so many bytes, by the column that asks for it.
+#[inline(always)]
 pub(crate) fn read_identifier<'l>(
     row: &Row<'l>,
     i: usize,

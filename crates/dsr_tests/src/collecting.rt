@@ -13,7 +13,7 @@ use std::sync::Wait;
 use std::thread;
 use std::thread::Threads;
 
-/// A sink that sends so many events, and then refuses the next ones.
+/// A sink that sends a number of events, and then refuses the next ones.
 #[derive(Drop)]
 struct Limited<'a, H> {
     sink: FeedSink<'a, H>,
@@ -36,7 +36,7 @@ impl<'a, H: Wait> Sink for Limited<'a, H> {
     }
 }
 
-/// Sends so many events of a text, and closes the relay.
+/// Sends at most `most` events of a text, and closes the relay.
 fn send_text<H: Wait>(rt: &H, alloc: Global, text: &'static [u8], most: u32, feed: Feed)
     requires { feed.sent ≡ [] }
 {
@@ -62,7 +62,8 @@ fn open(alloc: Global) -> Result<(Feed, Tap), AllocError>
     }
 }
 
-/// What is collected of two files of which the second thread sends so many events, and whether both taps have ended.
+/// What is collected of two files, where the second thread sends a number of events, and whether
+/// both taps have ended.
 fn collected<H: Threads + Wait + RandomSource + Copy + Send + 'static>(
     rt: &H,
     alloc: Global,

@@ -1,8 +1,8 @@
-//! Tests of the whole way, from the bytes of the files to the statement. The expected statements were worked out by hand
+//! End-to-end tests, from the bytes of the files to the statement. The expected statements were worked out by hand
 //! from docs/PROFILE.md.
 //!
-//! 1. `texts` has the files and their statements, `script` a reader that gives a text as it is told to, `page` an outlet
-//!    that fails where it is told to, and `runs` a run on them, which the lib.rt of dsr_intake shows.
+//! 1. `texts` has the files and their statements, `script` a scripted reader of a text, `page` an outlet that fails at a
+//!    given point, and `runs` a run on them, which the lib.rt of dsr_intake shows.
 //! 2. `reports`: reports in one file and in several. `collecting`: the collector alone.
 //! 3. `refusals` and `memory`: what is refused and what fails. `turns`: readers that wait for one another.
 #![tactic(auto)]

@@ -1,4 +1,4 @@
-//! Runs that also have to end well where a growth is refused: they pass with ample memory, and with each growth refused in turn.
+//! Runs that have to end well also if an allocation is refused. checks/refusals runs them with each one refused in turn.
 ghost use Rattle.std.specs.Prelude.{◌≡◌, None, false, All, IfOk};
 
 use crate::runs::options;
@@ -12,7 +12,7 @@ use std::random::RandomSource;
 use std::sync::Wait;
 use std::thread::Threads;
 
-/// An outlet that takes no memory: it compares what is written with what is expected.
+/// An outlet that allocates nothing: it compares what is written with what is expected.
 #[derive(Drop)]
 struct Mirror {
     expected: &'static [u8],
@@ -50,12 +50,13 @@ impl Outlet for Mirror {
     }
 }
 
-/// Whether a piece stands in a text from this place on.
+/// Whether a text has this piece at this place.
 fn stands_at(text: &[u8], at: usize, piece: &[u8]) -> bool {
     at <= text.len() && text[at..].starts_with(piece)
 }
 
-/// Whether a run on these readers writes this statement, or wants memory or a thread and writes nothing.
+/// Whether a run on these readers writes this statement, or is refused memory or a thread and
+/// writes nothing.
 fn ends_well<H: Threads + Wait + RandomSource + Copy + Send + 'static>(
     rt: &H,
     alloc: Global,
@@ -84,14 +85,14 @@ fn ends_well<H: Threads + Wait + RandomSource + Copy + Send + 'static>(
     }
 }
 
-/// The reader of the clean report.
+/// A reader of the clean report.
 fn clean_reader(alloc: Global) -> Result<Vec<Script>, AllocError>
     ensures { IfOk result (λ v. All (λ r. r.failed ≡ false) v.items) }
 {
     Ok(vec![in alloc; Script::alone(alloc, CLEAN, Step::Full, After::End)?]?)
 }
 
-/// The reader of a hundred blocks.
+/// A reader of the file of a hundred blocks.
 fn hundred_reader(alloc: Global) -> Result<Vec<Script>, AllocError>
     ensures { IfOk result (λ v. All (λ r. r.failed ≡ false) v.items) }
 {

@@ -1,11 +1,12 @@
-//! An outlet that fails where it is told to.
+//! An outlet that fails at a given point.
 ghost use Rattle.std.specs.Prelude.{◌≡◌, None, false};
 
 use dsr_file::Failed;
 use dsr_intake::Outlet;
 use std::alloc::Global;
 
-/// An outlet that keeps what it takes: so many bytes a write, and so many in all. Then its writes fail.
+/// An outlet that keeps what it takes: at most `at_once` bytes a write, and `room` bytes in all.
+/// Then its writes fail.
 #[derive(Drop)]
 pub struct Page {
     bytes: Vec<u8>,
@@ -18,14 +19,15 @@ pub struct Page {
 }
 
 impl Page {
-    /// A page with room for all.
+    /// A page with room for any statement of the tests.
     pub fn new(alloc: Global) -> Page
         ensures { result.failed ≡ false }
     {
         Page::narrow(alloc, 65_536, 1_000_000, true)
     }
 
-    /// A page that takes so many bytes a write, and so many in all; its flush fails where it does not flush.
+    /// A page that takes at most `at_once` bytes a write and `room` bytes in all; its flush fails
+    /// unless `flushes` is set.
     pub fn narrow(alloc: Global, at_once: usize, room: usize, flushes: bool) -> Page
         ensures { result.failed ≡ false }
     {

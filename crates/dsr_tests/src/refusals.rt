@@ -1,4 +1,4 @@
-//! What is refused, what fails, and what was written then.
+//! Refusals and failures, and what was written before them.
 ghost use Rattle.std.specs.Prelude.{◌≡◌, false};
 
 use crate::page::Page;
@@ -13,7 +13,7 @@ use std::random::RandomSource;
 use std::sync::Wait;
 use std::thread::Threads;
 
-/// Whether a run on so many readers ends with this error and writes nothing.
+/// Whether a run on this number of readers ends with this error and writes nothing.
 fn refuses<H: Threads + Wait + RandomSource + Copy + Send + 'static>(
     rt: &H,
     alloc: Global,
@@ -71,7 +71,8 @@ fn a_writer_that_fails_after_five_bytes(rt: HostRuntime) -> Result<(), AllocErro
     Ok(())
 }
 
-/// One byte a write, and then a failure: the first bytes of the statement are out, and the fault tells how many.
+/// One byte a write, and then a failure: the first bytes of the statement were written, and the
+/// error says how many.
 #[test]
 fn a_writer_that_fails_after_every_byte(rt: HostRuntime) -> Result<(), AllocError> {
     let alloc = rt.alloc();
@@ -94,7 +95,7 @@ fn a_flush_that_fails(rt: HostRuntime) -> Result<(), AllocError> {
     Ok(())
 }
 
-/// A writer that takes nothing, and says so by a count of 0.
+/// A writer that takes nothing, and returns a count of 0.
 #[derive(Drop)]
 struct Shut;
 
@@ -118,7 +119,7 @@ fn a_writer_that_takes_nothing(rt: HostRuntime) -> Result<(), AllocError> {
     Ok(())
 }
 
-/// The statement of the clean report where a read failed after so many bytes.
+/// The statement of the clean report if a read fails after these bytes.
 fn failed_statement(alloc: Global, given: &[u8]) -> Result<String, AllocError> {
     let lines = given.iter().filter(|byte| **byte == b'\n').count();
     let report = "REPORT\tR1\t1\t2024-01-01\t2024-01-31\t31\n";
@@ -146,7 +147,7 @@ UNCLAIMED\tGBABC2400002\tGB\tOnDemandStream\tGBP\t1.0000000000\n";
     format!(in alloc; "{report}FILE\t1\t1\tOurs\t2\tFault\t9\tRead\n{first}{second}")
 }
 
-/// The clean report, cut after every number of bytes, and then a read that fails.
+/// The clean report, cut after each number of bytes, and then a read that fails.
 #[test]
 fn a_read_that_fails_after_every_byte(rt: HostRuntime) -> Result<(), AllocError> {
     let alloc = rt.alloc();
@@ -168,7 +169,7 @@ fn a_read_that_fails_after_every_byte(rt: HostRuntime) -> Result<(), AllocError>
     Ok(())
 }
 
-/// The clean report by lines, with each read failing in turn.
+/// The clean report line by line, with each read failing in turn.
 #[test]
 fn each_read_fails_in_turn(rt: HostRuntime) -> Result<(), AllocError> {
     let alloc = rt.alloc();
@@ -193,8 +194,8 @@ fn each_read_fails_in_turn(rt: HostRuntime) -> Result<(), AllocError> {
     Ok(())
 }
 
-/// Whether the statement of a file of one line tells this fault. The line has this first byte and is so long, no line feed
-/// ends it, and then a read fails.
+/// Whether the statement of a file of one line shows this fault. The line has this first byte and this length, no line
+/// feed ends it, and then a read fails.
 fn ends_by<H: Threads + Wait + RandomSource + Copy + Send + 'static>(
     rt: &H,
     alloc: Global,
@@ -218,7 +219,8 @@ fn ends_by<H: Threads + Wait + RandomSource + Copy + Send + 'static>(
     ))
 }
 
-/// A line of 8,193 bytes is too long before its end comes, a comment too; at 8,192 bytes the failed read is told.
+/// A line of 8,193 bytes is too long before its end is read, and so is a comment; at 8,192 bytes
+/// the failed read is reported.
 #[test]
 fn a_long_line_and_then_a_read_that_fails(rt: HostRuntime) -> Result<(), AllocError> {
     let alloc = rt.alloc();

@@ -1,4 +1,4 @@
-//! Reports in one file and in several, at every capacity and however their bytes are cut.
+//! Reports in one file and in several, with several capacities and sizes of reads.
 use crate::runs::{gives, options};
 use crate::script::{After, Script, Step};
 use crate::texts::{
@@ -103,7 +103,7 @@ fn comments_for_ever(rt: HostRuntime) -> Result<(), AllocError> {
     Ok(())
 }
 
-/// With as many reads as bytes the end is not seen; with one more it is.
+/// With as many reads as bytes the end is not read; with one more it is.
 #[test]
 fn a_limit_at_the_last_byte(rt: HostRuntime) -> Result<(), AllocError> {
     let alloc = rt.alloc();

@@ -19,7 +19,7 @@ pub fn options(capacity: u32, max_reads: u32) -> Options {
     }
 }
 
-/// Whether the statement of what the readers give is this one, flushed once, and what it comes to is this.
+/// Whether a run on these readers has this status and writes this statement, flushed once.
 pub fn gives<H: Threads + Wait + RandomSource + Copy + Send + 'static>(
     rt: &H,
     alloc: Global,

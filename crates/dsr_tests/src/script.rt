@@ -1,4 +1,4 @@
-//! A reader that gives a text as it is told to.
+//! A scripted reader of a text.
 ghost use Rattle.std.specs.Prelude.{◌≡◌, ◌≤◌, None, false, length, IfOk};
 
 use dsr_file::{Failed, ReadCount, Source};
@@ -7,10 +7,10 @@ use std::sync::Arc;
 use std::sync::atomic::{AtomicU64, Ordering};
 use std::thread;
 
-/// How much each read gives.
+/// The size of each read.
 #[derive(Clone, Copy)]
 pub enum Step {
-    /// As much as there is room for.
+    /// As many bytes as there is room for.
     Full,
     /// One byte.
     Byte,
@@ -25,7 +25,7 @@ pub enum After {
     End,
     /// A read that fails.
     Failure,
-    /// The text again, for ever.
+    /// The text again, forever.
     Again,
 }
 
@@ -34,13 +34,13 @@ pub enum After {
 pub enum Wait {
     /// It never waits.
     Never,
-    /// Before its first read, until the other one has begun one.
+    /// Before its first read, until the other one has begun its first.
     First,
-    /// Before it tells the end. Where the other one begins so many reads meanwhile, the read fails.
+    /// Before it gives the end. If the other one has begun this many reads by then, the read fails.
     Unless(u64),
 }
 
-/// A reader that gives a text as it is told to. It waits for a while only, and then its read fails.
+/// A scripted reader of a text. Its waiting is limited, and then its read fails.
 #[derive(Drop)]
 pub struct Script {
     text: Vec<u8>,
@@ -55,7 +55,7 @@ pub struct Script {
 }
 
 impl Script {
-    /// The reader of a text. Its reads are counted in `own`, and those of the reader that it waits for in `other`.
+    /// A reader of a text. Its reads are counted in `own`, and those of the reader that it waits for in `other`.
     pub fn new(
         text: Vec<u8>,
         step: Step,
@@ -79,7 +79,7 @@ impl Script {
         }
     }
 
-    /// The reader of a text, which waits for nobody.
+    /// A reader of a text that waits for no other.
     pub fn alone(alloc: Global, text: &[u8], step: Step, after: After) -> Result<Script, AllocError>
         ensures { IfOk result (λ s. s.failed ≡ false) }
     {
@@ -89,7 +89,7 @@ impl Script {
         Ok(Script::new(text, step, after, Wait::Never, own, other))
     }
 
-    /// Whether the reader may go on with its read, of which `own` are begun.
+    /// Whether the reader may go on with its read, the `own`th that it has begun.
     fn may_read(&self, own: u64) -> bool {
         match self.wait {
             Wait::Never => true,
@@ -100,7 +100,7 @@ impl Script {
     }
 }
 
-/// Waits, for so many turns at most, until the count is so high.
+/// Waits, for at most `turns` turns, until the count is `wanted`. Returns whether it got there.
 fn reaches(count: &AtomicU64, wanted: u64, turns: u32) -> bool {
     for _ in 0..turns {
         if count.load(Ordering::SeqCst) >= wanted {
@@ -111,7 +111,7 @@ fn reaches(count: &AtomicU64, wanted: u64, turns: u32) -> bool {
     false
 }
 
-/// How many bytes of the rest a step gives.
+/// The number of bytes of the rest that a step gives.
 fn step_of(step: Step, rest: &[u8]) -> usize
     ensures { result ≤ length rest.now }
 {
@@ -125,7 +125,7 @@ fn step_of(step: Step, rest: &[u8]) -> usize
     }
 }
 
-/// Copies the next bytes of a text from place `at` on into the front of a piece: how many.
+/// Copies the next bytes of a text, from `at` on, into the front of a piece, and returns how many.
 fn give(text: &[u8], at: usize, step: Step, piece: &mut [u8]) -> usize
     ensures count { result ≤ length piece.old }
     ensures room { length piece.new ≡ length piece.old }

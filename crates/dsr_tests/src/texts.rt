@@ -11,7 +11,7 @@ AS01\t2\tGBABC2400002\tOther\tBand\n\
 SU01\t2\tS1\t20\t1\n\
 FOOT\t8\t1\t2\n";
 
-/// Its statement.
+/// The statement of the clean report.
 pub const CLEAN_STATEMENT: &[u8] = b"\
 REPORT\tR1\t1\t2024-01-01\t2024-01-31\t31\n\
 FILE\t1\t1\tOurs\t2\tWhole\n\
@@ -54,7 +54,7 @@ AS01\t1\tGBABC2400001\tSong\tBand\n\
 SU01\t1\tS1\t10\t0.5\n\
 FOOT\t5\t1\t1\n";
 
-/// The first six lines of its second file.
+/// The first six lines of the second file of that report.
 pub const SECOND_CUT: &[u8] = b"\
 HEAD\tR1\t2\t3\t2024-01-01\t2024-01-31\tS\tL\n\
 SY01\tS1\tGB\tOnDemandStream\tGBP\t30\t1.5\n\
@@ -71,7 +71,7 @@ AS01\t1\tGBABC2400001\tSong\tBand\n\
 SU01\t1\tS1\t7\t0.25\n\
 FOOT\t5\t1\t1\n";
 
-/// The statement of the three where a read of the second file fails after these lines.
+/// The statement of the three if a read of the second file fails after these lines.
 pub const THREE_STATEMENT: &[u8] = b"\
 REPORT\tR1\t3\t2024-01-01\t2024-01-31\t31\n\
 FILE\t1\t1\tOurs\t1\tWhole\n\
@@ -82,7 +82,7 @@ PARTY\tGBABC2400001\tGB\tOnDemandStream\tGBP\tP1\t0.2500000000\n\
 PARTY\tGBABC2400001\tGB\tOnDemandStream\tGBP\tP2\t0.1250000000\n\
 UNCLAIMED\tGBABC2400001\tGB\tOnDemandStream\tGBP\t0.8750000000\n";
 
-/// The statement of the report in one file where its last read is the last one that is allowed.
+/// The statement of the report in one file if its last byte is read by the last read of the limit.
 pub const ALL_READS: &[u8] = b"\
 REPORT\tR1\t1\t2024-01-01\t2024-01-31\t31\n\
 FILE\t1\t1\tOurs\t2\tFault\t9\tReads\n\
@@ -117,7 +117,7 @@ MW01\t6\tW1\tSong\tP1|P2\t60|60\n\
 SU01\t6\tS1\t10\t1\n\
 FOOT\t16\t1\t6\n";
 
-/// Its statement.
+/// The statement of that report.
 pub const EVERY_REJECT_STATEMENT: &[u8] = b"\
 REPORT\tR1\t1\t2024-01-01\t2024-01-31\t31\n\
 FILE\t1\t1\tOurs\t6\tWhole\n\
@@ -138,7 +138,7 @@ FILE\t2\t2\tOurs\t100\tWhole\n\
 LEDGER\tGBABC2400001\tGB\tOnDemandStream\tGBP\t110\t1.5000000000\n\
 UNCLAIMED\tGBABC2400001\tGB\tOnDemandStream\tGBP\t1.5000000000\n";
 
-/// The statement of the file with a hundred blocks alone.
+/// The statement of only the file with a hundred blocks.
 pub const HUNDRED_STATEMENT: &[u8] = b"\
 REPORT\tR1\t2\t2024-01-01\t2024-01-31\t31\n\
 FILE\t1\t2\tOurs\t100\tWhole\n\

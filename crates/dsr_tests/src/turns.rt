@@ -1,4 +1,5 @@
-//! Readers that wait for one another: the files are read at once, and a full relay holds its reader back.
+//! Readers that wait for one another: the files are read concurrently, and a full relay blocks its
+//! reader.
 use crate::runs::{gives, options};
 use crate::script::{After, Script, Step, Wait};
 use crate::texts::{FIRST_OF_TWO, HUNDRED_AND_ONE_STATEMENT, SECOND_OF_TWO, TWO_STATEMENT};
@@ -59,9 +60,9 @@ pub fn hundred_blocks(alloc: Global) -> Result<Vec<u8>, AllocError> {
     Ok(text)
 }
 
-/// While the first reader has not told its end, nothing is taken of the second file. A relay of one message then holds a message, and a
-/// second one waits to be sent: two messages of 32 events, whose last event comes with line 129. So the second reader begins no 130th
-/// read, unless its events go another way.
+/// Until the first reader gives its end, nothing is taken of the second file. A relay of one message then holds a message,
+/// and a second one waits to be sent: two messages of 32 events, whose last event comes with line 129. So the second reader
+/// begins no 130th read, unless its events go another way.
 #[test]
 fn a_full_relay_holds_its_reader_back(rt: HostRuntime) -> Result<(), AllocError> {
     let alloc = rt.alloc();

@@ -267,7 +267,7 @@ fn lists_of_texts_and_shares(rt: HostRuntime) -> Result<(), Fail> {
     Ok(())
 }
 
-/// The bytes of all texts of a list, one behind the other, each behind a point.
+/// The bytes of all texts of a list, concatenated, each after a period.
 fn joined(alloc: Global, texts: &Texts) -> Result<String, AllocError> {
     let mut shown = String::new(alloc);
     for text in texts.as_slice() {

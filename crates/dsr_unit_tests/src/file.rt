@@ -1,4 +1,4 @@
-//! Worked texts: how tests write them, and what their events come to.
+//! Worked texts: how tests write them, and what events they give.
 mod limits;
 mod reading;
 mod spares;
@@ -11,7 +11,7 @@ use std::alloc::{AllocError, Global};
 /// The eight lines of a whole file.
 const FILE: &str = "HYSWUOVF";
 
-/// The line that a letter stands for; any other letter stands for the other line.
+/// The line for a letter; any other letter is for the other line.
 fn line<'t>(letter: u8, other: &'t str) -> &'t str {
     match letter {
         b'H' => "HEAD\tR1\t1\t1\t2024-01-01\t2024-01-31\tS\tL",
@@ -28,7 +28,7 @@ fn line<'t>(letter: u8, other: &'t str) -> &'t str {
     }
 }
 
-/// The lines that these letters stand for, each with this end.
+/// The lines for these letters, each with this end.
 fn text(alloc: Global, letters: &str, other: &str, end: &[u8]) -> Result<Vec<u8>, AllocError> {
     let mut text = Vec::new(alloc);
     for letter in letters.as_bytes() {
@@ -46,7 +46,7 @@ fn events_of(alloc: Global, bytes: &[u8], ending: Ending) -> Option<EventList> {
     whole_events(alloc, &Layout::standard(), bytes, ending).ok()
 }
 
-/// What an event is, by one letter: an opening, a block, or the end.
+/// The letter of an event: O for an opening, B for a block, E for the end.
 fn letter(event: &Event) -> u8 {
     match &event.part {
         EventPart::Opened(_) => b'O',
@@ -70,7 +70,7 @@ fn are_events(events: &EventList, letters: &str) -> bool {
     true
 }
 
-/// The outcome that the last event tells.
+/// The outcome of the last event.
 fn outcome_of(events: &EventList) -> Option<Outcome> {
     match &events.get(events.len().checked_sub(1)?)?.part {
         EventPart::Ended(outcome) => Some(*outcome),
@@ -89,7 +89,7 @@ fn is_named(fault: FileFault, name: &str) -> bool {
     }
 }
 
-/// Whether a file ended so: `Whole`, or the line of its fault, a blank, and its name.
+/// Whether a file ended as `told` says: `Whole`, or the line of its fault, a blank, and its name.
 fn is_told(outcome: Outcome, told: &str) -> bool {
     match outcome {
         Outcome::Whole => told == "Whole",
@@ -100,7 +100,7 @@ fn is_told(outcome: Outcome, told: &str) -> bool {
     }
 }
 
-/// Whether the events are those of these letters, and the last tells this.
+/// Whether the events are those of these letters, and the last one has this end.
 fn come_to(events: &EventList, letters: &str, told: &str) -> bool {
     let Some(outcome) = outcome_of(events) else {
         return false;
@@ -108,7 +108,7 @@ fn come_to(events: &EventList, letters: &str, told: &str) -> bool {
     are_events(events, letters) && is_told(outcome, told)
 }
 
-/// Whether a text comes to the events of these letters, and the last tells this.
+/// Whether a text gives the events of these letters, and the last one has this end.
 fn comes_to(alloc: Global, bytes: &[u8], ending: Ending, letters: &str, told: &str) -> bool {
     match events_of(alloc, bytes, ending) {
         Some(events) => come_to(&events, letters, told),

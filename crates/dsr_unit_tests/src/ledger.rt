@@ -1,5 +1,5 @@
-//! Tests of the books. Most make the report of a few small files and compare its lines with those that are known to be right.
-//! A call that is refused memory is made once more, so each test passes also where any one growth is refused.
+//! Tests of the books. Most make the report of a few small files and compare its lines with lines that are known to be
+//! right. A call that is refused memory is made once more, so each test passes also if any one allocation is refused.
 mod books;
 pub mod making;
 mod many;

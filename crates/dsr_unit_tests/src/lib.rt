@@ -3,7 +3,7 @@
 //! 1. `examples`: those that the lib.rt of each crate shows.
 //! 2. `cells`, `records`, `file`, `relay`, `ledger`: the tests of each crate.
 //!
-//! They stand in a crate of their own, since a crate with tests is proved a second time with them.
+//! They are a separate crate, since a crate with tests is proved a second time with them.
 #![tactic(auto)]
 
 #[cfg(test)]

@@ -1,4 +1,4 @@
-//! Relays at work: refusals, handed back events, closed ends, full channels, and threads.
+//! Relays at work: refusals, returned events, closed ends, full channels, and threads.
 ghost use Rattle.std.specs.Prelude.{◌≡◌, ℕ, ◌+◌, ◌<◌, ◌≤◌, true, false, [], length};
 ghost use Rattle.std.specs.Prelude.{IfSome, IfOk, OnOk, OnErr};
 ghost use Rattle.dsr_file.specs.Orderly.{has_ended, is_ended, MayStandAt};
@@ -14,7 +14,7 @@ use std::test::Fail;
 use std::thread;
 use std::thread::Promise;
 
-/// The lines of a file of one block up to its number, between its numbers, and from there on.
+/// The lines of a file of one block: the parts before, between and after the numbers.
 const LINES: [&[u8]; 4] = [
     b"HEAD\tR1\t1\t1\t2024-01-01\t2024-01-31\tS\tL\nSY01\tS1\tGB\tRadio\tGBP\t1\t0.01\nAS01\t",
     b"\tGBABC2400001\tSong\tBand\nMW01\t",
@@ -114,7 +114,7 @@ fn ended() -> EventPart
     EventPart::Ended(Outcome::Whole)
 }
 
-/// Sends the part at the next place.
+/// Sends a part with the next place.
 fn send_part<R: Wait>(rt: &R, feed: &mut Feed, part: EventPart) -> Result<(), Event>
     requires going { has_ended feed.old.sent ≡ false }
     requires few { length feed.old.sent < 100000 }
@@ -128,7 +128,7 @@ fn send_part<R: Wait>(rt: &R, feed: &mut Feed, part: EventPart) -> Result<(), Ev
     feed.send(rt, Event { place, part })
 }
 
-/// Sends the opening, and answers whether it was taken.
+/// Sends the opening, and returns whether it was taken.
 fn send_opened<R: Wait>(rt: &R, alloc: Global, feed: &mut Feed) -> bool
     requires { feed.old.sent ≡ [] }
     ensures name { feed.new.name ≡ feed.old.name }
@@ -145,7 +145,7 @@ fn send_opened<R: Wait>(rt: &R, alloc: Global, feed: &mut Feed) -> bool
     true
 }
 
-/// Sends the block of the next place, and answers whether it was taken.
+/// Sends the block of the next place, and returns whether it was taken.
 fn send_block<R: Wait>(rt: &R, alloc: Global, feed: &mut Feed) -> bool
     requires going { has_ended feed.old.sent ≡ false }
     requires few { (0 < length feed.old.sent) × (length feed.old.sent < 100000) }
@@ -163,7 +163,7 @@ fn send_block<R: Wait>(rt: &R, alloc: Global, feed: &mut Feed) -> bool
     true
 }
 
-/// Sends Ended, which may come back.
+/// Sends Ended, which may be returned.
 fn send_ended<R: Wait>(rt: &R, feed: &mut Feed) -> Result<(), Event>
     requires going { has_ended feed.old.sent ≡ false }
     requires few { length feed.old.sent < 100000 }
@@ -173,7 +173,7 @@ fn send_ended<R: Wait>(rt: &R, feed: &mut Feed) -> Result<(), Event>
     send_part(rt, feed, ended())
 }
 
-/// Sends Opened, then blocks, and answers whether all were taken.
+/// Sends Opened, then blocks, and returns whether all were taken.
 fn send_blocks<R: Wait>(rt: &R, alloc: Global, feed: &mut Feed, blocks: u64) -> bool
     requires empty { feed.old.sent ≡ [] }
     requires few { blocks < 50000 }
@@ -193,7 +193,7 @@ fn send_blocks<R: Wait>(rt: &R, alloc: Global, feed: &mut Feed, blocks: u64) -> 
     true
 }
 
-/// Sends Ended where the tap is gone, and answers whether it came back.
+/// Sends Ended after the tap is gone, and returns whether it was handed back.
 fn ended_comes_back<R: Wait>(rt: &R, feed: &mut Feed, place: u64) -> bool
     requires going { has_ended feed.old.sent ≡ false }
     requires few { length feed.old.sent < 100000 }
@@ -205,7 +205,7 @@ fn ended_comes_back<R: Wait>(rt: &R, feed: &mut Feed, place: u64) -> bool
     is_end(&event, place)
 }
 
-/// Takes one event, and answers whether it is the opening.
+/// Takes one event, and returns whether it is the opening.
 fn takes_opened<R: Wait>(rt: &R, tap: &mut Tap) -> bool
     requires { has_ended tap.old.taken ≡ false }
     ensures { tap.new.name ≡ tap.old.name }
@@ -216,7 +216,7 @@ fn takes_opened<R: Wait>(rt: &R, tap: &mut Tap) -> bool
     is_opened(&event)
 }
 
-/// Takes one event, and answers whether it is the end, at this place.
+/// Takes one event, and returns whether it is the end, at this place.
 fn takes_end<R: Wait>(rt: &R, tap: &mut Tap, place: u64) -> bool
     requires { has_ended tap.old.taken ≡ false }
     ensures { tap.new.name ≡ tap.old.name }
@@ -227,7 +227,7 @@ fn takes_end<R: Wait>(rt: &R, tap: &mut Tap, place: u64) -> bool
     is_end(&event, place)
 }
 
-/// Takes one event, and answers its place, or none where the feed is gone.
+/// Takes one event, and returns its place, or None if the feed is gone.
 fn takes_place<R: Wait>(rt: &R, tap: &mut Tap) -> Option<u64>
     requires { has_ended tap.old.taken ≡ false }
 {
@@ -237,14 +237,14 @@ fn takes_place<R: Wait>(rt: &R, tap: &mut Tap) -> Option<u64>
     Some(event.place)
 }
 
-/// Sends the opening out and lets the feed go.
+/// Sends the opening and drops the feed.
 fn send_and_leave<R: Wait>(rt: &R, alloc: Global, mut feed: Feed) -> bool
     requires { feed.sent ≡ [] }
 {
     send_opened(rt, alloc, &mut feed) && flushes(rt, &mut feed)
 }
 
-/// Flushes, and answers whether the batch went out.
+/// Flushes, and returns whether the batch was sent.
 fn flushes<R: Wait>(rt: &R, feed: &mut Feed) -> bool
     ensures sent { feed.new.sent ≡ feed.old.sent }
     ensures name { feed.new.name ≡ feed.old.name }
@@ -341,7 +341,7 @@ fn one_of_forty_is_taken(rt: HostRuntime) -> Result<(), Fail> {
     Ok(())
 }
 
-/// Takes a batch and gives it back, and answers how many events it has, or none where the feed is gone.
+/// Takes a batch and gives it back, and returns the number of its events, or None if the feed is gone.
 fn takes_batch<R: Wait>(rt: &R, tap: &mut Tap) -> Option<usize>
     requires { has_ended tap.old.taken ≡ false }
     ensures { tap.new.name ≡ tap.old.name }
@@ -391,8 +391,8 @@ impl Promise<Feed> for SameRelay {
     ghost kept_by = { λ p feed. feed.name ≡ p.0.value.name };
 }
 
-/// Sends a file of so many blocks whole, and gives the feed back. Where memory is refused the file has fewer, and ends all the same, so that
-/// nobody waits for more.
+/// Sends a whole file of `blocks` blocks, and returns the feed. If memory is refused the file has fewer blocks, and ends all
+/// the same, so that nobody waits for more.
 fn send_file<R: Wait>(rt: &R, alloc: Global, mut feed: Feed, blocks: u64) -> Feed
     requires empty { feed.sent ≡ [] }
     requires few { blocks < 50000 }
@@ -406,7 +406,7 @@ fn send_file<R: Wait>(rt: &R, alloc: Global, mut feed: Feed, blocks: u64) -> Fee
     feed
 }
 
-/// Takes the events of a file of blocks, and answers how many were the right ones, up to the first that was not.
+/// Takes the events of a file of blocks, and returns how many were right, up to the first that was not.
 fn take_file<R: Wait>(rt: &R, tap: &mut Tap) -> u64
     ensures { tap.new.name ≡ tap.old.name }
 {
@@ -439,7 +439,7 @@ fn a_feed_moves_to_a_thread(rt: HostRuntime) -> Result<(), Fail> {
     Ok(())
 }
 
-/// Takes one event of a new relay, and answers whether it is the opening.
+/// Takes one event of a new relay, and returns whether it is the opening.
 fn take_first<R: Wait>(rt: &R, mut tap: Tap) -> bool
     requires { tap.taken ≡ [] }
 {
@@ -479,8 +479,7 @@ fn are_right(events: &[Event], first: u64) -> bool {
     true
 }
 
-/// Takes the events of a file of blocks by batches, and answers how many were the right ones, up to the first batch that was
-/// not.
+/// Takes the events of a file of blocks by batches, and returns how many were right, up to the first batch that was not.
 fn take_batches<R: Wait>(rt: &R, tap: &mut Tap) -> u64
     ensures { tap.new.name ≡ tap.old.name }
 {
@@ -514,7 +513,7 @@ fn batches_through_one_place(rt: HostRuntime) -> Result<(), Fail> {
     Ok(())
 }
 
-/// A block that takes no memory: its texts are short, and its lists are empty.
+/// A block that allocates nothing: its texts are short, and its lists are empty.
 fn plain_block(alloc: Global) -> Result<EventPart, NoMemory>
     ensures { IfOk result (λ part. ((place : ℕ) → 0 < place → MayStandAt place part)
         × (is_ended part ≡ false)) }
@@ -533,7 +532,7 @@ fn plain_block(alloc: Global) -> Result<EventPart, NoMemory>
     }))
 }
 
-/// The number of the block that the feed spares, if it spares one.
+/// The number of the block that the feed gives for reuse, if it gives one.
 fn spared(feed: &mut Feed) -> Option<u64>
     ensures { feed.new ≡ feed.old }
 {
@@ -557,7 +556,7 @@ fn a_block_that_came_back_is_spared_once(rt: HostRuntime) -> Result<(), Fail> {
     Ok(())
 }
 
-/// The blocks of a batch for which much was read are freed once it comes back.
+/// The blocks of a batch for which many bytes were read are freed once it is given back.
 #[test]
 fn a_block_of_many_bytes_is_not_spared(rt: HostRuntime) -> Result<(), Fail> {
     let alloc: Global = rt.alloc();
@@ -574,7 +573,7 @@ fn a_block_of_many_bytes_is_not_spared(rt: HostRuntime) -> Result<(), Fail> {
     Ok(())
 }
 
-/// Sends a block that takes no memory out, takes it and gives it back. Answers whether all of that went well.
+/// Sends a block that allocates nothing, takes it and gives it back. Returns whether all of that succeeded.
 fn passes_block<R: Wait>(rt: &R, alloc: Global, feed: &mut Feed, tap: &mut Tap) -> bool
     requires going { has_ended feed.old.sent ≡ false }
     requires few { (0 < length feed.old.sent) × (length feed.old.sent < 100000) }
@@ -594,7 +593,7 @@ fn passes_block<R: Wait>(rt: &R, alloc: Global, feed: &mut Feed, tap: &mut Tap) 
     takes_batch(rt, tap) == Some(1)
 }
 
-/// Sends and takes so many blocks, one after another. Answers whether all of that went well.
+/// Sends and takes `blocks` blocks, one after another. Returns whether all of that succeeded.
 fn passes_blocks<R: Wait>(
     rt: &R,
     alloc: Global,
@@ -614,7 +613,7 @@ fn passes_blocks<R: Wait>(
     true
 }
 
-/// Once a relay is open nothing in it takes memory: where any one growth is refused, all that is sent goes through.
+/// Once a relay is open nothing in it allocates: if any one allocation is refused, all that is sent is received.
 #[test]
 fn sends_take_no_memory(rt: HostRuntime) {
     let alloc: Global = rt.alloc();
@@ -632,7 +631,8 @@ fn sends_take_no_memory(rt: HostRuntime) {
     assert!(rt; passes_blocks(&rt, alloc, &mut feed, &mut tap, 100));
 }
 
-/// A file goes from thread to thread. Where a growth is refused it has fewer blocks, and what was sent is taken.
+/// A file goes from thread to thread. If an allocation is refused it has fewer blocks, and what was
+/// sent is taken.
 #[test]
 fn a_file_goes_through_or_no_memory(rt: HostRuntime) {
     let alloc: Global = rt.alloc();

@@ -1,8 +1,8 @@
-//! An example of a program over the library: it reads one report file on standard input and prints its blocks.
+//! An example program: it reads one report file from standard input and prints its blocks.
 //!
 //! 1. `main` makes a reader with the standard layout.
-//! 2. `drain` reads standard input piece by piece, and `feed` gives each piece to the reader.
-//! 3. `show` prints each event, and `end` those that are left at the end of the file.
+//! 2. `drain` reads standard input piece by piece, and `feed` passes each piece to the reader.
+//! 3. `show` prints each event, and `end` prints those that the end of the file gives.
 #![tactic(auto)]
 
 ghost use Rattle.std.specs.Prelude.{◌≡◌, ◌+◌, ◌≤◌, ◌^◌, None, length};
@@ -12,10 +12,10 @@ use dsr_file::{Ending, Event, EventPart, FileReader, Outcome};
 use dsr_records::Layout;
 use std::io::{self, Print, Read};
 
-/// The most bytes that one reader takes.
+/// The most bytes that a reader takes.
 const MOST: u64 = 1 << 36;
 
-/// Prints what an event tells.
+/// Prints an event.
 fn show<P: Print>(rt: &P, event: &Event) -> io::Result<()> {
     match &event.part {
         EventPart::Opened(opening) => println!(rt; "report {}", opening.head.message_id.as_str()),
@@ -28,7 +28,7 @@ fn show<P: Print>(rt: &P, event: &Event) -> io::Result<()> {
     }
 }
 
-/// Gives a piece to the reader, and prints each event that it answers.
+/// Passes a piece to the reader, and prints each event that it returns.
 fn feed<P: Print>(rt: &P, file: &mut FileReader, piece: &[u8]) -> io::Result<()>
     requires open { ending_told file.old ≡ None }
     requires room { bytes_used file.old + length piece.now ≤ 2 ^ 36 }
@@ -46,7 +46,7 @@ fn feed<P: Print>(rt: &P, file: &mut FileReader, piece: &[u8]) -> io::Result<()>
     Ok(())
 }
 
-/// Reads to the end, a failure or the first fault.
+/// Reads until the end, a failed read, the first fault or the limit.
 fn drain<P: Print, R: Read>(rt: &P, file: &mut FileReader, reader: &mut R) -> io::Result<()>
     requires open { ending_told file.old ≡ None }
     ensures open { ending_told file.new ≡ None }
@@ -62,7 +62,7 @@ fn drain<P: Print, R: Read>(rt: &P, file: &mut FileReader, reader: &mut R) -> io
     Ok(())
 }
 
-/// Ends the text, and prints the events that are left.
+/// Reports the end of the text to the reader, and prints the remaining events.
 fn end<P: Print>(rt: &P, file: &mut FileReader) -> io::Result<()>
     requires { ending_told file.old ≡ None }
 {

@@ -1,4 +1,4 @@
--- What the collector keeps true of a tap and of the books.
+-- Invariants of the collector: what holds of a tap and of the books.
 use Rattle.std.specs.Prelude.{◌≡◌, ℕ, ◌+◌, ◌<◌, ◌^◌, Bool, true, false, List, [], ◌∷◌, ◌++◌, length, Some, None}
 use Rattle.std.specs.Prelude.{IsSome, slice_get, slice_set}
 use Rattle.dsr_file.specs.declared.event.EventPart.{EventPart}
@@ -14,7 +14,7 @@ use Rattle.dsr_intake.specs.declared.pipeline.errors.CollectError.TheVariants.{M
 use Rattle.dsr_intake.specs.inner.Ends.{ends_clean}
 use Rattle.dsr_intake.specs.meaning.Texts.{file_of}
 
--- a later part told of the file
+-- the file with a later event added
 abbrev pub with_part : File → EventPart → File
 with_part f (part.Opened o) = f
 with_part f (part.Block b) = add_block b f
@@ -25,7 +25,7 @@ is_opening (part.Opened o) = true
 is_opening (part.Block b) = false
 is_opening (part.Ended o) = false
 
--- the file that a first part tells of
+-- the file by its first event
 abbrev pub first_file : EventPart → File
 first_file (part.Opened o) = opened (Some o)
 first_file (part.Block b) = opened None
@@ -35,17 +35,17 @@ first_file (part.Ended o) = end_with o (opened None)
 abbrev pub IsFileAt : List File → ℕ → File → Type 0
 IsFileAt files k f = slice_get files k ≡ Some f
 
--- the file may take a further event
+-- the file can take one more event: it has an opening, has not ended, and has fewer than 2^37 blocks
 pub record IsGoing (f : File) : Type 0 where
   pub running : f.outcome ≡ None
   pub opened : IsSome f.opening
   pub short : length f.blocks < 2 ^ 37
 
--- the books stand for some list with this file
+-- the books represent some list that has this file at k
 abbrev pub Knows : Books → ℕ → File → Type 0
 Knows books k f = (files : List File) × Stands books files × IsFileAt files k f
 
--- the new books stand for the list with file k changed to g, where the old ones stand for it with f there
+-- if the old books represent a list with f at k, the new ones represent it with g there
 abbrev pub Changes : Books → Books → ℕ → File → File → Type 0
 Changes old new k f g = (files : List File) → Stands old files → IsFileAt files k f → Stands new (slice_set files k g)
 
@@ -53,33 +53,33 @@ Changes old new k f g = (files : List File) → Stands old files → IsFileAt fi
 abbrev pub IsNext : Books → ℕ → Type 0
 IsNext books k = (files : List File) × Stands books files × (length files ≡ k) × (k < files_count books)
 
--- the new books stand for the list followed by f, where the old ones stand for it and file k is next
+-- if the old books represent a list of k files, the new ones represent it with f appended
 abbrev pub Opens : Books → Books → ℕ → File → Type 0
 Opens old new k f = (files : List File) → Stands old files → length files ≡ k → Stands new (files ++ f ∷ [])
 
--- a tap in its course: something was taken, in order, and no Ended with Memory
+-- events were taken of the tap, in order, and none of them is an Ended with Memory
 pub record IsTapped (t : TapView) : Type 0 where
   pub orderly : IsOrderly t.taken
   pub some : 0 < length t.taken
   pub clean : has_ended t.taken ≡ true → ends_clean t.taken ≡ true
 
--- these events follow those that were taken before, which did not end their file
+-- these events follow, in order, those that were taken before, which did not end their file
 pub record IsFollowed (taken events : List Placed) : Type 0 where
   pub some : 0 < length taken
   pub running : has_ended taken ≡ false
   pub orderly : IsOrderly (taken ++ events)
 
--- the new books stand for the list with file k told of the further events too, which do not end it with Memory
+-- the new books represent the list with these events added to file k, and they do not end it with Memory
 abbrev pub TakesAll : Books → Books → ℕ → List Placed → List Placed → Type 0
 TakesAll old new k taken events =
     Changes old new k (file_of taken) (file_of (taken ++ events))
     × (has_ended (taken ++ events) ≡ true → ends_clean (taken ++ events) ≡ true)
 
--- tap i, from 0, is why the collector stops
+-- the collector stops because of tap i, from 0, or because memory was refused
 abbrev pub IsStoppedAt : ℕ → TapView → CollectError → Type 0
 IsStoppedAt i t Memory = Unit {0}
 IsStoppedAt i t (Closed k) = (k ≡ i + 1) × (has_ended t.taken ≡ false)
 
--- a tap of which all was taken
+-- all events of the tap were taken, and it did not end with Memory
 abbrev pub IsDrained : TapView → Type 0
 IsDrained t = IsOrderly t.taken × (ends_clean t.taken ≡ true)

@@ -6,7 +6,7 @@ use Rattle.dsr_file.specs.Sources.{Told, GaveText}
 use Rattle.dsr_intake.specs.declared.pipeline.options.Options.{Options}
 use Rattle.dsr_intake.specs.inner.Ends.{ends_clean}
 
--- what was sent is, where it has a clean end, the events of a text that the source gave
+-- if what was sent has a clean end, it is the events of a text that the source gave
 pub record IsGiven (options : Options) (before after : Told) (sent : List Placed) : Type 0 where
   pub given : ends_clean sent ≡ true → (text : FileText)
       × GaveText options.layout options.max_reads before after text × (sent ≡ events_of_text options.layout text)

@@ -1,4 +1,4 @@
--- What is laid out before the first byte of a statement goes out.
+-- What is written into memory before the first byte of a statement is written.
 use Rattle.std.specs.Prelude.{ℕ, List, [], ◌∷◌}
 use Rattle.dsr_cells.specs.Written.{written_day}
 use Rattle.dsr_ledger.specs.declared.report.ReportKey.{ReportKey}

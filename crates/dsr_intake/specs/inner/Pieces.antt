@@ -1,13 +1,13 @@
--- What was put into pieces, and how much of it is out.
+-- What was put into pieces, and how much of it was written.
 use Rattle.std.specs.Prelude.{◌≡◌, ℕ, ◌<◌, ◌≤◌, ◌++◌, Bool, true, false, List, length, take}
 use Rattle.dsr_intake.specs.meaning.Written.{Written, IsTaken, IsCut}
 use Rattle.dsr_intake.specs.declared.statements.pieces.Pieces.{Pieces}
 
--- the greatest count
+-- the greatest count: 2^64 - 1
 abbrev pub MOST : ℕ
 MOST = 18_446_744_073_709_551_615
 
--- a count that stays at the greatest number once it gets there
+-- a saturating count of n: it stops at MOST
 abbrev pub IsCount : ℕ → ℕ → Type 0
 IsCount count n = (count ≤ n) × (count < MOST → count ≡ n)
 
@@ -22,7 +22,7 @@ pub record IsBroken (sent : List ℕ) (written n : ℕ) (before after : Written)
   pub count : IsCount written n
   pub cut : IsCut (take n sent) before after
 
--- so much of what was sent is out: all of it where the outlet has not failed
+-- how much of what was sent was written: all of it if the outlet has not failed
 abbrev pub IsSent : Bool → List ℕ → ℕ → Written → Written → Type 0
 IsSent false sent written before after = IsOut sent written before after
 IsSent true sent written before after = (n : ℕ) × IsBroken sent written n before after

@@ -1,4 +1,4 @@
--- Options and readers that are not refused at once.
+-- Options and readers that are not refused before anything is read.
 use Rattle.std.specs.Prelude.{◌≡◌, ◌<◌, ◌≤◌, false, List, length, All}
 use Rattle.dsr_file.specs.Sources.{Told}
 use Rattle.dsr_intake.specs.declared.pipeline.options.Options.{Options}

@@ -5,7 +5,7 @@ use Rattle.dsr_relay.specs.Views.{TapView}
 use Rattle.dsr_intake.specs.declared.pipeline.errors.CollectError.{CollectError}
 use Rattle.dsr_intake.specs.declared.pipeline.errors.CollectError.TheVariants.{Memory, Closed}
 
--- Closed has the number, from 1, of a tap that has not ended
+-- an error Closed has the number, from 1, of a tap that has not ended
 abbrev pub IsStopped : List TapView → CollectError → Type 0
 IsStopped taps Memory = Unit {0}
 IsStopped taps (Closed k) =

@@ -1,4 +1,4 @@
--- The options of an intake, and what is refused at once.
+-- The options of an intake, and what is refused before anything is read.
 use Rattle.std.specs.Prelude.{ℕ, Option, Some, None, ◌==◌, ◌||◌, nat_lt, if◌then◌else◌}
 use Rattle.dsr_records.specs.Layouts.{standard_layout}
 use Rattle.dsr_intake.specs.declared.pipeline.options.Options.{Options}
@@ -9,7 +9,7 @@ use Rattle.dsr_intake.specs.declared.pipeline.errors.IntakeError.TheVariants as 
 abbrev pub standard_options : Options
 standard_options = record { capacity = 16; max_reads = 4194304; layout = standard_layout }
 
--- the refusal of so many files under these options
+-- the error of this number of files under these options, found before anything is read: the first that applies
 abbrev pub refusal_of : ℕ → Options → Option IntakeError
 refusal_of files o =
     if files == 0 then Some error.NoFiles
@@ -18,7 +18,7 @@ refusal_of files o =
     else (if (o.max_reads == 0) || nat_lt MOST_READS o.max_reads then Some error.Reads
     else None)))
 
--- an error that is found only once something is read
+-- an error that is not one of the options or of the number of files
 abbrev pub IsLate : IntakeError → Type 0
 IsLate error.NoFiles = ⊥
 IsLate error.TooManyFiles = ⊥

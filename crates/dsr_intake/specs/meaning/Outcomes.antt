@@ -1,4 +1,4 @@
--- What a run answers for: the statement of the texts, or what is left where it fails.
+-- The results of a run: the statement of the texts was written, or what was written if it fails.
 use Rattle.std.specs.Prelude.{◌≡◌, ℕ, ◌≤◌, List, length, take, false}
 use Rattle.std.specs.Io.KnownBytes.{Keeps}
 use Rattle.dsr_file.specs.Runs.{FileText}
@@ -14,15 +14,15 @@ use Rattle.dsr_intake.specs.meaning.Status.{status_of}
 use Rattle.dsr_intake.specs.meaning.Texts.{GaveEach, report_of_texts}
 use Rattle.dsr_intake.specs.meaning.Written.{Written, IsFlushed, IsCut}
 
--- the report is that of the texts that the readers gave
+-- the report is the one of the texts that the readers gave
 abbrev pub IsReportOf : {R : Type 0} → (R → Told) → Options → List R → List R → Report → Type 0
 IsReportOf told options readers left report =
     (texts : List FileText) × GaveEach told options readers left texts × (report ≡ report_of_texts options.layout texts)
 
--- The headline, on the texts of the files:
+-- the main result: the statement of the files' texts was written
 pub record IsReported {R : Type 0} (told : R → Told) (options : Options) (readers left : List R)
     (before after : Written) (texts : List FileText) (status : Status) : Type 0 where
-  -- each text is what the reader at its place gave, with how it ended
+  -- each text is what the reader at its place gave, with its end
   pub given : GaveEach told options readers left texts
   -- exactly the statement of the texts was written, and then flushed, once
   pub written : IsFlushed (statement_of (report_of_texts options.layout texts)) before after
@@ -46,7 +46,7 @@ IsUnwritten gave statement before after (error.Write written) =
     (texts : List FileText) × gave texts × (written ≤ length (statement texts))
     × IsCut (take written (statement texts)) before after
 
--- an error that is found only once something is read
+-- an error that is not one of the options or of the number of files
 abbrev pub IsLateRun : RunError → Type 0
 IsLateRun (error.Intake e) = IsLate e
 IsLateRun error.Memory = Unit {0}

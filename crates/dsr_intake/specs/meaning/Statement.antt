@@ -22,15 +22,15 @@ use Rattle.dsr_intake.specs.meaning.Names.{standing_name, reason_name}
 abbrev pub tabbed : List (List ℕ) → List ℕ
 tabbed cells = flat_map (λ cell. 9 ∷ cell) cells
 
--- a line: its name, its cells, a line feed
+-- a line: its name, its cells each after a tab, a line feed
 abbrev pub line : List ℕ → List (List ℕ) → List ℕ
 line name cells = name ++ (tabbed cells ++ 10 ∷ [])
 
--- how many days there are from the first to the last, both counted
+-- the number of days from the first to the last, inclusive
 abbrev pub days_in : ReportKey → ℤ
 days_in key = (day_number key.last_day -ℤ day_number key.first_day) +ℤ pos 1
 
--- an amount as it is written
+-- an amount as it is printed
 unfoldable pub amount_cell : ℤ → List ℕ
 amount_cell amount = written amount
 
@@ -61,7 +61,7 @@ unfoldable pub file_line : ℕ → FileLine → List ℕ
 file_line place f = line (codes "FILE")
     (decimal place ∷ number_cell f.number ∷ standing_name f.standing ∷ decimal f.blocks ∷ outcome_cells f.outcome)
 
--- the lines of the files, of which the first has this place in the order given
+-- the lines of the files, the first of which has this place in the order given
 abbrev pub file_lines : ℕ → List FileLine → List ℕ
 file_lines place [] = []
 file_lines place (f ∷ fs) = file_line place f ++ file_lines (suc place) fs
@@ -74,7 +74,7 @@ difference_line d = line (codes "SUMMARY")
     (decimal d.file ∷ d.summary_id ∷ signed_decimal d.stated_usages ∷ signed_decimal d.found_usages
     ∷ amount_cell d.stated_amount ∷ amount_cell d.found_amount ∷ [])
 
--- what a line of the ledger is of
+-- the cells of a ledger line's key: ISRC, territory, use type and currency
 abbrev pub key_cells : LedgerLine → List (List ℕ)
 key_cells l = l.isrc ∷ l.territory ∷ l.use_type ∷ l.currency ∷ []
 
@@ -90,7 +90,7 @@ party_line l p = ledger_line (codes "PARTY") l (p.party ∷ amount_cell p.amount
 unfoldable pub unclaimed_line : LedgerLine → List ℕ
 unclaimed_line l = ledger_line (codes "UNCLAIMED") l (amount_cell l.unclaimed ∷ [])
 
--- the sums, then the parties, then what is unclaimed
+-- the lines of a ledger line: its sums, then its parties, then the unclaimed amount
 unfoldable pub ledger_lines : LedgerLine → List ℕ
 ledger_lines l = sums_line l ++ (flat_map (party_line l) l.parties ++ unclaimed_line l)
 

@@ -1,4 +1,4 @@
--- Whether anybody has to look at a statement.
+-- Whether a statement has remarks.
 use Rattle.std.specs.Prelude.{Bool, true, false, ◌&&◌, is_some, if◌then◌else◌, List, [], ◌∷◌}
 use Rattle.std.specs.List.{list_all}
 use Rattle.dsr_file.specs.declared.fault.Outcome.{Outcome}
@@ -27,7 +27,7 @@ abbrev pub is_nil : {A : Type 0} → List A → Bool
 is_nil [] = true
 is_nil (x ∷ xs) = false
 
--- there is a report key, every file is ours and whole, and nothing is missing, differs or is rejected
+-- there is a report key, every file is Ours and whole, and there are no missing files, differences or rejects
 abbrev pub is_clean : Report → Bool
 is_clean r =
     is_some r.key && (list_all is_clean_file r.files && (is_nil r.missing && (is_nil r.differences && is_nil r.rejects)))

@@ -1,4 +1,4 @@
--- The texts of several files, and the report of them.
+-- The texts of several files, and their report.
 use Rattle.std.specs.Prelude.{List, [], ◌∷◌, map, Option, Some, None}
 use Rattle.std.specs.List.{filter_map}
 use Rattle.dsr_records.specs.Blocks.{BlockParts}
@@ -14,7 +14,7 @@ use Rattle.dsr_ledger.specs.Files.{File}
 use Rattle.dsr_ledger.specs.Reports.{report_of}
 use Rattle.dsr_intake.specs.declared.pipeline.options.Options.{Options}
 
--- each source gave the text that stands at its place
+-- each source gave the text at its place
 abbrev pub GaveEach : {R : Type 0} → (R → Told) → Options → List R → List R → List FileText → Type 0
 GaveEach told options [] [] [] = Unit {0}
 GaveEach told options (r ∷ rs) (s ∷ ss) (t ∷ ts) =
@@ -34,7 +34,7 @@ abbrev pub first : {A : Type 0} → List A → Option A
 first [] = None
 first (x ∷ xs) = Some x
 
--- the file that a list of events tells of
+-- the file of a list of events
 abbrev pub file_of : List Placed → File
 file_of events =
     record {

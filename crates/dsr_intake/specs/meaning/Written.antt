@@ -1,9 +1,9 @@
--- What an outlet tells of itself, and what was done to it by several calls.
+-- The state of an outlet, and how several calls changed it.
 use Rattle.std.specs.Prelude.{◌≡◌, ℕ, ◌+◌, Bool, true, false, List, Option}
 use Rattle.std.specs.Io.KnownBytes.{Appends}
 
--- the bytes that it holds, where they are known, whether it has failed, how many flushes it has answered with Ok,
--- and whether it took bytes since the last of these
+-- the bytes that it holds, if they are known, whether it has failed, how many flushes succeeded, and whether it took
+-- bytes since the last of these
 pub record Written : Type 0 where
   pub contents : Option (List ℕ)
   pub failed : Bool

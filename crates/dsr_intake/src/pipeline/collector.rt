@@ -1,4 +1,4 @@
-//! The collector: it takes the events of all files, books them, and reports.
+//! The collector: it takes the events of all files, books them, and makes the report.
 ghost use Rattle.std.specs.Prelude.{◌≡◌, ◌+◌, ◌<◌, ◌≤◌, true, false, List, [], map, All, OnOk, IfOk, IfErr};
 ghost use Rattle.std.specs.Prelude.{vec_len};
 ghost use Rattle.dsr_file.specs.Placed.{Placed};
@@ -23,7 +23,7 @@ use std::alloc::Global;
 use std::random::RandomSource;
 use std::sync::Wait;
 
-/// The relay of file k, counted from 0, closed early.
+/// The error that the relay of file k, counted from 0, closed early.
 fn closed(k: u32) -> CollectError
     requires { k < MOST_FILES }
     ensures { result ≡ CollectError.Closed (k + 1) }
@@ -31,7 +31,7 @@ fn closed(k: u32) -> CollectError
     CollectError::Closed(k + 1)
 }
 
-/// Whether want of memory ended the file.
+/// Whether the file ended because memory was refused.
 fn is_memory(outcome: &Outcome) -> bool
     ensures { result ≡ is_memory outcome.now }
 {
@@ -41,7 +41,7 @@ fn is_memory(outcome: &Outcome) -> bool
     }
 }
 
-/// Books a later event of file k.
+/// Books an event of file k after the first.
 fn book_part(books: &mut Books, k: u32, part: &EventPart) -> Result<(), NoMemory>
     requires later { is_opening part.now ≡ false }
     requires file { (f : File) × Knows books.old k f × IsGoing f }
@@ -79,7 +79,7 @@ fn book_events(books: &mut Books, k: u32, events: &[Event]) -> Result<(), NoMemo
     Ok(())
 }
 
-/// Takes a message of file k, or what is held of one, and books it.
+/// Takes a message of file k, or the rest of one, and books it.
 fn take_message<H: Wait>(
     rt: &H,
     books: &mut Books,
@@ -108,7 +108,7 @@ fn take_message<H: Wait>(
     }
 }
 
-/// Takes a message of file k where it has not ended.
+/// Takes a message of file k if it has not ended.
 fn go_on<H: Wait>(rt: &H, books: &mut Books, k: u32, tap: &mut Tap) -> Result<(), CollectError>
     requires tapped { IsTapped tap.old }
     requires number { k < MOST_FILES }
@@ -220,7 +220,7 @@ fn have_ended(taps: &Vec<Tap>) -> bool
     true
 }
 
-/// Goes round until every file has ended.
+/// Takes messages round by round until every file has ended.
 fn take_all<H: Wait>(rt: &H, books: &mut Books, taps: &mut Vec<Tap>) -> Result<(), CollectError>
     requires most { vec_len taps.old ≤ MOST_FILES }
     requires tapped { All IsTapped taps.old.items }
@@ -241,11 +241,11 @@ fn take_all<H: Wait>(rt: &H, books: &mut Books, taps: &mut Vec<Tap>) -> Result<(
     unreachable!()
 }
 
-/// Takes what the taps have, and reports it.
+/// Takes all events of the taps, and makes the report of their files.
 ///
 /// # Errors
 ///
-/// - `CollectError::Memory`: no memory was left for the books or the report, or for the sender of an event.
+/// - `CollectError::Memory`: out of memory for the books or the report, or in the sender of an event.
 /// - `CollectError::Closed`: the relay of this tap closed before the file had ended.
 pub fn collect<H: Wait + RandomSource>(
     rt: &H,

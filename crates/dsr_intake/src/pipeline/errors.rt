@@ -7,13 +7,13 @@ pub enum IntakeError {
     /// There is no reader.
     #[error("no files")]
     NoFiles,
-    /// There are more than 64 files.
+    /// There are more than 64 readers.
     #[error("too many files")]
     TooManyFiles,
     /// The capacity of a relay is not 1 to 1,024 messages.
     #[error("capacity out of range")]
     Capacity,
-    /// The limit of reads is not 1 to 16,777,216.
+    /// The limit on reads is not 1 to 16,777,216.
     #[error("reads out of range")]
     Reads,
     /// Memory was refused.
@@ -33,7 +33,7 @@ pub enum CollectError {
     /// Memory was refused, to the collector or to the sender of an event.
     #[error("out of memory")]
     Memory,
-    /// The relay of this tap, counted from 1, closed before Ended was taken.
+    /// The relay of this tap, counted from 1, closed before its Ended was taken.
     #[error("relay of file {0} closed early")]
     Closed(u32),
 }
@@ -44,13 +44,13 @@ pub enum RunError {
     /// There is no report, and nothing was written.
     #[error("{0}")]
     Intake(IntakeError),
-    /// There is no memory for the statement, and nothing was written.
+    /// Out of memory for the statement; nothing was written.
     #[error("out of memory")]
     Memory,
-    /// Exactly so many first bytes of the statement were written.
+    /// A write or the flush failed; exactly `written` first bytes of the statement were written.
     #[error("write failed after {written} bytes")]
     Write {
-        /// How many bytes are out.
+        /// The number of bytes written.
         written: u64,
     },
 }

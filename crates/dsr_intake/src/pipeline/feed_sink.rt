@@ -7,10 +7,10 @@ use dsr_relay::{Feed, Name};
 use std::marker::Model;
 use std::sync::Wait;
 
-/// For how many bytes of a file events may wait in a batch before it goes out.
+/// A batch is sent once more than this many bytes of the file were read for it.
 const MOST_WAITING: usize = 64 * 1024;
 
-/// Sends the batch out if many bytes were read for it, so that what waits in a relay is bounded in bytes too. If the
+/// Sends the batch if many bytes were read for it, so that what waits in a relay is bounded in bytes too. If the
 /// tap is gone the batch may stay.
 fn send_large_batch<H: Wait>(rt: &H, feed: &mut Feed)
     ensures sent { feed.new.sent ≡ feed.old.sent }
@@ -21,7 +21,7 @@ fn send_large_batch<H: Wait>(rt: &H, feed: &mut Feed)
     }
 }
 
-/// A sink that sends each event on a feed. Contracts see it as the feed: its list is what was sent, its name the relay's.
+/// A sink that sends each event on a feed. To contracts it is the feed: its list is what was sent, its name the relay's.
 #[derive(Drop)]
 pub struct FeedSink<'a, H> {
     rt: &'a H,
@@ -37,14 +37,14 @@ impl<'a, H> Model for FeedSink<'a, H> {
 }
 
 impl<'a, H> FeedSink<'a, H> {
-    /// The sink that sends on this feed.
+    /// A sink that sends on this feed.
     pub fn new(rt: &'a H, feed: Feed) -> FeedSink<'a, H>
         ensures { result ≡ feed }
     {
         FeedSink { rt, feed }
     }
 
-    /// The feed, which has sent what was put.
+    /// Returns the feed, which has sent what was put.
     pub fn into_feed(self) -> Feed
         ensures { result ≡ self.entry }
     {
@@ -60,17 +60,17 @@ impl<'a, H: Wait> Sink for FeedSink<'a, H> {
 
     ghost name = { λ s. s.name };
 
-    /// Sends the event; it may come back once the tap is gone.
+    /// Sends the event, or returns it if the tap is gone.
     fn put(&mut self, event: Event) -> Result<(), Event> {
         self.feed.send(self.rt, event)
     }
 
-    /// A block that came back from the collector.
+    /// A block that the collector gave back, if there is one.
     fn spare(&mut self) -> Option<Block> {
         self.feed.spare()
     }
 
-    /// Counts the bytes, and sends the batch out once there are many.
+    /// Counts the bytes, and sends the batch once there are many.
     fn note_bytes(&mut self, bytes: usize) {
         self.feed.note_bytes(bytes);
         send_large_batch(self.rt, &mut self.feed);

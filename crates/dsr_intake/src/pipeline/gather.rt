@@ -1,4 +1,4 @@
-//! Reading the files of a report at once.
+//! Reading the files of a report concurrently.
 ghost use Rattle.std.specs.Prelude.{◌≡◌, ◌<◌, ◌≤◌, false, List, [], map, All, IfOk, OnOk, IfErr};
 ghost use Rattle.std.specs.Prelude.{Err, MatchOption, vec_len, vec_capacity};
 ghost use Rattle.dsr_file.specs.Runs.{FileText, events_of_text};
@@ -21,7 +21,7 @@ use std::random::RandomSource;
 use std::sync::Wait;
 use std::thread::Threads;
 
-/// Starts a thread for each reader, and opens its relay.
+/// Opens a relay for each reader, and starts its thread.
 fn start_all<R: Source + Send + Drop + 'static, H: Threads + Wait + Copy + Send + 'static>(
     rt: &H,
     alloc: Global,
@@ -69,7 +69,7 @@ fn open(alloc: Global, capacity: u32) -> Result<(Feed, Tap), IntakeError>
     }
 }
 
-/// Joins the threads once all has been taken, and hands the readers back.
+/// Joins the threads once all events have been taken, and returns their readers in `readers`.
 fn settle_all<R: Source + Send + Drop + 'static, H: Threads + Wait>(
     rt: &H,
     threads: Vec<Thread<R>>,
@@ -101,7 +101,7 @@ fn settle_all<R: Source + Send + Drop + 'static, H: Threads + Wait>(
     }
 }
 
-/// Joins the threads, and says whether one of them was refused memory.
+/// Joins the threads, and returns whether one of them was refused memory.
 fn join_all<R: Source + Send + Drop + 'static, H: Threads>(
     rt: &H,
     threads: Vec<Thread<R>>,
@@ -197,12 +197,12 @@ fn collect_error(error: CollectError) -> IntakeError
     }
 }
 
-/// Reads the files at once, a thread for each, and reports them.
+/// Reads the files concurrently, with a thread for each, and returns their report.
 ///
 /// # Errors
 ///
 /// `NoFiles`, `TooManyFiles`, `Capacity` and `Reads`, the first that applies: the readers are unchanged.
-/// `Memory`, `Thread` and `Broken` come while the files are read.
+/// `Memory`, `Thread` and `Broken`: found later; the readers may be dropped.
 pub fn intake<
     R: Source + Send + Drop + 'static,
     H: Threads + Wait + RandomSource + Copy + Send + 'static,

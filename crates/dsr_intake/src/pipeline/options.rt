@@ -5,23 +5,23 @@ ghost use Rattle.dsr_intake.specs.meaning.Options.{standard_options, refusal_of}
 use crate::pipeline::errors::IntakeError;
 use dsr_records::Layout;
 
-/// The most files of a report.
+/// The maximum number of files of a report.
 pub(crate) const MOST_FILES: usize = 64;
 
 /// The highest capacity of a relay, in messages.
 pub(crate) const MOST_MESSAGES: u32 = 1_024;
 
-/// The highest limit of reads.
+/// The highest limit on the reads of a file.
 pub(crate) const MOST_READS: u32 = 16_777_216;
 
 /// How the files of a report are read.
 #[derive(Drop)]
 pub struct Options {
-    /// How many messages the relay of a file holds at most: 1 to 1,024.
+    /// The maximum number of messages in the relay of a file: 1 to 1,024.
     pub capacity: u32,
-    /// After how many reads a file is given up: 1 to 16,777,216.
+    /// The maximum number of reads of a file: 1 to 16,777,216.
     pub max_reads: u32,
-    /// Where the columns of the records stand.
+    /// The places of the records' columns.
     pub layout: Layout,
 }
 
@@ -49,7 +49,7 @@ impl Options {
     }
 }
 
-/// What is refused before anything is read.
+/// The error that is found before anything is read, if there is one.
 pub(crate) fn refusal(files: usize, options: &Options) -> Option<IntakeError>
     ensures { result ≡ refusal_of files options.now }
 {

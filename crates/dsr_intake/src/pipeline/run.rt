@@ -19,13 +19,13 @@ use std::random::RandomSource;
 use std::sync::Wait;
 use std::thread::Threads;
 
-/// Reads the files, and writes their statement in pieces. All the memory that this takes is taken before
-/// its first byte goes out.
+/// Reads the files, and writes their statement in pieces. All memory that writing needs is allocated
+/// before the first byte is written.
 ///
 /// # Errors
 ///
 /// `Intake` and `Memory`: nothing was written or flushed. `Write`: exactly the first `written` bytes
-/// of the statement are out, and the outlet has failed.
+/// of the statement were written, and the outlet has failed.
 pub fn run<
     R: Source + Send + Drop + 'static,
     W: Outlet,

@@ -1,4 +1,4 @@
-//! The seed of a run's hashes.
+//! The seed of a run's hashers.
 use std::random::RandomSource;
 
 /// The seed if there are no random bytes.

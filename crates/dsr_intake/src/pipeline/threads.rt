@@ -17,7 +17,7 @@ use std::sync::Wait;
 use std::thread;
 use std::thread::{Promise, PromisedHandle, Threads};
 
-/// What a thread hands back: its reader, its feed, and whether memory was refused.
+/// What a thread returns: its reader, its feed, and whether memory was refused.
 #[derive(Drop)]
 pub(crate) struct Finished<R> {
     reader: R,
@@ -49,7 +49,7 @@ impl<R> Finished<R> {
         self.memory
     }
 
-    /// Joins the two ends of the relay, and hands the reader back.
+    /// Joins the two ends of the relay, and returns the reader.
     pub(crate) fn settle(self, tap: Tap) -> R
         requires { tap.name ≡ self.feed.name }
         ensures reader { result ≡ self.reader }
@@ -66,7 +66,8 @@ impl<R> Finished<R> {
     }
 }
 
-/// Reads a file and sends its events. Whatever happens, either Ended was sent or the tap is gone, so that no end waits for more.
+/// Reads a file and sends its events. In every case either Ended was sent or the tap is gone, so
+/// that neither end waits for more.
 fn read_and_send<R: Source, H: Wait>(
     rt: &H,
     alloc: Global,
@@ -114,7 +115,7 @@ fn wants_memory(answer: &Result<Outcome, ReadFileError>) -> bool {
     }
 }
 
-/// Sends the end of a file of which nothing was read.
+/// Sends the end of a file of which nothing was read, since memory was refused.
 fn send_memory<H: Wait>(rt: &H, feed: &mut Feed)
     requires { feed.old.sent ≡ [] }
     ensures name { feed.new.name ≡ feed.old.name }

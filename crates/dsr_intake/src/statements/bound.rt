@@ -1,4 +1,4 @@
-//! How many bytes are put at most, counted without laying them out.
+//! An upper bound of the bytes that are put, computed without formatting them.
 ghost use Rattle.std.specs.Prelude.{◌≡◌, ◌≤◌, ◌+◌, ℕ, length};
 ghost use Rattle.dsr_intake.specs.inner.Bound.{IsUpTo};
 
@@ -7,20 +7,20 @@ use crate::statements::put::Put;
 /// The most digits of a `u64`.
 const DECIMAL: u64 = 20;
 
-/// The most bytes of an `i128`.
+/// The most digits of an `i128`, with its sign.
 const SIGNED_DECIMAL: u64 = 40;
 
-/// The most bytes of an amount.
+/// At least the most bytes of an amount.
 const UNITS: u64 = 64;
 
-/// At least as many as the bytes that were put; the greatest number if these may be too many.
+/// An upper bound of the bytes that were put; `u64::MAX` if there may be more.
 #[derive(Drop)]
 pub(crate) struct Bound {
     pub(crate) most: u64,
 }
 
 impl Bound {
-    /// Adds so many.
+    /// Adds a count of bytes.
     fn add(&mut self, count: u64)
         ensures { (n k : ℕ) → k ≤ count → IsUpTo self.old.most n → IsUpTo self.new.most (n + k) }
     {

@@ -1,4 +1,4 @@
-//! Putting the cells of a line: each stands after a tab.
+//! Putting the cells of a line, each after a tab.
 ghost use Rattle.std.specs.Prelude.{◌∷◌, [], decimal};
 ghost use Rattle.std.specs.Fmt.{signed_decimal};
 ghost use Rattle.dsr_intake.specs.meaning.Statement.{amount_cell};

@@ -1,4 +1,4 @@
-//! The cells that each line of a key of the ledger begins with.
+//! The cells with which each line of a ledger key begins.
 ghost use Rattle.std.specs.Prelude.{◌≡◌, ◌++◌, ◌∷◌, true, IfSome};
 ghost use Rattle.dsr_intake.specs.meaning.Statement.{tabbed, key_cells};
 ghost use Rattle.dsr_intake.specs.inner.Puts.{Puts};
@@ -7,10 +7,10 @@ use crate::statements::cells::put_text;
 use crate::statements::put::Put;
 use dsr_ledger::LedgerLine;
 
-/// How many bytes the cells of a key may take to be laid out.
+/// The most bytes of a key's cells that are written into the room.
 pub(crate) const KEY_ROOM: usize = 256;
 
-/// The cells of a key, laid out in this room if they fit.
+/// The cells of a key, written into this room, if they fit.
 pub(crate) fn laid_key<'a>(room: &'a mut Vec<u8>, line: &LedgerLine) -> Option<&'a [u8]>
     ensures { IfSome result (λ k. k.now ≡ tabbed (key_cells line.now)) }
 {
@@ -21,7 +21,7 @@ pub(crate) fn laid_key<'a>(room: &'a mut Vec<u8>, line: &LedgerLine) -> Option<&
     }
 }
 
-/// Lays the cells of a key out, in place of what the room has. Answers whether they fit.
+/// Writes the cells of a key over what the room has. Returns whether they fit.
 fn lay_key(room: &mut Vec<u8>, line: &LedgerLine) -> bool
     ensures { result ≡ true → room.new.items ≡ tabbed (key_cells line.now) }
 {
@@ -32,7 +32,7 @@ fn lay_key(room: &mut Vec<u8>, line: &LedgerLine) -> bool
         && lay_cell(room, line.currency.as_str().as_bytes())
 }
 
-/// Lays a cell out after the others. Answers whether it fits.
+/// Appends a cell, after a tab. Returns whether it fits.
 fn lay_cell(room: &mut Vec<u8>, cell: &[u8]) -> bool
     ensures { result ≡ true → room.new.items ≡ room.old.items ++ 9 ∷ cell.now }
 {
@@ -41,7 +41,7 @@ fn lay_cell(room: &mut Vec<u8>, cell: &[u8]) -> bool
         && room.extend_from_slice(cell).is_ok()
 }
 
-/// Puts the cells of a line's key, as `key` has them if they are laid out.
+/// Puts the cells of a line's key: those of `key`, if they fit there.
 pub(crate) fn put_key<P: Put>(out: &mut P, key: Option<&[u8]>, line: &LedgerLine)
     requires { IfSome key (λ k. k.now ≡ tabbed (key_cells line.now)) }
     ensures { Puts P.after out.old out.new (tabbed (key_cells line.now)) }

@@ -1,4 +1,4 @@
-//! The lines of a statement, each put after what was put before.
+//! The lines of a statement.
 ghost use Rattle.std.specs.Prelude.{◌≡◌, ◌∷◌, [], IfSome};
 ghost use Rattle.std.specs.Fmt.{signed_decimal};
 ghost use Rattle.std.specs.List.{flat_map};
@@ -102,7 +102,7 @@ pub(crate) fn put_missing<P: Put>(out: &mut P, number: u32)
     put_end(out)
 }
 
-/// Puts the line of a summary that differs.
+/// Puts the line of a difference.
 pub(crate) fn put_difference<P: Put>(out: &mut P, difference: &Difference)
     ensures { Puts P.after out.old out.new (difference_line difference.now) }
 {
@@ -115,7 +115,7 @@ pub(crate) fn put_difference<P: Put>(out: &mut P, difference: &Difference)
     put_end(out)
 }
 
-/// Puts the usages that a summary states, and those that are found for it.
+/// Puts the usages that a summary states, and those that were found for it.
 fn put_usages<P: Put>(out: &mut P, stated: i64, found: i128)
     ensures { Puts P.after out.old out.new (tabbed (signed_decimal stated ∷ signed_decimal found ∷ [])) }
 {
@@ -123,8 +123,8 @@ fn put_usages<P: Put>(out: &mut P, stated: i64, found: i128)
     put_signed(out, found)
 }
 
-/// Puts the lines of a key of the ledger: its sums, its parties, and what is unclaimed. The cells
-/// that each of them begins with are laid into `room` once.
+/// Puts the lines of a ledger line: its sums, its parties, and the unclaimed amount. The cells of
+/// the key, with which each of them begins, are written into `room` once.
 pub(crate) fn put_ledger<P: Put>(out: &mut P, room: &mut Vec<u8>, line: &LedgerLine)
     ensures { Puts P.after out.old out.new (ledger_lines line.now) }
 {
@@ -134,7 +134,7 @@ pub(crate) fn put_ledger<P: Put>(out: &mut P, room: &mut Vec<u8>, line: &LedgerL
     put_unclaimed(out, key, line)
 }
 
-/// Puts the line of a key's sums. `key` has the key's cells, if they are laid out.
+/// Puts the line of a key's sums. `key` has the key's cells, if they fit.
 fn put_sums<P: Put>(out: &mut P, key: Option<&[u8]>, line: &LedgerLine)
     requires { IfSome key (λ k. k.now ≡ tabbed (key_cells line.now)) }
     ensures { Puts P.after out.old out.new (sums_line line.now) }
@@ -146,7 +146,7 @@ fn put_sums<P: Put>(out: &mut P, key: Option<&[u8]>, line: &LedgerLine)
     put_end(out)
 }
 
-/// Puts the lines of a key's parties. `key` has the key's cells, if they are laid out.
+/// Puts the lines of a key's parties. `key` has the key's cells, if they fit.
 fn put_parties<P: Put>(out: &mut P, key: Option<&[u8]>, line: &LedgerLine)
     requires { IfSome key (λ k. k.now ≡ tabbed (key_cells line.now)) }
     ensures { Puts P.after out.old out.new (flat_map (party_line line.now) line.now.parties) }
@@ -156,7 +156,7 @@ fn put_parties<P: Put>(out: &mut P, key: Option<&[u8]>, line: &LedgerLine)
     }
 }
 
-/// Puts the line of a party. `key` has the key's cells, if they are laid out.
+/// Puts the line of a party. `key` has the key's cells, if they fit.
 fn put_party<P: Put>(out: &mut P, key: Option<&[u8]>, line: &LedgerLine, party: &PartyLine)
     requires { IfSome key (λ k. k.now ≡ tabbed (key_cells line.now)) }
     ensures { Puts P.after out.old out.new (party_line line.now party.now) }
@@ -168,7 +168,7 @@ fn put_party<P: Put>(out: &mut P, key: Option<&[u8]>, line: &LedgerLine, party: 
     put_end(out)
 }
 
-/// Puts the line of what is unclaimed under a key. `key` has the key's cells, if they are laid out.
+/// Puts the line of a key's unclaimed amount. `key` has the key's cells, if they fit.
 fn put_unclaimed<P: Put>(out: &mut P, key: Option<&[u8]>, line: &LedgerLine)
     requires { IfSome key (λ k. k.now ≡ tabbed (key_cells line.now)) }
     ensures { Puts P.after out.old out.new (unclaimed_line line.now) }

@@ -1,4 +1,4 @@
-//! The bytes of a statement on their way to an outlet, in pieces.
+//! Writing the bytes of a statement to an outlet, in pieces.
 ghost use Rattle.std.specs.Prelude.{◌≡◌, ◌<◌, ◌≤◌, ◌++◌, [], List, ℕ, true, false, if◌then◌else◌, length, take, OnOk, IfErr};
 ghost use Rattle.dsr_intake.specs.meaning.Written.{Written, IsFlushed, IsCut};
 ghost use Rattle.dsr_intake.specs.inner.Pieces.{IsSent, Holds, Carries, MOST};
@@ -9,7 +9,7 @@ use dsr_cells::amount_text;
 use dsr_file::Failed;
 use itoa::Buffer;
 
-/// How many bytes are sent at once.
+/// The most bytes that wait, to be written at once.
 pub(crate) const PIECE: usize = 65_536;
 
 /// An outlet, how many bytes it took, and whether it has failed.
@@ -21,7 +21,7 @@ pub(crate) struct Sender<'a, W> {
 }
 
 impl<'a, W: Outlet> Sender<'a, W> {
-    /// Sends all bytes, unless the outlet has failed.
+    /// Writes all bytes, unless the outlet has failed.
     fn send(&mut self, bytes: &[u8])
         ensures same_outlet { self.new.out.ghost_name ≡ self.old.out.ghost_name }
         ensures sent { (sent : List ℕ) (before : Written)
@@ -41,7 +41,7 @@ impl<'a, W: Outlet> Sender<'a, W> {
     }
 }
 
-/// A way to an outlet, and the bytes that wait to be sent.
+/// A buffered writer to an outlet, with the bytes that wait to be written.
 #[derive(Drop)]
 pub(crate) struct Pieces<'a, W> {
     sender: Sender<'a, W>,
@@ -49,7 +49,7 @@ pub(crate) struct Pieces<'a, W> {
 }
 
 impl<'a, W: Outlet> Pieces<'a, W> {
-    /// The way to this outlet, with this memory for what waits.
+    /// A buffered writer to this outlet, with this memory for what waits.
     pub(crate) fn new(out: &'a mut W, waiting: &'a mut Vec<u8>) -> Pieces<'a, W>
         ensures same_outlet { result.sender.out.ghost_name ≡ out.entry.ghost_name }
         ensures nothing { Holds W.told [] (W.told out.old) result }
@@ -63,7 +63,7 @@ impl<'a, W: Outlet> Pieces<'a, W> {
         Pieces { sender, waiting }
     }
 
-    /// Sends what waits, if so many bytes more would be too many.
+    /// Writes what waits, if `count` more bytes would be too many.
     fn make_room(&mut self, count: usize)
         ensures { Carries W.told self.old self.new [] }
     {
@@ -72,14 +72,14 @@ impl<'a, W: Outlet> Pieces<'a, W> {
         }
     }
 
-    /// Lets these bytes wait if they are not too many. Answers whether they do.
+    /// Lets these bytes wait if they are not too many. Returns whether they wait.
     fn keep(&mut self, bytes: &[u8]) -> bool
         ensures { Carries W.told self.old self.new (if result then bytes.now else []) }
     {
         bytes.len() <= PIECE && self.waiting.extend_from_slice(bytes).is_ok()
     }
 
-    /// Sends what waits, and then these bytes.
+    /// Writes what waits, and then these bytes.
     fn send_past(&mut self, bytes: &[u8])
         ensures { Carries W.told self.old self.new bytes.now }
     {
@@ -87,7 +87,7 @@ impl<'a, W: Outlet> Pieces<'a, W> {
         self.sender.send(bytes);
     }
 
-    /// Sends what waits.
+    /// Writes what waits.
     fn send_waiting(&mut self)
         ensures nothing { Carries W.told self.old self.new [] }
         ensures empty { self.new.waiting.now.items ≡ [] }
@@ -96,7 +96,7 @@ impl<'a, W: Outlet> Pieces<'a, W> {
         self.waiting.clear();
     }
 
-    /// Sends what waits, and flushes. The fault is how many bytes went out.
+    /// Writes what waits, and flushes. The error is how many bytes were written.
     pub(crate) fn finish(&mut self) -> Result<(), u64>
         ensures same_outlet { self.new.sender.out.ghost_name ≡ self.old.sender.out.ghost_name }
         ensures whole { OnOk result ((put : List ℕ) (before : Written)
@@ -116,7 +116,7 @@ impl<'a, W: Outlet> Pieces<'a, W> {
         }
     }
 
-    /// The outlet, as it was left.
+    /// Returns the outlet.
     pub(crate) fn into_outlet(self) -> &'a mut W
         ensures same_outlet { result.ghost_name ≡ self.entry.sender.out.ghost_name }
         ensures held { result.now ≡ self.entry.sender.out.now }

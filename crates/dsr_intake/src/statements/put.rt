@@ -1,12 +1,12 @@
-//! Putting bytes one after another, whatever takes them.
+//! Putting bytes one after another, into any destination.
 ghost use Rattle.std.specs.Prelude.{◌≡◌, true, false, decimal, List, ℕ};
 ghost use Rattle.std.specs.Fmt.{signed_decimal};
 ghost use Rattle.dsr_intake.specs.meaning.Statement.{amount_cell};
 ghost use Rattle.dsr_intake.specs.inner.Puts.{Puts};
 
-/// What takes bytes, numbers and amounts one after another.
+/// A destination for bytes, numbers and amounts, one after another.
 pub(crate) trait Put {
-    /// From a start to now these bytes were put.
+    /// These bytes were put since a start.
     ghost after: { Self → Self → List ℕ → Type 0 };
 
     /// Puts bytes.
@@ -25,7 +25,7 @@ pub(crate) trait Put {
     fn put_units(&mut self, amount: i128)
         ensures { Puts after self.old self.new (amount_cell amount) };
 
-    /// Whether what is put from now on goes nowhere.
+    /// Whether what is put from now on is dropped.
     fn is_closed(&mut self) -> bool
         ensures closed { result ≡ true → (bytes : List ℕ) → Puts after self.old self.new bytes }
         ensures open { result ≡ false → self.new ≡ self.old };

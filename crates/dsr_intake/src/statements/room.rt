@@ -1,4 +1,4 @@
-//! The memory that writing a statement takes.
+//! The memory that writing a statement needs.
 ghost use Rattle.std.specs.Prelude.{◌≡◌, ◌++◌, ◌∷◌, IfSome, IfOk, OnOk};
 ghost use Rattle.dsr_cells.specs.Written.{written_day};
 ghost use Rattle.dsr_intake.specs.inner.Laid.{day_cells};
@@ -9,18 +9,18 @@ use dsr_cells::{Day, NoMemory, write_day};
 use dsr_ledger::ReportKey;
 use std::alloc::Global;
 
-/// The memory that writing a statement takes, with the cells of the report's days laid out in it.
+/// The memory that writing a statement needs, with the cells of the report's days already in it.
 #[derive(Drop)]
 pub(crate) struct Room {
     pub(crate) days: Vec<u8>,
-    /// For the cells of a key.
+    /// Room for the cells of a key.
     pub(crate) key: Vec<u8>,
-    /// For the bytes that wait to be sent.
+    /// Room for the bytes that wait to be written.
     pub(crate) waiting: Vec<u8>,
 }
 
 impl Room {
-    /// All the memory that writing the statement of the report of this key takes.
+    /// All memory that writing the statement of the report with this key needs.
     pub(crate) fn new(alloc: Global, key: &Option<ReportKey>) -> Result<Room, NoMemory>
         ensures { IfOk result (λ r. IfSome key.now (λ k. r.days.items ≡ day_cells k)) }
     {
@@ -45,7 +45,7 @@ fn lay_days(alloc: Global, key: &Option<ReportKey>) -> Result<Vec<u8>, NoMemory>
     Ok(days)
 }
 
-/// Lays the cell of a day out after the others.
+/// Appends the cell of a day.
 fn lay_day(days: &mut Vec<u8>, day: Day) -> Result<(), NoMemory>
     ensures { OnOk result (days.new.items ≡ days.old.items ++ 9 ∷ written_day day) }
 {

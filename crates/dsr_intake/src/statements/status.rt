@@ -23,14 +23,14 @@ pub fn status(report: &Report) -> Status
     }
 }
 
-/// Whether every file is ours and whole.
+/// Whether every file is Ours and whole.
 fn are_clean(files: &[FileLine]) -> bool
     ensures { result ≡ list_all is_clean_file files.now }
 {
     files.iter().all(|file| is_clean(file))
 }
 
-/// Whether a file is ours and whole.
+/// Whether a file is Ours and whole.
 fn is_clean(file: &FileLine) -> bool
     ensures { result ≡ is_clean_file file.now }
 {

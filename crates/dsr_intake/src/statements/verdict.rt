@@ -1,10 +1,10 @@
 //! Whether a statement has remarks.
 
-/// Whether a statement has remarks, which somebody has to look at.
+/// Whether a statement has remarks that need attention.
 #[derive(Debug, Clone, Copy, PartialEq, Eq)]
 pub enum Status {
     /// Every file is there, once and whole, no block is rejected, and every summary agrees.
     Clean,
-    /// Something of this does not hold.
+    /// One of these does not hold.
     Remarks,
 }

@@ -25,7 +25,7 @@ use std::alloc::Global;
 ///
 /// # Errors
 ///
-/// `NoMemory`: there is no memory for them.
+/// `NoMemory`: out of memory for them.
 pub fn statement(alloc: Global, report: &Report) -> Result<Vec<u8>, NoMemory>
     ensures { IfOk result (λ v. v.items ≡ statement_of report.now) }
 {
@@ -37,8 +37,8 @@ pub fn statement(alloc: Global, report: &Report) -> Result<Vec<u8>, NoMemory>
     }
 }
 
-/// All the memory that writing the statement takes. It is refused also to a statement that may have
-/// 2^64 - 1 bytes or more, since no error could say how much of it is out.
+/// All memory that writing the statement needs. It is refused also if the statement may have
+/// 2^64 - 1 bytes or more, since no error could say how much of it was written.
 pub(crate) fn room_for(alloc: Global, report: &Report) -> Result<Room, NoMemory>
     ensures days { IfOk result (λ r. IfSome report.now.key (λ k. r.days.items ≡ day_cells k)) }
     ensures short { OnOk result (length (statement_of report.now) < MOST) }
@@ -51,8 +51,8 @@ pub(crate) fn room_for(alloc: Global, report: &Report) -> Result<Room, NoMemory>
     }
 }
 
-/// At least as many as the statement has bytes, or the greatest number. `days` has the cells of the
-/// report's days, `key` is room for those of a key.
+/// An upper bound of the statement's bytes, or `u64::MAX`. `days` has the cells of the report's
+/// days, `key` is room for those of a key.
 fn statement_bound(days: &[u8], key: &mut Vec<u8>, report: &Report) -> u64
     requires { IfSome report.now.key (λ k. days.now ≡ day_cells k) }
     ensures { IsUpTo result (length (statement_of report.now)) }
@@ -62,7 +62,8 @@ fn statement_bound(days: &[u8], key: &mut Vec<u8>, report: &Report) -> u64
     bound.most
 }
 
-/// Writes the statement in pieces, and then flushes. The fault is how many of its bytes went out.
+/// Writes the statement in pieces, and then flushes. The error is how many of its bytes were
+/// written.
 pub(crate) fn write_statement<W: Outlet>(
     room: Room,
     report: &Report,
@@ -87,8 +88,8 @@ pub(crate) fn write_statement<W: Outlet>(
     answer
 }
 
-/// Puts the statement on its way to the outlet. `days` has the cells of the report's days, `key` is
-/// room for those of a key.
+/// Puts the statement into the pieces. `days` has the cells of the report's days, `key` is room for
+/// those of a key.
 fn send_statement<W: Outlet>(
     out: &mut Pieces<'_, W>,
     days: &[u8],
@@ -135,7 +136,7 @@ fn put_numbers<P: Put>(out: &mut P, numbers: &[u32])
     }
 }
 
-/// Puts the lines of the summaries that differ.
+/// Puts the lines of the differences.
 fn put_differences<P: Put>(out: &mut P, differences: &[Difference])
     ensures { Puts P.after out.old out.new (flat_map difference_line differences.now) }
 {

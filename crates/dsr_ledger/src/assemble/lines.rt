@@ -1,4 +1,4 @@
-//! A ledger line of the report, from what is kept of it.
+//! A ledger line of the report, from the state of its line in the ledger.
 ghost use Rattle.std.specs.Prelude.{◌≡◌, ◌+◌, ◌^◌, ◌<◌, ◌-ℤ◌, ℕ, List, Option, Some, IfOk, length, sum_by, unsigned_abs};
 ghost use Rattle.std.specs.List.{IsDistinct};
 ghost use Rattle.std.specs.Str.{bytes_eq};
@@ -20,7 +20,7 @@ use crate::report::{LedgerLine, PartyLine};
 use dsr_cells::{Isrc, Items, NoMemory, Text};
 use std::alloc::Global;
 
-/// The part at a place; past the last, a part of nothing.
+/// The part at a place; past the last one, an empty part.
 fn part_at(parts: &[SeatPart], place: usize) -> SeatPart
     ensures has_part { result.has_part ≡ (owed_at_place parts.now (Some place)).has_part }
     ensures amount { result.amount ≡ (owed_at_place parts.now (Some place)).amount }
@@ -31,7 +31,7 @@ fn part_at(parts: &[SeatPart], place: usize) -> SeatPart
     }
 }
 
-/// The lines of the parties that have a part, by the bytes of their names.
+/// The lines of the parties that have a part, in the byte order of their names.
 fn party_lines(
     alloc: Global,
     names: &[(&Text, usize)],
@@ -55,7 +55,7 @@ fn party_lines(
     Ok(lines)
 }
 
-/// An amount minus those of the parties.
+/// An amount minus the amounts of the parties.
 fn unclaimed(amount: i128, parties: &[PartyLine]) -> i128
     requires { unsigned_abs amount + sum_by (λ p. unsigned_abs p.amount) parties.now < 2 ^ 127 }
     ensures { result ≡ amount -ℤ int_sum_by (λ p. p.amount) parties.now }
@@ -67,8 +67,8 @@ fn unclaimed(amount: i128, parties: &[PartyLine]) -> i128
     left
 }
 
-/// The line of a recording and a summary key, with its parties by the bytes of their names. The numbers
-/// of the recording's parties are given by their seats.
+/// The line of a recording and a summary key, with its parties in the byte order of their names.
+/// `numbers` has the number of the party at each seat of the recording.
 pub fn ledger_line(
     alloc: Global,
     isrc: Isrc,

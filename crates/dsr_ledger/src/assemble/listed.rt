@@ -1,4 +1,4 @@
-//! The parts of a line in the order of their parties' names, and the lines of a recording in that of their keys.
+//! The parts of a line in the order of their parties' names, and the lines of a recording in key order.
 ghost use Rattle.std.specs.Prelude.{◌≡◌, IfOk, length, map};
 ghost use Rattle.std.specs.List.{position, IsDistinct};
 ghost use Rattle.std.specs.Str.{bytes_eq};
@@ -16,22 +16,22 @@ use dsr_cells::{NoMemory, Text};
 use std::alloc::Global;
 use std::cmp::Ordering;
 
-/// The order of two parties: that of the bytes of their names.
+/// The order of two parties: the byte order of their names.
 fn by_name(one: &(&Text, usize), other: &(&Text, usize)) -> Ordering
     ensures { result ≡ text_cmp one.now.0.now other.now.0.now }
 {
     one.0.cmp(other.0)
 }
 
-/// The order of two lines: that of their summary keys.
+/// The order of two lines: the order of their summary keys.
 fn by_key(one: &(&SummaryKey, usize), other: &(&SummaryKey, usize)) -> Ordering
     ensures { result ≡ summary_key_cmp one.now.0.now other.now.0.now }
 {
     one.0.cmp(other.0)
 }
 
-/// The names of the parties that have these parts, in the order of their bytes, with the places of the
-/// parts. The parties' numbers are given by their seats.
+/// The names of the parties that have these parts, in byte order, with the places of the parts.
+/// `numbers` has the number of the party at each seat.
 pub fn parts_by_name<'a>(
     alloc: Global,
     parties: &'a [Text],
@@ -56,7 +56,7 @@ pub fn parts_by_name<'a>(
     Ok(names)
 }
 
-/// The summary keys of a recording's lines, in their order, with the places of the lines.
+/// The summary keys of a recording's lines, sorted, with the places of the lines.
 pub fn lines_by_key<'a>(
     alloc: Global,
     keys: &'a [SummaryKey],

@@ -1,4 +1,4 @@
-//! The additions of a block. They take no memory.
+//! The additions of a block. They allocate nothing.
 ghost use Rattle.std.specs.Prelude.{◌≡◌, ◌≤◌, ℕ, List, ◌∷◌, [], Some, option_map, slice_get, length};
 ghost use Rattle.std.specs.List.{AllByRecursion};
 ghost use Rattle.std.specs.Option.{ForSome};

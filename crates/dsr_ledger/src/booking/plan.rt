@@ -1,4 +1,4 @@
-//! What a block will touch: all memory that its additions need is taken here.
+//! The plan of a block's additions: all memory that they need is allocated here.
 ghost use Rattle.std.specs.Prelude.{◌≡◌, ℕ, List, [], OnOk, Some, map};
 ghost use Rattle.std.specs.List.{zip};
 ghost use Rattle.dsr_records.specs.declared.record.Usage.{Usage};
@@ -14,20 +14,20 @@ use dsr_cells::{Isrc, NoMemory};
 use dsr_records::Work;
 use std::alloc::Global;
 
-/// What a block will touch. The lists are filled again for each block.
+/// The plan of a block's additions. The lists are filled anew for each block.
 #[derive(Drop)]
 pub struct Plan {
     /// The numbers of the usages' summaries.
     pub summaries: Vec<usize>,
     /// The number of the recording.
     pub recording: usize,
-    /// The shares of all works in a row.
+    /// The shares of all works, concatenated.
     pub shares: Vec<SeatShare>,
     /// The lines of the usages.
     pub lines: Vec<usize>,
 }
 
-/// The seat after that of the last share. Mostly the next party has it.
+/// The seat after that of the last share, which is mostly that of the next party.
 fn next_seat(shares: &[SeatShare]) -> usize {
     match shares.last() {
         Some(last) => (last.seat as usize).wrapping_add(1),
@@ -35,7 +35,7 @@ fn next_seat(shares: &[SeatShare]) -> usize {
     }
 }
 
-/// The line after the last one. Mostly the next usage counts there.
+/// The line after the last one, which is mostly that of the next usage.
 fn next_line(lines: &[usize]) -> usize {
     match lines.last() {
         Some(last) => last.wrapping_add(1),
@@ -43,8 +43,7 @@ fn next_line(lines: &[usize]) -> usize {
     }
 }
 
-/// Plans the shares of a work. So many seats that 32 bits do not count them are more than there is
-/// memory for.
+/// Plans the shares of a work. A seat past 32 bits is reported as `NoMemory`.
 fn plan_work(
     ledger: &mut Ledger,
     alloc: Global,
@@ -154,8 +153,8 @@ impl Plan {
         }
     }
 
-    /// Plans a block of a recording with these works, the summaries of whose usages are found. What is kept of each key and
-    /// of each summary stays.
+    /// Plans a block of a recording with these works, whose usages' summaries are already in `self.summaries`. No sum of a
+    /// key or a summary changes.
     pub fn fill(
         &mut self,
         ledger: &mut Ledger,

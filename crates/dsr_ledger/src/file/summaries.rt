@@ -1,4 +1,4 @@
-//! What is kept of a file's summaries.
+//! The state of a file's summaries.
 ghost use Rattle.std.specs.Prelude.{◌≡◌, IfOk};
 ghost use Rattle.dsr_ledger.specs.Ranges.{IsInRange, SumsFit};
 ghost use Rattle.dsr_ledger.specs.Summaries.{shown, shown_plus, nothing_found};
@@ -11,17 +11,17 @@ use dsr_records::{Summary, Usage};
 use indexmap::IndexMap;
 use std::alloc::Global;
 
-/// What is kept of a summary: the key under which its usages count, and the sums of the usages that name it.
+/// The state of a summary: the key under which its usages count, and the sums of the usages that name it.
 #[derive(Drop)]
 pub struct SummaryState {
     pub key: SummaryKey,
-    /// The number that the key had last, or any other.
+    /// The last known number of the key in the ledger, or any other number.
     pub key_hint: u32,
     pub sums: Sums,
 }
 
 impl SummaryState {
-    /// The state of a summary that no usage names so far.
+    /// The state of a summary before any usage.
     pub fn new(alloc: Global, summary: &Summary) -> Result<SummaryState, NoMemory>
         ensures { IfOk result (λ s. shown s ≡ nothing_found summary.now) }
     {
@@ -71,7 +71,7 @@ impl Summaries {
         }
     }
 
-    /// No summaries, with room for so many.
+    /// No summaries, with room for `many`.
     pub fn with_room(alloc: Global, seeded: Seeded, many: usize) -> Result<Summaries, NoMemory>
         ensures { IfOk result (λ m. (q : List ℕ) → shown_at m q ≡ None) }
     {
@@ -80,7 +80,7 @@ impl Summaries {
         })
     }
 
-    /// The number, if it is this summary's.
+    /// The number, if it is the number of this summary.
     fn hinted(&self, number: usize, id: &Text) -> Option<usize>
         ensures { IfSome result (λ number. index_at self.now id.now ≡ Some number) }
     {
@@ -98,7 +98,7 @@ impl Summaries {
         self.states.get_index_of(id)
     }
 
-    /// The same, with `hint` tried first. It may be any number; the right one saves the search.
+    /// The same, trying `hint` first. It may be any number; the right one saves the search.
     pub fn index_near(&self, id: &Text, hint: usize) -> Option<usize>
         ensures { result ≡ index_at self.now id.now }
     {
@@ -108,7 +108,7 @@ impl Summaries {
         self.index(id)
     }
 
-    /// The number after that of a summary. After the last one, the first comes again.
+    /// The number after that of a summary; 0 after the last one.
     pub fn next(&self, number: usize) -> usize {
         let next = number.wrapping_add(1);
         if next < self.states.len() { next } else { 0 }
@@ -124,7 +124,7 @@ impl Summaries {
         }
     }
 
-    /// What is kept of the summary with this number.
+    /// The state of the summary with this number.
     pub fn state(&self, number: usize) -> &SummaryState
         requires { number < index_map_len self.now.states }
         ensures { (id : List ℕ) → index_at self.now id ≡ Some number → shown_at self.now id ≡ Some (shown result.now) }
@@ -142,7 +142,7 @@ impl Summaries {
         state.key_hint = hint;
     }
 
-    /// Adds a summary that no usage names so far, unless its identifier is there. What is kept of the others stays.
+    /// Adds a summary before any usage, unless its identifier is there. The states of the others are unchanged.
     pub fn add(&mut self, alloc: Global, summary: &Summary) -> Result<(), NoMemory>
         ensures { OnOk result ((q : List ℕ) → shown_at self.new q ≡ first_of (shown_at self.old q) (option_map nothing_found (named q summary.now))) }
     {

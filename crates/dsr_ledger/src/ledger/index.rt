@@ -1,4 +1,4 @@
-//! Where the items of a list stand, by their numbers.
+//! An index of the items of a list by their numbers.
 ghost use Rattle.std.specs.Prelude.{◌≡◌, ℕ, [], ◌∷◌, ◌++◌, None, true, OnOk, OnErr, IfOk};
 ghost use Rattle.std.specs.Prelude.{map, nat_eq, take, drop};
 ghost use Rattle.std.specs.BTreeMap.{get};
@@ -11,7 +11,7 @@ use dsr_cells::NoMemory;
 use std::alloc::Global;
 use std::collections::BTreeMap;
 
-/// So many items of a list are found by going over them. Those after them are searched for.
+/// This many first items of a list are found by a linear search. The index is of those after them.
 pub const FEW: usize = 16;
 
 /// An item that is found by its number.
@@ -31,9 +31,9 @@ impl Numbered for u32 {
     }
 }
 
-/// Where items stand that have numbers, of which none stands twice. While the numbers rise it is
-/// empty, and an item is found by a binary search. The first number that does not rise is put into a
-/// tree, with the places of all items before it.
+/// The places of items with distinct numbers. While the numbers ascend the index is empty, and an
+/// item is found by a binary search. The first number that does not ascend makes a tree of the
+/// places of all items.
 #[derive(Drop)]
 pub struct Index {
     pub places: Option<Box<BTreeMap<u32, usize>>>,
@@ -56,7 +56,7 @@ fn behind<T>(items: &[T]) -> &[T]
     &items[FEW.min(items.len())..]
 }
 
-/// The place of a number among items whose numbers rise.
+/// The place of a number among items whose numbers ascend.
 fn search<T: Numbered>(items: &[T], number: u32) -> Option<usize>
     requires { Rise (map T.number_of items.now) }
     ensures { result ≡ place_in (map T.number_of items.now) number }
@@ -66,7 +66,7 @@ fn search<T: Numbered>(items: &[T], number: u32) -> Option<usize>
         .ok()
 }
 
-/// Whether a number is above those of items that rise.
+/// Whether a number is above those of all items, whose numbers ascend.
 fn is_above<T: Numbered>(items: &[T], number: u32) -> bool
     ensures { result ≡ true → Rise (map T.number_of items.now)
         → Rise (map T.number_of items.now ++ number ∷ []) }
@@ -77,7 +77,7 @@ fn is_above<T: Numbered>(items: &[T], number: u32) -> bool
     }
 }
 
-/// The places of items whose numbers rise.
+/// The places of items whose numbers ascend.
 fn gather<T: Numbered>(alloc: Global, items: &[T]) -> Result<BTreeMap<u32, usize>, NoMemory>
     requires { Rise (map T.number_of items.now) }
     ensures { IfOk result (λ places. (n : ℕ) →
@@ -109,7 +109,7 @@ impl Index {
         }
     }
 
-    /// Takes in the number that is put after the items that the index describes.
+    /// Adds the number of the item that comes after those that the index describes.
     fn put<T: Numbered>(&mut self, alloc: Global, items: &[T], number: u32) -> Result<(), NoMemory>
         requires described { Describes self.old (map T.number_of items.now) }
         requires absent { place_in (map T.number_of items.now) number ≡ None }
@@ -141,7 +141,7 @@ impl Index {
         Some(place + FEW)
     }
 
-    /// Takes in the number that is put after the items of a list that does not have it.
+    /// Adds the number of the item that comes after those of a list, none of which has it.
     pub fn add<T: Numbered>(
         &mut self,
         alloc: Global,

@@ -1,4 +1,4 @@
-//! A line of a recording: the sums of the bookings of one summary key, and the parts of parties.
+//! A line of a recording: the sums of the bookings of one summary key, and the parties' parts.
 ghost use Rattle.std.specs.Prelude.{◌≡◌, ◌≤◌, ◌^◌, ℕ, List, Option, [], map};
 ghost use Rattle.dsr_ledger.specs.Owed.{part_seats, parts_size};
 ghost use Rattle.dsr_ledger.specs.Parts.{part_of};
@@ -12,8 +12,8 @@ use crate::sums::Sums;
 use dsr_records::Usage;
 use std::alloc::Global;
 
-/// The number of a summary key, whether a booked usage counts under it, the sums of these, and what
-/// parties have of them. The widest fields stand first, so that a line takes 80 bytes.
+/// A line: the number of its summary key, whether it has a booked usage, the sums of these, and the
+/// parties' parts of them. The widest fields come first, so that a line takes 80 bytes.
 #[derive(Drop)]
 pub struct Line {
     pub sums: Sums,
@@ -31,7 +31,7 @@ impl Numbered for Line {
 }
 
 impl Line {
-    /// A line under which nothing counts.
+    /// A line with no usages.
     pub fn new(alloc: Global, key: u32) -> Line
         ensures key { result.key ≡ key }
         ensures parts { result.parts.items.items ≡ [] }
@@ -48,7 +48,7 @@ impl Line {
         }
     }
 
-    /// Adds a usage, and its parts at the seats of their parties.
+    /// Adds a usage, and its parts to the seats of their parties.
     pub fn add(&mut self, usage: &Usage, shares: &[SeatShare])
         requires wide { HaveParts shares.now self.old.parts.items.items }
         requires fits { (n : ℕ) × (seat : List ℕ → Option ℕ) × (es : List (List ℕ × ℕ))

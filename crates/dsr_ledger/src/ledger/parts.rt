@@ -1,4 +1,4 @@
-//! The parts of a line: what the parties at seats have of it.
+//! The parts of a line: what it owes the party at each seat.
 ghost use Rattle.std.specs.Prelude.{◌≡◌, ◌≤◌, ◌<◌, ◌+◌, ◌^◌, ◌+ℤ◌, ◌*ℤ◌, pos, ℕ, List, Option, None, Some, [], ◌∷◌, ◌++◌, IfOk, OnOk, OnErr, length, map, nat_eq, take, unsigned_abs, if◌then◌else◌};
 ghost use Rattle.std.specs.List.{position};
 ghost use Rattle.std.specs.Int.{w128};
@@ -19,11 +19,11 @@ use std::alloc::Global;
 #[derive(Clone, Copy, PartialEq, Eq, Drop)]
 pub struct SeatShare {
     pub seat: u32,
-    /// In parts of 1,000,000.
+    /// In millionths.
     pub share: u32,
 }
 
-/// What the party at a seat has of a line: whether it has a part, and the sum of its parts.
+/// What a line owes the party at a seat: whether the party has a part, and the sum of its parts.
 #[derive(Clone, Copy, PartialEq, Eq, Drop)]
 pub struct SeatPart {
     pub seat: u32,
@@ -63,7 +63,7 @@ impl Numbered for SeatPart {
     }
 }
 
-/// The parts of a line, one for each seat that has one, in the order in which they came.
+/// The parts of a line, one for each seat that has one, in the order in which they were added.
 #[derive(Drop)]
 pub struct Parts {
     pub items: Vec<SeatPart>,
@@ -73,7 +73,7 @@ pub struct Parts {
     ghost indexed: { AreIndexed (part_seats items.items) index } by { Prim.hlevel props },
 }
 
-/// A share of an amount, in units, rounded toward zero.
+/// A share, in millionths, of an amount in units, rounded toward zero.
 fn share_of(amount: i128, share: u32) -> i128
     requires { unsigned_abs amount < 10 ^ 22 }
     ensures { result ≡ int_div (amount *ℤ pos share) (pos 1000000) }
@@ -85,7 +85,7 @@ fn share_of(amount: i128, share: u32) -> i128
     }
 }
 
-/// The place of a seat's part. The part at `hint` is looked at first.
+/// The place of a seat's part. The part at `hint` is tried first.
 fn find_part(parts: &[SeatPart], index: &Index, seat: u32, hint: usize) -> Option<usize>
     requires apart { AreApart (part_seats parts.now) }
     requires indexed { AreIndexed (part_seats parts.now) index.now }
@@ -99,8 +99,8 @@ fn find_part(parts: &[SeatPart], index: &Index, seat: u32, hint: usize) -> Optio
     index.find(parts, seat)
 }
 
-/// How many of these seats are above all before them: all parties, where they come in the order of
-/// their seats.
+/// How many of these seats are above all before them: the number of parties, if the shares come in
+/// the order of their seats.
 fn rising_seats(shares: &[SeatShare]) -> usize {
     let mut rising = 0usize;
     let mut next = 0u32;
@@ -113,7 +113,7 @@ fn rising_seats(shares: &[SeatShare]) -> usize {
     rising
 }
 
-/// Adds a part at a place.
+/// Adds an amount to the part at a place.
 fn add_part(parts: &mut Vec<SeatPart>, place: usize, amount: i128)
     requires below { place < length parts.old.items }
     requires fits { FitsSigned w128 ((owed_at_place parts.old.items (Some place)).amount +ℤ amount) }
@@ -127,8 +127,8 @@ fn add_part(parts: &mut Vec<SeatPart>, place: usize, amount: i128)
     parts[place].add(amount);
 }
 
-/// Adds the share of an amount to the part of its seat, and answers the place after that. The part at
-/// `hint` is looked at first.
+/// Adds the share of an amount to the part of its seat, and returns the place after that. The part at
+/// `hint` is tried first.
 fn add_share(
     parts: &mut Vec<SeatPart>,
     index: &Index,
@@ -185,7 +185,7 @@ impl Parts {
         }
     }
 
-    /// The parts, in the order in which they came.
+    /// The parts, in the order in which they were added.
     pub fn as_slice(&self) -> &[SeatPart]
         ensures value { result.now ≡ self.now.items.items }
         ensures apart { AreApart (part_seats self.now.items.items) }
@@ -193,7 +193,7 @@ impl Parts {
         self.items.as_slice()
     }
 
-    /// Gives a seat that has no part one, of which nothing is owed.
+    /// Adds a part for a seat that has none. Nothing is owed of it yet.
     fn push(&mut self, alloc: Global, seat: u32) -> Result<(), NoMemory>
         requires { part_in self.old.items.items seat ≡ None }
         ensures ok { OnOk result (PartsGrow self.old.items.items self.new.items.items) }
@@ -207,8 +207,8 @@ impl Parts {
         Ok(())
     }
 
-    /// The place of a seat's part. Where it has none it is given one, of which nothing is owed. The
-    /// part at `hint` is looked at first.
+    /// The place of a seat's part. If it has none, one is added, of which nothing is owed yet. The
+    /// part at `hint` is tried first.
     fn place(&mut self, alloc: Global, seat: u32, hint: usize) -> Result<usize, NoMemory>
         ensures grows { PartsGrow self.old.items.items self.new.items.items }
         ensures below { (n : ℕ) → seat < n → AreBelow n (part_seats self.old.items.items)
@@ -238,7 +238,7 @@ impl Parts {
     }
 }
 
-/// Gives the seat of each share a part. What is owed stays.
+/// Gives the seat of each share a part. What is owed is unchanged.
 pub fn widen(parts: &mut Parts, alloc: Global, shares: &[SeatShare]) -> Result<(), NoMemory>
     ensures grows { PartsGrow parts.old.items.items parts.new.items.items }
     ensures below { (n : ℕ) → AreSeatsBelow n shares.now

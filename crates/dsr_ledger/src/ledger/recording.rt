@@ -17,7 +17,7 @@ use dsr_records::Usage;
 use std::alloc::Global;
 
 /// The parties of a recording, each at its seat, and its lines: one for each summary key, in the order
-/// in which they came.
+/// in which they were added.
 #[derive(Drop)]
 pub struct Recording {
     pub seats: Seats,
@@ -29,7 +29,7 @@ pub struct Recording {
     ghost within: { AreWithin (length (seat_numbers seats)) lines.items },
 }
 
-/// The line of a summary key. The line at `hint` is looked at first.
+/// The line of a summary key. The line at `hint` is tried first.
 fn find_line(lines: &[Line], index: &Index, key: u32, hint: usize) -> Option<usize>
     requires apart { AreApart (line_keys lines.now) }
     requires indexed { AreIndexed (line_keys lines.now) index.now }
@@ -43,7 +43,7 @@ fn find_line(lines: &[Line], index: &Index, key: u32, hint: usize) -> Option<usi
     index.find(lines, key)
 }
 
-/// Takes the memory for one more line, and exactly that for a first one: most recordings have few.
+/// Reserves memory for one more line. The first reserves no more, since most recordings have few.
 fn reserve_line(lines: &mut Vec<Line>) -> Result<(), NoMemory>
     ensures items { lines.new.items ≡ lines.old.items }
     ensures room { OnOk result (vec_len lines.new < vec_capacity lines.new) }
@@ -76,7 +76,7 @@ impl Recording {
         }
     }
 
-    /// The seat of a party, which is given one where it has none. The lines stay.
+    /// The seat of a party, which is given one if it has none. The lines are unchanged.
     pub fn seat(&mut self, alloc: Global, party: u32) -> Result<usize, NoMemory>
         ensures lines { self.new.lines ≡ self.old.lines }
         ensures more { IsWithNumber (seat_numbers self.old.seats) (seat_numbers self.new.seats) party }
@@ -85,7 +85,7 @@ impl Recording {
         self.seats.seat(alloc, party)
     }
 
-    /// Makes the line of a summary key that has none.
+    /// Adds a line for a summary key that has none.
     fn add_line(&mut self, alloc: Global, key: u32) -> Result<usize, NoMemory>
         requires { line_in self.old.lines.items key ≡ None }
         ensures seats { self.new.seats ≡ self.old.seats }
@@ -112,7 +112,7 @@ impl Recording {
         widen(&mut self.lines[number].parts, alloc, shares)
     }
 
-    /// The line of a summary key, which is made where there is none. The line at `hint` is looked at
+    /// The line of a summary key, which is added if there is none. The line at `hint` is tried
     /// first.
     fn line_of(&mut self, alloc: Global, key: u32, hint: usize) -> Result<usize, NoMemory>
         ensures seats { self.new.seats ≡ self.old.seats }
@@ -126,7 +126,7 @@ impl Recording {
         self.add_line(alloc, key)
     }
 
-    /// The same, where the line has a part for the seat of each share.
+    /// The same, and the line has a part for the seat of each share.
     pub fn line(
         &mut self,
         alloc: Global,

@@ -1,4 +1,4 @@
-//! The ledger: the parties, the summary keys, and the recordings, each interned: kept once, and numbered.
+//! The ledger: the parties, the summary keys and the recordings, all interned: stored once, and numbered.
 ghost use Rattle.std.specs.Prelude.{◌≡◌, ℕ, List, Some, length};
 ghost use Rattle.std.specs.Str.{bytes_eq};
 ghost use Rattle.indexmap.specs.IndexMap.{get};
@@ -16,7 +16,8 @@ use dsr_records::Usage;
 use indexmap::{IndexMap, IndexSet};
 use std::alloc::Global;
 
-/// Each party, each summary key and each recording once. All are numbered in the order in which they came.
+/// Each party, each summary key and each recording once. Each kind is numbered in the order of its
+/// first use.
 #[derive(Drop)]
 pub struct Ledger {
     pub parties: IndexSet<Text, Seeded>,
@@ -49,7 +50,7 @@ impl Ledger {
         }
     }
 
-    /// The number of a recording, which is made where there is none. What is kept of each key stays.
+    /// The number of a recording, which is added if it is new. The sums of each key are unchanged.
     pub fn recording(&mut self, alloc: Global, isrc: Isrc) -> Result<usize, NoMemory>
         ensures same { (q : Key) → tally_at self.new q ≡ tally_at self.old q }
         ensures there { IfOk result (λ number. recording_number self.new isrc ≡ Some number) }
@@ -62,8 +63,7 @@ impl Ledger {
         Ok(number)
     }
 
-    /// The number of a party, which is given one where it has none. So many parties that 32 bits do not count them are more
-    /// than there is memory for.
+    /// The number of a party, which is given one if it has none. A number past 32 bits is reported as `NoMemory`.
     fn party(&mut self, alloc: Global, name: &Text) -> Result<u32, NoMemory>
         ensures seats { (isrc q : List ℕ) → seat_at self.new isrc q ≡ seat_at self.old isrc q }
         ensures same { (q : Key) → tally_at self.new q ≡ tally_at self.old q }
@@ -80,7 +80,7 @@ impl Ledger {
         Ok(number)
     }
 
-    /// A seat of a recording, where it is this party's.
+    /// The seat `hint` of a recording, if it is this party's.
     fn hinted_seat(&self, recording: usize, name: &Text, hint: usize) -> Option<usize>
         ensures { (isrc : List ℕ) → recording_number self.now isrc ≡ Some recording → IfSome result (λ seat. seat_at self.now isrc name.now ≡ Some seat) }
     {
@@ -93,8 +93,8 @@ impl Ledger {
         None
     }
 
-    /// The seat of a party in a recording, which is given one where it has none. What is kept of each key stays. The seat
-    /// `hint` is looked at first.
+    /// The seat of a party in a recording, which is given one if it has none. The sums of each key
+    /// are unchanged. The seat `hint` is tried first.
     pub fn seat(
         &mut self,
         alloc: Global,
@@ -114,7 +114,7 @@ impl Ledger {
         found.seat(alloc, party)
     }
 
-    /// A number, where it is this summary key's.
+    /// The number `hint`, if it is this summary key's.
     fn hinted_key(&self, key: &SummaryKey, hint: u32) -> Option<u32>
         ensures { IfSome result (λ number. key_number self.now key.now ≡ Some number) }
     {
@@ -125,8 +125,8 @@ impl Ledger {
         None
     }
 
-    /// The number of a summary key, which is given one where it has none. The key with the number `hint` is looked at
-    /// first. So many keys that 32 bits do not count them are more than there is memory for.
+    /// The number of a summary key, which is given one if it has none. The key with the number `hint` is tried first.
+    /// A number past 32 bits is reported as `NoMemory`.
     pub fn summary_key(
         &mut self,
         alloc: Global,
@@ -150,8 +150,8 @@ impl Ledger {
         Ok(number)
     }
 
-    /// The line of the summary key with this number in a recording, which is made where there is none, and has a part for
-    /// the seat of each share. What is kept of each key stays. The line `hint` is looked at first.
+    /// The line of the summary key with this number in a recording, which is added if there is none, and has a part for
+    /// the seat of each share. The sums of each key are unchanged. The line `hint` is tried first.
     pub fn line(
         &mut self,
         alloc: Global,
@@ -171,7 +171,7 @@ impl Ledger {
         found.line(alloc, number, hint, shares)
     }
 
-    /// Adds a usage and its parts to a line, and to no other. It takes no memory.
+    /// Adds a usage and its parts to a line, and to no other. This allocates nothing.
     pub fn add(&mut self, recording: usize, line: usize, usage: &Usage, shares: &[SeatShare])
         requires { (isrc : List ℕ) × (key : SummaryKey) × (es : List (List ℕ × ℕ)) × IsLineOf self.old isrc key es recording line shares.now
             × TallyFits 1 (tally_at self.old (key_under isrc key)) × (parts_size (map (part_of usage.now.amount) es) ≤ 10 ^ 22) }

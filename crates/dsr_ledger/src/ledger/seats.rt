@@ -8,7 +8,7 @@ use crate::ledger::index::Index;
 use dsr_cells::NoMemory;
 use std::alloc::Global;
 
-/// The numbers of a recording's parties, each at its seat: once, in the order in which they came.
+/// The numbers of a recording's parties, each once, at its seat, in the order of their first use.
 #[derive(Drop)]
 pub struct Seats {
     pub numbers: Vec<u32>,
@@ -55,7 +55,7 @@ impl Seats {
         self.index.find(self.numbers.as_slice(), party)
     }
 
-    /// Gives a party that has no seat the next one.
+    /// Gives the next seat to a party that has none.
     fn add(&mut self, alloc: Global, party: u32) -> Result<(), NoMemory>
         requires { place_in (seat_numbers self.old) party ≡ None }
         ensures ok { OnOk result (seat_numbers self.new ≡ seat_numbers self.old ++ party ∷ []) }
@@ -67,7 +67,7 @@ impl Seats {
         Ok(())
     }
 
-    /// The seat of a party, which is given one where it has none.
+    /// The seat of a party, which is given one if it has none.
     pub fn seat(&mut self, alloc: Global, party: u32) -> Result<usize, NoMemory>
         ensures more { IsWithNumber (seat_numbers self.old) (seat_numbers self.new) party }
         ensures there { IfOk result (λ seat. place_in (seat_numbers self.new) party ≡ Some seat) }

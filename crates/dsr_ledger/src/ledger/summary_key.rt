@@ -1,10 +1,10 @@
-//! What a summary says of its usages.
+//! The key that a summary gives to its usages.
 ghost use Rattle.std.specs.Prelude.{◌≡◌, IfOk};
 
 use dsr_cells::{NoMemory, Text};
 use std::alloc::Global;
 
-/// What a summary says of its usages: the parts of a ledger line's key beside the recording.
+/// The key that a summary gives to its usages: a ledger line's key without the recording.
 #[derive(PartialEq, Eq, PartialOrd, Ord, Hash, Drop)]
 pub struct SummaryKey {
     pub territory: Text,

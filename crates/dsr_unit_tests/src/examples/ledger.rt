@@ -37,7 +37,7 @@ fn end(books: &mut Books, outcome: Outcome) -> Result<(), Fail> {
     Ok(())
 }
 
-/// Hands an event of the first file to the books.
+/// Passes an event of the first file to the books.
 fn hand_in(books: &mut Books, event: Event) -> Result<(), Fail> {
     match event.part {
         EventPart::Opened(opening) => open(books, opening),
@@ -56,7 +56,7 @@ fn the_report_of_one_file(rt: HostRuntime) -> Result<(), Fail> {
             hand_in(&mut books, event)?;
         }
     }
-    // `report` answers `books.into_report()`, once all files are ended.
+    // `report` returns `books.into_report()`, once all files have ended.
     let report = report(books)??;
     let amount = report.ledger.get(0).map(|line| line.amount);
     assert_eq!(rt; amount, Some(24_000_000_000));

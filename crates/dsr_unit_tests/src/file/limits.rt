@@ -3,7 +3,7 @@ use super::{comes_to, text};
 use dsr_file::Ending;
 use std::alloc::{AllocError, Global};
 
-/// A line of `#` and so many letters.
+/// A line of `#` and `letters` letters.
 pub(super) fn comment(alloc: Global, letters: usize) -> Result<Vec<u8>, AllocError> {
     let mut line = Vec::new(alloc);
     line.push(b'#')?;
@@ -13,7 +13,7 @@ pub(super) fn comment(alloc: Global, letters: usize) -> Result<Vec<u8>, AllocErr
     Ok(line)
 }
 
-/// Whether a comment of so many letters and these bytes come to this end, with no event before it.
+/// Whether a comment of `letters` letters, followed by these bytes, gives only this end.
 fn long_line(alloc: Global, letters: usize, more: &[u8], ending: Ending, told: &str) -> bool {
     let Ok(mut line) = comment(alloc, letters) else {
         return false;
@@ -83,7 +83,7 @@ fn a_thousand_summaries(rt: HostRuntime) -> Result<(), AllocError> {
     Ok(())
 }
 
-/// A block of one resource and so many usages.
+/// A block of one resource and `count` usages.
 fn usages(alloc: Global, count: u32) -> Result<Vec<u8>, AllocError> {
     let mut bytes = text(alloc, "HYS", "", b"\n")?;
     for _ in 0..count {

@@ -60,7 +60,7 @@ fn in_pieces(rest: &[u8], size: usize, fails: bool) -> Pieces<'_>
     }
 }
 
-/// Reads a source into a list, and answers whether it comes to these events and this end.
+/// Reads a source into a list, and returns whether it gives these events and this end.
 fn reads_to<R: Source>(
     alloc: Global,
     source: &mut R,
@@ -79,7 +79,7 @@ fn reads_to<R: Source>(
     }
 }
 
-/// With a byte order mark, CR LF, and no last LF, in pieces of every size.
+/// A file with a byte order mark, CR LF and no last LF, in pieces of every size.
 #[test]
 fn pieces_of_any_size(rt: HostRuntime) -> Result<(), AllocError> {
     let mut bytes = Vec::new(rt.alloc());
@@ -111,7 +111,7 @@ fn a_read_that_fails(rt: HostRuntime) -> Result<(), AllocError> {
     Ok(())
 }
 
-/// Whether the lines of these letters, in pieces of one size, come to this by so many reads.
+/// Whether the lines of these letters, in pieces of one size, give this with this limit on reads.
 fn limited(
     alloc: Global,
     letters: &str,
@@ -146,7 +146,7 @@ fn no_read_after_a_fault(rt: HostRuntime) -> Result<(), AllocError> {
     Ok(())
 }
 
-/// How many bytes the first lines have, up to the end of the last of them.
+/// The number of bytes of the first `lines` lines, with their ends.
 fn length_of(lines: u64, bytes: &[u8]) -> usize {
     let mut ended = 0u64;
     for (place, byte) in bytes.iter().enumerate() {
@@ -160,7 +160,7 @@ fn length_of(lines: u64, bytes: &[u8]) -> usize {
     bytes.len()
 }
 
-/// A source that gives a byte by each read is read up to its end, or up to the line at which memory is refused.
+/// A source that gives one byte a read is read up to its end, or up to the line at which memory is refused.
 #[test]
 fn no_read_after_the_end(rt: HostRuntime) -> Result<(), AllocError> {
     let bytes = text(rt.alloc(), FILE, "", b"\n")?;
@@ -193,7 +193,7 @@ fn a_source_of_a_reader(rt: HostRuntime) {
     assert!(rt; !source.failed());
 }
 
-/// A sink that takes so many events, and hands the rest back.
+/// A sink that takes a number of events, and returns the rest.
 #[derive(Drop)]
 struct Few {
     events: EventList,
@@ -215,7 +215,7 @@ impl Sink for Few {
     }
 }
 
-/// The place of the event that a sink of so many events hands back.
+/// The place of the event that a sink for `most` events returns.
 fn refused(alloc: Global, bytes: &[u8], most: usize) -> Option<u64> {
     let mut sink = Few {
         events: EventList::new(alloc),
@@ -237,7 +237,8 @@ fn a_sink_that_refuses(rt: HostRuntime) -> Result<(), AllocError> {
     Ok(())
 }
 
-/// Takes from a piece: how many bytes, and the letter of the event; a blank for none.
+/// Takes from a piece, and returns the number of bytes and the letter of the event, or a blank for
+/// none.
 fn take(file: &mut FileReader, piece: &[u8]) -> (usize, u8)
     requires open { ending_told file.old ≡ None }
     requires room { bytes_used file.old + length piece.now ≤ 2 ^ 36 }
@@ -252,7 +253,8 @@ fn take(file: &mut FileReader, piece: &[u8]) -> (usize, u8)
     }
 }
 
-/// Takes from a text three times, from where the last call stopped, and finishes: the letters of the events, and the bytes used.
+/// Takes from a text three times, each from where the last call stopped, and finishes. Returns the letters of the events
+/// and the bytes used.
 fn four_events(alloc: Global, bytes: &[u8]) -> Option<([u8; 4], usize)>
     requires { length bytes.now ≤ 10000 }
 {
@@ -272,7 +274,7 @@ fn four_events(alloc: Global, bytes: &[u8]) -> Option<([u8; 4], usize)>
     Some(([one, two, three, four], used))
 }
 
-/// How many bytes are used where the four events are these.
+/// The number of bytes used, if the four events are these.
 fn gives(alloc: Global, bytes: &[u8], events: &[u8]) -> Option<usize> {
     if bytes.len() > 10_000 {
         return None;
@@ -285,7 +287,7 @@ fn gives(alloc: Global, bytes: &[u8], events: &[u8]) -> Option<usize> {
     }
 }
 
-/// A fault of FOOT's counts comes after the event that FOOT closes; then nothing is used or given.
+/// A fault of FOOT's counts comes after the block that FOOT closes; then nothing is used or given.
 #[test]
 fn one_event_a_call(rt: HostRuntime) -> Result<(), AllocError> {
     let rows: [(&str, &str, &[u8], usize); 3] = [
@@ -338,7 +340,7 @@ fn a_list_of_events(rt: HostRuntime) {
     assert!(rt; front.is_some_and(|event| event.part.is_ended()) && events.len() == 0);
 }
 
-/// Where memory is refused, no events are given, and else these.
+/// If memory is refused no events are given, else these.
 #[test]
 fn events_or_no_memory(rt: HostRuntime) {
     let Ok(layout) = Layout::read(LAYOUT) else {

@@ -6,7 +6,7 @@ use dsr_file::{Ending, Event, EventList, EventPart, FromRead, Sink, read_file};
 use dsr_records::{Block, Layout};
 use std::alloc::{AllocError, Global};
 
-/// A sink that spares the blocks of an old list, one for each event.
+/// A sink that gives the blocks of an old list for reuse, one for each event.
 #[derive(Drop)]
 struct Sparing {
     events: EventList,
@@ -33,7 +33,7 @@ impl Sink for Sparing {
     }
 }
 
-/// A sink that spares the two blocks of the worked file.
+/// A sink that gives the two blocks of the worked file for reuse.
 fn with_old_blocks(alloc: Global, bytes: &[u8]) -> Option<Sparing>
     ensures { IfSome result (λ sink. sink.events ≡ []) }
 {

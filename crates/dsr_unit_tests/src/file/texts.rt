@@ -1,4 +1,5 @@
-//! The events of worked texts: each fault of a file, and beside it a text that differs in one point.
+//! The events of worked texts: each fault of a file, and next to it a text that differs in one
+//! point.
 use super::{FILE, comes_to, text};
 use dsr_file::Ending;
 use std::alloc::{AllocError, Global};
@@ -59,7 +60,7 @@ const ROWS: [&str; 52] = [
     "HYSWU*;AS01\t2;OBE;7 NoFoot",
 ];
 
-/// Whether the text of a row comes to what the row says.
+/// Whether the text of a row gives what the row says.
 fn holds(alloc: Global, row: &str) -> Option<bool> {
     let (letters, rest) = row.split_once(';')?;
     let (other, rest) = rest.split_once(';')?;
@@ -75,7 +76,7 @@ fn rows_hold(rt: HostRuntime) {
     }
 }
 
-/// From which byte on a whole file that a failed read cuts comes to these events and this end.
+/// The events and the end of a whole file that a failed read cuts at this byte or later.
 pub(super) const CUTS: [(usize, &str, &str); 9] = [
     (0, "E", "1 Read"),
     (38, "E", "2 Read"),
@@ -88,7 +89,7 @@ pub(super) const CUTS: [(usize, &str, &str); 9] = [
     (206, "OBBE", "9 Read"),
 ];
 
-/// What a file comes to that a failed read cuts there.
+/// The events and the end of a whole file that a failed read cuts here.
 pub(super) fn cut_at(cut: usize) -> (&'static str, &'static str) {
     let mut found = ("", "");
     for (from, letters, told) in &CUTS {
@@ -113,7 +114,7 @@ fn cut_by_a_failed_read(rt: HostRuntime) -> Result<(), AllocError> {
     Ok(())
 }
 
-/// Where a whole file breaks off, and what it then comes to.
+/// Where a file is truncated, and its events and end.
 const BROKEN: [(usize, &str, &str); 5] = [
     (153, "OE", "6 MissingCell BlockId"),
     (154, "OE", "6 BadCell BlockId"),

@@ -10,7 +10,7 @@ use dsr_ledger::{Reason, Report, Standing, Verdict};
 use std::alloc::Global;
 use std::test::Fail;
 
-/// The lines of files 1 and 2 of 2, given in this order.
+/// The lines of the report of files 1 and 2 of 2, given in this order.
 fn lines_of_two() -> &'static str {
     "REPORT R1 2 2024-01-01 2024-01-31
 FILE 1 Ours 1 Whole
@@ -45,7 +45,7 @@ fn files_keep_the_order_in_which_they_are_given(rt: HostRuntime) -> Result<(), F
     Ok(())
 }
 
-/// The report of files 1 and 2 of 2, of which the second is booked first.
+/// The report of files 1 and 2 of 2, with the second booked first.
 fn second_booked_first(alloc: Global) -> Result<Result<Report, NoMemory>, Fail> {
     let mut books = new_books(alloc, 2)?;
     let (_, mut first) = open(alloc, &mut books, first_of_two())?;

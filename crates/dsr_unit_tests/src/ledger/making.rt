@@ -1,4 +1,4 @@
-//! Books that take the events of whole texts. A call that is refused memory is made once more.
+//! Books of the events of whole texts. A call that is refused memory is made once more.
 ghost use Rattle.std.specs.Prelude.{◌≡◌, true};
 ghost use Rattle.dsr_ledger.specs.BooksWords.{AllEnded};
 
@@ -66,7 +66,7 @@ pub fn new_books(alloc: Global, files: usize) -> Result<Books, Fail> {
     }
 }
 
-/// Opens the next file, where there is one.
+/// Opens the next file, if there is one.
 pub fn open_with(
     books: &mut Books,
     opening: Option<Opening>,
@@ -77,7 +77,7 @@ pub fn open_with(
     Ok(books.open_next(opening))
 }
 
-/// Opens the next file with the opening of a text. Answers how it stands, and the events after the opening.
+/// Opens the next file with the opening of a text. Returns its standing, and the events after the opening.
 pub fn open(alloc: Global, books: &mut Books, text: &str) -> Result<(Standing, EventList), Fail> {
     let (opening, events) = opening_of(alloc, text)?;
     match open_with(books, Some(opening))? {
@@ -110,7 +110,7 @@ fn end(books: &mut Books, k: u32, outcome: Outcome) -> Result<(), Fail> {
     Ok(books.end_file(k, outcome)?)
 }
 
-/// Takes an event of file k, and answers the verdict where it is a block.
+/// Takes an event of file k, and returns the verdict if it is a block.
 pub fn take(books: &mut Books, k: u32, event: Event) -> Result<Option<Verdict>, Fail> {
     match event.part {
         EventPart::Opened(_) => Err(Fail::new("a second opening")),

@@ -56,7 +56,7 @@ FOOT\t47\t18\t3
 "
 }
 
-/// The lines of the first two summaries are the last two that came, and have parts of all parties.
+/// The lines of the first two summaries were added last, and have parts of all parties.
 fn lines_of_three_blocks() -> &'static str {
     "LEDGER GBABC2400001 T01 Stream GBP 3 3.0000000000
 PARTY P01 0.1000000000

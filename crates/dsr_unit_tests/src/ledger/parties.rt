@@ -1,4 +1,4 @@
-//! What the parties of a ledger line have of its amount.
+//! The parties' parts of a ledger line's amount.
 use super::making::{joined, report_of};
 use super::shown::{ledger_lines, report_lines};
 use super::texts::{head_of_block, two_blocks};
@@ -125,7 +125,7 @@ UNCLAIMED 0.0000000000
     Ok(())
 }
 
-/// More parties than are searched without an index, in two works with opposite orders.
+/// More parties than are searched without an index, in two works in opposite orders.
 #[test]
 fn many_parties_have_their_lines(rt: HostRuntime) -> Result<(), Fail> {
     let lines = ledger_with(

@@ -4,7 +4,7 @@ use dsr_file::{FileFault, Outcome};
 use dsr_ledger::{Difference, FileLine, LedgerLine, Reason, Reject, Report, ReportKey, Standing};
 use std::alloc::Global;
 
-/// Lines as they are written. A blank stands before each cell but the first.
+/// Lines as they are written, with a blank before each cell but the first.
 #[derive(Drop)]
 struct Page {
     alloc: Global,

@@ -50,7 +50,7 @@ FOOT\t5\t1\t1
 "
 }
 
-/// Two blocks, of which the first has a work of two parties.
+/// Two blocks; the first has a work of two parties.
 pub fn two_blocks() -> &'static str {
     "HEAD\tR1\t1\t1\t2024-01-01\t2024-01-31\tS\tL
 SY01\tS1\tGB\tOnDemandStream\tGBP\t30\t1.5
@@ -63,7 +63,8 @@ FOOT\t8\t1\t2
 "
 }
 
-/// Six blocks without the last line: one to book, and one for each reason to reject a block of a file in its place.
+/// Six blocks without the last line: one to book, and one for each reason to reject a block of a
+/// file of the report.
 pub fn rejects_without_foot() -> &'static str {
     "HEAD\tR1\t1\t1\t2024-01-01\t2024-01-31\tS\tL
 SY01\tS1\tGB\tOnDemandStream\tGBP\t60\t6
@@ -83,12 +84,12 @@ SU01\t6\tS1\t10\t1
 "
 }
 
-/// Its last line.
+/// The last line of that file.
 pub fn foot_of_rejects() -> &'static str {
     "FOOT\t16\t1\t6\n"
 }
 
-/// What stands before the works and usages of a file of one block.
+/// The lines before the works and usages of a file of one block.
 pub fn head_of_block() -> &'static str {
     "HEAD\tR1\t1\t1\t2024-01-01\t2024-01-31\tS\tL
 SY01\tS1\tGB\tOnDemandStream\tGBP\t1\t1

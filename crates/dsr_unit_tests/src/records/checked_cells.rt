@@ -1,10 +1,10 @@
-//! The cells of lines whose TABs stand at the ends of the runs of bytes that are looked at together.
+//! The cells of lines with TABs at the ends of the runs of bytes that are searched together.
 use dsr_cells::Texts;
 use dsr_records::{Layout, Record, RecordFault, check_record, read_record};
 use std::alloc::{AllocError, Global};
 use std::str;
 
-/// A resource's line of so many bytes, with TABs at these places behind those of its type and its block.
+/// A resource's line of `length` bytes, with TABs at these places after those of its type and its block.
 fn line_with_tabs(alloc: Global, places: &[usize], length: usize) -> Result<Vec<u8>, AllocError> {
     let mut line = Vec::new(alloc);
     line.extend_from_slice(b"AS01\t1\t")?;
@@ -14,7 +14,7 @@ fn line_with_tabs(alloc: Global, places: &[usize], length: usize) -> Result<Vec<
     Ok(line)
 }
 
-/// So many bytes without a TAB.
+/// `length` bytes without a TAB.
 fn without_tabs(alloc: Global, length: usize) -> Result<Vec<u8>, AllocError> {
     let mut line = Vec::new(alloc);
     for _ in 0..length {
@@ -34,7 +34,7 @@ fn layout_with(alloc: Global, resource: &[u8]) -> Result<Option<Layout>, AllocEr
     Ok(Layout::read(text.as_slice()).ok())
 }
 
-/// How long the one text of a list is, where it has one.
+/// The length of the one text of a list; 0 if it has none.
 fn length_of(texts: &Texts) -> usize {
     match texts.get(0) {
         Some(text) => text.as_str().len(),
@@ -42,7 +42,7 @@ fn length_of(texts: &Texts) -> usize {
     }
 }
 
-/// Whether a line is read as a resource whose ISRC, title and artist are so long.
+/// Whether a line is read as a resource whose ISRC, title and artist have these lengths.
 fn has_lengths(
     alloc: Global,
     layout: &Layout,

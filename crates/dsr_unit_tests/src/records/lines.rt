@@ -10,7 +10,7 @@ use std::alloc::{AllocError, Global};
 const STANDARD: &str =
     "HEAD\tHEAD\t1\t2\t3\t4\t5\t6\t7\nSY\tSY01\t1\t2\t3\t4\t5\t6\nAS\tAS01\t1\t2\t3\t4\nMW\tMW01\t1\t2\t3\t4\t5\nSU\tSU01\t1\t2\t3\t4\nFOOT\tFOOT\t1\t2\t3\n";
 
-/// The layout of a text, where it has one.
+/// The layout of a text, if it has one.
 fn layout_in(text: &str) -> Option<Layout> {
     Layout::read(text.as_bytes()).ok()
 }
@@ -202,7 +202,7 @@ fn is_wanted(kind: Kind, record: &Option<Record>) -> bool {
     }
 }
 
-/// Lines, each with its kind; Skipped stands for the work without parties.
+/// Lines, each with its kind; Skipped is for the work without parties.
 const LINES: [(&str, Kind); 7] = [
     ("HEAD\tR1\t01\t1\t2024-02-29\t2024-02-29", Kind::Head),
     ("SY01\tS1\tGB\tOnDemandStream\tGBP\t30\t1.5", Kind::Summary),
@@ -229,7 +229,7 @@ fn each_record_has_what_its_cells_spell(rt: HostRuntime) {
     }
 }
 
-/// Whether a line without a fault is read, or refused for want of memory alone.
+/// Whether a line without a fault is read, or refused only because memory is refused.
 fn reads_or_wants_memory(alloc: Global, line: &str, kind: Kind) -> bool {
     match read_record(alloc, &Layout::standard(), line) {
         Ok(record) => is_wanted(kind, &Some(record)),
@@ -246,7 +246,7 @@ fn records_or_no_memory(rt: HostRuntime) {
     }
 }
 
-/// Whether a line has this kind and identifier, by each of the calls that tell them.
+/// Whether a line has this kind and identifier, by each of the calls that return them.
 fn tells(layout: &Layout, line: &str, kind: Kind, id: Option<&str>) -> bool {
     match check_line(layout, line) {
         Ok(checked) => {
@@ -319,7 +319,7 @@ fn a_block_takes_works_and_usages(rt: HostRuntime) {
     );
 }
 
-/// Appends the work or the usage of a line, where there is room.
+/// Appends the work or the usage of a line, if there is room.
 fn append(alloc: Global, block: &mut Block, line: &str) -> Option<()> {
     if block.len() == 64 {
         return None;
@@ -356,7 +356,8 @@ fn reopen(alloc: Global, block: &mut Block, line: &str) -> Option<()> {
     }
 }
 
-/// A block that is opened over another one, with a work and more usages than lie in place.
+/// A block that is opened over another one, with a work and more usages than a list stores in
+/// place.
 fn block_over_another(alloc: Global) -> Option<Block> {
     let mut block = block_of_lines(alloc)?;
     reopen(alloc, &mut block, "AS01\tB2\t\tSong|Air")?;
@@ -386,7 +387,7 @@ fn an_empty_block_has_one_record(rt: HostRuntime) {
     assert!(rt; block.len() == 1);
 }
 
-/// Whether the text is no layout, by this fault of this line.
+/// Whether the text is refused as a layout, with this fault in this line.
 fn is_refused(text: &[u8], line: u64, fault: LayoutFault) -> bool {
     match Layout::read(text) {
         Err(error) => error.line == line && error.fault == fault,
@@ -422,7 +423,7 @@ fn the_first_fault_of_a_layout_is_told(rt: HostRuntime) {
     assert!(rt; is_refused(&[35, 10, 35, 255], 2, LayoutFault::NotUtf8));
 }
 
-/// So many signs of a comment.
+/// A comment of `signs` characters.
 fn comment(alloc: Global, signs: usize) -> Result<Vec<u8>, AllocError> {
     let mut text = Vec::new(alloc);
     for _ in 0..signs {
@@ -443,7 +444,7 @@ fn a_layout_of_65536_bytes(rt: HostRuntime) -> Result<(), AllocError> {
     Ok(())
 }
 
-/// The standard layout and so many skipped types.
+/// The standard layout with `skips` skipped types.
 fn with_skips(alloc: Global, skips: u8) -> Result<Vec<u8>, AllocError> {
     let mut text = Vec::new(alloc);
     text.extend_from_slice(STANDARD.as_bytes())?;
@@ -465,7 +466,7 @@ fn a_layout_skips_64_types(rt: HostRuntime) -> Result<(), AllocError> {
     Ok(())
 }
 
-/// Whether two layouts find the same in a line.
+/// Whether two layouts read the same from a line.
 fn agree(a: &Layout, b: &Layout, line: &str) -> bool {
     kind_in(a, line) == kind_in(b, line) && id_in(a, line) == id_in(b, line)
 }
@@ -525,7 +526,7 @@ fn columns_have_their_names(rt: HostRuntime) {
     assert!(rt; Column::NumberOfBlocksInFile.name() == "NumberOfBlocksInFile");
 }
 
-/// A line of 48 bytes with these bytes from a place on, and else ASCII.
+/// A line of 48 bytes with these bytes from a place on, and otherwise ASCII.
 fn line_with(bytes: &[u8], from: usize) -> [u8; 48] {
     let mut line = [b'x'; 48];
     for (i, byte) in bytes.iter().enumerate() {
@@ -536,7 +537,7 @@ fn line_with(bytes: &[u8], from: usize) -> [u8; 48] {
     line
 }
 
-/// Whether lines are told to be text, or not to be, wherever these bytes stand in them.
+/// Whether lines are found to be text, or not to be, wherever these bytes are in them.
 fn is_told_anywhere(bytes: &[u8], is_text: bool) -> bool {
     for from in 0..=44usize {
         if text_of(&line_with(bytes, from)).is_some() != is_text {

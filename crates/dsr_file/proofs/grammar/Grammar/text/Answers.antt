@@ -8,9 +8,9 @@ returns-then-is_skipped-clause-steps c = λ ls k. rw (of_utf8_skipped c.args.lay
 
 pub returns-in-Err-clause-steps : goal.returns-in-Err-clause-steps
 returns-in-Err-clause-steps c = λ ls k.
-    rw (of_utf8_record c.args.layout.now c.args.text.now _ (sym c.is_skipped.ensures ∙ c.if-is_skipped.false) (sym c.in-Err.is ∙ c.check_line.ensures), c.file_fault.ensures, c.requires.none)
+    rw (of_utf8_record c.args.layout.now c.args.text.now _ (sym c.is_skipped.ensures ∙ c.if-is_skipped.false) (sym c.in-Err.ensures), c.file_fault.ensures, c.requires.none)
     (faulty_steps c.args.self.now ls (file_fault c.in-Err.fault) (own_not_count c.in-Err.fault))
 
 pub returns-in-Ok-clause-steps : goal.returns-in-Ok-clause-steps
 returns-in-Ok-clause-steps c = λ ls k.
-    rw (of_utf8_record c.args.layout.now c.args.text.now _ (sym c.is_skipped.ensures ∙ c.if-is_skipped.false) (sym c.in-Ok.is ∙ c.check_line.ensures)) (c.checked.ensures.steps ls k)
+    rw (of_utf8_record c.args.layout.now c.args.text.now _ (sym c.is_skipped.ensures ∙ c.if-is_skipped.false) c.in-Ok.ensures) (c.typed.ensures.steps ls k)
