@@ -86,6 +86,7 @@ impl FileReader {
     }
 
     /// Gives the reader a block whose memory it may use again; the value of the block is lost.
+    #[inline(always)]
     pub fn reuse(&mut self, block: Block)
         // The reader stands for what it stood for.
         ensures stands { (layout : LayoutTable) (b : List ℕ) (es : List Placed)
@@ -338,6 +339,7 @@ impl FileReader {
     }
 
     /// Uses a piece, up to the next event: how many bytes, and the event.
+    #[inline(always)]
     fn read(&mut self, piece: &[u8]) -> (usize, Option<Event>)
         requires reading { self.old.phase ≡ phases.Reading }
         requires room { self.old.given + length piece.now ≤ 2 ^ 36 }
@@ -365,6 +367,7 @@ impl FileReader {
     }
 
     /// Uses bytes of a piece, up to the next event: how many, and the event. An event that waits is given first.
+    #[inline(always)]
     pub fn take(&mut self, piece: &[u8]) -> (usize, Option<Event>)
         requires open { ending_told self.old ≡ None }
         requires room { bytes_used self.old + length piece.now ≤ 2 ^ 36 }

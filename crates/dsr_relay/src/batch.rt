@@ -102,6 +102,7 @@ impl Batch {
     }
 
     /// Appends an event, and answers the stale one that it was written over, or hands it back if there is no room.
+    #[inline(always)]
     pub(crate) fn push(&mut self, event: Event) -> Result<Option<Event>, Event>
         ensures { MatchResult result (λ _. self.new ≡ self.old ++ event ∷ [])
             (λ back. (back ≡ event) × (self.new ≡ self.old)) }

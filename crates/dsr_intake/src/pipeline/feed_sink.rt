@@ -61,11 +61,13 @@ impl<'a, H: Wait> Sink for FeedSink<'a, H> {
     ghost name = { λ s. s.name };
 
     /// Sends the event, or returns it if the tap is gone.
+    #[inline(always)]
     fn put(&mut self, event: Event) -> Result<(), Event> {
         self.feed.send(self.rt, event)
     }
 
     /// A block that the collector gave back, if there is one.
+    #[inline(always)]
     fn spare(&mut self) -> Option<Block> {
         self.feed.spare()
     }

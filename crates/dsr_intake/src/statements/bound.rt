@@ -21,6 +21,7 @@ pub(crate) struct Bound {
 
 impl Bound {
     /// Adds a count of bytes.
+    #[inline(always)]
     fn add(&mut self, count: u64)
         ensures { (n k : ℕ) → k ≤ count → IsUpTo self.old.most n → IsUpTo self.new.most (n + k) }
     {
@@ -45,6 +46,10 @@ impl Put for Bound {
 
     fn put_units(&mut self, _amount: i128) {
         self.add(UNITS);
+    }
+
+    fn copies_bytes(&self) -> bool {
+        false
     }
 
     fn is_closed(&mut self) -> bool {

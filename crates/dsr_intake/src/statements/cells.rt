@@ -7,6 +7,7 @@ ghost use Rattle.dsr_intake.specs.inner.Puts.{Puts};
 use crate::statements::put::Put;
 
 /// Puts a text.
+#[inline(always)]
 pub(crate) fn put_text<P: Put>(out: &mut P, text: &[u8])
     ensures { Puts P.after out.old out.new (9 ∷ text.now) }
 {
@@ -15,6 +16,7 @@ pub(crate) fn put_text<P: Put>(out: &mut P, text: &[u8])
 }
 
 /// Puts a number.
+#[inline(always)]
 pub(crate) fn put_number<P: Put>(out: &mut P, number: u64)
     ensures { Puts P.after out.old out.new (9 ∷ decimal number) }
 {
@@ -23,6 +25,7 @@ pub(crate) fn put_number<P: Put>(out: &mut P, number: u64)
 }
 
 /// Puts a number that may be below zero.
+#[inline(always)]
 pub(crate) fn put_signed<P: Put>(out: &mut P, number: i128)
     ensures { Puts P.after out.old out.new (9 ∷ signed_decimal number) }
 {
@@ -31,6 +34,7 @@ pub(crate) fn put_signed<P: Put>(out: &mut P, number: i128)
 }
 
 /// Puts an amount.
+#[inline(always)]
 pub(crate) fn put_amount<P: Put>(out: &mut P, amount: i128)
     ensures { Puts P.after out.old out.new (9 ∷ amount_cell amount) }
 {
@@ -39,6 +43,7 @@ pub(crate) fn put_amount<P: Put>(out: &mut P, amount: i128)
 }
 
 /// Puts the end of a line.
+#[inline(always)]
 pub(crate) fn put_end<P: Put>(out: &mut P)
     ensures { Puts P.after out.old out.new (10 ∷ []) }
 {

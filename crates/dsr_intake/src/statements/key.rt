@@ -7,7 +7,7 @@ use crate::statements::cells::put_text;
 use crate::statements::put::Put;
 use dsr_ledger::LedgerLine;
 
-/// The most bytes of a key's cells that are written into the room.
+/// Room for this many bytes of a key's cells.
 pub(crate) const KEY_ROOM: usize = 256;
 
 /// The cells of a key, written into this room, if they fit.
@@ -33,15 +33,19 @@ fn lay_key(room: &mut Vec<u8>, line: &LedgerLine) -> bool
 }
 
 /// Appends a cell, after a tab. Returns whether it fits.
+#[inline(always)]
 fn lay_cell(room: &mut Vec<u8>, cell: &[u8]) -> bool
     ensures { result ≡ true → room.new.items ≡ room.old.items ++ 9 ∷ cell.now }
 {
-    room.len().saturating_add(cell.len()) < KEY_ROOM
-        && room.push(b'\t').is_ok()
-        && room.extend_from_slice(cell).is_ok()
+    if cell.len() >= room.capacity() - room.len() {
+        return false;
+    }
+    room.push_reserved(b'\t');
+    room.extend_from_slice(cell).is_ok()
 }
 
-/// Puts the cells of a line's key: those of `key`, if they fit there.
+/// Puts the cells of a line's key: those of `key`, if they were laid there.
+#[inline(always)]
 pub(crate) fn put_key<P: Put>(out: &mut P, key: Option<&[u8]>, line: &LedgerLine)
     requires { IfSome key (λ k. k.now ≡ tabbed (key_cells line.now)) }
     ensures { Puts P.after out.old out.new (tabbed (key_cells line.now)) }

@@ -128,7 +128,11 @@ fn put_usages<P: Put>(out: &mut P, stated: i64, found: i128)
 pub(crate) fn put_ledger<P: Put>(out: &mut P, room: &mut Vec<u8>, line: &LedgerLine)
     ensures { Puts P.after out.old out.new (ledger_lines line.now) }
 {
-    let key = laid_key(room, line);
+    let key = if out.copies_bytes() {
+        laid_key(room, line)
+    } else {
+        None
+    };
     put_sums(out, key, line);
     put_parties(out, key, line);
     put_unclaimed(out, key, line)

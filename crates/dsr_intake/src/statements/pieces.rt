@@ -9,7 +9,7 @@ use dsr_cells::amount_text;
 use dsr_file::Failed;
 use itoa::Buffer;
 
-/// The most bytes that wait, to be written at once.
+/// Room for this many bytes that wait, to be written at once.
 pub(crate) const PIECE: usize = 65_536;
 
 /// An outlet, how many bytes it took, and whether it has failed.
@@ -63,27 +63,25 @@ impl<'a, W: Outlet> Pieces<'a, W> {
         Pieces { sender, waiting }
     }
 
-    /// Writes what waits, if `count` more bytes would be too many.
-    fn make_room(&mut self, count: usize)
-        ensures { Carries W.told self.old self.new [] }
-    {
-        if count > PIECE.saturating_sub(self.waiting.len()) {
-            self.send_waiting();
-        }
-    }
-
-    /// Lets these bytes wait if they are not too many. Returns whether they wait.
+    /// Lets these bytes wait if there is room for them. Returns whether they wait.
+    #[inline(always)]
     fn keep(&mut self, bytes: &[u8]) -> bool
         ensures { Carries W.told self.old self.new (if result then bytes.now else []) }
     {
-        bytes.len() <= PIECE && self.waiting.extend_from_slice(bytes).is_ok()
+        bytes.len() <= self.waiting.capacity() - self.waiting.len()
+            && self.waiting.extend_from_slice(bytes).is_ok()
     }
 
-    /// Writes what waits, and then these bytes.
+    /// Writes what waits, and then these bytes, which wait if there is room for them.
+    #[cold]
+    #[inline(never)]
     fn send_past(&mut self, bytes: &[u8])
         ensures { Carries W.told self.old self.new bytes.now }
     {
         self.send_waiting();
+        if self.keep(bytes) {
+            return;
+        }
         self.sender.send(bytes);
     }
 
@@ -130,12 +128,11 @@ impl<'a, W: Outlet> Pieces<'a, W> {
 impl<'a, W: Outlet> Put for Pieces<'a, W> {
     ghost after = { Carries W.told };
 
+    #[inline(always)]
     fn put(&mut self, bytes: &[u8]) {
-        self.make_room(bytes.len());
-        if self.keep(bytes) {
-            return;
+        if !self.keep(bytes) {
+            self.send_past(bytes);
         }
-        self.send_past(bytes);
     }
 
     fn put_decimal(&mut self, number: u64) {
@@ -152,6 +149,10 @@ impl<'a, W: Outlet> Put for Pieces<'a, W> {
     fn put_units(&mut self, amount: i128) {
         let mut room = [b'0'; 64];
         self.put(amount_text(amount, &mut room));
+    }
+
+    fn copies_bytes(&self) -> bool {
+        true
     }
 
     /// Whether the outlet has failed.

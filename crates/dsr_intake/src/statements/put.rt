@@ -25,6 +25,9 @@ pub(crate) trait Put {
     fn put_units(&mut self, amount: i128)
         ensures { Puts after self.old self.new (amount_cell amount) };
 
+    /// Whether bytes are copied when they are put, so that cells that are put often are laid out once.
+    fn copies_bytes(&self) -> bool;
+
     /// Whether what is put from now on is dropped.
     fn is_closed(&mut self) -> bool
         ensures closed { result ≡ true → (bytes : List ℕ) → Puts after self.old self.new bytes }
