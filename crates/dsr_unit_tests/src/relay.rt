@@ -573,6 +573,20 @@ fn a_block_of_many_bytes_is_not_spared(rt: HostRuntime) -> Result<(), Fail> {
     Ok(())
 }
 
+/// Bytes that are noted before the first event of a batch count for that batch.
+#[test]
+fn bytes_before_the_first_event_are_counted(rt: HostRuntime) -> Result<(), Fail> {
+    let alloc: Global = rt.alloc();
+    let (mut feed, _tap) = relay(alloc, 1)?;
+    feed.note_bytes(5000);
+    assert_eq!(rt; feed.batch_bytes(), 5000);
+    assert!(rt; send_blocks(&rt, alloc, &mut feed, 2));
+    assert_eq!(rt; feed.batch_bytes(), 5000);
+    assert!(rt; flushes(&rt, &mut feed));
+    assert_eq!(rt; feed.batch_bytes(), 0);
+    Ok(())
+}
+
 /// Sends a block that allocates nothing, takes it and gives it back. Returns whether all of that succeeded.
 fn passes_block<R: Wait>(rt: &R, alloc: Global, feed: &mut Feed, tap: &mut Tap) -> bool
     requires going { has_ended feed.old.sent ≡ false }
