@@ -37,7 +37,7 @@ fn plain_of<const N: usize>(bytes: &[u8], at: usize) -> Option<usize>
     Some(marks.trailing_zeros() as usize)
 }
 
-/// The index of the first pipe or backslash of `N` bytes or more. The last vector of `N` bytes may overlap the one before it.
+/// The index of the first pipe or backslash of `N` bytes or more. The last vector may overlap the one before it.
 #[inline(always)]
 fn first_by<const N: usize>(bytes: &[u8]) -> Option<usize>
     requires some { 0 < N }

@@ -28,8 +28,8 @@ impl Model for ShortText {
     ghost invariant = { λ s. (s.size ≤ 22) × HasZerosBehind s.size s.bytes × ∥ IsUtf8 (take s.size s.bytes) ∥₁ };
 }
 
-/// Copies a text of `HALF` to twice as many bytes to the front: its first and its last `HALF`, which may overlap. Each is
-/// one load and one store; both loads come before the stores, so the compiler need not check for aliasing.
+/// Copies a text of `HALF` to twice as many bytes to the front: its first and its last `HALF`, which may overlap. Each
+/// is one load and one store; both loads come before the stores, so the compiler need not check for aliasing.
 #[inline(always)]
 fn copy_ends<const HALF: usize>(bytes: &mut [u8; SHORT], text: &[u8])
     requires long { HALF ≤ length text.now }
