@@ -12,7 +12,7 @@ use Rattle.dsr_file.specs.ReadCounts.{Answered}
 use Rattle.dsr_file.specs.Texts.{text_events, so_far}
 use Rattle.dsr_file.specs.Runs.{FileText, events_of_text, known_lines, IsRun, IsCutOff}
 
--- the state of a source: the bytes that it has left, if they are known, whether a read failed, and the count of its reads
+-- the state of a source: the bytes that it has left, if they are known, whether a read failed, and how many it answered
 pub record Told : Type 0 where
   pub remaining : Option (List ℕ)
   pub failed : Bool
