@@ -121,7 +121,7 @@ early_steps g h ls r f k e =
 pub early_none : (g : Grammar) (ls : List Reading) (r : Record) → Keeps g ls → stage_fault g.stage (kind_of_record r) (id_of_record r) ≡ None → early_fault (records ls) r ≡ None
 early_none g ls r k e = sym (fault_agrees g.stage (records ls) r k.stage_is) ∙ e
 
--- a line with a fault of its own
+-- a line that has a fault itself
 pub faulty_steps : (h : Grammar) (ls : List Reading) (f : FileFault) → counts_fault f ≡ false → LineSteps ls (line.Faulty f) (Faulty f) None h
 unfolding fault_of
 faulty_steps h ls f e = (refl, rw e (sym (append-nil (events_of (records ls)))))

@@ -11,7 +11,7 @@ use Rattle.dsr_records.specs.Values.{record_of}
 use Rattle.dsr_file.specs.declared.fault.FileFault.{FileFault}
 use Rattle.dsr_file.specs.declared.fault.FileFault.TheVariants.{LongLine, NotUtf8, ManyCells, UnknownRecord, MissingCell, BadCell, Uneven}
 
--- a fault of its own, a skipped line, or a record
+-- a fault of the line itself, a skipped line, or a record
 pub data Reading : Type 0 where
   Faulty : FileFault → Reading
   SkippedLine : Reading

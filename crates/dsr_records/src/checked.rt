@@ -141,8 +141,8 @@ fn has_others(bytes: &[u8], count: usize) -> bool
         .is_some()
 }
 
-/// Whether a line has more than 64 cells, which is whether at most all but 64 of its bytes are not
-/// TABs.
+/// Whether a line has more than 64 cells, that is, at least 64 TABs, so that at most `line.len() - 64` of
+/// its bytes are others.
 #[tactic(auto, using(crate::proofs::Tabs::many_cells))]
 #[inline(never)]
 fn counts_many_cells(line: &str) -> bool

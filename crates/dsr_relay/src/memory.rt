@@ -1,6 +1,6 @@
-//! The memory of batches, a pool of fixed size: the feed fills it, and the tap gives it back once its events are no longer
-//! needed. All of it is allocated when a relay is made: for the batches in the channel, the one being filled and the one
-//! being emptied. So a send allocates nothing, and the events of a batch given back are freed by the feed's thread.
+//! The memory of batches, a pool of fixed size: the feed fills it, and the tap gives it back once its events are no
+//! longer needed. All of it is allocated when a relay is made: for the batches in the channel, the one being filled
+//! and the one being emptied. So a send allocates nothing, and the feed's thread frees the events of returned batches.
 ghost use Rattle.std.specs.Prelude.{◌≡◌, [], ◌≤◌};
 
 use crate::batch::Batch;
@@ -55,8 +55,8 @@ pub(crate) fn memory(alloc: Global, capacity: u32) -> Result<(Supply, Returns), 
 }
 
 impl Supply {
-    /// Memory to be filled: that of a batch that came back, or memory that was never filled. If there is none, the call waits
-    /// until a batch comes back; if the tap is gone, it returns a batch without memory.
+    /// Memory to be filled: that of a batch that came back, or memory that was never filled. If there is none, the call
+    /// waits until a batch comes back; if the tap is gone, it returns a batch without memory.
     fn find<R: Wait>(&mut self, rt: &R) -> Batch {
         if let Ok(used) = self.receiver.try_recv(rt) {
             return used;

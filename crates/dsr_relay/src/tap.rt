@@ -16,7 +16,7 @@ use std::mem;
 use std::snapshot::Snapshot;
 use std::sync::Wait;
 
-/// The receiving end of a relay. Contracts see the relay's name, the events taken, and the held rest of the last message.
+/// The receiving end of a relay. Contracts see its name, the events taken, and the held rest of the last message.
 #[derive(Drop)]
 pub struct Tap {
     pub(crate) receiver: RuledReceiver<Batch, Log, InOrder>,
@@ -117,8 +117,8 @@ impl Tap {
         self.returns.give(rt, used);
     }
 
-    /// Takes the held events of the last message or, without any, the next message. If there is none yet, the call waits. A
-    /// batch should be given back before the next one is taken, since the feed has no other memory.
+    /// Takes the held events of the last message or, without any, the next message. If there is none yet, it waits.
+    /// A batch should be given back before the next one is taken, since the feed has no other memory.
     ///
     /// # Errors
     ///
@@ -208,7 +208,7 @@ impl Tap {
         self.held.events().len() as u32
     }
 
-    /// Joins the two ends of one relay, and returns what was taken and what is left of what was sent. The call never waits.
+    /// Joins the two ends of one relay, and returns what was taken and what is left of what was sent. It never waits.
     pub fn take_in(self, feed: Feed) -> Settled
         requires { self.name ≡ feed.name }
         ensures taken { result.taken ≡ self.taken }
