@@ -25,7 +25,7 @@ none_fail p (b ∷ bs) = elim (cases_Bool (p b)) [
 cut : (p : ℕ → Bool) (i : ℕ) (bytes : List ℕ) → list_all p bytes ≡ (list_all p (take i bytes) && list_all p (drop i bytes))
 cut p i bytes = sym (ap (list_all p) (take-append-drop i bytes)) ∙ list_all-append p (take i bytes) (drop i bytes)
 
--- if one of the n bytes from a place on fails, not all bytes pass
+-- if one of the n bytes from an index fails, not all bytes pass
 pub part_fails : (p : ℕ → Bool) (bytes : List ℕ) (at n : ℕ) → list_all p (chunk at n bytes) ≡ false → list_all p bytes ≡ false
 part_fails p bytes at n fails = cut p at bytes ∙ and_right _ _ (cut p n (drop at bytes) ∙ and_left _ _ fails)
 
@@ -37,7 +37,7 @@ part_passes p bytes at n before more =
     ∙ ap₂ (λ a b. list_all p a && list_all p b) (take-take at (at + n) bytes (omega arith)) (drop-take at n bytes)
     ∙ ap₂ (λ a b. a && b) before more
 
--- if all bytes before a place in the last n pass, the last n decide whether all do
+-- if all bytes before an index in the last n pass, the last n decide whether all do
 pub last_decides : (p : ℕ → Bool) (bytes : List ℕ) (at n : ℕ) → n ≤ length bytes → length bytes - n ≤ at → list_all p (take at bytes) ≡ true
     → list_all p (chunk (length bytes - n) n bytes) ≡ list_all p bytes
 last_decides p bytes at n long over before =

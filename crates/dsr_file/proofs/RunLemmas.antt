@@ -1,4 +1,4 @@
--- Runs of a text are orderly, and events that refused memory ends are a run.
+-- Runs of a text are orderly, and events cut off because memory was refused are a run.
 use Rattle.std.proofs.Common.{◌≡◌, ℕ, ◌+◌, ◌<◌, ◌⊎◌, inl, inr, ◌∙◌, sym, ap, refl, subst, Bool, true, false, List, [], ◌∷◌, ◌++◌, length, map, None, Some, append_assoc, zero-add, length-append, arith}
 use Rattle.std.specs.Prelude.{if◌then◌else◌}
 use Rattle.std.specs.Option.{option_to_list}
@@ -126,7 +126,7 @@ run_orderly layout text es (inl p) = orderly_front es p.0 (subst IsOrderly (sym 
 run_orderly layout text es (inr (front, line, p, none, is)) =
     subst IsOrderly (sym is) (orderly_push front (ended (length front) (outcomes.Fault line faults.Memory)) (orderly_front front p.0 (subst IsOrderly (sym p.1) (text_orderly layout text.bytes text.ending))) none refl tt)
 
--- events that refused memory ends among the first lines are such among all lines
+-- events cut off among the first lines are cut off among all lines
 pub cut_off_more : (ls ms : List Reading) (es : List Placed) → IsCutOff ls es → IsCutOff (ls ++ ms) es
 cut_off_more ls ms es c = record {
   before = c.before;

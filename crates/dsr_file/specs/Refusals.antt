@@ -6,7 +6,7 @@ use Rattle.dsr_file.specs.declared.reading.ReadFileError.TheVariants.{Memory, Re
 use Rattle.dsr_file.specs.Placed.{Placed}
 use Rattle.dsr_file.specs.Sources.{Told, IsRefused}
 
--- without memory nothing was read or put; a refused event comes after those that were put
+-- if memory was refused, nothing was read or put; a refused event comes after those that were put
 abbrev pub IsRefusal : LayoutTable → ℕ → Told → Told → List Placed → ReadFileError → Type 0
 IsRefusal layout limit before after es Memory = (after ≡ before) × (es ≡ [])
 IsRefusal layout limit before after es (Refused e) = IsRefused layout limit before after es e

@@ -1,4 +1,4 @@
--- The prefixes of a text's events that a reader may give, and those that refused memory ends.
+-- The prefixes of a text's events that a reader may give, and events cut off because memory was refused.
 use Rattle.std.specs.Prelude.{◌≡◌, ℕ, ◌+◌, ◌⊎◌, Bool, true, false, List, [], ◌∷◌, ◌++◌, length, Option, None, Some}
 use mathlib.Core.List.{IsPrefix}
 use Rattle.dsr_records.specs.declared.record.Record.{Record}
@@ -34,7 +34,7 @@ abbrev pub EndsByMemory : List Placed → List Placed → Type 0
 EndsByMemory all es =
     (front : List Placed) × (line : ℕ) × IsPrefix front all × (has_ended front ≡ false) × (es ≡ front ++ ended (length front) (Fault line Memory) ∷ [])
 
--- a run of a text: a prefix of its events, or one that Memory ends
+-- a run of a text: a prefix of its events, or one that ends with Memory
 abbrev pub IsRun : LayoutTable → FileText → List Placed → Type 0
 IsRun layout text es = IsPrefix es (events_of_text layout text) ⊎ EndsByMemory (events_of_text layout text) es
 
@@ -63,11 +63,11 @@ abbrev pub known_events : LayoutTable → List ℕ → Option Ending → List Pl
 known_events layout bytes None = so_far layout bytes
 known_events layout bytes (Some ending) = text_events layout bytes ending
 
--- the first of the known events, or those that refused memory ends
+-- the first of the known events, or events cut off because memory was refused
 abbrev pub BeginsEvents : LayoutTable → List ℕ → Option Ending → List Placed → Type 0
 BeginsEvents layout bytes told es = IsPrefix es (known_events layout bytes told) ⊎ IsCutOff (known_lines layout bytes told) es
 
--- all known events, or the first of them that refused memory ends
+-- all known events, or events cut off because memory was refused
 abbrev pub HasEvents : LayoutTable → List ℕ → Option Ending → List Placed → Type 0
 HasEvents layout bytes told es = (es ≡ known_events layout bytes told) ⊎ IsCutOff (known_lines layout bytes told) es
 

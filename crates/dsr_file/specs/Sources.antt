@@ -12,7 +12,7 @@ use Rattle.dsr_file.specs.ReadCounts.{Answered}
 use Rattle.dsr_file.specs.Texts.{text_events, so_far}
 use Rattle.dsr_file.specs.Runs.{FileText, events_of_text, known_lines, IsRun, IsCutOff}
 
--- the state of a source: the bytes that it has left, if they are known, whether a read failed, and how many it answered
+-- a source's state: the bytes that it has left, if they are known, whether a read failed, and the count of its reads
 pub record Told : Type 0 where
   pub remaining : Option (List ℕ)
   pub failed : Bool
@@ -62,14 +62,14 @@ GaveText layout limit before after text =
 abbrev pub HasEarlier : LayoutTable → ReadCount → List ℕ → List Placed → Type 0
 HasEarlier layout reads given es = IsPrefix (so_far layout (before_last reads given)) es
 
--- refused memory ended the events of the bytes given, with their ending if they had one; those of the bytes before the
--- last read came first
+-- events cut off because memory was refused: those of the bytes given, with their ending if they had one; those of the
+-- bytes before the last read came first
 abbrev pub GaveForMemory : LayoutTable → ℕ → Told → Told → List Placed → Type 0
 GaveForMemory layout limit before after es =
     (given : List ℕ) × (told : Option Ending) × Stopped layout limit before after given told × IsCutOff (known_lines layout given told) es
     × HasEarlier layout after.reads given es
 
--- the list has the events of a text that the source gave, or those that refused memory ended
+-- the list has the events of a text that the source gave, or events cut off because memory was refused
 abbrev pub IsRead : LayoutTable → ℕ → Told → Told → List Placed → Type 0
 IsRead layout limit before after es =
     ((text : FileText) × GaveText layout limit before after text × (es ≡ events_of_text layout text)) ⊎ GaveForMemory layout limit before after es

@@ -1,4 +1,4 @@
--- What every schedule keeps.
+-- What every schedule preserves.
 use Rattle.std.proofs.Common.{◌≡◌, ℕ, ◌+◌, ◌*◌, ◌≤◌, Bool, true, false, true≢false, List, [], ◌∷◌, ◌++◌, length, map, set, Some, slice_get, refl, sym, ap, ◌∙◌, subst, arith, append_assoc, length-append}
 use Rattle.std.specs.Prelude.{sum}
 use Rattle.std.specs.List.{AllByRecursion, sum_by}
@@ -80,7 +80,7 @@ moves_done (put n m) l k p h = omega (arith, ap (λ (x : Lane). length x.sent) p
 moves_done (get n) l k g h =
     omega (arith, ap (λ (x : Lane). length x.sent) g.after_it, ap (λ (x : Lane). length x.taken) g.after_it, length-append l.taken g.message, (subst (AllByRecursion IsMessage) g.front h.messages).0.0)
 
--- a step keeps it for all lanes
+-- a step preserves it for all lanes
 happens_good : (step : Step) (s t : List Lane) → Happens step s t → AllByRecursion IsGood s → AllByRecursion IsGood t
 happens_good step s t h all =
     subst (AllByRecursion IsGood) (sym h.after_it) (all_set IsGood s (file_of step) h.moved all (moves_good step h.lane h.moved h.moves (all_get IsGood s (file_of step) h.lane all h.at)))

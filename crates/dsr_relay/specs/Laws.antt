@@ -34,7 +34,7 @@ IsNeverStuck = (first lanes : List Lane) (steps : List Step) (k : ℕ) (l : Lane
 abbrev pub IsBounded : Type 0
 IsBounded = (first lanes : List Lane) (steps : List Step) → AllByRecursion IsFresh first → Leads first steps lanes → length steps ≤ 2 * sum (map (λ l. length l.source) first)
 
--- a schedule that no step can extend has taken every source as a whole
+-- a schedule that no step can extend has taken all events of every source
 abbrev pub IsDelivered : Type 0
 IsDelivered = (first lanes : List Lane) (steps : List Step) → AllByRecursion IsFresh first → Leads first steps lanes → ((step : Step) (next : List Lane) → ¬ Happens step lanes next)
     → map (λ l. l.taken) lanes ≡ map (λ l. l.source) first

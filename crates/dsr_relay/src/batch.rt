@@ -1,6 +1,6 @@
 //! Batches: the events that go through a relay as one message.
 //!
-//! The memory of a batch, for 32 events, goes in a circle: the feed fills it, and the tap gives it back. An event
+//! The memory of a batch, for 32 events, is reused: the feed fills it, and the tap gives it back. An event
 //! overwrites the stale one in its slot, so that nothing is freed and nothing is allocated for it. A block that
 //! was overwritten can be given to the reader, which writes the next one into its memory.
 ghost use Rattle.std.specs.Prelude.{◌≡◌, ◌∷◌, ◌++◌, [], MatchOption, MatchResult, IfOk};

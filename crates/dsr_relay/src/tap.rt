@@ -117,7 +117,7 @@ impl Tap {
         self.returns.give(rt, used);
     }
 
-    /// Takes the held events of the last message or, without any, the next message. If there is none yet, it waits.
+    /// Takes the held events of the last message, or else the next message. If there is none yet, the call waits.
     /// A batch should be given back before the next one is taken, since the feed has no other memory.
     ///
     /// # Errors
