@@ -1,4 +1,4 @@
--- Lemmas on bytes that are tested several at once.
+-- Lemmas on testing several bytes at a time.
 use Rattle.std.proofs.Common.{arith, ◌≡◌, ◌≤◌, ◌+◌, ◌-◌, ◌*◌, ◌∙◌, ◌&&◌, ℕ, Bool, List, [], ◌∷◌, length, map, take, drop, true, false, not, refl, sym, ap, ap₂, eqb, inl, inr, w8, Fits, take-append-drop, length-drop}
 use Rattle.std.specs.List.{list_all}
 use Rattle.std.specs.Simd.Lanes.{Each1, chunk, mask_l}
@@ -14,7 +14,7 @@ same_flags f g (b ∷ bs) agree fits = ap₂ (λ m ms. m ∷ ms) (agree_below_at
 twice : (m : ℕ) → eqb (0 + 2 * m) 0 ≡ eqb m 0
 twice m = elim (cases_eq m 0) [ inl zero_ ↦ rw zero_ refl | inr some ↦ ne_eqb _ _ (λ e. some (omega (arith, e))) ∙ sym (ne_eqb _ _ some) ]
 
--- the mask of the lanes that fail is empty where all pass
+-- the mask of the lanes that fail is zero exactly if all pass
 pub none_fail : (p : ℕ → Bool) (run : List ℕ) → eqb (mask_l (map (λ b. not (p b)) run)) 0 ≡ list_all p run
 none_fail p [] = refl
 none_fail p (b ∷ bs) = elim (cases_Bool (p b)) [
@@ -25,11 +25,11 @@ none_fail p (b ∷ bs) = elim (cases_Bool (p b)) [
 cut : (p : ℕ → Bool) (i : ℕ) (bytes : List ℕ) → list_all p bytes ≡ (list_all p (take i bytes) && list_all p (drop i bytes))
 cut p i bytes = sym (ap (list_all p) (take-append-drop i bytes)) ∙ list_all-append p (take i bytes) (drop i bytes)
 
--- where one of the bytes from a place on fails, not all pass
+-- if one of the n bytes from an index fails, not all bytes pass
 pub part_fails : (p : ℕ → Bool) (bytes : List ℕ) (at n : ℕ) → list_all p (chunk at n bytes) ≡ false → list_all p bytes ≡ false
 part_fails p bytes at n fails = cut p at bytes ∙ and_right _ _ (cut p n (drop at bytes) ∙ and_left _ _ fails)
 
--- where they pass as those before them do, all up to them pass
+-- if they pass, and all bytes before them do, then all bytes up to their end pass
 pub part_passes : (p : ℕ → Bool) (bytes : List ℕ) (at n : ℕ) → list_all p (take at bytes) ≡ true → list_all p (chunk at n bytes) ≡ true
     → list_all p (take (at + n) bytes) ≡ true
 part_passes p bytes at n before more =
@@ -37,7 +37,7 @@ part_passes p bytes at n before more =
     ∙ ap₂ (λ a b. list_all p a && list_all p b) (take-take at (at + n) bytes (omega arith)) (drop-take at n bytes)
     ∙ ap₂ (λ a b. a && b) before more
 
--- the last n bytes decide, where those before them pass
+-- if all bytes before an index in the last n pass, the last n decide whether all do
 pub last_decides : (p : ℕ → Bool) (bytes : List ℕ) (at n : ℕ) → n ≤ length bytes → length bytes - n ≤ at → list_all p (take at bytes) ≡ true
     → list_all p (chunk (length bytes - n) n bytes) ≡ list_all p bytes
 last_decides p bytes at n long over before =

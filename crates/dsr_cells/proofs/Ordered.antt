@@ -1,4 +1,4 @@
--- Numbers of bytes, highest first, stand in the order of the bytes.
+-- Big-endian numbers of bytes have the order of the bytes.
 use Rattle.std.proofs.Common.{◌≡◌, ◌∙◌, refl, sym, ap, ℕ, zero, suc, ◌+◌, ◌*◌, ◌^◌, ◌<◌, List, [], ◌∷◌, length, take, drop, slice_index, nat_cmp, Ordering, Less, Equal, Greater, arith}
 use Rattle.std.specs.Cmp.{nat_cmp_is, ranks}
 use Rattle.std.specs.Cmp.Lexicographic.{slice_cmp}
@@ -80,7 +80,7 @@ same_backs (suc n) [] (y ∷ ys) l = absurd (omega arith)
 same_backs (suc n) (x ∷ xs) [] l = absurd (omega arith)
 same_backs (suc n) (x ∷ xs) (y ∷ ys) l = same_backs n xs ys (omega arith)
 
--- bytes stand in the order of the numbers of their first n and, where these are equal, of the others
+-- the order of bytes is that of the numbers of their first n, and if these are equal, of the numbers of the others
 pub by_numbers : (n : ℕ) (xs ys : List ℕ) → length xs ≡ length ys → AreBytes xs → AreBytes ys
     → ordering_then (nat_cmp (number_of_bytes (take n xs)) (number_of_bytes (take n ys))) (nat_cmp (number_of_bytes (drop n xs)) (number_of_bytes (drop n ys))) ≡ slice_cmp nat_cmp xs ys
 by_numbers n xs ys l small small' =

@@ -14,17 +14,17 @@ use Rattle.dsr_cells.specs.Order.{AreBytes}
 use Rattle.dsr_cells.specs.Short.{HasZerosBehind}
 use Rattle.dsr_cells.proofs.Ordered.{small_front, small_back}
 
--- a text that was copied to the front of zeros has zeros behind it
+-- a text copied to the front of zeros has zeros after it
 pub copied_zeros : (text given bytes : List ℕ) → given ≡ text → drop (length given) bytes ≡ drop (length given) (replicate 22 0) → HasZerosBehind (length text) bytes
 copied_zeros text given bytes same rest = rw same at (rest ∙ drop-replicate (length given) 22 0)
 
--- and is UTF-8 as the text is
+-- and is UTF-8, as the text is
 pub copied_utf8 : (text given bytes : List ℕ) → given ≡ text → take (length given) bytes ≡ given → ∥ IsUtf8 text ∥₁ → ∥ IsUtf8 (take (length text) bytes) ∥₁
 copied_utf8 text given bytes same front utf8 =
     let is : take (length text) bytes ≡ text = rw same at front in
     rw is utf8
 
--- two texts of one length with zeros behind are equal where all bytes in place are
+-- two texts of one length with zeros after them are equal exactly if all 22 bytes are
 pub same_in_place : (size size' : ℕ) (xs ys : List ℕ) → size ≡ size' → HasZerosBehind size xs → HasZerosBehind size' ys
     → bytes_eq xs ys ≡ bytes_eq (take size xs) (take size' ys)
 same_in_place size size' xs ys same zeros zeros' =
@@ -34,7 +34,7 @@ same_in_place size size' xs ys same zeros zeros' =
     sym (take-append-drop size xs) ∙ ap (λ t. t ++ drop size xs) (front.0 h) ∙ ap (λ t. take size' ys ++ t) rest ∙ take-append-drop size' ys in
     one_answer _ _ (bytes_eq-Decides xs ys) (whole, λ e. front.1 (rw (e, same) refl))
 
--- the eight bytes from a place on, as a number
+-- the eight bytes from an offset, as a number
 abbrev pub word_at : ℕ → List ℕ → ℕ
 word_at i xs = from_le_bytes w64 (take 8 (drop i xs))
 
@@ -45,7 +45,7 @@ same_word i xs ys low l l' small small' e =
     sym (le_bytes_8 (take 8 (drop i xs)) (word_at i xs) long (small_front 8 (drop i xs) (small_back i xs small)) refl)
     ∙ le_bytes_8 (take 8 (drop i ys)) (word_at i xs) long' (small_front 8 (drop i ys) (small_back i ys small')) e
 
--- 22 bytes are the words at 0, 8 and 14
+-- 22 bytes consist of the words at 0, 8 and 14
 in_words : (xs : List ℕ) → length xs ≡ 22 → xs ≡ take 8 (drop 0 xs) ++ (take 8 (drop 8 xs) ++ drop 2 (take 8 (drop 14 xs)))
 in_words xs l =
     let tail : drop 2 (take 8 (drop 14 xs)) ≡ drop 16 xs = ap (drop 2) (take_all 8 (drop 14 xs) (omega (arith, length-drop 14 xs))) ∙ drop-drop 2 14 xs in
@@ -53,7 +53,7 @@ in_words xs l =
     ap (λ t. take 8 (drop 8 xs) ++ t) (tail ∙ sym (drop-drop 8 8 xs)) ∙ take-append-drop 8 (drop 8 xs) in
     sym (ap (λ t. take 8 xs ++ t) middle ∙ take-append-drop 8 xs)
 
--- 22 bytes are equal where the words at 0, 8 and 14 are
+-- 22 bytes are equal exactly if the words at 0, 8 and 14 are
 pub same_words : (xs ys : List ℕ) → length xs ≡ 22 → length ys ≡ 22 → AreBytes xs → AreBytes ys
     → ((nat_eq (word_at 0 xs) (word_at 0 ys) && nat_eq (word_at 8 xs) (word_at 8 ys)) && nat_eq (word_at 14 xs) (word_at 14 ys)) ≡ bytes_eq xs ys
 same_words xs ys l l' small small' =

@@ -1,4 +1,4 @@
--- The items of a list, and the stale ones behind them.
+-- The items of a list, and the stale ones after them.
 use Rattle.std.proofs.Common.{◌≡◌, ℕ, ◌<◌, ◌≤◌, ◌+◌, ◌-◌, [], ◌∷◌, ◌++◌, length, slice_set, slice_index_or, List, take, arith, sym, ◌∙◌, ap, length-take-le, length-set}
 use Rattle.std.proofs.lemmas.List.{places, take_more_set, take_all, take-take}
 use Rattle.std.proofs.Math.Seq.{take-set-lt, take-append_seam}
@@ -8,7 +8,7 @@ module _ {T : Type 0} where
   pub positive : (len : ℕ) (xs : List T) → len ≤ length xs → 0 < length (take len xs) → len - 1 < len
   positive len xs le some = let cut = length-take-le len xs le in omega arith
 
-  -- a write of the last item of the front
+  -- a write to the last item of the front
   pub take-set_last : (len : ℕ) (xs : List T) (w : T) → 0 < length (take len xs) → len ≤ length xs
       → take len (slice_set xs (len - 1) w) ≡ slice_set (take len xs) (length (take len xs) - 1) w
   take-set_last len xs w some le =
@@ -25,18 +25,18 @@ module _ {T : Type 0} where
   take-less len xs le some =
       rw (length-take-le len xs le) (sym (take-take (len - 1) len xs (omega arith)))
 
-  -- an item that is written over the first stale one
+  -- an item written over the first stale one
   pub take-over : (len : ℕ) (xs : List T) (w : T) → len < length xs
       → take (len + 1) (slice_set xs len w) ≡ take len xs ++ w ∷ []
   take-over len xs w lt = take_more_set xs len w lt
 
-  -- an item behind a list that has no stale ones
+  -- an item pushed onto a list without stale ones
   pub take-push : (len : ℕ) (xs : List T) (w : T) → len ≤ length xs → length xs ≤ len
       → take (len + 1) (xs ++ w ∷ []) ≡ take len xs ++ w ∷ []
   take-push len xs w le ge =
       rw (take_all len xs ge) (take_all (len + 1) (xs ++ w ∷ []) (grind (arith, places)))
 
-  -- a write of the item by which a list grew
+  -- a write to the item by which a list grew
   pub set_one_more : (old new : List T) (w : T) → IsOneMore old new → slice_set new (length new - 1) w ≡ old ++ w ∷ []
   set_one_more old new w more =
       let at : length new - 1 ≡ length old = omega (arith, more.0) in
@@ -51,6 +51,6 @@ module _ {T : Type 0} where
       let long = length-take-le (len + 1) xs (omega arith) in
       (omega arith, rw short (take-take len (len + 1) xs (omega arith)))
 
-  -- a list with an item behind it
+  -- a list with an item appended
   pub appended : (old : List T) (w : T) → IsOneMore old (old ++ w ∷ [])
   appended old w = (grind (arith, places), take-append_seam old (w ∷ []))

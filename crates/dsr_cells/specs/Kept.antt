@@ -1,4 +1,4 @@
--- The bytes of a text, wherever they lie.
+-- The bytes of a text, wherever they are stored.
 use Rattle.std.specs.Prelude.{ℕ, List}
 use Rattle.std.specs.String.{string_bytes}
 use Rattle.dsr_cells.specs.declared.kept.Kept.{Kept}

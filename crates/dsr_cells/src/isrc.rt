@@ -18,7 +18,7 @@ use std::marker::Model;
 /// An International Standard Recording Code (ISO 3901): two capitals, three capitals or digits, two
 /// digits of the year and five of the designation, with no hyphens.
 ///
-/// Contracts see it as its twelve bytes, and ISRCs stand in the order of their bytes.
+/// Contracts see it as its twelve bytes. ISRCs are ordered by their bytes.
 #[derive(Clone, Copy, PartialEq, Eq)]
 pub struct Isrc {
     bytes: [u8; 12],
@@ -65,7 +65,7 @@ impl Isrc {
         &self.bytes
     }
 
-    /// The first eight bytes, as a number. Such numbers stand in the order of the bytes.
+    /// The first eight bytes as a big-endian number, so that its order is that of the bytes.
     fn front(&self) -> u64
         ensures value { result ≡ number_of_bytes (take 8 self.now) }
         ensures twelve { length self.now ≡ 12 }
@@ -75,7 +75,7 @@ impl Isrc {
         u64::from_be_bytes([b[0], b[1], b[2], b[3], b[4], b[5], b[6], b[7]])
     }
 
-    /// The last four bytes, as a number.
+    /// The last four bytes as a big-endian number.
     fn back(&self) -> u32
         ensures { result ≡ number_of_bytes (drop 8 self.now) }
     {

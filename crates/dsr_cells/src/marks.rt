@@ -1,4 +1,4 @@
-//! The first pipe or backslash of some bytes, sought in several bytes at once.
+//! Searching for the first pipe or backslash, several bytes at a time.
 ghost use Rattle.std.specs.Prelude.{◌≡◌, ◌+◌, ◌≤◌, ◌<◌, ◌==◌, ◌||◌, IfSome, not, length, map};
 ghost use Rattle.std.specs.List.{position, prefix_len};
 ghost use Rattle.std.specs.Option.{unwrap_or};
@@ -7,8 +7,8 @@ ghost use Rattle.std.specs.Simd.Lanes.{mask_l, chunk};
 use std::simd::Simd;
 use std::simd::prelude::*;
 
-/// The pipes and backslashes of the `N` bytes from a place on: bit k is set where byte k is one. The two differ in
-/// one bit, 32, so with that bit set both are pipes.
+/// The pipes and backslashes of the `N` bytes from offset `at`: bit k is set if byte k is one. The two differ in
+/// the bit of value 32 alone, so with that bit set both are pipes.
 #[inline(always)]
 fn marks_of<const N: usize>(bytes: &[u8], at: usize) -> u64
     requires few { N ≤ 64 }
@@ -21,7 +21,7 @@ fn marks_of<const N: usize>(bytes: &[u8], at: usize) -> u64
         .to_bitmask()
 }
 
-/// How many of the `N` bytes from a place on come before the first pipe or backslash, where there is one.
+/// How many of the `N` bytes from offset `at` come before the first pipe or backslash; None if there is none.
 #[inline(always)]
 fn plain_of<const N: usize>(bytes: &[u8], at: usize) -> Option<usize>
     requires few { N ≤ 64 }
@@ -37,7 +37,7 @@ fn plain_of<const N: usize>(bytes: &[u8], at: usize) -> Option<usize>
     Some(marks.trailing_zeros() as usize)
 }
 
-/// Where the first pipe or backslash of `N` bytes or more stands. The last `N` may overlap those before them.
+/// The index of the first pipe or backslash of `N` bytes or more. The last vector may overlap the one before it.
 #[inline(always)]
 fn first_by<const N: usize>(bytes: &[u8]) -> Option<usize>
     requires some { 0 < N }
@@ -57,7 +57,7 @@ fn first_by<const N: usize>(bytes: &[u8]) -> Option<usize>
     Some(last + plain)
 }
 
-/// Where the first pipe or backslash stands.
+/// The index of the first pipe or backslash.
 #[inline(always)]
 pub(crate) fn first_mark(bytes: &[u8]) -> Option<usize>
     ensures { result ≡ position (λ b. (b == 124) || (b == 92)) bytes.now }

@@ -13,7 +13,7 @@ use crate::share::{Share, Shares};
 use crate::text::{NoMemory, Text, Texts};
 use std::alloc::Global;
 
-/// How many values a list cell has.
+/// The number of values of a list cell.
 pub fn count_values(cell: &str) -> usize
     ensures { result ≡ length (raw_parts cell.now) }
 {
@@ -24,7 +24,7 @@ pub fn count_values(cell: &str) -> usize
     count
 }
 
-/// Writes the first value of a text over another text, and answers what stands behind its raw part.
+/// Writes the first value of a text over `value`, and returns the text after the pipe that ends its raw part.
 fn read_first<'c>(
     alloc: Global,
     text: &'c str,
@@ -42,12 +42,12 @@ fn read_first<'c>(
     Ok(rest)
 }
 
-/// Writes the values of a list cell over the items of a list: what `unescape` makes of each part that
-/// `values` gives.
+/// Writes the values of a list cell over the items of a list: what `unescape` returns for each part
+/// of `values`.
 ///
 /// # Errors
 ///
-/// `NoMemory`: no memory was left for them; the list may then have any items.
+/// `NoMemory`: out of memory; the list may then have any items.
 pub fn read_texts_into(alloc: Global, cell: &str, texts: &mut Texts) -> Result<(), NoMemory>
     ensures { OnOk result (texts.new ≡ map value_of (raw_parts cell.now)) }
 {
@@ -60,11 +60,11 @@ pub fn read_texts_into(alloc: Global, cell: &str, texts: &mut Texts) -> Result<(
     Ok(())
 }
 
-/// Writes the shares of a list cell over the items of a list, where each of its parts is a share.
+/// Writes the shares of a list cell, each part of which is a share, over the items of a list.
 ///
 /// # Errors
 ///
-/// `NoMemory`: no memory was left for them; the list may then have any items.
+/// `NoMemory`: out of memory; the list may then have any items.
 pub fn read_shares_into(cell: &str, shares: &mut Shares) -> Result<(), NoMemory>
     requires { list_all (λ part. is_some (share_of part)) (raw_parts cell.now) ≡ true }
     ensures { OnOk result (shares.new ≡ map (λ part. unwrap_or (share_of part) 0) (raw_parts cell.now)) }
@@ -81,7 +81,7 @@ pub fn read_shares_into(cell: &str, shares: &mut Shares) -> Result<(), NoMemory>
 ///
 /// # Errors
 ///
-/// `NoMemory`: no memory was left for them.
+/// `NoMemory`: out of memory.
 pub fn read_texts(alloc: Global, cell: &str) -> Result<Texts, NoMemory>
     ensures { IfOk result (λ t. t ≡ map value_of (raw_parts cell.now)) }
 {

@@ -1,4 +1,4 @@
-//! Texts that are short enough to lie in the value itself (small string optimization).
+//! Texts that are short enough to be stored in the value itself (small string optimization).
 ghost use Rattle.std.specs.Prelude.{◌≡◌, ◌≤◌, ◌+◌, length, take, drop};
 ghost use Rattle.std.specs.Int.{w64, from_le_bytes};
 ghost use Rattle.std.specs.Str.{bytes_eq};
@@ -7,10 +7,10 @@ use std::marker::Model;
 use std::simd::Simd;
 use std::str;
 
-/// How many bytes a short text has at most.
+/// The maximum length of a short text, in bytes.
 pub(crate) const SHORT: usize = 22;
 
-/// A text of at most 22 bytes, which takes no memory of its own. Zeros stand behind it, so two are compared by words.
+/// A text of at most 22 bytes, stored in place. The unused bytes are zero, so two texts are compared by words.
 #[derive(Drop)]
 pub(crate) struct ShortText {
     bytes: [u8; SHORT],
@@ -28,8 +28,8 @@ impl Model for ShortText {
     ghost invariant = { λ s. (s.size ≤ 22) × HasZerosBehind s.size s.bytes × ∥ IsUtf8 (take s.size s.bytes) ∥₁ };
 }
 
-/// Copies a text of `HALF` to twice as many bytes to the front: its first and its last `HALF`, which may overlap. Each is one
-/// load and one store; the loads come first, so that nobody has to ask whether the text and the bytes overlap.
+/// Copies a text of `HALF` to twice as many bytes to the front: its first and its last `HALF`, which may overlap. Each
+/// is one load and one store; both loads come before the stores, so the compiler need not check for aliasing.
 #[inline(always)]
 fn copy_ends<const HALF: usize>(bytes: &mut [u8; SHORT], text: &[u8])
     requires long { HALF ≤ length text.now }
@@ -64,7 +64,7 @@ fn copy_short(bytes: &mut [u8; SHORT], text: &[u8])
     }
 }
 
-/// Eight bytes, as a number.
+/// The eight bytes from offset `at`, as a little-endian number.
 #[inline(always)]
 fn word(bytes: &[u8; SHORT], at: usize) -> u64
     requires { at ≤ 14 }
@@ -74,7 +74,7 @@ fn word(bytes: &[u8; SHORT], at: usize) -> u64
     u64::from_le_bytes([b[0], b[1], b[2], b[3], b[4], b[5], b[6], b[7]])
 }
 
-/// Whether all bytes in place are the same: three words are compared with no branch, of which the last two overlap.
+/// Whether all 22 bytes are equal. Three words are compared without a branch; the last two overlap.
 #[inline(always)]
 fn same_bytes(bytes: &[u8; SHORT], other: &[u8; SHORT]) -> bool
     ensures { result ≡ bytes_eq bytes.now other.now }
@@ -86,7 +86,7 @@ fn same_bytes(bytes: &[u8; SHORT], other: &[u8; SHORT]) -> bool
 }
 
 impl ShortText {
-    /// The same bytes, in place.
+    /// The same text, in place.
     #[inline(always)]
     pub(crate) fn copy_of(text: &str) -> ShortText
         requires { length text.now ≤ 22 }
@@ -100,7 +100,7 @@ impl ShortText {
         }
     }
 
-    /// Writes another text over this one, where it lies.
+    /// Writes another text over this one, in place.
     #[inline(always)]
     pub(crate) fn assign(&mut self, text: &str)
         requires { length text.now ≤ 22 }

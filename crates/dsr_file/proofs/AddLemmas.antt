@@ -1,4 +1,4 @@
--- A record that is added to a grammar.
+-- Adding a record to a grammar.
 use Rattle.std.proofs.Common.{◌≡◌, ◌+◌, ◌∙◌, sym, ap, refl, subst, Bool, true, false, List, [], ◌∷◌, ◌++◌, length, count_by, Option, None, Some, add-zero, length-append}
 use Rattle.std.proofs.lemmas.List.Sums.{sum_by-append}
 use Rattle.std.proofs.Common.{cond}
@@ -24,7 +24,7 @@ use Rattle.dsr_file.specs.Grammars.{Keeps, kept_count_fault, IsRecord}
 use Rattle.dsr_file.proofs.StepLemmas.{Steps, step_record, summaries-append}
 use Rattle.dsr_file.proofs.LineLemmas.{records-push, first_good}
 
--- what the code does to the numbers
+-- how the code changes the numbers
 pub record Adds (old new : Grammar) (item : Record) (part : Option EventPart) : Type 0 where
   pub stage : new.stage ≡ stage_after old.stage item
   pub given : part ≡ given_by old.stage item
@@ -35,7 +35,7 @@ pub record Adds (old new : Grammar) (item : Record) (part : Option EventPart) : 
   pub summaries : new.summaries ≡ old.summaries + summary_count item
   pub blocks : new.blocks ≡ old.blocks + block_count part
 
--- what a work or a usage does to the numbers
+-- how a work or a usage changes the numbers
 module _ (old new : Grammar) where
   pub member_adds : (item : Record) → IsMember item → new.stage ≡ stage_after old.stage item → new.lines ≡ old.lines + 1 → new.records ≡ old.records + 1 → new.skipped_lines ≡ old.skipped_lines → new.skipped_records ≡ old.skipped_records → new.summaries ≡ old.summaries + 0 → new.blocks ≡ old.blocks + 0 → Adds old new item None
   member_adds (Work w) m s l r a b ss bs = record { stage = s; given = refl; lines = l; records = r; skipped_lines = a; skipped_records = b; summaries = ss; blocks = bs }
@@ -55,7 +55,7 @@ module _ (old new : Grammar) where
   member_has_no_counts (Foot h) m = absurd m
   member_has_no_counts Skipped m = refl
 
-  -- what a resource does to the numbers
+  -- how a resource changes the numbers
   pub resource_adds : (item : Record) (part : Option EventPart) → kind_of_record item ≡ kinds.Resource → new.stage ≡ stage_after old.stage item → part ≡ given_by old.stage item
       → new.lines ≡ old.lines + 1 → new.records ≡ old.records + 1 → new.skipped_lines ≡ old.skipped_lines → new.skipped_records ≡ old.skipped_records
       → new.summaries ≡ old.summaries + 0 → new.blocks ≡ old.blocks + block_count part → Adds old new item part
@@ -85,7 +85,7 @@ summary_added (Usage u) = refl
 summary_added (Foot f) = refl
 summary_added Skipped = refl
 
--- what a record is that is not of a skipped type
+-- a record that is not of a skipped type is kept
 kept_record : (item : Record) → IsRecord item → kept (Holds item) ≡ item ∷ []
 kept_record (Summary s) i = refl
 kept_record (Head h) i = refl
@@ -104,7 +104,7 @@ unskipped (Usage u) i = refl
 unskipped (Foot f) i = refl
 unskipped Skipped i = absurd i
 
--- the records with the item
+-- the records after a line that holds the item
 pub with_item : (ls : List Reading) (item : Record) → IsRecord item → records (ls ++ Holds item ∷ []) ≡ records ls ++ item ∷ []
 with_item ls item i = records-push ls (Holds item) ∙ ap (λ rs. records ls ++ rs) (kept_record item i)
 

@@ -1,4 +1,4 @@
--- Bytes more, and the pieces that they leave.
+-- More bytes, and the pieces after them.
 use Rattle.std.proofs.Common.{◌≡◌, ℕ, suc, ◌+◌, ◌<◌, ◌≤◌, ◌∙◌, sym, ap, refl, subst, Bool, true, false, cond, ◌||◌, ◌&&◌, eqb, List, [], ◌∷◌, ◌++◌, length, take, drop, ◌-◌, append_assoc, arith, length-append, length-take}
 use Rattle.std.specs.Prelude.{nat_eq, zero, ◌==◌, slice_index, if◌then◌else◌}
 use Rattle.std.proofs.lemmas.List.{append-nil, take_more}
@@ -52,7 +52,7 @@ split_front p (y ∷ ys) xs ps k e n =
     ∙ split_front p ys (xs ++ y ∷ []) ps (k ++ y ∷ []) (split_stay p xs y (or_first (p y) (list_any p ys) n) ∙ ap (onto_last y) e ∙ onto_last_push ps k y) (or_second (p y) (list_any p ys) n)
     ∙ ap (λ q. ps ++ q ∷ []) (append_assoc k (y ∷ []) ys)
 
--- three bytes settle whether the mark stands there
+-- after three bytes it is known whether the text begins with the mark
 pub settled_three : (bytes : List ℕ) → 3 ≤ length bytes → IsSettled bytes
 settled_three [] h more = absurd (omega arith)
 settled_three (x ∷ []) h more = absurd (omega arith)
@@ -60,7 +60,7 @@ settled_three (x ∷ y ∷ []) h more = absurd (omega arith)
 settled_three (x ∷ y ∷ z ∷ bytes) h more =
     elim (starts_with nat_eq (x ∷ y ∷ z ∷ []) byte_order_mark) as (λ b. (if b then bytes ++ more else x ∷ y ∷ z ∷ (bytes ++ more)) ≡ (if b then bytes else x ∷ y ∷ z ∷ bytes) ++ more) [ true ↦ refl | false ↦ refl ]
 
--- so does an LF
+-- it is known after a line feed, too
 pub settled_lf : (bytes : List ℕ) → length bytes < 3 → IsSettled (bytes ++ 10 ∷ [])
 settled_lf [] h more = refl
 settled_lf (x ∷ []) h more = elim (eqb 239 x) as (λ b. (if b && false then drop 3 (x ∷ 10 ∷ more) else x ∷ 10 ∷ more) ≡ (if b && false then drop 3 (x ∷ 10 ∷ []) else x ∷ 10 ∷ []) ++ more) [ true ↦ refl | false ↦ refl ]
@@ -79,7 +79,7 @@ unmarked_lf (x ∷ []) h = elim (eqb 239 x) as (λ b. (if b && false then drop 3
 unmarked_lf (x ∷ y ∷ []) h = elim (eqb 239 x) as (λ b. (if b && (eqb 187 y && false) then [] else x ∷ y ∷ 10 ∷ []) ≡ x ∷ y ∷ 10 ∷ []) [ true ↦ elim (eqb 187 y) as (λ b. (if b && false then [] else x ∷ y ∷ 10 ∷ []) ≡ x ∷ y ∷ 10 ∷ []) [ true ↦ refl | false ↦ refl ] | false ↦ refl ]
 unmarked_lf (x ∷ y ∷ z ∷ bytes) h = absurd (omega arith)
 
--- bytes with no LF
+-- bytes without a line feed
 pub more_bytes : (kept b ys : List ℕ) (ps : List (List ℕ)) → CutsTo kept false b ps → list_any is_line_feed ys ≡ false → CutsTo (kept ++ ys) false (b ++ ys) ps
 more_bytes kept b ys ps k n = record {
   pieces_are = ap (slice_split is_line_feed) (k.settled refl ys) ∙ split_front is_line_feed ys (without_mark b) ps kept k.pieces_are n;
@@ -91,7 +91,7 @@ more_bytes kept b ys ps k n = record {
     not_both : false ≡ true → ⊥
     not_both e = cc
 
--- an LF
+-- a line feed
 pub line_feed : (kept b : List ℕ) (ps : List (List ℕ)) → CutsTo kept false b ps → CutsTo [] false (b ++ 10 ∷ []) (ps ++ kept ∷ [])
 line_feed kept b ps k = record {
   pieces_are = ap (slice_split is_line_feed) (k.settled refl (10 ∷ [])) ∙ split_open is_line_feed (without_mark b) 10 refl ∙ ap (λ qs. qs ++ [] ∷ []) k.pieces_are;
@@ -103,7 +103,7 @@ line_feed kept b ps k = record {
     not_both : false ≡ true → ⊥
     not_both e = cc
 
--- at the start of a text: an LF
+-- at the start of a text: a line feed
 pub start_lf : (kept b : List ℕ) (ps : List (List ℕ)) → CutsTo kept true b ps → CutsTo [] false (b ++ 10 ∷ []) (ps ++ kept ∷ [])
 start_lf kept b ps k =
     let few : length b < 3 = rw (k.start refl).0 ((k.start refl).1) in
@@ -159,7 +159,7 @@ start_third kept b ps c k n three =
     not_both : false ≡ true → ⊥
     not_both e = cc
 
--- no line feed among the first bytes, where none stands at their places
+-- the first k bytes have no line feed if none of them is one
 pub none_among : (xs : List ℕ) (k : ℕ) → ((i : ℕ) → i < k → eqb (slice_index xs i) 10 ≡ true → ⊥) → list_any is_line_feed (take k xs) ≡ false
 none_among xs zero h = refl
 none_among [] (suc k) h = refl
@@ -169,7 +169,7 @@ none_among (x ∷ xs) (suc k) h = by_first (eqb x 10) refl (none_among xs k (λ 
     by_first true e n = absurd (h 0 (omega arith) e)
     by_first false e n = n
 
--- the bytes up to a line feed, and it
+-- the bytes up to a line feed, and the line feed
 pub fed_line : (kept b piece : List ℕ) (ps : List (List ℕ)) (n : ℕ) → CutsTo kept false b ps → list_any is_line_feed (take n piece) ≡ false → n < length piece → slice_index piece n ≡ 10 → CutsTo [] false (b ++ take (n + 1) piece) (ps ++ (kept ++ take n piece) ∷ [])
 fed_line kept b piece ps n k none short found =
     let fed = line_feed _ _ ps (more_bytes kept b (take n piece) ps k none) in

@@ -58,11 +58,11 @@ fault_end : (ls : List Reading) (l : Reading) (f : FileFault) (ending : Ending) 
 unfolding events
 fault_end ls l f ending g e = ap (λ x. events_of (taken (ls ++ l ∷ []) x) ++ Ended (outcome (ls ++ l ∷ []) ending x) ∷ []) (first_at ls l f [] g e)
 
--- what the grammar says of the end
+-- the outcome that the grammar returns is that of the text
 end_kept : (g : Grammar) (ls : List Reading) (ending : Ending) → Keeps g ls → outcome_at (column_at g.stage) ending (g.lines + 1) ≡ end_of (records ls) ending (length ls + 1)
 end_kept g ls ending k = ap (λ c. outcome_at c ending (g.lines + 1)) (sym (column_kept g.stage (records ls) k.stage_is)) ∙ ap (λ n. end_of (records ls) ending (n + 1)) k.lines_are
 
--- the events given, these, and the outcome
+-- the events given, these, and then the outcome
 all_end : (es all : List Placed) (xs parts : List EventPart) (o : Outcome) (n : ℕ) → es ≡ placed 0 xs → n ≡ length es → all ≡ placed 0 ((xs ++ parts) ++ Ended o ∷ []) → all ≡ (es ++ placed n parts) ++ ended (length (es ++ placed n parts)) o ∷ []
 all_end es all xs parts o n e h a = a ∙ sym (placed_more (es ++ placed n parts) (xs ++ parts) (Ended o ∷ []) _ (placed_more es xs parts n e h) refl)
 
@@ -111,7 +111,8 @@ module _ (layout : LayoutTable) (r : FileReader) (b : List ℕ) (es : List Place
   memory_last new e s is d same p =
       memory_stands_at layout r new (Some endings.Whole) b es (map (reading layout) a.whole) (reading layout r.cutter.bytes.items) (r.grammar.lines + 1) e a.layout_is a.given_is a.place_is a.ending_is now a.keeps.good (did NoMemory s) a.events_are (ap (λ n. n + 1) a.keeps.lines_are) is d same p
 
--- all events of bytes whose events have ended, or of which memory ended some, are those of every text that begins with the bytes
+-- if the events of bytes have ended, all of them or because memory was refused, they are those of every text that
+-- begins with the bytes
 pub events_later : (layout : LayoutTable) (b more : List ℕ) (ending : Ending) (es : List Placed) → has_ended es ≡ true → HasEvents layout b None es → HasEvents layout (b ++ more) (Some ending) es
 events_later layout b more ending es t (inl h) = inl (h ∙ fault_is_final_lem layout b more ending (sym (ap has_ended h) ∙ t))
 events_later layout b more ending es t (inr c) = inr (cut_off_later layout b more ending es c)
@@ -119,7 +120,7 @@ events_later layout b more ending es t (inr c) = inr (cut_off_later layout b mor
 events_told : (layout : LayoutTable) (b : List ℕ) (ending : Ending) (es : List Placed) → has_ended es ≡ true → HasEvents layout b None es → HasEvents layout b (Some ending) es
 events_told layout b ending es t h = subst (λ x. HasEvents layout x (Some ending) es) (append-nil b) (events_later layout b [] ending es t h)
 
--- the ending is told
+-- the ending is set
 pub ending_set : (layout : LayoutTable) (old new : FileReader) (ending : Ending) (b : List ℕ) (es : List Placed) → old.ending ≡ None → new.ending ≡ Some ending → new.layout ≡ old.layout → new.given ≡ old.given → new.place ≡ old.place → new.phase ≡ old.phase → old.phase ≢ phases.Reading → Stands layout old b es → Stands layout new b es
 ending_set layout old new ending b es o n la g p ph not s = record {
   layout_is = la ∙ s.layout_is;

@@ -1,4 +1,4 @@
--- What a reader and a sink hold while a source is read.
+-- The state of a reader and a sink while a source is read.
 use Rattle.std.proofs.Common.{◌≡◌, ℕ, ◌+◌, ◌-◌, ◌≤◌, ◌⊎◌, inl, inr, ◌∙◌, sym, ap, refl, subst, List, [], ◌∷◌, ◌++◌, length, take, drop, Option, None, Some, append_assoc, length-take, length-drop, arith}
 use Rattle.std.specs.Option.{option_to_list, IfNone}
 use Rattle.std.proofs.lemmas.List.{append-nil}
@@ -22,11 +22,11 @@ prefix_self xs = ([], append-nil xs)
 pub prefix_more : {A : Type 0} (xs ys zs : List A) → IsPrefix xs ys → IsPrefix ys zs → IsPrefix xs zs
 prefix_more xs ys zs p q = (p.0 ++ q.0, sym (append_assoc xs p.0 q.0) ∙ ap (λ l. l ++ q.0) p.1 ∙ q.1)
 
--- a list that grew by an event
+-- a list to which an event was appended
 pub prefix_event : (xs ys zs : List Placed) (e : Placed) → IsPrefix xs ys → zs ≡ ys ++ e ∷ [] → IsPrefix xs zs
 prefix_event xs ys zs e p is = prefix_more xs ys zs p (e ∷ [], sym is)
 
--- the first events that bytes have are the first of each text that begins with the bytes
+-- the first events of bytes are the first of each text that begins with the bytes
 pub begins_later : (layout : LayoutTable) (b more : List ℕ) (ending : Ending) (es : List Placed) → BeginsEvents layout b None es → BeginsEvents layout (b ++ more) (Some ending) es
 begins_later layout b more ending es (inl p) = inl (prefix_more es (so_far layout b) (text_events layout (b ++ more) ending) p (so_far_begins_lem layout b more ending))
 begins_later layout b more ending es (inr c) = inr (cut_off_later layout b more ending es c)
@@ -39,7 +39,7 @@ pub known_run : (layout : LayoutTable) (b : List ℕ) (told : Option Ending) (es
 known_run layout b None es h = let text : FileText = record { bytes = b ++ []; ending = endings.Read } in (layout, text, begins_run layout text es (begins_later layout b [] endings.Read es h))
 known_run layout b (Some ending) es h = let text : FileText = record { bytes = b; ending = ending } in (layout, text, begins_run layout text es h)
 
--- the event that a reader gives makes a run with those before it
+-- the event that a reader gives makes a run with the events before it
 pub event_run : (layout : LayoutTable) (r : FileReader) (b : List ℕ) (told : Option Ending) (es : List Placed) (o : Option Placed) (e : Placed) → o ≡ Some e
     → ((layout : LayoutTable) (c : List ℕ) (gs : List Placed) → Stands layout r c gs → BeginsEvents layout c told gs) → Stands layout r b (es ++ option_to_list o) → IsSomeRun (es ++ e ∷ [])
 event_run layout r b told es o e is begins s = known_run layout b told (es ++ e ∷ []) (subst (λ x. BeginsEvents layout b told (es ++ option_to_list x)) is (begins layout b _ s))
@@ -51,7 +51,7 @@ all_used : (m n : ℕ) (piece : List ℕ) (D : Type 0) → m ≤ length piece �
 all_used m n piece D h (inl e) = inl (omega (arith, simp (length-take, length-drop) at e))
 all_used m n piece D h (inr d) = inr d
 
--- a call of `take` without an event, behind those before
+-- a call of `take` that returned no event, after other calls
 pub fed_all : (layout : LayoutTable) (r : FileReader) (b piece : List ℕ) (es : List Placed) (m n : ℕ) (o : Option Placed) → m ≤ length piece → n ≤ length (rest_of piece m) → o ≡ None → Stands layout r ((b ++ take m piece) ++ take n (rest_of piece m)) (es ++ option_to_list o)
     → IfNone o ((n ≡ length (rest_of piece m)) ⊎ IsDone r) → IfNone o ((layout : LayoutTable) (c : List ℕ) (gs : List Placed) → Stands layout r c gs → HasEvents layout c None gs) → Fed layout r b piece es
 fed_all layout r b piece es m n None h k is s w all =
@@ -65,7 +65,7 @@ fed_all layout r b piece es m n None h k is s w all =
     }
 fed_all layout r b piece es m n (Some e) h k is s w all = absurd (cc)
 
--- an event that is handed back
+-- an event that was refused
 pub fed_some : (layout : LayoutTable) (r : FileReader) (b piece : List ℕ) (es fs : List Placed) (m n : ℕ) (o : Option Placed) (e v : Placed) → m ≤ length piece → n ≤ length (rest_of piece m) → o ≡ Some v → (e ≡ v) × (fs ≡ es)
     → Stands layout r ((b ++ take m piece) ++ take n (rest_of piece m)) (es ++ option_to_list o) → ((layout : LayoutTable) (c : List ℕ) (gs : List Placed) → Stands layout r c gs → BeginsEvents layout c None gs) → FedSome layout b piece (fs ++ e ∷ [])
 fed_some layout r b piece es fs m n o e v h k is same s begins = record {

@@ -1,4 +1,4 @@
--- Where no line feed stands.
+-- Bytes without a line feed.
 use Rattle.std.proofs.Common.{◌≡◌, ℕ, ◌+◌, ◌-◌, ◌<◌, ◌≤◌, ◌∙◌, ◌++◌, ◌||◌, sym, ap, subst, true, false, eqb, not, List, length, map, take, drop, get_or, inl, inr, arith, take-add, take_all, length-drop, Bool}
 use Rattle.std.specs.List.{list_any, prefix_len}
 use Rattle.std.specs.Simd.Lanes.{chunk, mask_l}
@@ -9,11 +9,11 @@ use Rattle.std.proofs.lemmas.Bool.{cases_lt, eqb-true}
 use Rattle.dsr_cells.specs.Lines.{is_line_feed}
 use Rattle.dsr_file.proofs.CutLemmas.{none_among}
 
--- no line feed before a place
+-- no line feed before an index
 abbrev pub NoneBefore : List ℕ → ℕ → Type 0
 NoneBefore xs n = (k : ℕ) → k < n → eqb (get_or xs k 0) 10 ≡ false
 
--- 16 bytes more, up to the first line feed among them
+-- 16 more bytes, up to the first line feed among them
 pub none_before_more : (xs : List ℕ) (at run : ℕ) → at + 16 ≤ length xs → run ≡ prefix_len (λ b. not (eqb b 10)) (chunk at 16 xs) → NoneBefore xs at → NoneBefore xs (at + run)
 none_before_more xs at run room counted before k lt = elim (cases_lt k at) [
   | inl near ↦ before k near
@@ -23,7 +23,7 @@ none_before_more xs at run room counted before k lt = elim (cases_lt k at) [
 pub none_before : (xs : List ℕ) (n : ℕ) → NoneBefore xs n → list_any is_line_feed (take n xs) ≡ false
 none_before xs n before = none_among xs n (λ i lt feed. let clash : true ≡ false = sym feed ∙ before i lt in cc)
 
--- none before a place, and none among the bytes behind it
+-- no line feed before an index, and none in the bytes from there
 pub none_joined : (xs : List ℕ) (at n : ℕ) → NoneBefore xs at → list_any is_line_feed (take n (take (length xs - at) (drop at xs))) ≡ false
     → list_any is_line_feed (take (at + n) xs) ≡ false
 none_joined xs at n before behind =
@@ -34,7 +34,7 @@ none_joined xs at n before behind =
 abbrev is_feed : ℕ → Bool
 is_feed b = eqb b 10
 
--- the mask of 16 bytes tells how many stand before the first line feed
+-- the mask of 16 bytes gives the number of bytes before the first line feed
 pub all_of_16 : (xs : List ℕ) (at feeds : ℕ) → at + 16 ≤ length xs → feeds ≡ mask_l (map is_feed (chunk at 16 xs)) → feeds ≡ 0 → 16 ≡ prefix_len (λ b. not (is_feed b)) (chunk at 16 xs)
 all_of_16 xs at feeds room are none = sym (leading_from_mask_l is_feed (chunk at 16 xs) (sym are ∙ none) ∙ length-chunk at 16 xs room)
 

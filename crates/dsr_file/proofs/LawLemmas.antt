@@ -38,7 +38,7 @@ use Rattle.dsr_file.proofs.TestLemmas.{early_not_count}
 use Rattle.dsr_file.proofs.ReaderLemmas.{placed-append, long_last, readings_short, readings_long}
 use Rattle.dsr_file.proofs.CutLemmas.{split_some, split_front, unmarked_short, settled_three, settled_lf}
 
--- none, or a fault of the counts
+-- no fault, or a fault of the counts
 abbrev pub counted : Option FileFault → Bool
 counted None = true
 counted (Some f) = counts_fault f
@@ -64,7 +64,7 @@ left_or_real (Work h) = inr tt
 left_or_real (Usage h) = inr tt
 left_or_real (Foot h) = inr tt
 
--- a stage behind one good line more
+-- the stage after one more good line
 record Onward (ls : List Reading) (l : Reading) : Type 0 where
   stage : Stage
   keeps : KeepsStage stage (records (ls ++ l ∷ []))
@@ -84,7 +84,7 @@ onward stage ls (Faulty f) k e = record { stage = stage; keeps = same_stage stag
 onward stage ls SkippedLine k e = record { stage = stage; keeps = same_stage stage ls SkippedLine refl k }
 onward stage ls (Holds r) k e = onward_item stage ls r k e (left_or_real r)
 
--- the events go on
+-- the events of these records begin with those of the lines
 abbrev GoesOn : List Reading → List Record → Type 0
 GoesOn ls rs = (more : List EventPart) × (events_of rs ≡ events_of (records ls) ++ more)
 
@@ -104,7 +104,7 @@ with_count : (stage : Stage) (ls : List Reading) (l : Reading) (f : FileFault) �
 with_count stage ls l f k e true t = more_of stage ls l k (ap counted e ∙ t)
 with_count stage ls l f k e false t = ([], sym (append-nil (events_of (records ls))))
 
--- the events taken go on
+-- the events of more lines begin with those of the first
 taken_more : (stage : Stage) (ls ms : List Reading) → first_from [] ls ≡ AllGood → KeepsStage stage (records ls) → GoesOn ls (taken (ls ++ ms) (first_from [] (ls ++ ms)))
 taken_more stage ls [] g k = ([], ap (λ xs. events_of (taken xs (first_from [] xs))) (append-nil ls) ∙ ap (λ f. events_of (taken ls f)) g ∙ sym (append-nil (events_of (records ls))))
 taken_more stage ls (m ∷ ms) g k =
@@ -134,7 +134,7 @@ stage_from stage ls (m ∷ ms) g h k =
     not_good : {f : FileFault} {l : Reading} → At ls l f ≡ AllGood → ⊥
     not_good e = cc
 
--- a fault stays the first
+-- the first fault stays the first
 fault_stays : (before ls ms : List Reading) (b : List Reading) (l : Reading) (f : FileFault) → first_from before ls ≡ At b l f → first_from before (ls ++ ms) ≡ At b l f
 fault_stays before [] ms b l f e = cc
 fault_stays before (m ∷ ls) ms b l f e =
@@ -154,7 +154,7 @@ lines_begin ls ms ending = by_first (first_from [] ls) refl
         (on.0 ++ last, ap (λ es. es ++ last) on.1 ∙ append_assoc (events_of (records ls)) on.0 last ∙ ap (λ es. es ++ (on.0 ++ last)) (sym (append-nil (events_of (records ls)))))
     by_first (At b l f) e = ([], ap (λ x. events_of (taken (ls ++ ms) x) ++ tell.Ended (outcome (ls ++ ms) ending x) ∷ []) (fault_stays [] ls ms b l f e) ∙ sym (append-nil _))
 
--- the events taken have no Ended
+-- the events of records have no Ended
 pub no_ended : (rs : List Record) → list_any is_ended (events_of rs) ≡ false
 unfolding events_of
 no_ended rs = list_any-append is_ended (opened rs) _ ∙ rw (of_opened (list_any opens rs) (opening_of rs), of_blocks (filter_map block_of (closed rs))) refl
@@ -175,7 +175,7 @@ pub ended_placed : (n : ℕ) (es : List EventPart) → has_ended (placed n es) �
 ended_placed n [] = refl
 ended_placed n (e ∷ es) = ap (λ b. is_ended e || b) (ended_placed (n + 1) es)
 
--- once they end, they stay
+-- once the events have ended, they stay the same
 pub lines_final : (ls ms : List Reading) (ending : Ending) → list_any is_ended (events_so_far ls) ≡ true → events (ls ++ ms) ending ≡ events_so_far ls
 unfolding events events_so_far
 lines_final ls ms ending = by_first (first_from [] ls) refl
@@ -187,7 +187,7 @@ lines_final ls ms ending = by_first (first_from [] ls) refl
         not_both e = cc
     by_first (At b l f) e h = ap (λ x. events_of (taken (ls ++ ms) x) ++ tell.Ended (outcome (ls ++ ms) ending x) ∷ []) (fault_stays [] ls ms b l f e)
 
--- pieces of bytes and more bytes
+-- the pieces of bytes, and those of more bytes
 abbrev join : List (List ℕ) → List (List ℕ) → List (List ℕ)
 join [] qs = qs
 join (p ∷ []) [] = p ∷ []

@@ -1,4 +1,4 @@
--- One line more.
+-- One more line.
 use Rattle.std.proofs.Common.{◌≡◌, ◌∙◌, sym, ap, refl, List, [], ◌∷◌, ◌++◌, None, Some, append_assoc}
 use Rattle.std.proofs.lemmas.List.{append-nil}
 use Rattle.dsr_file.specs.declared.fault.FileFault.{FileFault}
@@ -10,7 +10,7 @@ pub records-append : (ls ms : List Reading) → records (ls ++ ms) ≡ records l
 records-append [] ms = refl
 records-append (l ∷ ls) ms = ap (λ rs. kept l ++ rs) (records-append ls ms) ∙ sym (append_assoc (kept l) (records ls) (records ms))
 
--- one line more
+-- one more line
 pub records-push : (ls : List Reading) (l : Reading) → records (ls ++ l ∷ []) ≡ records ls ++ kept l
 records-push ls l = records-append ls (l ∷ []) ∙ ap (λ rs. records ls ++ rs) (append-nil (kept l))
 
@@ -18,7 +18,7 @@ records-push ls l = records-append ls (l ∷ []) ∙ ap (λ rs. records ls ++ rs
 pub records-same : (ls : List Reading) (l : Reading) → kept l ≡ [] → records (ls ++ l ∷ []) ≡ records ls
 records-same ls l e = records-push ls l ∙ ap (λ rs. records ls ++ rs) e ∙ append-nil (records ls)
 
--- behind good lines the search goes on
+-- after good lines the search continues
 pub first_append : (before ls more : List Reading) → first_from before ls ≡ AllGood → first_from before (ls ++ more) ≡ first_from (before ++ ls) more
 first_append before [] more e = ap (λ xs. first_from xs more) (sym (append-nil before))
 first_append before (l ∷ ls) more e =

@@ -1,4 +1,4 @@
--- Summaries of which no two have one identifier.
+-- Summaries whose identifiers are all different.
 use Rattle.std.proofs.Common.{◌≡◌, ◌∙◌, sym, ap, refl, subst, Bool, true, false, not, ◌&&◌, ◌||◌, List, [], ◌∷◌, ◌++◌}
 use Rattle.std.specs.Prelude.{Result, Ok, Err, MatchResult}
 use Rattle.std.specs.List.{list_any}
@@ -36,7 +36,7 @@ distinct_push (x ∷ ss) s d n =
     let any : list_any (λ t. bytes_eq x.id t.id) (ss ++ s ∷ []) ≡ false = list_any-append (λ t. bytes_eq x.id t.id) ss (s ∷ []) ∙ ap (λ b. b || (bytes_eq x.id s.id || false)) one ∙ ap (λ b. b || false) two in
     ap (λ b. not b && distinct (ss ++ s ∷ [])) any ∙ rest
 
--- what holds of a list before and after a push holds of what the push leaves
+-- what holds of a list with and without an item holds after the item was pushed or refused
 pub pushed : {T X : Type 0} (P : X → Type 0) (r : Result (Unit {0}) T) (t : T) (new a b : X) → MatchResult r (λ _. new ≡ a) (λ back. (back ≡ t) × (new ≡ b)) → P a → P b → P new
 pushed P (Ok x) t new a b e p q = subst P (sym e) p
 pushed P (Err x) t new a b e p q = subst P (sym e.1) q

@@ -1,4 +1,4 @@
--- The parts of records, one more record at the end.
+-- The parts of records, with one more record at the end.
 use Rattle.std.proofs.Common.{◌≡◌, ◌∙◌, sym, ap, refl, true, false, cond, List, [], ◌∷◌, ◌++◌, drop, Some}
 use Rattle.std.specs.List.{onto_first}
 use Rattle.dsr_records.specs.declared.record.Record.{Record}

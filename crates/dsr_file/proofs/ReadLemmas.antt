@@ -1,4 +1,4 @@
--- What the reading of a file gives.
+-- The results of reading a file.
 use Rattle.std.proofs.Common.{◌≡◌, ℕ, ◌+◌, ◌-◌, ◌<◌, ◌≤◌, ◌⊎◌, inl, inr, ◌∙◌, sym, ap, refl, subst, Bool, true, false, List, [], ◌∷◌, ◌++◌, length, take, drop, Option, None, Some, append_assoc, take-append-drop, length-append, take_all, arith}
 use Rattle.std.proofs.lemmas.List.{append-nil}
 use Rattle.std.proofs.Math.Seq.{take-append_seam, take-nil}
@@ -54,7 +54,7 @@ consumes_self : (x : Option (List ℕ)) → Consumes x x []
 consumes_self None = tt
 consumes_self (Some a) = refl
 
--- nothing is known of no bytes
+-- without bytes there is no Ended
 nothing_ended : (layout : LayoutTable) → has_ended (so_far layout []) ≡ false
 unfolding events_so_far events_of
 nothing_ended layout = refl
@@ -66,7 +66,7 @@ nothing_known layout = refl
 none_before : (reads : ReadCount) → before_last reads [] ≡ []
 none_before reads = take-nil (0 - reads.last)
 
--- the events of what was given before the last read stay in front
+-- the events of the bytes given before the last read stay at the front
 earlier_more : (layout : LayoutTable) (reads : ReadCount) (given : List ℕ) (es fs : List Placed)
     → HasEarlier layout reads given es → IsPrefix es fs → HasEarlier layout reads given fs
 earlier_more layout reads given es fs h grows = prefix_more _ es fs h grows
@@ -124,7 +124,7 @@ ended_not : (b : Bool) → (b ≡ true → ⊥) → b ≡ false
 ended_not true n = absurd (n refl)
 ended_not false n = refl
 
--- a read gave this piece, after so many reads that each gave bytes
+-- a read gave this piece, after `reads` reads that each gave bytes
 module _ (layout : LayoutTable) (before mid after : Told) (reads limit : ℕ) (file new : FileReader) (es fs : List Placed)
     (r : Reads layout before mid reads file es) (piece : List ℕ) (c : Consumes mid.remaining after.remaining piece) (counts : AddsRead mid.reads after.reads (length piece))
     (some : 0 < length piece) (few : length piece ≤ 4096)
@@ -147,7 +147,7 @@ module _ (layout : LayoutTable) (before mid after : Told) (reads limit : ℕ) (f
     most = simp length-append (omega (arith, r.most, few));
   }
 
-  -- what was given before it
+  -- the bytes given before it
   before_it : before_last after.reads (r.given ++ piece) ≡ r.given
   before_it = ap (λ n. take (length (r.given ++ piece) - n) (r.given ++ piece)) counts.1
       ∙ ap (λ n. take n (r.given ++ piece)) (simp length-append (omega arith))
@@ -159,13 +159,13 @@ module _ (layout : LayoutTable) (before mid after : Told) (reads limit : ℕ) (f
   earlier : IsPrefix es fs → HasEarlier layout after.reads (r.given ++ piece) fs
   earlier grows = subst (λ b. IsPrefix (so_far layout b) fs) (sym before_it) (prefix_more _ es fs r.known grows)
 
-  -- what was used of the piece, and the rest
+  -- the used part of the piece, and the rest
   joined : (used : ℕ) (more : List ℕ) → (r.given ++ take used piece) ++ (drop used piece ++ more) ≡ (r.given ++ piece) ++ more
   joined used more =
       sym (append_assoc (r.given ++ take used piece) (drop used piece) more)
       ∙ ap (λ x. x ++ more) (append_assoc r.given (take used piece) (drop used piece) ∙ ap (λ x. r.given ++ x) (take-append-drop used piece))
 
-  -- a fault stands in it, or memory was refused in it
+  -- the piece has a fault, or memory was refused in it
   pub fault_read : before.failed ≡ false → IsPrefix es fs → Fed layout new r.given piece fs → IsDone new → IsRead layout limit before after fs
   fault_read unfailed grows f d = by_case f.all
     where
@@ -199,7 +199,7 @@ module _ (layout : LayoutTable) (before mid after : Told) (reads limit : ℕ) (f
         earlier grows,
       )
 
-  -- no fault stands in it
+  -- the piece has no fault
   pub more_reads : IsPrefix es fs → Fed layout new r.given piece fs → (IsDone new → ⊥) → Reads layout before after (reads + 1) new fs
   more_reads grows f n = record {
     given = r.given ++ piece;
@@ -224,7 +224,7 @@ module _ (layout : LayoutTable) (before mid after : Told) (reads limit : ℕ) (f
       put : fs ≡ so_far layout (r.given ++ piece)
       put = cut_off_ended layout (r.given ++ piece) fs (subst (λ x. HasEvents layout (r.given ++ x) None fs) (all f.whole) f.all) going
 
-  -- an event of it was refused
+  -- an event of the piece was refused
   pub piece_refused : (e : Placed) → IsPrefix es fs → FedSome layout r.given piece (fs ++ e ∷ []) → IsRefused layout limit before after fs e
   piece_refused e grows f =
       let text : FileText = record { bytes = r.given ++ piece; ending = endings.Read } in (
@@ -239,7 +239,7 @@ module _ (layout : LayoutTable) (before mid after : Told) (reads limit : ℕ) (f
         earlier grows,
       )
 
--- a read gave nothing, after so many reads that each gave bytes: the source has nothing left, or it failed
+-- a read gave nothing, after `reads` reads that each gave bytes: the source has nothing left, or it failed
 module _ (layout : LayoutTable) (before mid after : Told) (reads limit : ℕ) (file : FileReader) (es : List Placed) (r : Reads layout before mid reads file es)
     (counts : AddsRead mid.reads after.reads 0) (less : reads < limit) (fs : List Placed) (grows : IsPrefix es fs) where
   first : HasEarlier layout after.reads r.given fs
@@ -282,7 +282,7 @@ module _ (layout : LayoutTable) (before mid after : Told) (reads limit : ℕ) (f
       → BeginsEvents layout r.given (Some endings.Read) (fs ++ e ∷ []) → IsRefused layout limit before after fs e
   failed_refused e c h = end_refused layout limit before after r.given endings.Read fs e (failed_gave c) (omega arith) first h
 
--- the limit of reads was reached
+-- the limit on reads was reached
 module _ (layout : LayoutTable) (before after : Told) (limit : ℕ) (file : FileReader) (es fs : List Placed)
     (r : Reads layout before after limit file es) (grows : IsPrefix es fs) where
   abbrev all_gave : Gave limit before after r.given
@@ -310,7 +310,7 @@ not_done t back f d = not_both (sym (back d) ∙ f)
 pub done_ends : (layout : LayoutTable) (r : FileReader) (b : List ℕ) (es : List Placed) (o : Outcome) → Stands layout r b es → r.phase ≡ phases.Done o → EndsWith es o
 done_ends layout r b es o s d = let at : StandsAt layout (phases.Done o) r b es = subst (λ x. StandsAt layout x r b es) d s.phase_is in at.1
 
--- a fault stands in the piece
+-- the piece has a fault
 pub fed_done : (layout : LayoutTable) (r : FileReader) (b piece : List ℕ) (es : List Placed) (o : Outcome) (ending : Ending) → Fed layout r b piece es → r.phase ≡ phases.Done o → HasEvents layout (b ++ piece) (Some ending) es × EndsWith es o
 fed_done layout r b piece es o ending f d =
     let ends : EndsWith es o = done_ends layout r (b ++ take f.used piece) es o f.stands d in (
@@ -328,7 +328,7 @@ abbrev last_by_memory : Option Placed → Bool
 last_by_memory None = false
 last_by_memory (Some e) = part_by_memory e.part
 
--- the events that no want of memory ended are all
+-- unless memory was refused, the events are all
 pub all_kept : (layout : LayoutTable) (b : List ℕ) (ending : Ending) (es : List Placed) (o : Outcome) (t : Bool) → HasEvents layout b (Some ending) es × EndsWith es o → t ≡ by_memory o → t ≡ false → es ≡ text_events layout b ending
 all_kept layout b ending es o t (inl h, ends) m f = h
 all_kept layout b ending es o t (inr c, (before, is)) m f =

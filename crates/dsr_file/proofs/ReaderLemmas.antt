@@ -1,4 +1,4 @@
--- The lines and events of bytes, one line more.
+-- The lines and events of bytes, with one more line.
 use Rattle.std.proofs.Common.{◌≡◌, ℕ, suc, ◌+◌, ◌<◌, ◌≤◌, ◌∙◌, sym, ap, refl, Bool, true, false, ◌&&◌, ◌||◌, ltb, List, [], ◌∷◌, ◌++◌, length, map, Some, add-zero, arith}
 use Rattle.std.specs.Prelude.{if◌then◌else◌}
 use Rattle.std.proofs.lemmas.List.{append-nil, map-append}
@@ -26,7 +26,7 @@ pub length-placed : (n : ℕ) (xs : List EventPart) → length (placed n xs) ≡
 length-placed n [] = refl
 length-placed n (x ∷ xs) = ap suc (length-placed (n + 1) xs)
 
--- all whole pieces are lines
+-- all complete pieces are lines
 pub lines_last : (ending : Ending) (ps : List (List ℕ)) (k : List ℕ) → lines_among ending (ps ++ k ∷ []) ≡ ps ++ lines_among ending (k ∷ [])
 lines_last ending [] k = refl
 lines_last ending (p ∷ []) k = refl

@@ -1,4 +1,4 @@
--- An answer whose error is the event that the sink refused.
+-- A result whose error is the event that the sink refused.
 use Rattle.std.proofs.Common.{Result, Ok, Err}
 use Rattle.std.specs.Prelude.{IfErr}
 use Rattle.dsr_file.specs.declared.reading.ReadFileError.{ReadFileError}

@@ -1,4 +1,4 @@
--- Runs of a text are orderly, and want of memory makes a run.
+-- Runs of a text are orderly, and events cut off because memory was refused are a run.
 use Rattle.std.proofs.Common.{◌≡◌, ℕ, ◌+◌, ◌<◌, ◌⊎◌, inl, inr, ◌∙◌, sym, ap, refl, subst, Bool, true, false, List, [], ◌∷◌, ◌++◌, length, map, None, Some, append_assoc, zero-add, length-append, arith}
 use Rattle.std.specs.Prelude.{if◌then◌else◌}
 use Rattle.std.specs.Option.{option_to_list}
@@ -49,7 +49,7 @@ shape_more (Open b) rs r k s true =
     let o : OpeningParts = record { head = k.head; summaries = summaries k.rest } in
     inr (o, bs ++ b ∷ [], ap (λ es. (es ++ map tell.Block bs) ++ tell.Block b ∷ []) (opened_known rs k.head k.rest k.begins k.opened) ∙ ap (λ es. tell.Opened o ∷ es) (sym (map-append tell.Block bs (b ∷ []))))
 
--- a stage of good lines, whose events have the shape
+-- a stage of good lines, whose events have this shape
 record Shaped (ls : List Reading) : Type 0 where
   stage : Stage
   keeps : KeepsStage stage (records ls)
@@ -94,7 +94,7 @@ nothing_taken : events_of [] ≡ []
 unfolding events_of
 nothing_taken = refl
 
--- blocks behind an opening
+-- blocks after an opening
 blocks_orderly : (front : List Placed) (n : ℕ) (bs : List BlockParts) → IsOrderly front → has_ended front ≡ false → n ≡ length front → 0 < n → IsOrderly (front ++ placed n (map tell.Block bs))
 blocks_orderly front n [] o e l p = subst IsOrderly (sym (append-nil front)) o
 blocks_orderly front n (b ∷ bs) o e l p =
@@ -126,7 +126,7 @@ run_orderly layout text es (inl p) = orderly_front es p.0 (subst IsOrderly (sym 
 run_orderly layout text es (inr (front, line, p, none, is)) =
     subst IsOrderly (sym is) (orderly_push front (ended (length front) (outcomes.Fault line faults.Memory)) (orderly_front front p.0 (subst IsOrderly (sym p.1) (text_orderly layout text.bytes text.ending))) none refl tt)
 
--- want of memory among the first lines is want of memory among all
+-- events cut off among the first lines are cut off among all lines
 pub cut_off_more : (ls ms : List Reading) (es : List Placed) → IsCutOff ls es → IsCutOff (ls ++ ms) es
 cut_off_more ls ms es c = record {
   before = c.before;

@@ -1,4 +1,4 @@
--- A stage goes on as the records do.
+-- A stage changes as the records do.
 use Rattle.std.proofs.Common.{◌≡◌, ℕ, ◌∙◌, sym, ap, refl, true, false, eqb, List, [], ◌∷◌, length, map, Option, None, Some, unwrap_or, arith, length-append}
 use Rattle.std.proofs.lemmas.List.{length-map}
 use Rattle.dsr_records.specs.declared.kinds.Kind.TheVariants as kinds
@@ -19,7 +19,7 @@ use Rattle.dsr_file.specs.Faults.{column, place, summary_fault, member_fault, ea
 use Rattle.dsr_file.specs.Stages.{column_at, block_length, stage_fault, stage_after, given_by, part_given, records_of, IsOpen, KeepsStage}
 use Rattle.dsr_file.proofs.PartLemmas.{last_of_push}
 
--- the last record of HEAD and summaries
+-- the last record of a head and summaries
 last_front : (h : head.Head) (ss : List summary.Summary) → column (last_of (the.Head h ∷ map the.Summary ss)) ≡ columns.Front
 last_front h [] = refl
 last_front h (s ∷ ss) = last_summary s ss
@@ -56,7 +56,7 @@ or_else_none : (f : Option FileFault) → or_else f None ≡ f
 or_else_none None = refl
 or_else_none (Some f) = refl
 
--- for the kinds that have no test beside their place
+-- for the kinds of which only the place is tested
 head_place : (stage : Stage) → stage_fault stage kinds.Head None ≡ place (column_at stage) kinds.Head
 head_place Start = refl
 head_place (Front o) = refl
@@ -99,7 +99,7 @@ usage_place (Front o) rs i k = refl
 usage_place (Open b) rs i k = ap (or_else (place (column_at (Open b)) kinds.Usage)) (in_part_kept b rs i k)
 usage_place Closed rs i k = refl
 
--- the stage finds the fault that the records have
+-- the fault that the stage finds is that of the records
 pub fault_agrees : (stage : Stage) (rs : List Record) (r : Record) → KeepsStage stage rs → stage_fault stage (kind_of_record r) (id_of_record r) ≡ early_fault rs r
 fault_agrees stage rs (the.Head h) k = rw (column_kept stage rs k) (head_place stage)
 fault_agrees stage rs (the.Summary s) k = rw (column_kept stage rs k) (summary_place stage rs s.id k)
@@ -109,7 +109,7 @@ fault_agrees stage rs (the.Usage u) k = rw (column_kept stage rs k) (usage_place
 fault_agrees stage rs (the.Foot f) k = rw (column_kept stage rs k) (foot_place stage)
 fault_agrees stage rs the.Skipped k = skipped_place stage
 
--- the stage behind a resource, and what it closes
+-- the stage after a resource, and what the resource closes
 pub opens_stage : (stage : Stage) (r : Record) (b : BlockParts) → OpensBlock r b → Open b ≡ stage_after stage r
 opens_stage stage (the.Resource r) b e = ap Open e
 opens_stage stage (the.Head h) b e = absurd e

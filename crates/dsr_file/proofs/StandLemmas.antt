@@ -1,4 +1,4 @@
--- What a reader stands for, one line more.
+-- What a reader represents after one more line.
 use Rattle.std.proofs.Common.{◌≡◌, ℕ, ◌+◌, ◌≤◌, inl, inr, ◌∙◌, sym, ap, refl, subst, Bool, true, false, ◌||◌, List, [], ◌∷◌, ◌++◌, length, map, Option, None, Some, append_assoc, zero-add, length-append, length-take, take, drop, take-add, ◌-◌, arith}
 use Rattle.std.specs.Prelude.{IsTrue}
 use Rattle.std.specs.Option.{option_to_list, IfNone}
@@ -42,7 +42,7 @@ use Rattle.dsr_file.proofs.ReaderLemmas.{placed-append, length-placed, readings_
 not_both : false ≡ true → ⊥
 not_both e = cc
 
--- the events given and then these
+-- the events given, and then these
 pub placed_more : (es : List Placed) (xs ys : List EventPart) (n : ℕ) → es ≡ placed 0 xs → n ≡ length es → es ++ placed n ys ≡ placed 0 (xs ++ ys)
 placed_more es xs ys n e h =
     let at : n ≡ 0 + length xs = h ∙ ap length e ∙ length-placed 0 xs ∙ sym (zero-add (length xs)) in
@@ -62,11 +62,11 @@ ends_has_ended es o (before, is) = ap has_ended is ∙ ended_last before (length
 pub going_is : (es : List Placed) (ys : List EventPart) (rs : List Record) → es ≡ placed 0 ys → ys ≡ events_of rs → has_ended es ≡ false
 going_is es ys rs e h = ap has_ended e ∙ ended_placed 0 ys ∙ ap (list_any is_ended) h ∙ no_ended rs
 
--- the outcome in the next place ends the events
+-- the outcome at the next place ends the events
 pub ends_next : (es : List Placed) (n : ℕ) (o : Outcome) (e : Placed) → e ≡ ended n o → n ≡ length es → EndsWith (es ++ e ∷ []) o
 ends_next es n o e is at = (es, ap (λ x. es ++ x ∷ []) (is ∙ ap (λ m. ended m o) at))
 
--- an event by its part
+-- an event, given its content
 pub ended_again : (place n : ℕ) (o : Outcome) (e : Placed) (part : EventPart) → record { place = n; part = part } ≡ e → e ≡ ended place o → record { place = place; part = part } ≡ e
 ended_again place n o e part view is = ap (λ k. record { place = k; part = part }) (sym (ap (λ x. x.place) (view ∙ is))) ∙ view
 
@@ -98,7 +98,7 @@ gives_stands layout r new b es part o e la gi pl all none gives same p = record 
     by_part (Some q) all none gives = subst (λ x. StandsAt layout x new b (es ++ e ∷ [])) (sym gives.0)
         (all ∙ ap (λ x. (es ++ x ∷ []) ++ ended (length (es ++ x ∷ [])) o ∷ []) (sym gives.1), subst (λ x. has_ended (es ++ x ∷ []) ≡ false) (sym gives.1) none)
 
--- memory was refused at the line behind these
+-- memory was refused at the line after these
 pub memory_stands_at : (layout : LayoutTable) (r new : FileReader) (told : Option Ending) (b : List ℕ) (es : List Placed) (ls : List Reading) (l : Reading) (number : ℕ) (e : Placed) → r.layout ≡ layout → r.given ≡ length b → r.place ≡ length es → r.ending ≡ told
     → known_lines layout b told ≡ ls ++ l ∷ [] → first_from [] ls ≡ AllGood → TakesMemory ls l → es ≡ placed 0 (events_of (records ls)) → number ≡ length ls + 1
     → e ≡ ended r.place (outcomes.Fault number faults.Memory) → new.phase ≡ phases.Done (outcomes.Fault number faults.Memory) → SameText r new → new.place ≡ r.place + 1 → Stands layout new b (es ++ e ∷ [])
@@ -147,7 +147,7 @@ module _ (layout : LayoutTable) (r : FileReader) (number : ℕ) (step : Step) (c
         );
       }
 
-  -- all that the bytes have
+  -- all events of the bytes so far
   all_now : (f : FileFault) → step ≡ Faulty f → so_far layout b ≡ (es ++ placed r.place (option_to_list closed)) ++ ended (length (es ++ placed r.place (option_to_list closed))) (outcomes.Fault number f) ∷ []
   all_now f s =
       let ls = map (reading layout) a.whole in
@@ -165,7 +165,7 @@ module _ (layout : LayoutTable) (r : FileReader) (number : ℕ) (step : Step) (c
   memory_stands new e s is d same p =
       memory_stands_at layout r new None b es (map (reading layout) a.whole) (reading layout a.line) number e a.layout_is a.given_is a.place_is a.open_is readings_now a.good (did NoMemory s) a.events_are a.number_is is d same p
 
--- a line that is whole, once the grammar has taken it
+-- a complete line, after the grammar has taken it
 pub line_taken : (layout : LayoutTable) (old new : FileReader) (b : List ℕ) (es : List Placed) (line : List ℕ) (step : Step) (closed : Option EventPart) → AtLine layout old line b es → ((ls : List Reading) → Keeps old.grammar ls → LineSteps ls (reading old.layout line) step closed new.grammar) → new.cutter.bytes.items ≡ [] → new.cutter.fresh ≡ false → new.layout ≡ old.layout → new.given ≡ old.given → new.place ≡ old.place → new.ending ≡ old.ending → AtAnswer layout new (old.grammar.lines + 1) step closed b es
 line_taken layout old new b es line step closed a steps cleared settled la g p n = record {
   whole = a.whole;
@@ -183,7 +183,7 @@ line_taken layout old new b es line step closed a steps cleared settled la g p n
   open_is = n ∙ a.open_is;
 }
 
--- the cutter has answered
+-- after the cutter has returned
 pub at_cut : (layout : LayoutTable) (old new : FileReader) (cut : Cut) (b : List ℕ) (es : List Placed) (piece : List ℕ) (used : ℕ) → Stands layout old b es → old.phase ≡ phases.Reading → used ≤ length piece
     → ((b : List ℕ) (ps : List (List ℕ)) → CutsTo old.cutter.bytes.items old.cutter.fresh b ps → CutSteps b (take used piece) ps cut new.cutter)
     → new.grammar ≡ old.grammar → new.layout ≡ old.layout → new.given ≡ old.given + used → new.place ≡ old.place → new.ending ≡ old.ending → AtCut layout new cut b (take used piece) es
@@ -200,7 +200,7 @@ at_cut layout old new cut b es piece used s r h cuts gr la g p n =
       open_is = n ∙ at.4;
     }
 
--- no line is whole
+-- no line is complete
 pub more_stands : (layout : LayoutTable) (r : FileReader) (b used : List ℕ) (es : List Placed) (cut : Cut) → AtCut layout r cut b used es → cut ≡ More → r.phase ≡ phases.Reading → Stands layout r (b ++ used) (es ++ [])
 more_stands layout r b used es cut a is ph = record {
   layout_is = a.layout_is;
@@ -279,7 +279,7 @@ pub if_none : {A : Type 0} {P Q : Type 0} (o : Option A) → (P → Q) → IfNon
 if_none None f p = f p
 if_none (Some x) f p = p
 
--- while lines are read, the events given are all
+-- as long as lines are read, the events given are all so far
 pub all_read : (layout : LayoutTable) (r : FileReader) (b : List ℕ) (es : List Placed) → Stands layout r b es → r.phase ≡ phases.Reading → es ≡ so_far layout b
 all_read layout r b es s e =
     let at : StandsAt layout phases.Reading r b es = subst (λ x. StandsAt layout x r b es) e s.phase_is in
@@ -295,13 +295,13 @@ first_given layout r b es told s n = by_phase r.phase refl s.phase_is
     by_phase (phases.Done o) e (inl h, l) = inl ([], append-nil es ∙ h ∙ ap (known_events layout b) n)
     by_phase (phases.Done o) e (inr h, l) = inr (subst (λ x. IsCutOff (known_lines layout b x) es) n h)
 
--- once all are given, they are all
+-- once Ended is given, the events given are all
 pub all_given : (layout : LayoutTable) (r : FileReader) (b : List ℕ) (es : List Placed) (told : Option Ending) (o : Outcome) → Stands layout r b es → r.ending ≡ told → r.phase ≡ phases.Done o → HasEvents layout b told es
 all_given layout r b es told o s n d =
     let at : StandsAt layout (phases.Done o) r b es = subst (λ x. StandsAt layout x r b es) d s.phase_is in
     subst (λ x. HasEvents layout b x es) n at.0
 
--- a reader is done exactly where Ended was given
+-- a reader is done exactly if Ended was given
 pub done_ended : (layout : LayoutTable) (r : FileReader) (b : List ℕ) (es : List Placed) → Stands layout r b es → (IsDone r → has_ended es ≡ true) × (has_ended es ≡ true → IsDone r)
 done_ended layout r b es s = by_phase r.phase refl s.phase_is
   where
@@ -313,7 +313,7 @@ done_ended layout r b es s = by_phase r.phase refl s.phase_is
 pub done_told : (layout : LayoutTable) (r : FileReader) (t : Bool) → (IsTrue t → IsDone r) → (IsDone r → IsTrue t) → (b : List ℕ) (es : List Placed) → Stands layout r b es → (IsTrue t → has_ended es ≡ true) × (has_ended es ≡ true → IsTrue t)
 done_told layout r t there back b es s = let d = done_ended layout r b es s in ((λ h. d.0 (there h)), (λ h. back (d.1 h)))
 
--- what a reader stands for lies in these, and its phase
+-- what a reader represents depends on these, and on its phase
 pub record SameStand (old new : FileReader) : Type 0 where
   pub layout : new.layout ≡ old.layout
   pub given : new.given ≡ old.given

@@ -1,4 +1,4 @@
--- One record more: the stage goes on as the records do, and gives their next event.
+-- One more record: the stage changes as the records do, and gives their next event.
 use Rattle.std.proofs.Common.{◌≡◌, ◌≢◌, ℕ, suc, ◌+◌, ◌<◌, ◌≤◌, ◌∙◌, sym, ap, refl, Bool, true, false, not, ◌||◌, eqb, leb, List, [], ◌∷◌, ◌++◌, length, map, drop, Option, None, Some, arith, append_assoc, add-zero, length-append}
 use Rattle.std.specs.Prelude.{if◌then◌else◌}
 use Rattle.std.specs.Option.{option_to_list, option_map}
@@ -35,7 +35,7 @@ use Rattle.dsr_file.specs.Counting.{block_count}
 use Rattle.dsr_file.proofs.StageLemmas.{column_kept, fault_agrees}
 use Rattle.dsr_file.proofs.PartLemmas.{onto_last, parts_open, parts_stay, but_last_push, last_of_push, onto_last_push, closed_stay, closed_open}
 
--- what a record does to what a stage stands for
+-- how a record changes what a stage represents
 pub record Steps (stage : Stage) (rs : List Record) (r : Record) : Type 0 where
   pub keeps : KeepsStage (stage_after stage r) (rs ++ r ∷ [])
   pub events : events_of (rs ++ r ∷ []) ≡ events_of rs ++ option_to_list (given_by stage r)
@@ -57,7 +57,7 @@ or_else_second : (f g : Option FileFault) → or_else f g ≡ None → g ≡ Non
 or_else_second None g e = e
 or_else_second (Some f) g e = cc
 
--- a record in an open block that has no fault has the block's identifier, and there is room
+-- a record of an open block without a fault has the block's identifier, and there is room for it
 member_ok : (part_id i : List ℕ) (n : ℕ) → member_fault part_id n i ≡ None → (bytes_eq i part_id ≡ true) × (leb block_limit n ≡ false)
 member_ok part_id i n e =
     (not_false _ (fault_if_false _ _ (or_else_first _ _ e)), fault_if_false _ _ (or_else_second (fault_if (not (bytes_eq i part_id)) _) _ e))
@@ -87,7 +87,7 @@ summaries_map : (ss : List summary.Summary) → summaries (map the.Summary ss) �
 summaries_map [] = refl
 summaries_map (s ∷ ss) = ap (λ xs. s ∷ xs) (summaries_map ss)
 
--- HEAD and summaries alone give no event
+-- HEAD and summaries alone have no events
 pub front_events : (h : head.Head) (ss : List summary.Summary) → events_of (the.Head h ∷ map the.Summary ss) ≡ []
 unfolding events_of
 front_events h ss = rw (no_opens ss, one_part ss) refl
@@ -106,7 +106,7 @@ step_head (Front o) rs h k e = cc
 step_head (Open b) rs h k e = absurd (neither _ kinds.Head (λ x. cc) (λ x. cc) e)
 step_head Closed rs h k e = cc
 
--- a record that opens no part, before which nothing is open
+-- a summary after a head and summaries is appended to the summaries
 summary_events : (o : OpeningParts) (rs : List Record) (s : summary.Summary) → rs ≡ the.Head o.head ∷ map the.Summary o.summaries → rs ++ the.Summary s ∷ [] ≡ the.Head o.head ∷ map the.Summary (o.summaries ++ s ∷ [])
 summary_events o rs s k = ap (λ xs. xs ++ the.Summary s ∷ []) k ∙ ap (λ xs. the.Head o.head ∷ xs) (sym (map-append the.Summary o.summaries (s ∷ [])))
 
@@ -154,7 +154,7 @@ opened_stay rs r h rest none bs any =
     ∙ ap (λ ss. tell.Opened (record { head = h; summaries = ss }) ∷ []) (summaries_same rest r none)
     ∙ sym (opened_known rs h rest bs any)
 
--- a record that opens a part behind HEAD and summaries
+-- a record that opens a part after HEAD and summaries
 front_opens : (o : OpeningParts) (rs : List Record) (r : Record) → opens r ≡ true → summaries (r ∷ []) ≡ [] → rs ≡ the.Head o.head ∷ map the.Summary o.summaries → events_of (rs ++ r ∷ []) ≡ events_of rs ++ tell.Opened o ∷ []
 unfolding events_of
 front_opens o rs r op none k =
@@ -279,7 +279,7 @@ step_foot (Open b) rs f k e = record {
 }
 step_foot Closed rs f k e = cc
 
--- the open block with one record more
+-- the open block with one more record
 more_part : (b c : BlockParts) (r : Record) (rs : List Record) → opens r ≡ false → IsOpen b rs → c.id ≡ b.id → c.resource ≡ b.resource → records_of c ≡ records_of b ++ r ∷ [] → has_id b.resource.block_id r ≡ true → column (Some r) ≡ column_at (Open c) → block_length c ≤ block_limit → IsOpen c (rs ++ r ∷ [])
 more_part b c r rs op k i res e h col short = record {
   head = k.head;
@@ -315,7 +315,7 @@ usage_records ws us u = ap (λ xs. map the.Work ws ++ xs) (map-append the.Usage 
 pushed_some : (us : List usage.Usage) (u : usage.Usage) → eqb (length (us ++ u ∷ [])) 0 ≡ false
 pushed_some us u = let e : length (us ++ u ∷ []) ≡ length us + 1 = simp length-append in rw e (grind (arith, nat_tests))
 
--- no event where none is given
+-- a record that opens no part gives no event
 stays : (b : BlockParts) (rs : List Record) (r : Record) → opens r ≡ false → summaries (r ∷ []) ≡ [] → IsOpen b rs → events_of (rs ++ r ∷ []) ≡ events_of rs ++ []
 stays b rs r op none k = open_stays b rs r op none k ∙ sym (append-nil (events_of rs))
 

@@ -1,4 +1,4 @@
--- What a line that is tested does.
+-- The results of testing a line.
 use Rattle.std.proofs.Common.{◌≡◌, ℕ, ◌+◌, ◌≤◌, ◌∙◌, sym, ap, refl, Bool, true, false, not, List, [], ◌∷◌, length, Option, None, Some, length-append, arith}
 use Rattle.std.specs.Prelude.{Result, nat_le}
 use Rattle.std.specs.List.{list_any}
@@ -117,11 +117,11 @@ early_steps g h ls r f k e =
     let early : early_fault (records ls) r ≡ Some f = sym (fault_agrees g.stage (records ls) r k.stage_is) ∙ e in
     (rw early refl, rw (early_not_count (records ls) r f early) (sym (append-nil (events_of (records ls)))))
 
--- a record without one
+-- a record without an early fault
 pub early_none : (g : Grammar) (ls : List Reading) (r : Record) → Keeps g ls → stage_fault g.stage (kind_of_record r) (id_of_record r) ≡ None → early_fault (records ls) r ≡ None
 early_none g ls r k e = sym (fault_agrees g.stage (records ls) r k.stage_is) ∙ e
 
--- a line with a fault of its own
+-- a line that has a fault itself
 pub faulty_steps : (h : Grammar) (ls : List Reading) (f : FileFault) → counts_fault f ≡ false → LineSteps ls (line.Faulty f) (Faulty f) None h
 unfolding fault_of
 faulty_steps h ls f e = (refl, rw e (sym (append-nil (events_of (records ls)))))
@@ -199,7 +199,7 @@ real_record (Work h) n = tt
 real_record (Usage h) n = tt
 real_record (Foot h) n = tt
 
--- a record that is none of a block's, by its kind
+-- a record that does not belong to a block, by its kind
 pub other_record : (r : Record) → (kinds.Resource ≡ kind_of_record r → ⊥) → (kinds.Work ≡ kind_of_record r → ⊥) → (kinds.Usage ≡ kind_of_record r → ⊥) → IsOther r
 other_record (Resource h) n m u = n refl
 other_record (Work h) n m u = m refl
@@ -218,6 +218,6 @@ skipped_record (Work s) e = cc
 skipped_record (Usage s) e = cc
 skipped_record (Foot s) e = cc
 
--- the code's test is that of the record
+-- the fault that the code finds is that of the record
 pub fault_found : (stage : Stage) (r : Record) (k : Kind) (i : Option (List ℕ)) (f g : Option FileFault) → f ≡ stage_fault stage k i → k ≡ kind_of_record r → i ≡ id_of_record r → f ≡ g → stage_fault stage (kind_of_record r) (id_of_record r) ≡ g
 fault_found stage r k i f g e h j is = sym (ap (λ x. stage_fault stage x i) h ∙ ap (stage_fault stage (kind_of_record r)) j) ∙ sym e ∙ is

@@ -1,9 +1,9 @@
--- How many events may come without a byte more.
+-- How many events may come without a further byte.
 use Rattle.std.specs.Prelude.{ℕ, Bool, true, false}
 use Rattle.dsr_file.specs.declared.reader.Phase.{Phase}
 use Rattle.dsr_file.specs.declared.reader.Phase.TheVariants.{Reading, Waiting, Done}
 
--- how many have come
+-- how many may have come
 abbrev pub allowance : Phase → ℕ
 allowance Reading = 0
 allowance (Waiting o) = 2

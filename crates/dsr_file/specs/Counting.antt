@@ -1,4 +1,4 @@
--- What a record counts for.
+-- The counts to which a record or an event adds.
 use Rattle.std.specs.Prelude.{ℕ, Option, None, Some}
 use Rattle.dsr_records.specs.declared.record.Foot as foot
 use Rattle.dsr_records.specs.declared.record.Record.{Record}
@@ -14,7 +14,7 @@ abbrev pub summary_count : Record → ℕ
 summary_count (Summary s) = 1
 summary_count _ = 0
 
--- 1 for a block
+-- 1 for a block, otherwise 0
 abbrev pub block_count : Option EventPart → ℕ
 block_count (Some (tell.Block b)) = 1
 block_count _ = 0

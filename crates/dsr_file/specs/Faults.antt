@@ -1,4 +1,4 @@
--- The faults of a line, by the lines before it.
+-- The faults of a line, given the lines before it.
 use Rattle.std.specs.Prelude.{ℕ, ◌+◌, ◌==◌, nat_le, not, ◌||◌, Bool, List, [], ◌∷◌, ◌++◌, length, count_by, Option, None, Some, unwrap_or, if◌then◌else◌}
 use Rattle.std.specs.List.{list_any}
 use Rattle.std.specs.Str.{bytes_eq}
@@ -16,11 +16,11 @@ use Rattle.dsr_file.specs.declared.stage.Before.TheVariants.{Nothing, Front, Ope
 use Rattle.dsr_file.specs.Readings.{Reading, Faulty, SkippedLine, Holds, records, is_skipped_line, is_skipped_record}
 use Rattle.dsr_file.specs.Parts.{parts, closed, last_of, block_limit, summaries}
 
--- the summaries in a file, at most
+-- the maximum number of summaries in a file
 abbrev pub summary_limit : ℕ
 summary_limit = 1000
 
--- what the last record before is
+-- what the last record is: the column of the place table
 abbrev pub column : Option Record → Before
 column None = Nothing
 column (Some (Head h)) = Front
@@ -31,7 +31,7 @@ column (Some (Usage u)) = Used
 column (Some (Foot f)) = Closed
 column (Some Skipped) = Nothing
 
--- the fault of a record that does not stand in its place
+-- the place table: the fault of a record that is not in its place
 abbrev pub place : Before → Kind → Option FileFault
 place Nothing kinds.Head = None
 place Nothing kinds.Summary = Some faults.NoHead
@@ -76,13 +76,13 @@ abbrev pub first_id : List Record → List ℕ
 first_id [] = []
 first_id (r ∷ rs) = unwrap_or (id_of_record r) []
 
--- a work or a usage with this identifier, in a part that has that one and so many records
+-- the fault of a work or a usage with this identifier, in a part with that identifier and number of records
 abbrev pub member_fault : List ℕ → ℕ → List ℕ → Option FileFault
 member_fault part_id count block_id =
     or_else (fault_if (not (bytes_eq block_id part_id)) faults.BlockNumber)
     (fault_if (nat_le block_limit count) faults.LongBlock)
 
--- a summary with this identifier, behind these
+-- the fault of a summary with this identifier, after these summaries
 abbrev pub summary_fault : List summary.Summary → List ℕ → Option FileFault
 summary_fault ss summary_id =
     or_else (fault_if (list_any (λ s. bytes_eq s.id summary_id) ss) faults.SummaryTwice)
@@ -91,7 +91,7 @@ summary_fault ss summary_id =
 abbrev pub in_part : List Record → List ℕ → Option FileFault
 in_part part block_id = member_fault (first_id part) (length part) block_id
 
--- the faults that are tested before memory is taken, by what has come before
+-- the faults that are tested before anything is allocated, given the records before
 abbrev pub early_fault : List Record → Record → Option FileFault
 early_fault rs (Head h) = place (column (last_of rs)) kinds.Head
 early_fault rs (Summary s) = or_else (place (column (last_of rs)) kinds.Summary) (summary_fault (summaries rs) s.id)
@@ -101,7 +101,7 @@ early_fault rs (Usage u) = or_else (place (column (last_of rs)) kinds.Usage) (in
 early_fault rs (Foot f) = place (column (last_of rs)) kinds.Foot
 early_fault rs Skipped = None
 
--- the counts of FOOT, in a file with these records before it, and these numbers of skipped records and lines
+-- the fault of FOOT's counts, in a file with these records before it and these numbers of skipped records and lines
 abbrev pub count_fault : List Record → ℕ → ℕ → Record → Option FileFault
 count_fault rs skipped_records skipped_lines (Foot f) =
     let all = length rs + 1 + skipped_records in
@@ -110,7 +110,7 @@ count_fault rs skipped_records skipped_lines (Foot f) =
     (fault_if (not (f.blocks == length (closed (rs ++ Foot f ∷ [])))) faults.FootBlocks))
 count_fault rs skipped_records skipped_lines _ = None
 
--- the fault of a line, by the lines before it: none where the line is good
+-- the fault of a line, given the lines before it; None if the line is good
 unfoldable pub fault_of : List Reading → Reading → Option FileFault
 fault_of before (Faulty f) = Some f
 fault_of before SkippedLine = None

@@ -1,4 +1,4 @@
--- What a reader and a sink hold while a source is read.
+-- The state of a reader and a sink while a source is read.
 use Rattle.std.specs.Prelude.{◌≡◌, ℕ, ◌*◌, ◌≤◌, ◌⊎◌, false, List, ◌++◌, length, take, None}
 use Rattle.std.specs.Io.KnownBytes.{Consumes}
 use mathlib.Core.List.{IsPrefix}
@@ -12,11 +12,11 @@ use Rattle.dsr_file.specs.ReadCounts.{Answered}
 use Rattle.dsr_file.specs.Sources.{Told, HasEarlier}
 use Rattle.dsr_file.specs.Standing.{Stands, IsDone}
 
--- the reader stands for some bytes and these events
+-- the reader represents some bytes and these events
 abbrev pub IsKnown : FileReader → List Placed → Type 0
 IsKnown r es = (layout : LayoutTable) × (bytes : List ℕ) × Stands layout r bytes es
 
--- a piece was used, up to Ended
+-- the whole piece was used, or a part of it up to Ended
 pub record Fed (layout : LayoutTable) (r : FileReader) (bytes piece : List ℕ) (es : List Placed) : Type 0 where
   pub used : ℕ
   pub bound : used ≤ length piece
@@ -24,13 +24,13 @@ pub record Fed (layout : LayoutTable) (r : FileReader) (bytes piece : List ℕ) 
   pub stands : Stands layout r (bytes ++ take used piece) es
   pub all : HasEvents layout (bytes ++ take used piece) None es
 
--- the events are the first of those of the bytes and some of the piece
+-- the events are the first of the bytes and a part of the piece
 pub record FedSome (layout : LayoutTable) (bytes piece : List ℕ) (es : List Placed) : Type 0 where
   pub used : ℕ
   pub bound : used ≤ length piece
   pub begins : BeginsEvents layout (bytes ++ take used piece) None es
 
--- after so many reads, each of which gave 1 to 4,096 bytes, no fault stands in what was given, and its events were put
+-- after this many reads, each of which gave 1 to 4,096 bytes, the bytes given have no fault, and their events were put
 pub record Reads (layout : LayoutTable) (before after : Told) (reads : ℕ) (r : FileReader) (es : List Placed) : Type 0 where
   pub given : List ℕ
   pub answered : Answered before.reads after.reads reads reads

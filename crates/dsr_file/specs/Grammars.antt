@@ -1,4 +1,4 @@
--- What a grammar stands for, and what a line does to it.
+-- What a grammar represents, and how a line changes it.
 use Rattle.std.specs.Prelude.{◌≡◌, ◌+◌, ◌==◌, not, ◌||◌, true, List, [], ◌∷◌, ◌++◌, length, count_by, Option, None, Some, if◌then◌else◌}
 use Rattle.std.specs.Option.{option_to_list}
 use Rattle.dsr_records.specs.declared.record.Foot as foot
@@ -18,7 +18,7 @@ use Rattle.dsr_file.specs.Faults.{fault_if, fault_of, early_fault}
 use Rattle.dsr_file.specs.Texts.{AllGood, first_from, counts_fault}
 use Rattle.dsr_file.specs.Stages.{KeepsStage}
 
--- the fault of FOOT's counts, by the numbers kept
+-- the fault of FOOT's counts, given the numbers that are kept
 abbrev pub kept_count_fault : Grammar → foot.Foot → Option FileFault
 kept_count_fault g f =
     let all = g.records + g.skipped_records in
@@ -26,7 +26,7 @@ kept_count_fault g f =
     (or_else (fault_if (not (f.summaries == g.summaries)) faults.FootSummaries)
     (fault_if (not (f.blocks == g.blocks)) faults.FootBlocks))
 
--- the grammar stands for these lines, all of which are good
+-- the grammar represents these lines, all of which are good
 pub record Keeps (g : Grammar) (ls : List Reading) : Type 0 where
   pub good : first_from [] ls ≡ AllGood
   pub stage_is : KeepsStage g.stage (records ls)
@@ -37,14 +37,14 @@ pub record Keeps (g : Grammar) (ls : List Reading) : Type 0 where
   pub summaries_are : g.summaries ≡ length (summaries (records ls))
   pub blocks_are : g.blocks ≡ length (closed (records ls))
 
--- the line holds a record that takes memory and has no fault that is tested before
+-- the line holds a record that may need memory and has no early fault
 pub record TakesMemory (ls : List Reading) (l : Reading) : Type 0 where
   pub item : Record
   pub held : l ≡ Holds item
   pub fits : early_fault (records ls) item ≡ None
   pub takes : has_texts item ≡ true
 
--- what a line does behind these lines, and what it closes, if anything
+-- the result of a line after these lines, and what it closes, if anything
 abbrev pub LineSteps : List Reading → Reading → Step → Option EventPart → Grammar → Type 0
 LineSteps ls l Good closed g =
     Keeps g (ls ++ l ∷ []) × (fault_of ls l ≡ None) × (events_of (records (ls ++ l ∷ [])) ≡ events_of (records ls) ++ option_to_list closed)
@@ -52,7 +52,7 @@ LineSteps ls l (Faulty f) closed g =
     (fault_of ls l ≡ Some f) × (events_of (records (if counts_fault f then ls ++ l ∷ [] else ls)) ≡ events_of (records ls) ++ option_to_list closed)
 LineSteps ls l NoMemory closed g = TakesMemory ls l
 
--- not one of a skipped type
+-- a record that is not of a skipped type
 abbrev pub IsRecord : Record → Type 0
 IsRecord Skipped = ⊥
 IsRecord _ = Unit {0}

@@ -1,4 +1,4 @@
--- The definitions to believe.
+-- The definitions to be trusted.
 pub mod Lines
 pub mod Readings
 pub mod Openings
@@ -12,7 +12,7 @@ pub mod Runs
 pub mod ReadCounts
 pub mod Sources
 pub mod Refusals
--- Laws of them, and words that only relate the fields of the code to them.
+-- Laws of them, and definitions that relate the fields of the code to them.
 pub mod OrderlyLaws
 pub mod Stages
 pub mod Counting

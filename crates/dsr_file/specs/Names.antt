@@ -31,7 +31,7 @@ name_of Read = codes "Read"
 name_of Reads = codes "Reads"
 name_of Memory = codes "Memory"
 
--- the column that a fault of a cell names
+-- the column of a missing or bad cell
 abbrev pub column_named : FileFault → Option Column
 column_named (MissingCell column) = Some column
 column_named (BadCell column) = Some column

@@ -1,4 +1,4 @@
--- What contracts see of an opening.
+-- Openings, as contracts see them.
 use Rattle.std.specs.Prelude.{◌≡◌, Bool, true, ◌&&◌, not, List, [], ◌∷◌}
 use Rattle.std.specs.List.{list_any}
 use Rattle.std.specs.Str.{bytes_eq}

@@ -10,13 +10,13 @@ is_ended (Opened _) = false
 is_ended (Block _) = false
 is_ended (Ended _) = true
 
--- place 0 holds Opened or Ended, each later place Block or Ended
+-- at place 0 there is Opened or Ended, at each later place Block or Ended
 abbrev pub MayStandAt : ℕ → EventPart → Type 0
 MayStandAt place (Opened _) = place ≡ 0
 MayStandAt place (Block _) = ¬ (place ≡ 0)
 MayStandAt place (Ended _) = Unit {0}
 
--- event i has place i and a part that may stand there, and Ended stands only last
+-- event i has place i and a content that is allowed there, and only the last may be Ended
 pub record IsOrderly (events : List Placed) : Type 0 where
   pub places : (i : ℕ) (e : Placed) → slice_get events i ≡ Some e → e.place ≡ i
   pub parts : (i : ℕ) (e : Placed) → slice_get events i ≡ Some e → MayStandAt i e.part

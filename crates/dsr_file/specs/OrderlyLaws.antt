@@ -16,7 +16,7 @@ slice_get_seam (x ∷ xs) e ys = slice_get_seam xs e ys
 pub orderly_nil : IsOrderly []
 orderly_nil = record { places = λ i e at. absurd (cc); parts = λ i e at. absurd (cc); ended_last = λ i e at. absurd (cc) }
 
--- a beginning of an orderly list is orderly
+-- a prefix of an orderly list is orderly
 pub orderly_front : (xs ys : List Placed) → IsOrderly (xs ++ ys) → IsOrderly xs
 orderly_front xs ys h = record {
   places = λ i e at. h.places i e (slice_get_front xs ys i e at);
@@ -24,7 +24,7 @@ orderly_front xs ys h = record {
   ended_last = λ i e at end. omega (arith, length-append xs ys, slice_get_within xs i e at, h.ended_last i e (slice_get_front xs ys i e at) end);
 }
 
--- the next event of an orderly list has the number of those before it as its place
+-- the place of the next event of an orderly list is the number of events before it
 pub orderly_next : (xs : List Placed) (e : Placed) (ys : List Placed) → IsOrderly (xs ++ e ∷ ys) → e.place ≡ length xs
 orderly_next xs e ys h = h.places (length xs) e (slice_get_seam xs e ys)
 
@@ -51,7 +51,7 @@ ended_from front (x ∷ xs) ys h end = by_part (is_ended x.part) refl (ended_fro
     by_part true is later = empty_back xs ys (orderly_last front x (xs ++ ys) here is)
     by_part false is later = later (subst IsOrderly (sym (append_assoc (front ++ x ∷ []) xs ys ∙ append_assoc front (x ∷ []) (xs ++ ys))) here) (rw is at end)
 
--- once a beginning has Ended, nothing follows it
+-- nothing follows a prefix that has Ended
 pub ended_whole : (xs ys : List Placed) → IsOrderly (xs ++ ys) → has_ended xs ≡ true → ys ≡ []
 ended_whole xs ys h end = ended_from [] xs ys h end
 
@@ -77,7 +77,7 @@ no_ended (x ∷ xs) (suc k) e none at = no_ended xs k e (second (is_ended x.part
     second true b h = absurd (cc)
     second false b h = h
 
--- an orderly list without Ended goes on with an event that has the next place and may stand there
+-- an orderly list without Ended stays orderly with one more event that has the next place and is allowed there
 pub orderly_push : (xs : List Placed) (e : Placed) → IsOrderly xs → has_ended xs ≡ false → e.place ≡ length xs → MayStandAt (length xs) e.part → IsOrderly (xs ++ e ∷ [])
 orderly_push xs e h none place part = record {
   places = λ k f at. ⊎_elim (h.places k f) (λ (t : (k ≡ length xs) × (e ≡ f)). ap (λ (g : Placed). g.place) (sym t.1) ∙ place ∙ sym t.0) (slice_get_push xs e f k at);

@@ -13,7 +13,7 @@ use Rattle.dsr_file.specs.declared.event.EventPart.{EventPart}
 use Rattle.dsr_file.specs.declared.event.EventPart.TheVariants as tell
 use Rattle.dsr_file.specs.Openings.{OpeningParts}
 
--- the records in a block, at most
+-- the maximum number of records in a block
 abbrev pub block_limit : ℕ
 block_limit = 64
 
@@ -23,7 +23,7 @@ opens (Resource r) = true
 opens (Foot f) = true
 opens _ = false
 
--- the records, cut before each resource and before FOOT: what stands before the first of these, and then the parts
+-- the records, cut before each resource and before FOOT: the records before the first cut, and then the parts
 abbrev pub parts : List Record → List (List Record)
 parts [] = [] ∷ []
 parts (r ∷ rs) = if opens r then [] ∷ onto_first r (parts rs) else onto_first r (parts rs)
@@ -39,7 +39,7 @@ last_of [] = None
 last_of (x ∷ []) = Some x
 last_of (x ∷ y ∷ ys) = last_of (y ∷ ys)
 
--- the parts that a resource or FOOT follows
+-- the parts that are followed by a resource or FOOT
 abbrev pub closed : List Record → List (List Record)
 closed rs = drop 1 (but_last (parts rs))
 
@@ -75,7 +75,7 @@ has_id block_id (Work w) = bytes_eq w.block_id block_id
 has_id block_id (Usage u) = bytes_eq u.block_id block_id
 has_id block_id _ = false
 
--- a part as a block, where it is complete: one resource, works and then usages, all with its identifier
+-- a part as a block, if it is complete: one resource, works and then usages, all with its identifier
 abbrev pub block_of : List Record → Option BlockParts
 block_of (Resource r ∷ rs) =
     if works_then_usages rs && list_all (has_id r.block_id) rs && nat_le (length rs + 1) block_limit
@@ -83,12 +83,12 @@ block_of (Resource r ∷ rs) =
     else None
 block_of _ = None
 
--- HEAD and the summaries
+-- the head and the summaries
 abbrev pub opening_of : List Record → Option OpeningParts
 opening_of (Head h ∷ rs) = Some (record { head = h; summaries = summaries rs })
 opening_of _ = None
 
--- the opening, where a resource or FOOT is among the records
+-- the opening, if there is a resource or FOOT among the records
 abbrev pub opened : List Record → List EventPart
 opened rs = if list_any opens rs then option_to_list (option_map tell.Opened (opening_of rs)) else []
 

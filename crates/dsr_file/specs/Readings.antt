@@ -1,4 +1,4 @@
--- What a line is by itself.
+-- What a line is, without the lines before it.
 use Rattle.std.specs.Prelude.{ℕ, ◌==◌, ◌||◌, Bool, true, false, List, [], ◌∷◌, ◌++◌, length, slice_index, Result, Ok, Err, if◌then◌else◌}
 use Rattle.std.specs.Str.{is_utf8}
 use Rattle.dsr_cells.specs.Lines.{is_long, without_return}
@@ -11,7 +11,7 @@ use Rattle.dsr_records.specs.Values.{record_of}
 use Rattle.dsr_file.specs.declared.fault.FileFault.{FileFault}
 use Rattle.dsr_file.specs.declared.fault.FileFault.TheVariants.{LongLine, NotUtf8, ManyCells, UnknownRecord, MissingCell, BadCell, Uneven}
 
--- a fault of its own, a skipped line, or a record
+-- a fault of the line itself, a skipped line, or a record
 pub data Reading : Type 0 where
   Faulty : FileFault → Reading
   SkippedLine : Reading
@@ -32,11 +32,11 @@ abbrev pub of_record : Result Record RecordFault → Reading
 of_record (Ok r) = Holds r
 of_record (Err f) = Faulty (file_fault f)
 
--- the text of a line, which is UTF-8
+-- what the text of a line is, if it is UTF-8
 unfoldable pub of_utf8 : LayoutTable → List ℕ → Reading
 of_utf8 layout text = if is_skipped_text text then SkippedLine else of_record (record_of layout text)
 
--- the text of a line, which is not too long
+-- what the text of a line is, if it is not too long
 unfoldable pub of_text : LayoutTable → List ℕ → Reading
 of_text layout text = if is_utf8 text then of_utf8 layout text else Faulty NotUtf8
 
@@ -44,14 +44,14 @@ of_text layout text = if is_utf8 text then of_utf8 layout text else Faulty NotUt
 unfoldable pub reading : LayoutTable → List ℕ → Reading
 reading layout line = if is_long line then Faulty LongLine else of_text layout (without_return line)
 
--- the record of a line, if there is one: one of a skipped type is left out
+-- the record of a line, if there is one; a record of a skipped type does not count
 abbrev pub kept : Reading → List Record
 kept (Faulty f) = []
 kept SkippedLine = []
 kept (Holds Skipped) = []
 kept (Holds r) = r ∷ []
 
--- the records among lines
+-- the records of lines
 abbrev pub records : List Reading → List Record
 records [] = []
 records (l ∷ ls) = kept l ++ records ls

@@ -1,4 +1,4 @@
--- The beginnings of a text's events that a reader may give, and those that want of memory ends.
+-- The prefixes of a text's events that a reader may give, and events cut off because memory was refused.
 use Rattle.std.specs.Prelude.{◌≡◌, ℕ, ◌+◌, ◌⊎◌, Bool, true, false, List, [], ◌∷◌, ◌++◌, length, Option, None, Some}
 use mathlib.Core.List.{IsPrefix}
 use Rattle.dsr_records.specs.declared.record.Record.{Record}
@@ -29,12 +29,12 @@ events_of_text layout text = text_events layout text.bytes text.ending
 abbrev pub ended : ℕ → Outcome → Placed
 ended place outcome = record { place = place; part = Ended outcome }
 
--- a beginning of the events that has no Ended, and then Ended with Memory in the next place
+-- a prefix of the events without Ended, and then Ended with Memory at the next place
 abbrev pub EndsByMemory : List Placed → List Placed → Type 0
 EndsByMemory all es =
     (front : List Placed) × (line : ℕ) × IsPrefix front all × (has_ended front ≡ false) × (es ≡ front ++ ended (length front) (Fault line Memory) ∷ [])
 
--- a run of a text: a beginning of its events, or one that Memory ends
+-- a run of a text: a prefix of its events, or one that ends with Memory
 abbrev pub IsRun : LayoutTable → FileText → List Placed → Type 0
 IsRun layout text es = IsPrefix es (events_of_text layout text) ⊎ EndsByMemory (events_of_text layout text) es
 
@@ -42,7 +42,8 @@ IsRun layout text es = IsPrefix es (events_of_text layout text) ⊎ EndsByMemory
 abbrev pub IsSomeRun : List Placed → Type 0
 IsSomeRun es = (layout : LayoutTable) × (text : FileText) × IsRun layout text es
 
--- memory was refused: the events of the good lines before a record that takes memory and has no fault that is tested before, and then Memory at its line
+-- memory was refused: the events of the good lines before a record that may need memory and has no early fault, and
+-- then Memory at its line
 pub record IsCutOff (ls : List Reading) (es : List Placed) : Type 0 where
   pub before : List Reading
   pub item : Record
@@ -53,7 +54,7 @@ pub record IsCutOff (ls : List Reading) (es : List Placed) : Type 0 where
   pub takes : has_texts item ≡ true
   pub events_are : es ≡ placed 0 (events_of (records before) ++ Ended (Fault (length before + 1) Memory) ∷ [])
 
--- the lines that are known of bytes, and their events: while more may come, or once the ending is told
+-- the known lines of bytes, and their events: as long as more may come, or with the ending
 abbrev pub known_lines : LayoutTable → List ℕ → Option Ending → List Reading
 known_lines layout bytes None = readings layout bytes Read
 known_lines layout bytes (Some ending) = readings layout bytes ending
@@ -62,11 +63,11 @@ abbrev pub known_events : LayoutTable → List ℕ → Option Ending → List Pl
 known_events layout bytes None = so_far layout bytes
 known_events layout bytes (Some ending) = text_events layout bytes ending
 
--- the first of the known events, or such that want of memory ends
+-- the first of the known events, or events cut off because memory was refused
 abbrev pub BeginsEvents : LayoutTable → List ℕ → Option Ending → List Placed → Type 0
 BeginsEvents layout bytes told es = IsPrefix es (known_events layout bytes told) ⊎ IsCutOff (known_lines layout bytes told) es
 
--- all of the known events, or the first of them that want of memory ends
+-- all known events, or events cut off because memory was refused
 abbrev pub HasEvents : LayoutTable → List ℕ → Option Ending → List Placed → Type 0
 HasEvents layout bytes told es = (es ≡ known_events layout bytes told) ⊎ IsCutOff (known_lines layout bytes told) es
 
@@ -78,7 +79,7 @@ abbrev pub is_memory : FileFault → Bool
 is_memory Memory = true
 is_memory _ = false
 
--- want of memory is the outcome
+-- the outcome is that memory was refused
 abbrev pub by_memory : Outcome → Bool
 by_memory Whole = false
 by_memory (Fault line fault) = is_memory fault

@@ -1,4 +1,4 @@
--- What a stage of the reader stands for, and how it goes on.
+-- What a stage of the reader represents, and how it changes.
 use Rattle.std.specs.Prelude.{◌≡◌, ℕ, ◌+◌, ◌≤◌, ◌<◌, ◌==◌, true, false, List, [], ◌∷◌, ◌++◌, length, map, Option, None, Some, if◌then◌else◌}
 use Rattle.std.specs.Str.{bytes_eq}
 use Rattle.std.specs.List.{list_any, list_all}
@@ -25,7 +25,7 @@ column_at (Front o) = columns.Front
 column_at (Open b) = if length b.usages == 0 then columns.Open else columns.Used
 column_at Closed = columns.Closed
 
--- how many records an open block has
+-- the number of records of an open block
 abbrev pub block_length : BlockParts → ℕ
 block_length b = 1 + length b.works + length b.usages
 
@@ -35,11 +35,11 @@ kept_fault (Open b) kinds.Work (Some block_id) = member_fault b.id (block_length
 kept_fault (Open b) kinds.Usage (Some block_id) = member_fault b.id (block_length b) block_id
 kept_fault _ _ _ = None
 
--- the fault of a record of this kind and with this identifier
+-- the fault of a record of this kind and with this identifier, if there is one
 abbrev pub stage_fault : Stage → Kind → Option (List ℕ) → Option FileFault
 stage_fault stage k i = or_else (place (column_at stage) k) (kept_fault stage k i)
 
--- an open block can take one more record
+-- an open block has room for one more record
 abbrev pub HasRoom : Stage → Type 0
 HasRoom (Open b) = block_length b < block_limit
 HasRoom _ = Unit {0}
@@ -55,21 +55,21 @@ IsMember (the.Work w) = Unit {0}
 IsMember (the.Usage u) = Unit {0}
 IsMember _ = ⊥
 
--- no record of a block
+-- a record that does not belong to a block
 abbrev pub IsOther : Record → Type 0
 IsOther (the.Resource r) = ⊥
 IsOther (the.Work w) = ⊥
 IsOther (the.Usage u) = ⊥
 IsOther _ = Unit {0}
 
--- there is room for the record
+-- there is room for the record, and no summary has its identifier
 abbrev pub IsFree : Stage → Record → Type 0
 IsFree stage (the.Work w) = HasRoom stage
 IsFree stage (the.Usage u) = HasRoom stage
 IsFree stage (the.Summary s) = IsNew stage s.id
 IsFree stage _ = Unit {0}
 
--- the event that closes what is open
+-- the event of what is open, once it is closed
 abbrev pub part_given : Stage → Option EventPart
 part_given Start = None
 part_given (Front o) = Some (tell.Opened o)
@@ -79,7 +79,7 @@ part_given Closed = None
 abbrev pub given_by : Stage → Record → Option EventPart
 given_by stage r = if opens r then part_given stage else None
 
--- where the file stands after a record in its place
+-- the stage after a record that is in its place
 abbrev pub stage_after : Stage → Record → Stage
 stage_after stage (the.Head h) = Front (record { head = h; summaries = [] })
 stage_after (Front o) (the.Summary s) = Front (record o { summaries = o.summaries ++ s ∷ [] })
@@ -107,7 +107,7 @@ pub record IsOpen (b : BlockParts) (rs : List Record) : Type 0 where
   pub ids : list_all (has_id b.resource.block_id) (map the.Work b.works ++ map the.Usage b.usages) ≡ true
   pub short : block_length b ≤ block_limit
 
--- a file with these records stands there
+-- a file with these records is at this stage
 abbrev pub KeepsStage : Stage → List Record → Type 0
 KeepsStage Start rs = rs ≡ []
 KeepsStage (Front o) rs = rs ≡ the.Head o.head ∷ map the.Summary o.summaries

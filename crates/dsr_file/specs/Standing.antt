@@ -1,4 +1,4 @@
--- What a reader stands for: the bytes used so far, and the events given.
+-- What a reader represents: the bytes used so far, and the events given.
 use Rattle.std.specs.Prelude.{◌≡◌, ℕ, ◌+◌, true, false, List, [], ◌∷◌, ◌++◌, length, map, Option, None, Some, unwrap_or}
 use Rattle.dsr_records.specs.Records.{LayoutTable}
 use Rattle.dsr_file.specs.declared.fault.Ending.{Ending}
@@ -26,7 +26,7 @@ StandsAt layout Reading r bytes es =
 StandsAt layout (Waiting o) r bytes es = (known_events layout bytes r.ending ≡ es ++ ended (length es) o ∷ []) × (has_ended es ≡ false)
 StandsAt layout (Done o) r bytes es = HasEvents layout bytes r.ending es × EndsWith es o
 
--- the reader has this layout, and stands for these bytes used and these events given
+-- the reader has this layout, and represents these bytes used and these events given
 pub record Stands (layout : LayoutTable) (r : FileReader) (bytes : List ℕ) (es : List Placed) : Type 0 where
   pub layout_is : r.layout ≡ layout
   pub given_is : r.given ≡ length bytes
@@ -37,22 +37,22 @@ pub record Stands (layout : LayoutTable) (r : FileReader) (bytes : List ℕ) (es
 abbrev pub IsDone : FileReader → Type 0
 IsDone r = has_given_all r.phase ≡ true
 
--- the ending that the first `finish` told, if there was one
+-- the ending of the first call of `finish`, if there was one
 abbrev pub ending_told : FileReader → Option Ending
 ending_told r = r.ending
 
 abbrev pub first_ending : FileReader → Ending → Ending
 first_ending r ending = unwrap_or r.ending ending
 
--- how many bytes were used
+-- the number of bytes used
 abbrev pub bytes_used : FileReader → ℕ
 bytes_used r = r.given
 
--- how many events may still come without a byte more
+-- how many events may still come without a further byte
 abbrev pub events_left : FileReader → ℕ
 events_left r = left r.phase
 
--- all but the place
+-- everything is the same except the place
 pub record SameBut (old new : FileReader) : Type 0 where
   pub layout : new.layout ≡ old.layout
   pub given : new.given ≡ old.given
@@ -67,7 +67,7 @@ pub record SameText (old new : FileReader) : Type 0 where
   pub given : new.given ≡ old.given
   pub ending : new.ending ≡ old.ending
 
--- a line is whole and is not taken yet
+-- a line is complete and is not taken yet
 pub record AtLine (layout : LayoutTable) (r : FileReader) (line : List ℕ) (bytes : List ℕ) (es : List Placed) : Type 0 where
   pub whole : List (List ℕ)
   pub cuts : CutsTo [] false bytes (whole ++ line ∷ [])
@@ -78,7 +78,7 @@ pub record AtLine (layout : LayoutTable) (r : FileReader) (line : List ℕ) (byt
   pub place_is : r.place ≡ length es
   pub open_is : r.ending ≡ None
 
--- the last line has done this, and closed this
+-- the last line had this result, and closed this
 pub record AtAnswer (layout : LayoutTable) (r : FileReader) (number : ℕ) (step : Step) (closed : Option EventPart) (bytes : List ℕ) (es : List Placed) : Type 0 where
   pub whole : List (List ℕ)
   pub line : List ℕ
@@ -94,12 +94,12 @@ pub record AtAnswer (layout : LayoutTable) (r : FileReader) (number : ℕ) (step
   pub place_is : r.place ≡ length es
   pub open_is : r.ending ≡ None
 
--- the event of the last line, if there is one; else the outcome
+-- the event of the last line, if there is one; otherwise the outcome
 abbrev pub FaultyGives : ℕ → Option EventPart → Outcome → Placed → FileReader → Type 0
 FaultyGives place None o e r = (r.phase ≡ Done o) × (e ≡ ended place o)
 FaultyGives place (Some part) o e r = (r.phase ≡ Waiting o) × (e ≡ record { place = place; part = part })
 
--- the cutter has used these bytes and answered
+-- the cutter has used these bytes and returned this
 pub record AtCut (layout : LayoutTable) (r : FileReader) (cut : Cut) (bytes used : List ℕ) (es : List Placed) : Type 0 where
   pub whole : List (List ℕ)
   pub cuts : CutSteps bytes used whole cut r.cutter
@@ -110,7 +110,7 @@ pub record AtCut (layout : LayoutTable) (r : FileReader) (cut : Cut) (bytes used
   pub place_is : r.place ≡ length es
   pub open_is : r.ending ≡ None
 
--- all whole lines are taken, and the text ends
+-- all complete lines are taken, and the text ends
 pub record AtEnd (layout : LayoutTable) (r : FileReader) (ending : Ending) (bytes : List ℕ) (es : List Placed) : Type 0 where
   pub whole : List (List ℕ)
   pub cuts : CutsTo r.cutter.bytes.items r.cutter.fresh bytes whole

@@ -27,7 +27,7 @@ abbrev pub first_if : Option FileFault → List Reading → Reading → First �
 first_if None before l later = later
 first_if (Some f) before l later = At before l f
 
--- the first line that is not good among these, which stand behind the lines before
+-- the first line that is not good among these, which follow the lines `before`
 abbrev pub first_from : List Reading → List Reading → First
 first_from before [] = AllGood
 first_from before (l ∷ ls) = first_if (fault_of before l) before l (first_from (before ++ l ∷ []) ls)
@@ -38,12 +38,12 @@ counts_fault faults.FootSummaries = true
 counts_fault faults.FootBlocks = true
 counts_fault _ = false
 
--- the records of the lines before the first fault, and the FOOT itself where its counts are the fault
+-- the records of the lines before the first fault, and FOOT itself if its counts are the fault
 abbrev pub taken : List Reading → First → List Record
 taken ls AllGood = records ls
 taken ls (At before l f) = records (if counts_fault f then before ++ l ∷ [] else before)
 
--- how a text ends whose lines are all good
+-- the outcome of a text whose lines are all good
 abbrev pub end_whole : Before → ℕ → Outcome
 end_whole Nothing line = outcomes.Fault line faults.NoHead
 end_whole Front line = outcomes.Fault line faults.NoFoot
@@ -64,7 +64,7 @@ abbrev pub outcome : List Reading → Ending → First → Outcome
 outcome ls ending AllGood = end_of (records ls) ending (length ls + 1)
 outcome ls ending (At before l f) = outcomes.Fault (length before + 1) f
 
--- the events of lines, and of lines after which more may come: then there is no Ended while all lines are good
+-- the events of lines, and of lines after which more may come: these have no Ended as long as all lines are good
 unfoldable pub events : List Reading → Ending → List EventPart
 events ls ending =
     let first = first_from [] ls in events_of (taken ls first) ++ Ended (outcome ls ending first) ∷ []
@@ -89,6 +89,6 @@ readings layout bytes ending = map (reading layout) (lines bytes ending)
 abbrev pub text_events : LayoutTable → List ℕ → Ending → List Placed
 text_events layout bytes ending = placed 0 (events (readings layout bytes ending) ending)
 
--- the events that bytes have, whatever follows them
+-- the events of bytes, whatever follows them
 abbrev pub so_far : LayoutTable → List ℕ → List Placed
 so_far layout bytes = placed 0 (events_so_far (readings layout bytes endings.Read))

@@ -1,4 +1,4 @@
-//! The bytes of a text, cut into lines.
+//! Cutting the bytes of a text into lines.
 ghost use Rattle.std.specs.Prelude.{◌≡◌, ◌++◌, ◌∷◌, [], ◌+◌, ◌<◌, ◌≤◌, length, List, ℕ, false, take, IfOk, IsTrue, vec_capacity};
 ghost use Rattle.dsr_cells.specs.Lines.{without_mark};
 
@@ -8,24 +8,24 @@ use std::alloc::Global;
 
 const LINE_LIMIT: usize = 8192;
 
-/// What the bytes of a piece do.
+/// The result of using bytes of a piece.
 #[derive(Clone, Copy)]
 pub(crate) enum Cut {
-    /// The line goes on.
+    /// The line continues.
     More,
-    /// The line that is kept is whole.
+    /// The line that is kept is complete.
     Kept,
-    /// The bytes used are a whole line and its line feed.
+    /// The bytes used are a complete line and its line feed.
     Here,
     /// The line is too long.
     Long,
 }
 
-/// The bytes of the line that is not whole yet.
+/// The bytes of the line that is not complete yet.
 #[derive(Drop)]
 pub(crate) struct Cutter {
     pub(crate) bytes: Vec<u8>,
-    /// The mark may still come: these are all the bytes there were.
+    /// The bytes may still become a byte order mark: they are all the bytes so far.
     pub(crate) fresh: bool,
     ghost room: { 8192 ≤ vec_capacity bytes },
     ghost short: { length bytes.items ≤ 8192 },
@@ -35,7 +35,7 @@ pub(crate) struct Cutter {
 impl Cutter {
     ghost use Rattle.dsr_file.specs.Cutting.{CutsTo, CutSteps, FitsCut};
 
-    /// Room for a line, and no byte yet.
+    /// An empty cutter, with room for the longest line.
     pub(crate) fn new(alloc: Global) -> Result<Cutter, NoMemory>
         ensures { IfOk result (λ c. CutsTo c.bytes.items c.fresh [] []) }
     {
@@ -43,7 +43,7 @@ impl Cutter {
         Ok(Cutter { bytes, fresh: true })
     }
 
-    /// Uses bytes of a piece, up to the end of a line.
+    /// Uses bytes of a piece, up to the end of a line. Returns how many, and the result.
     pub(crate) fn take(&mut self, piece: &[u8]) -> (usize, Cut)
         requires { 0 < length piece.now }
         ensures some { 0 < result.0 }
@@ -58,7 +58,7 @@ impl Cutter {
         }
     }
 
-    /// Uses a byte at the start of a text, where the mark may stand.
+    /// Uses a byte at the start of a text, which may belong to a byte order mark.
     fn first(&mut self, byte: u8) -> Cut
         requires { IsTrue self.old.fresh }
         ensures cut { (b : List ℕ) (ps : List (List ℕ)) → CutsTo self.old.bytes.items self.old.fresh b ps → CutSteps b (byte ∷ []) ps result self.new }
@@ -76,7 +76,7 @@ impl Cutter {
         Cut::More
     }
 
-    /// Drops the mark, where the bytes are that.
+    /// Drops the bytes if they are the byte order mark.
     fn drop_mark(&mut self)
         requires few { length self.old.bytes.items ≡ 3 }
         requires fresh { self.old.fresh ≡ false }
@@ -88,7 +88,7 @@ impl Cutter {
         }
     }
 
-    /// Uses bytes behind the place of the mark.
+    /// Uses bytes after the place of the mark, up to the end of a line.
     fn rest(&mut self, piece: &[u8]) -> (usize, Cut)
         requires some { 0 < length piece.now }
         requires fresh { self.old.fresh ≡ false }
@@ -121,7 +121,7 @@ impl Cutter {
         let _ = self.bytes.extend_from_slice(front);
     }
 
-    /// The bytes so far.
+    /// The bytes of the line so far.
     pub(crate) fn line(&self) -> &[u8]
         ensures value { result.now ≡ self.now.bytes.items }
         ensures short { length result.now ≤ 8192 }

@@ -7,15 +7,15 @@ use dsr_cells::Items;
 use dsr_records::{Block, Head, Summary};
 use std::marker::Model;
 
-/// The summaries of a file, which contracts see as their list.
+/// The summaries of a file. Contracts see it as their list.
 pub type Summaries = Items<Summary>;
 
-/// The head of a file and its summaries, no two of which have one identifier.
+/// The head of a file and its summaries, whose identifiers are all different.
 #[derive(Drop)]
 pub struct Opening {
     /// The record HEAD.
     pub head: Head,
-    /// In the order of the file.
+    /// The summaries, in the order of the file.
     pub summaries: Summaries,
 }
 
@@ -29,19 +29,19 @@ impl Model for Opening {
     ghost invariant = { λ o. HasDistinctIds o.summaries };
 }
 
-/// What an event says.
+/// The content of an event.
 #[derive(Drop)]
 pub enum EventPart {
-    /// The head and the summaries are read.
+    /// The head and the summaries were read.
     Opened(Opening),
-    /// A block is whole and another record follows it.
+    /// A block was closed by the resource or FOOT after it.
     Block(Block),
-    /// The file ends.
+    /// The file has ended.
     Ended(Outcome),
 }
 
 impl EventPart {
-    /// Whether the file ends here.
+    /// Whether the file ends with this event.
     pub fn is_ended(&self) -> bool
         ensures { result ≡ is_ended self.now }
     {
@@ -52,9 +52,9 @@ impl EventPart {
 /// An event and its place in the file's list of events.
 #[derive(Drop)]
 pub struct Event {
-    /// How many events come before it: from 0, below 2^37.
+    /// The number of events before it: 0 to 2^37 - 1.
     pub place: u64,
-    /// What it says.
+    /// Its content.
     pub part: EventPart,
 }
 
@@ -69,7 +69,7 @@ impl Model for Event {
     ghost invariant = { λ e. e.place < 2 ^ 37 };
 }
 
-/// An event that stands in the place of one that was taken out of a list.
+/// A placeholder for an event that was taken out of a list.
 impl Default for Event {
     ghost use Rattle.std.specs.Prelude.{◌≡◌};
     ghost use Rattle.dsr_file.specs.declared.event.EventPart.TheVariants as part;

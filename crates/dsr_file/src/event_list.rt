@@ -8,7 +8,7 @@ use std::alloc::Global;
 use std::collections::VecDeque;
 use std::marker::Model;
 
-/// Events, which contracts see as their list.
+/// A list of events. Contracts see it as their list.
 #[derive(Drop)]
 pub struct EventList {
     events: VecDeque<Event>,
@@ -37,7 +37,7 @@ impl EventList {
     ///
     /// # Errors
     ///
-    /// The event itself, if memory is refused; the list stays as it was.
+    /// If memory is refused, the event is returned and the list is unchanged.
     pub fn push(&mut self, event: Event) -> Result<(), Event>
         ensures { MatchResult result (λ _. self.new ≡ self.old ++ event ∷ [])
             (λ back. (back ≡ event) × (self.new ≡ self.old)) }
@@ -47,14 +47,14 @@ impl EventList {
             .map_err(|refused| refused.value)
     }
 
-    /// How many events there are.
+    /// The number of events.
     pub fn len(&self) -> usize
         ensures { result ≡ length self.now }
     {
         self.events.len()
     }
 
-    /// The event at place `i`, from 0.
+    /// The event at index `i`, from 0; None past the end.
     pub fn get(&self, i: usize) -> Option<&Event>
         ensures { option_map (λ e. e.now) result ≡ slice_get self.now i }
     {

@@ -1,4 +1,4 @@
-//! How a text ends, and what is wrong with it.
+//! The endings, outcomes and faults of a file.
 ghost use Rattle.std.specs.Prelude.{◌≡◌};
 ghost use Rattle.dsr_file.specs.Names.{name_of, column_named};
 
@@ -19,7 +19,7 @@ pub enum FileFault {
     MissingCell(Column),
     /// The cell of this column is not spelled as the column requires.
     BadCell(Column),
-    /// A work has more shares than parties, or fewer.
+    /// A work has different numbers of parties and shares.
     Uneven,
     /// The first record is not HEAD, or there is none.
     NoHead,
@@ -31,7 +31,7 @@ pub enum FileFault {
     NoResource,
     /// A work comes after a usage of its block.
     LateWork,
-    /// A work or a usage names another block than its resource.
+    /// The BlockId of a work or a usage is not that of its resource.
     BlockNumber,
     /// A block has no usage.
     NoUsage,
@@ -39,7 +39,7 @@ pub enum FileFault {
     AfterFoot,
     /// The text ends without FOOT.
     NoFoot,
-    /// Two summaries have one identifier.
+    /// Two summaries have the same identifier.
     SummaryTwice,
     /// There are more than 1,000 summaries.
     ManySummaries,
@@ -53,9 +53,9 @@ pub enum FileFault {
     FootBlocks,
     /// A read failed.
     Read,
-    /// The limit of reads was reached.
+    /// The limit on reads was reached.
     Reads,
-    /// No memory was left.
+    /// Memory was refused.
     Memory,
 }
 
@@ -93,7 +93,7 @@ impl FileFault {
         }
     }
 
-    /// The column of a fault of a cell.
+    /// The column of a missing or bad cell; None for any other fault.
     pub fn column(self) -> Option<Column>
         ensures { result ≡ column_named self }
     {
@@ -107,11 +107,11 @@ impl FileFault {
 /// How the bytes of a text end.
 #[derive(Clone, Copy, PartialEq, Eq)]
 pub enum Ending {
-    /// The reader reported the end.
+    /// The end of the bytes was reached.
     Whole,
     /// A read failed.
     Read,
-    /// The limit of reads was reached.
+    /// The limit on reads was reached.
     Reads,
 }
 
@@ -122,9 +122,9 @@ pub enum Outcome {
     Whole,
     /// The first fault and its line, from 1.
     Fault {
-        /// The line that has the fault, or the one that would have come next.
+        /// The number of the line with the fault, or of the one that would have come next.
         line: u64,
-        /// What is wrong with it.
+        /// The fault.
         fault: FileFault,
     },
 }

@@ -1,4 +1,4 @@
-//! Bytes into a reader, and its events into a sink.
+//! Feeding bytes to a reader, and its events to a sink.
 ghost use Rattle.std.specs.Prelude.{◌≡◌, ◌++◌, ◌∷◌, [], ◌+◌, ◌≤◌, ◌^◌, length, List, ℕ, Some, None, OnOk, IfOk, IfErr};
 ghost use mathlib.Core.List.{IsPrefix};
 ghost use Rattle.dsr_records.specs.Records.{LayoutTable};
@@ -36,7 +36,7 @@ fn hand_over<S: Sink>(file: &mut FileReader, event: Event, sink: &mut S) -> Resu
     Ok(())
 }
 
-/// Gives a piece to a reader, and its events to a sink, which is told how many bytes there were.
+/// Gives a piece to a reader and its events to a sink, and notes the length of the piece in the sink.
 pub(crate) fn feed<S: Sink>(file: &mut FileReader, piece: &[u8], sink: &mut S) -> Result<(), Event>
     requires open { ending_told file.old ≡ None }
     requires room { bytes_used file.old + length piece.now ≤ 2 ^ 36 }
@@ -66,7 +66,7 @@ pub(crate) fn feed<S: Sink>(file: &mut FileReader, piece: &[u8], sink: &mut S) -
     }
 }
 
-/// Ends a reader's text, and gives the rest of its events to a sink.
+/// Ends a reader's text, and gives the rest of its events to a sink. Returns the outcome.
 pub(crate) fn finish_all<S: Sink>(
     file: &mut FileReader,
     ending: Ending,

@@ -1,4 +1,4 @@
-//! The lines of a file, one after another: the event that each closes, or the fault that ends the file.
+//! Taking the lines of a file one after another, each with the event that it closes or the fault that ends the file.
 ghost use Rattle.std.specs.Prelude.{◌≡◌, ◌+◌, ◌-◌, ◌<◌, ◌≤◌, ◌^◌, [], length, List, None, option_and_then};
 ghost use Rattle.dsr_cells.specs.Lines.{without_return};
 ghost use Rattle.dsr_file.specs.Readings.{is_skipped_text, file_fault};
@@ -12,14 +12,14 @@ use dsr_records::{
 };
 use std::alloc::Global;
 
-/// What a line does.
+/// The result of taking a line.
 #[derive(Clone, Copy)]
 pub(crate) enum Step {
-    /// It is good.
+    /// The line is good.
     Good,
-    /// It ends the file by this fault.
+    /// The line ends the file with this fault.
     Faulty(FileFault),
-    /// Memory ran out.
+    /// Memory was refused.
     NoMemory,
 }
 
@@ -48,7 +48,7 @@ impl Grammar {
     ghost use Rattle.dsr_file.specs.Stages.{IsFree, IsMember, IsOther, column_at};
     ghost use Rattle.dsr_file.specs.Texts.{outcome_at};
 
-    /// No line yet.
+    /// A grammar that has taken no line.
     pub(crate) fn new() -> Grammar
         ensures { Keeps result [] }
     {
@@ -63,7 +63,7 @@ impl Grammar {
         }
     }
 
-    /// The fault of FOOT's counts, where FOOT is counted already.
+    /// The fault of FOOT's counts, if there is one. FOOT itself is already counted.
     fn count_fault(&self, foot: Foot) -> Option<FileFault>
         requires { self.now.lines < 2 ^ 40 }
         ensures { result ≡ kept_count_fault self.now foot }
@@ -81,7 +81,7 @@ impl Grammar {
         None
     }
 
-    /// Counts a record that is a summary or not, and closes a block or not.
+    /// Counts a record, with the summaries that it is (0 or 1) and the blocks that it closes (0 or 1).
     fn count(&mut self, summaries: u64, blocks: u64)
         requires lines { self.old.lines < 2 ^ 40 }
         requires summaries { summaries ≤ 1 }
@@ -119,7 +119,7 @@ impl Grammar {
         }
     }
 
-    /// Takes a record that is none of a block's and has no early fault.
+    /// Takes a record that does not belong to a block and has no early fault.
     fn add(&mut self, alloc: Global, item: Record, closed: &mut Option<EventPart>) -> Step
         requires lines { self.old.lines < 2 ^ 40 - 1 }
         requires free { IsFree self.old.stage item }
@@ -166,7 +166,7 @@ impl Grammar {
         Step::Good
     }
 
-    /// Tests a record, and takes it where it has no early fault.
+    /// Takes a record, if it has no early fault.
     #[inline(always)]
     fn record(
         &mut self,
@@ -191,7 +191,7 @@ impl Grammar {
         }
     }
 
-    /// Takes a record that is none of a block's and has no early fault, once it is copied.
+    /// Copies a record that does not belong to a block and has no early fault, and takes it.
     fn other(
         &mut self,
         alloc: Global,
@@ -258,8 +258,8 @@ impl Grammar {
         }
     }
 
-    /// Takes a line of a known record type. What follows is compiled for each kind that blocks are
-    /// made of, so that it asks for the kind no more.
+    /// Takes a line of a known record type. The calls below are inlined here once for each kind that blocks
+    /// are made of, so that they need not match the kind again.
     #[inline(always)]
     fn typed(
         &mut self,
@@ -282,7 +282,7 @@ impl Grammar {
         }
     }
 
-    /// The same as `tested`, for the kinds of which a file has few lines.
+    /// The same as `tested`, not inlined, for the kinds of which a file has few lines.
     #[inline(never)]
     fn tested_apart(
         &mut self,
@@ -300,7 +300,7 @@ impl Grammar {
         self.tested(alloc, line, spare, closed)
     }
 
-    /// Tests the cells of a line, and takes its record where they have no fault.
+    /// Checks the cells of a line, and takes its record if they have no fault.
     #[inline(always)]
     fn tested(
         &mut self,
@@ -321,7 +321,7 @@ impl Grammar {
         }
     }
 
-    /// Takes a line without a fault of its own.
+    /// Takes a line whose cells have no fault.
     #[inline(always)]
     fn checked(
         &mut self,
@@ -345,7 +345,7 @@ impl Grammar {
         }
     }
 
-    /// Takes the next line, which is not too long, and gives the event that it closes.
+    /// Takes the next line, which is not too long; `closed` becomes what the line closes.
     pub(crate) fn line(
         &mut self,
         alloc: Global,
@@ -367,7 +367,7 @@ impl Grammar {
         }
     }
 
-    /// How a text ends behind these lines.
+    /// The outcome of a text that ends after these lines.
     pub(crate) fn outcome(&self, ending: Ending) -> Outcome
         requires { self.now.lines < 2 ^ 40 }
         ensures { result ≡ outcome_at (column_at self.now.stage) ending (self.now.lines + 1) }
@@ -407,7 +407,7 @@ impl Grammar {
     }
 }
 
-/// A line without the carriage return that may end it.
+/// A line without a carriage return at its end.
 fn strip_return(line: &[u8]) -> &[u8]
     ensures { result.now ≡ without_return line.now }
 {

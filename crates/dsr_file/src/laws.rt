@@ -8,12 +8,12 @@ ghost use Rattle.dsr_file.specs.Runs.{FileText, IsRun};
 ghost use Rattle.dsr_file.specs.Texts.{so_far, text_events};
 ghost use Rattle.dsr_file.specs.declared.fault.Ending.{Ending};
 
-/// The events that bytes have are the first of every text that begins with them.
+/// The events of bytes are the first events of every text that begins with these bytes.
 pub fn so_far_begins()
     ensures { (layout : LayoutTable) (bytes more : List ℕ) (ending : Ending) → IsPrefix (so_far layout bytes) (text_events layout (bytes ++ more) ending) }
 {}
 
-/// A fault is final: where the events that bytes have end, they are those of every text that begins with the bytes.
+/// A fault is final: if the events of bytes have ended, they are those of every text that begins with these bytes.
 pub fn fault_is_final()
     ensures { (layout : LayoutTable) (bytes more : List ℕ) (ending : Ending) → has_ended (so_far layout bytes) ≡ true → so_far layout bytes ≡ text_events layout (bytes ++ more) ending }
 {}

@@ -1,19 +1,19 @@
-//! The reader of a report file: bytes go in by pieces of any size, events come out one by one.
+//! The reader of a report file: it takes bytes in pieces of any size, and gives events one by one.
 //!
-//! The way of a byte:
+//! How a file is read:
 //!
-//! 1. `cutter` cuts the bytes into lines, at the line feeds that `line_feed` finds. A line that lies
-//!    whole in the piece is not copied.
-//! 2. `grammar` takes each line: it has `dsr_records` check it, finds its place by the table in
-//!    `stage`, and counts what FOOT will be compared with.
-//! 3. `stage` keeps what the records so far leave open: the head with its summaries, or a block.
-//!    A work or a usage is written into the open block, and a resource over a block that came back.
+//! 1. `cutter` cuts the bytes into lines, at the line feeds that `line_feed` finds. A line after the
+//!    first that is whole in the piece is not copied.
+//! 2. `grammar` takes each line: it has `dsr_records` check it, looks up its place in the table in
+//!    `stage`, and keeps the counts that FOOT is compared with.
+//! 3. `stage` keeps what is open after the records so far: the head with its summaries, or a block.
+//!    A work or a usage is appended to the open block, and a resource is written over a spare block.
 //! 4. [`FileReader`] (`reader`) gives the events (`event`), each with its place, and the [`Outcome`]
 //!    last: Whole, or the first fault (`fault`) with its line.
 //! 5. [`read_file`] (`reading`) reads a [`Source`] (`source`) to its end, as often as its limit allows
-//!    (`read_count`), and puts the events into a [`Sink`] (`sink`), by the loop in `feeding`. A block
-//!    that the sink can spare ([`Sink::spare`]) goes back to the reader by [`FileReader::reuse`], so
-//!    that no block takes memory anew.
+//!    (`read_count`), and puts the events into a [`Sink`] (`sink`), by the loop in `feeding`. A spare
+//!    block of the sink ([`Sink::spare`]) is given back to the reader ([`FileReader::reuse`]), so that
+//!    a block seldom needs new memory.
 //! 6. [`whole_events`] (`whole`) gives all events of a text at once, in an [`EventList`]
 //!    (`event_list`).
 //!
@@ -51,12 +51,12 @@
 //! ```
 //!
 //! **The promise.** However the bytes are cut into pieces, the events are those of the text: its
-//! opening, each closed block once and in order, and its outcome. What the
-//! bytes so far say stays right whatever follows ([`laws`]). `read_file` makes no more reads than its
+//! opening, each closed block once and in order, and its outcome. The events of the
+//! bytes so far stay right whatever follows ([`laws`]). `read_file` makes no more reads than its
 //! limit, and none after the end, a failed read or a fault.
 //!
-//! **Where to begin.** `specs/Faults.antt` says which record may stand where and what is wrong with a
-//! line, `specs/Texts.antt` which events a text has; `src/reader.rt` and `src/reading.rt` have the
+//! **Where to begin.** `specs/Faults.antt` has the places of the records and the faults of a
+//! line, `specs/Texts.antt` the events of a text; `src/reader.rt` and `src/reading.rt` have the
 //! calls.
 #![tactic(auto)]
 

@@ -1,4 +1,4 @@
-//! Where the first line feed of a piece stands, found 16 bytes at a time.
+//! Finding the first line feed of a piece, 16 bytes at a time.
 ghost use Rattle.std.specs.Prelude.{◌≡◌, ◌+◌, ◌<◌, ◌≤◌, ◌==◌, length, map, not, false, take, slice_index};
 ghost use Rattle.std.specs.List.{list_any, prefix_len};
 ghost use Rattle.std.specs.Simd.Lanes.{chunk, mask_l};
@@ -7,7 +7,7 @@ ghost use Rattle.dsr_cells.specs.Lines.{is_line_feed};
 use memchr::memchr;
 use std::simd::prelude::*;
 
-/// The line feeds of the 16 bytes from a place on: bit k is set where byte k is one.
+/// The line feeds of the 16 bytes from offset `at`: bit k is set if byte k is one.
 #[inline(always)]
 fn feeds_of_16(piece: &[u8], at: usize) -> u64
     requires { at + 16 ≤ length piece.now }
@@ -18,8 +18,8 @@ fn feeds_of_16(piece: &[u8], at: usize) -> u64
         .to_bitmask()
 }
 
-/// How many of the 16 bytes from a place on stand before the first line feed among them: all 16
-/// where there is none.
+/// The number of bytes before the first line feed among the 16 bytes from offset `at`; 16 if there
+/// is none.
 #[inline(always)]
 fn run_of_16(piece: &[u8], at: usize) -> usize
     requires { at + 16 ≤ length piece.now }
@@ -33,7 +33,7 @@ fn run_of_16(piece: &[u8], at: usize) -> usize
     }
 }
 
-/// How many bytes stand before the first line feed, where there are few.
+/// The index of the first line feed, or the length if there is none, for few bytes.
 fn end_of_few(piece: &[u8]) -> usize
     ensures bound { result ≤ length piece.now }
     ensures before { list_any is_line_feed (take result piece.now) ≡ false }
@@ -45,7 +45,7 @@ fn end_of_few(piece: &[u8]) -> usize
     }
 }
 
-/// How many bytes stand before the first line feed.
+/// The index of the first line feed, or the length if there is none.
 #[inline(always)]
 pub(crate) fn line_end(piece: &[u8]) -> usize
     ensures bound { result ≤ length piece.now }

@@ -1,8 +1,8 @@
-//! How many reads a source has answered.
+//! Counting the reads of a source.
 ghost use Rattle.std.specs.Prelude.{◌≡◌};
 ghost use Rattle.dsr_file.specs.ReadCounts.{AddsRead, no_reads};
 
-/// How many reads a source has answered, how many of them gave bytes, and how many bytes the last one gave.
+/// The number of reads that a source has answered, the number of those that gave bytes, and the bytes of the last one.
 #[derive(Clone, Copy, PartialEq, Eq)]
 pub struct ReadCount {
     answered: u64,
@@ -11,7 +11,7 @@ pub struct ReadCount {
 }
 
 impl ReadCount {
-    /// Before the first read.
+    /// The count before the first read.
     pub fn new() -> ReadCount
         ensures { result ≡ no_reads }
     {
@@ -22,7 +22,7 @@ impl ReadCount {
         }
     }
 
-    /// Counts a read that gave so many bytes. A read that failed gave none.
+    /// Counts a read that gave this many bytes; a failed read gave 0.
     pub fn add(&mut self, bytes: usize)
         ensures { AddsRead self.old self.new bytes }
     {

@@ -1,4 +1,4 @@
-//! The reader of a file, which is handed the bytes in pieces.
+//! The reader of a file, which takes the bytes in pieces.
 ghost use Rattle.std.specs.Prelude.{◌≡◌, ◌≢◌, ◌++◌, ◌∷◌, [], ◌+◌, ◌-◌, ◌<◌, ◌≤◌, ◌^◌, ◌⊎◌, ◌↔◌, length, List, ℕ, true, false, take, Some, None, IfOk, IfNone, OnSome, IsTrue};
 ghost use Rattle.std.specs.Option.{option_to_list};
 ghost use Rattle.dsr_records.specs.Records.{LayoutTable};
@@ -48,7 +48,7 @@ pub struct FileReader {
     place: u64,
     phase: Phase,
     ending: Option<Ending>,
-    /// Its memory serves for the next block.
+    /// A block to be overwritten by the next one, if there is one.
     spare: Option<Block>,
     ghost lines_given: { grammar.lines ≤ given + allowance phase },
     ghost given_small: { given ≤ 2 ^ 36 },
@@ -62,11 +62,11 @@ impl FileReader {
     ghost use Rattle.dsr_file.specs.Runs.{ended, BeginsEvents, HasEvents};
     ghost use Rattle.dsr_file.specs.declared.reader.Phase.TheVariants as phases;
 
-    /// A reader that was given nothing. It keeps the allocator and a copy of the layout.
+    /// A reader that has used no bytes. It keeps the allocator and a copy of the layout.
     ///
     /// # Errors
     ///
-    /// `NoMemory`: there is no room for the longest line.
+    /// `NoMemory`: out of memory for the buffer of the longest line.
     pub fn new(alloc: Global, layout: &Layout) -> Result<FileReader, NoMemory>
         ensures stands { IfOk result (λ r. Stands layout.now r [] []) }
         ensures open { IfOk result (λ r. ending_told r ≡ None) }
@@ -85,10 +85,10 @@ impl FileReader {
         })
     }
 
-    /// Gives the reader a block whose memory it may use again; the value of the block is lost.
+    /// Gives the reader a block whose memory it may reuse; the value of the block is lost.
     #[inline(always)]
     pub fn reuse(&mut self, block: Block)
-        // The reader stands for what it stood for.
+        // The reader represents what it represented before.
         ensures stands { (layout : LayoutTable) (b : List ℕ) (es : List Placed)
             → Stands layout self.old b es → Stands layout self.new b es }
         ensures stood { (layout : LayoutTable) (b : List ℕ) (es : List Placed)
@@ -100,7 +100,7 @@ impl FileReader {
         self.spare = Some(block);
     }
 
-    /// How many bytes were used.
+    /// The number of bytes used.
     pub fn given(&self) -> u64
         ensures used { result ≡ bytes_used self.now }
         ensures bytes { (layout : LayoutTable) (b : List ℕ) (es : List Placed)
@@ -129,7 +129,7 @@ impl FileReader {
         }
     }
 
-    /// The next event.
+    /// The next event, with this content.
     fn event(&mut self, part: EventPart) -> Event
         requires { self.old.place + 1 ≤ self.old.given + allowance self.old.phase }
         ensures event { result ≡ record { place = self.old.place; part = part } }
@@ -141,7 +141,7 @@ impl FileReader {
         Event { place, part }
     }
 
-    /// Gives the outcome.
+    /// Gives Ended with the outcome.
     fn end(&mut self, outcome: Outcome) -> Event
         requires { self.old.place + 1 ≤ self.old.given + 3 }
         ensures event { result ≡ ended self.old.place outcome }
@@ -153,7 +153,7 @@ impl FileReader {
         self.event(EventPart::Ended(outcome))
     }
 
-    /// Gives an event, and keeps the outcome that follows it.
+    /// Gives an event, and keeps the outcome, which comes next.
     fn last(&mut self, part: EventPart, outcome: Outcome) -> Event
         requires lines { self.old.grammar.lines ≤ self.old.given + 2 }
         requires room { self.old.place + 1 ≤ self.old.given + 2 }
@@ -166,8 +166,8 @@ impl FileReader {
         self.event(part)
     }
 
-    /// What a line has done: `part` is what it closed, and becomes what the next event tells, if
-    /// there is one.
+    /// Applies the result of a line. `part` is what the line closed, and becomes the content of the next
+    /// event, if there is one.
     #[inline(always)]
     fn answer(&mut self, line: u64, step: Step, part: &mut Option<EventPart>)
         requires reading { self.old.phase ≡ phases.Reading }
@@ -208,7 +208,7 @@ impl FileReader {
         }
     }
 
-    /// Gives the event of the last line, if there is one, and then the outcome.
+    /// Gives the event of the last line and keeps the outcome; without an event, gives the outcome.
     fn faulty(&mut self, part: Option<EventPart>, outcome: Outcome) -> Event
         requires lines { self.old.grammar.lines ≤ self.old.given + 2 }
         requires room { self.old.place + 1 ≤ self.old.given + 2 }
@@ -222,7 +222,7 @@ impl FileReader {
         }
     }
 
-    /// Takes the line that is kept.
+    /// Takes the line that the cutter has kept.
     fn kept_line(&mut self, part: &mut Option<EventPart>)
         requires reading { self.old.phase ≡ phases.Reading }
         requires none { part.old ≡ None }
@@ -247,7 +247,7 @@ impl FileReader {
         self.answer(number, step, part);
     }
 
-    /// Takes a line that lies in the piece.
+    /// Takes a line that is whole in the piece.
     fn line(&mut self, line: &[u8], part: &mut Option<EventPart>)
         requires reading { self.old.phase ≡ phases.Reading }
         requires none { part.old ≡ None }
@@ -270,7 +270,7 @@ impl FileReader {
         self.answer(number, step, part);
     }
 
-    /// Ends by a line that is too long.
+    /// Ends the file at a line that is too long.
     fn long_line(&mut self) -> Event
         requires reading { self.old.phase ≡ phases.Reading }
         requires room { self.old.place + 1 ≤ self.old.given }
@@ -288,7 +288,7 @@ impl FileReader {
         })
     }
 
-    /// Takes what the cutter has found in the bytes used.
+    /// Applies the result of the cutter, which has used these bytes.
     fn cut(&mut self, cut: Cut, used: &[u8], part: &mut Option<EventPart>)
         requires reading { self.old.phase ≡ phases.Reading }
         requires none { part.old ≡ None }
@@ -315,7 +315,7 @@ impl FileReader {
         }
     }
 
-    /// Uses bytes of a piece, up to the end of a line: how many.
+    /// Uses bytes of a piece, up to the end of a line. Returns how many.
     fn step(&mut self, piece: &[u8], part: &mut Option<EventPart>) -> usize
         requires reading { self.old.phase ≡ phases.Reading }
         requires some { 0 < length piece.now }
@@ -338,7 +338,7 @@ impl FileReader {
         used
     }
 
-    /// Uses a piece, up to the next event: how many bytes, and the event.
+    /// Uses a piece, up to the next event. Returns the number of bytes used, and the event.
     #[inline(always)]
     fn read(&mut self, piece: &[u8]) -> (usize, Option<Event>)
         requires reading { self.old.phase ≡ phases.Reading }
@@ -366,25 +366,25 @@ impl FileReader {
         (used, None)
     }
 
-    /// Uses bytes of a piece, up to the next event: how many, and the event. An event that waits is given first.
+    /// Uses bytes of a piece, up to the next event. Returns how many, and the event. A waiting outcome is given first.
     #[inline(always)]
     pub fn take(&mut self, piece: &[u8]) -> (usize, Option<Event>)
         requires open { ending_told self.old ≡ None }
         requires room { bytes_used self.old + length piece.now ≤ 2 ^ 36 }
 
-        // The reader stands for the bytes used and the events given.
+        // The reader represents the bytes used and the events given.
         ensures stands { (layout : LayoutTable) (b : List ℕ) (es : List Placed)
             → Stands layout self.old b es
             → Stands layout self.new (b ++ take result.0 piece.now) (es ++ option_to_list result.1) }
-        // These events are the first that the bytes have; without an event, all.
+        // These are the first events of the bytes; if no event is returned, they are all.
         ensures begins { (layout : LayoutTable) (b : List ℕ) (es : List Placed)
             → Stands layout self.new b es → BeginsEvents layout b None es }
         ensures all { IfNone result.1 ((layout : LayoutTable) (b : List ℕ) (es : List Placed)
             → Stands layout self.new b es → HasEvents layout b None es) }
-        // Where an event of the bytes used so far waits, no byte more is used.
+        // If an event of the bytes used so far is waiting, no further byte is used.
         ensures waiting { (layout : LayoutTable) (b : List ℕ) (es : List Placed)
             → Stands layout self.old b es → HasEvents layout b None es ⊎ (result.0 ≡ 0) }
-        // Without an event the whole piece was used, unless Ended was given.
+        // If no event is returned, the whole piece was used, unless Ended was given.
         ensures bound { result.0 ≤ length piece.now }
         ensures whole { IfNone result.1 ((result.0 ≡ length piece.now) ⊎ IsDone self.new) }
         ensures done { IsDone self.old
@@ -400,13 +400,13 @@ impl FileReader {
         }
     }
 
-    /// The next event of a text that ends so, until there is none. The ending of the first call stands.
+    /// The next event at the end of the text, until there is none. Only the ending of the first call counts.
     pub fn finish(&mut self, ending: Ending) -> Option<Event>
         ensures ending { ending_told self.new ≡ Some (first_ending self.old ending) }
         ensures used { bytes_used self.new ≡ bytes_used self.old }
         ensures stands { (layout : LayoutTable) (b : List ℕ) (es : List Placed)
             → Stands layout self.old b es → Stands layout self.new b (es ++ option_to_list result) }
-        // The events given are the first of the text's; without an event, all.
+        // The events given are the first of the text; if no event is returned, they are all.
         ensures begins { (layout : LayoutTable) (b : List ℕ) (es : List Placed)
             → Stands layout self.new b es
             → BeginsEvents layout b (Some (first_ending self.old ending)) es }
@@ -441,7 +441,7 @@ impl FileReader {
         }
     }
 
-    /// Ends behind the last piece.
+    /// Ends the file after the last piece.
     fn finish_lines(&mut self, ending: Ending) -> Event
         requires reading { self.old.phase ≡ phases.Reading }
         ensures stands { (layout : LayoutTable) (b : List ℕ) (es : List Placed)
@@ -470,7 +470,7 @@ impl FileReader {
         }
     }
 
-    /// Ends where the last piece is no line.
+    /// Ends the file if the last piece is not a line.
     fn no_line(&mut self, ending: Ending) -> Event
         requires reading { self.old.phase ≡ phases.Reading }
         requires none { ending ≡ Ending.Whole → length self.old.cutter.bytes.items ≡ 0 }

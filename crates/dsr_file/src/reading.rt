@@ -1,4 +1,4 @@
-//! The reading of a file from a source to its end.
+//! Reading a file from a source to its end.
 ghost use Rattle.std.specs.Prelude.{◌≡◌, [], ◌<◌, ◌≤◌, ◌^◌, false, length, IfOk, OnOk, IfErr};
 ghost use Rattle.dsr_records.specs.Records.{LayoutTable};
 ghost use Rattle.dsr_file.specs.Runs.{EndsWith};
@@ -15,24 +15,24 @@ use crate::source::Source;
 use dsr_records::Layout;
 use std::alloc::Global;
 
-/// The bytes that are asked for at once.
+/// The maximum number of bytes of a read.
 const PIECE: usize = 4096;
 
 /// Why a file was not read to its end.
 #[derive(Drop)]
 pub enum ReadFileError {
-    /// There is no memory for a reader. Nothing was read or put.
+    /// Out of memory for the reader; nothing was read or put.
     Memory,
-    /// The sink refused this event. It holds those before it.
+    /// The sink refused this event. It has those before it.
     Refused(Event),
 }
 
-/// Reads a file by a layout and puts its events into an empty sink. The answer is the outcome that was put last.
-/// It makes `max_reads` reads at most, each of 4,096 bytes at most, and none after the file has ended.
+/// Reads a file by a layout and puts its events into an empty sink. Returns the outcome, which was put last.
+/// It makes at most `max_reads` reads, each of at most 4,096 bytes, and none after the file has ended.
 ///
 /// # Errors
 ///
-/// [`ReadFileError`]: no memory for a reader, or an event that the sink handed back.
+/// [`ReadFileError`]: out of memory for the reader, or an event that the sink refused.
 pub fn read_file<R: Source, S: Sink>(
     alloc: Global,
     layout: &Layout,
@@ -57,7 +57,7 @@ pub fn read_file<R: Source, S: Sink>(
     error_of(read_all(&mut file, reader, sink, max_reads))
 }
 
-/// An answer whose error is told as the event that the sink refused.
+/// The same result, with the event that the sink refused as a `ReadFileError`.
 fn error_of(answer: Result<Outcome, Event>) -> Result<Outcome, ReadFileError>
     ensures { result ≡ refused_event answer }
 {
@@ -67,7 +67,7 @@ fn error_of(answer: Result<Outcome, Event>) -> Result<Outcome, ReadFileError>
     }
 }
 
-/// Reads up to the end, a failure, the first fault or the limit of reads.
+/// Reads up to the end, a failed read, the first fault or the limit on reads.
 fn read_all<R: Source, S: Sink>(
     file: &mut FileReader,
     reader: &mut R,

@@ -1,4 +1,4 @@
-//! Where the events of a file go.
+//! The destination of a file's events.
 ghost use Rattle.std.specs.Prelude.{◌≡◌, List, [], ◌∷◌, ◌++◌, OnOk, IfErr};
 ghost use Rattle.dsr_file.specs.Placed.{Placed};
 ghost use Rattle.dsr_file.specs.Runs.{IsSomeRun};
@@ -20,14 +20,14 @@ pub trait Sink {
     ///
     /// # Errors
     ///
-    /// The event itself, if the sink does not take it; nothing changes then.
+    /// If the sink refuses the event, the event is returned and the list is unchanged.
     fn put(&mut self, event: Event) -> Result<(), Event>
         requires { IsSomeRun (list self.old ++ event ∷ []) }
         ensures added { OnOk result (list self.new ≡ list self.old ++ event ∷ []) }
         ensures refused { IfErr result (λ back. (back ≡ event) × (list self.new ≡ list self.old)) }
         ensures name { name self.new ≡ name self.old };
 
-    /// A block whose memory may be used again, if the sink has one. Its value says nothing. A sink
+    /// A block whose memory may be reused, if the sink has one. Its value is meaningless. A sink
     /// that keeps its events has none.
     fn spare(&mut self) -> Option<Block>
         ensures list { list self.new ≡ list self.old }
@@ -36,8 +36,8 @@ pub trait Sink {
         None
     }
 
-    /// Notes that so many bytes of the file were read since the last note: a sink may count them to
-    /// bound what waits in it. Nothing has to be done.
+    /// Notes that this many bytes of the file were read since the last note. A sink may count them to
+    /// bound what waits in it; the default does nothing.
     fn note_bytes(&mut self, _bytes: usize)
         ensures list { list self.new ≡ list self.old }
         ensures name { name self.new ≡ name self.old }

@@ -1,4 +1,4 @@
-//! Where the bytes of a file come from.
+//! The source of a file's bytes.
 ghost use Rattle.std.specs.Prelude.{◌≡◌, ◌<◌, true, false, length, MatchResult};
 ghost use Rattle.std.specs.Io.{ReadsAtMost};
 ghost use Rattle.std.specs.Io.KnownBytes.{ReadConsumes};
@@ -14,10 +14,10 @@ pub struct Failed;
 
 /// A source of bytes, which knows whether a read has failed and counts its reads.
 pub trait Source {
-    /// The bytes that it has left, where they are known, whether a read has failed, and the reads that it has answered.
+    /// The bytes that it has left, if they are known, whether a read has failed, and the count of its reads.
     ghost told: { Self → Told };
 
-    /// Reads bytes into the front of the piece: how many. 0 is the end.
+    /// Reads bytes into the front of the piece. Returns how many; 0 is the end.
     ///
     /// # Errors
     ///
@@ -37,7 +37,7 @@ pub trait Source {
         ensures { result ≡ (told self.now).failed };
 }
 
-/// The source of a reader's bytes.
+/// A source that reads from a `std::io::Read`.
 #[derive(Drop)]
 pub struct FromRead<R> {
     reader: R,
@@ -46,7 +46,7 @@ pub struct FromRead<R> {
 }
 
 impl<R: Read> FromRead<R> {
-    /// A source that has answered no read.
+    /// A source that has not been read yet.
     pub fn new(reader: R) -> FromRead<R>
         ensures { ⟦<FromRead<R> as Source>⟧.told result
             ≡ record { remaining = R.remaining reader; failed = false; reads = no_reads } }

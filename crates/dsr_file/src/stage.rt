@@ -1,4 +1,4 @@
-//! Where a file stands: what its records so far leave to be known.
+//! The stage of a file: what is open after its records so far.
 ghost use Rattle.std.specs.Prelude.{◌≡◌, ◌++◌, ◌∷◌, [], ◌+◌, ◌<◌, ◌≤◌, true, length, None, OnOk, OnErr, OnSome, IfOk, IfSome};
 ghost use Rattle.std.specs.List.{list_any};
 ghost use Rattle.std.specs.Str.{bytes_eq};
@@ -15,10 +15,10 @@ use dsr_records::{Block, CheckedLine, Kind, Record, Summary};
 use std::alloc::Global;
 use std::mem;
 
-/// What the last record before is.
+/// What the last record is: the column of the place table.
 #[derive(Clone, Copy)]
 pub(crate) enum Before {
-    /// There is none.
+    /// There is no record.
     Nothing,
     /// HEAD or a summary.
     Front,
@@ -30,20 +30,20 @@ pub(crate) enum Before {
     Closed,
 }
 
-/// Where a file stands.
+/// The stage of a file.
 #[derive(Drop)]
 pub(crate) enum Stage {
     /// There is no record yet.
     Start,
-    /// HEAD and summaries have come.
+    /// There was HEAD, with any summaries.
     Front(Opening),
     /// A block is open.
     Open(Block),
-    /// FOOT has come.
+    /// There was FOOT.
     Closed,
 }
 
-/// The fault of a record of this kind that stands there, if any.
+/// The fault of a record of this kind in this column of the place table, if there is one.
 #[inline(always)]
 fn place_fault(before: Before, kind: Kind) -> Option<FileFault>
     ensures { result ≡ place before kind }
@@ -70,7 +70,7 @@ fn has_summary(summaries: &Summaries, id: &str) -> bool
     summaries.as_slice().iter().any(|s| s.id.as_str() == id)
 }
 
-/// The fault of a summary with this identifier behind these.
+/// The fault of one more summary, with this identifier, if there is one.
 fn twice_or_many(summaries: &Summaries, id: &str) -> Option<FileFault>
     ensures { result ≡ summary_fault summaries.now id.now }
 {
@@ -84,7 +84,7 @@ fn twice_or_many(summaries: &Summaries, id: &str) -> Option<FileFault>
     }
 }
 
-/// The fault of a work or a usage with this identifier behind the records of a block.
+/// The fault of one more work or usage of a block, with this identifier, if there is one.
 #[inline(always)]
 fn number_or_long(block: &Block, id: &str) -> Option<FileFault>
     ensures { result ≡ member_fault block.now.id (block_length block.now) id.now }
@@ -100,7 +100,7 @@ fn number_or_long(block: &Block, id: &str) -> Option<FileFault>
 }
 
 impl Stage {
-    /// The column of the place table.
+    /// The column of the place table for the next record.
     #[inline(always)]
     fn before(&self) -> Before
         ensures { result ≡ column_at self.now }
@@ -117,7 +117,7 @@ impl Stage {
         }
     }
 
-    /// The fault of a record of this kind and with this identifier, where it stands in its place.
+    /// The fault of a record of this kind and with this identifier that is in its place, if there is one.
     #[inline(always)]
     fn kept_fault(&self, kind: Kind, id: Option<&str>) -> Option<FileFault>
         ensures { result ≡ kept_fault self.now kind (option_map (λ i. i.now) id.entry) }
@@ -132,7 +132,7 @@ impl Stage {
         }
     }
 
-    /// The first fault of a record of this kind and with this identifier.
+    /// The first fault of a record of this kind and with this identifier, if there is one.
     #[inline(always)]
     pub(crate) fn fault(&self, kind: Kind, id: Option<&str>) -> Option<FileFault>
         ensures { result ≡ stage_fault self.now kind (option_map (λ i. i.now) id.entry) }
@@ -143,7 +143,7 @@ impl Stage {
         }
     }
 
-    /// Goes on to the next stage, and gives what was open.
+    /// Changes to the next stage; `closed` becomes what was open.
     fn close(&mut self, next: Stage, closed: &mut Option<EventPart>)
         requires { closed.old ≡ None }
         ensures next { self.new ≡ next }
@@ -156,8 +156,8 @@ impl Stage {
         }
     }
 
-    /// Takes a record of a kind that no block holds and that has no fault, and gives the event that it
-    /// closes. Want of memory changes nothing.
+    /// Takes a record that does not belong to a block and has no fault; `closed` becomes what it
+    /// closes. If memory is refused, nothing changes.
     pub(crate) fn add(
         &mut self,
         alloc: Global,
@@ -188,8 +188,8 @@ impl Stage {
         }
     }
 
-    /// Opens the block of a resource line, which has no fault, over the spare block, and gives the
-    /// event that the line closes. Want of memory closes nothing.
+    /// Opens the block of a resource line, which has no fault, over the spare block; `closed` becomes
+    /// what the line closes. If memory is refused, nothing is closed.
     #[inline(always)]
     pub(crate) fn open(
         &mut self,
@@ -210,7 +210,7 @@ impl Stage {
         Ok(())
     }
 
-    /// Goes on to the block that was written over the spare one, and gives what was open.
+    /// Makes the spare block, which has the new resource, the open one; `closed` becomes what was open.
     #[inline(always)]
     fn go_on(&mut self, spare: &mut Option<Block>, closed: &mut Option<EventPart>)
         requires none { closed.old ≡ None }
@@ -243,7 +243,7 @@ impl Stage {
         Ok(())
     }
 
-    /// Takes the work or the usage of a line, which has no fault. Want of memory changes nothing.
+    /// Takes the work or the usage of a line, which has no fault. If memory is refused, nothing changes.
     #[inline(always)]
     pub(crate) fn add_member(
         &mut self,

@@ -20,7 +20,7 @@ use std::alloc::Global;
 ///
 /// # Errors
 ///
-/// `NoMemory`: no memory was left for the events, or for what they hold.
+/// `NoMemory`: out of memory for the events, or for their content.
 pub fn whole_events(
     alloc: Global,
     layout: &Layout,
@@ -38,7 +38,7 @@ pub fn whole_events(
     Ok(events)
 }
 
-/// Gives a sink all events of a text.
+/// Puts all events of a text into a sink.
 fn read_whole<S: Sink>(
     alloc: Global,
     layout: &Layout,
@@ -55,7 +55,7 @@ fn read_whole<S: Sink>(
     give_all(&mut file, bytes, ending, sink).map_err(|_| NoMemory)
 }
 
-/// Gives a reader the rest of a text, and a sink the events.
+/// Gives the rest of a text to a reader, and its events to a sink.
 fn give_all<S: Sink>(
     file: &mut FileReader,
     bytes: &[u8],
@@ -77,7 +77,7 @@ fn give_all<S: Sink>(
     finish_all(file, ending, sink)
 }
 
-/// Whether a file ends for want of memory.
+/// Whether a file ended because memory was refused.
 fn ends_for_memory(outcome: Outcome) -> bool
     ensures { result ≡ by_memory outcome }
 {

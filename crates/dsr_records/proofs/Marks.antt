@@ -1,4 +1,4 @@
--- Lemmas on the TABs of bytes as bits.
+-- Lemmas on the TABs of bytes as a bit mask.
 use Rattle.std.proofs.Common.{◌≡◌, ◌+◌, ◌-◌, ◌*◌, ◌/◌, ◌%◌, ◌^◌, ◌<◌, ◌≤◌, ℕ, zero, suc, Bool, List, [], ◌∷◌, length, map, take, drop, get_or, cond, true, false, eqb, refl, sym, ap, subst, ◌∙◌, arith, inl, inr, bit_or, min, w64, pow_mono, pow-suc, mul_comm, div-one, add_comm, mod-eq_of_lt, mul-lt-mul_of_pos_right, ◌++◌, count_by, length-append}
 use Rattle.std.specs.Int.{bit_at, from_bool}
 use Rattle.std.specs.List.{filter, position_or_len}
@@ -22,7 +22,7 @@ use Rattle.dsr_records.proofs.FirstCells.{TabAt, first_tab, no_tab}
 abbrev pub is_tab : ℕ → Bool
 is_tab b = eqb b 9
 
--- 1 where a byte is a TAB, and else 0
+-- 1 if a byte is a TAB, otherwise 0
 abbrev pub mark : ℕ → ℕ
 mark b = cond (eqb b 9) 1 0
 
@@ -39,7 +39,7 @@ halved : (b : Bool) (n : ℕ) → (cond b 1 0 + 2 * n) / 2 ≡ n
 halved true n = omega arith
 halved false n = omega arith
 
--- a shift down drops bytes
+-- a right shift drops bytes
 pub tab_bits-drop : (bytes : List ℕ) (k : ℕ) → tab_bits bytes / 2 ^ k ≡ tab_bits (drop k bytes)
 tab_bits-drop [] zero = zero-div (2 ^ 0)
 tab_bits-drop [] (suc k) = zero-div (2 ^ suc k)
@@ -50,7 +50,7 @@ tab_bits-drop (b ∷ bytes) (suc k) =
     ∙ ap (λ n. n / 2 ^ k) (halved (is_tab b) (tab_bits bytes))
     ∙ tab_bits-drop bytes k
 
--- past a TAB at a place, the bits of the bytes seen behind it are left
+-- a shift past a TAB leaves the bits of the searched bytes after it
 pub tab_bits-behind : (text : List ℕ) (seen place : ℕ) → place < seen
     → tab_bits (take seen text) / 2 ^ place / 2 ≡ tab_bits (take (seen - (place + 1)) (drop (place + 1) text))
 tab_bits-behind text seen place within =
@@ -62,7 +62,7 @@ tab_bits-behind text seen place within =
     ∙ ap (λ n. tab_bits (drop (place + 1) (take n text))) (sym rest)
     ∙ ap tab_bits (drop-take (place + 1) (seen - (place + 1)) text)
 
--- the bits of 16 bytes from a place on, shifted up to it
+-- the bits of 16 bytes from an offset, shifted left by it
 shifted_below : (n place i : ℕ) → i < place → bit_at (n * 2 ^ place) i ≡ 0
 shifted_below n place i low = ap (λ m. bit_at m i) (omega arith) ∙ bit_at_cat_low n place 0 i low ∙ zero_bit
   where
@@ -113,13 +113,13 @@ module _ (bytes : List ℕ) (place seen : ℕ) (within : place + 16 ≤ length b
             ]
       ]
 
-  -- the bits of the bytes seen, and those of 16 bytes from a place among them on
+  -- the bits of the searched bytes, and those of 16 bytes from an offset among them
   pub tab_bits-more : place ≤ 48 → bit_or (tab_bits (take seen bytes)) (tab_bits (chunk place 16 bytes) * 2 ^ place % 2 ^ 64) ≡ tab_bits (take (place + 16) bytes)
   tab_bits-more near =
       ap (bit_or (tab_bits (take seen bytes))) (mod-eq_of_lt (shifted_fits (chunk place 16 bytes) place (length-chunk place 16 bytes within) near))
       ∙ same_from_bits _ _ same_bit
 
--- one more byte in front
+-- one more byte at the front
 pub tab_bits-front : (bytes : List ℕ) (place : ℕ) → place < length bytes → tab_bits (drop place bytes) ≡ 2 * tab_bits (drop (place + 1) bytes) + mark (get_or bytes place 0)
 tab_bits-front bytes place within = ap tab_bits (drop_more bytes place 0 within) ∙ add_comm _ _
 
@@ -134,14 +134,14 @@ is_clear : (t : Bool) → cond {A = ℕ} t 1 0 ≡ 0 → t ≡ false
 is_clear true e = absurd (omega arith)
 is_clear false e = refl
 
--- no bit, and so no TAB
+-- no bit is set, so there is no TAB
 pub no_tab_seen : (text : List ℕ) → tab_bits text ≡ 0 → position_or_len is_tab text ≡ length text
 no_tab_seen text none =
     position_or_len_is is_tab text (length text) 0 (omega arith)
     (λ k low. is_clear _ (sym (bit_at-tab_bits text k) ∙ ap (λ n. bit_at n k) none ∙ bit_at-past [] k (omega arith)))
     (λ past. absurd (omega arith))
 
--- of the bytes seen, the lowest bit is the first TAB of all
+-- the lowest bit of the searched bytes is the first TAB of the text
 module _ (text : List ℕ) (seen i : ℕ) (within : seen ≤ length text) (set : bit_at (tab_bits (take seen text)) i ≡ 1) (below : (k : ℕ) → k < i → bit_at (tab_bits (take seen text)) k ≡ 0) where
   pub seen_within : i < seen
   seen_within =
@@ -159,15 +159,15 @@ module _ (text : List ℕ) (seen i : ℕ) (within : seen ≤ length text) (set :
 pub tab_bits-fits : (bytes : List ℕ) → length bytes ≤ 64 → tab_bits bytes < 2 ^ 64
 tab_bits-fits bytes few = omega (arith, mask_l-lt (map is_tab bytes), pow_mono {i = length (map is_tab bytes)} {j = 64} (omega (arith, length-map bytes is_tab)))
 
--- no more bytes than there are
+-- the first bytes, at most as many as there are
 pub take_first : (bytes : List ℕ) (most n : ℕ) → n ≡ min most (length bytes) → take n bytes ≡ take most bytes
 take_first bytes most n e = ap (λ k. take k bytes) e ∙ take_min most bytes
 
--- some of the last bytes of a text are unseen; of those before them, of which there are few, the TABs are known
+-- some of the last bytes of a text are not searched; of those before them, at most 64, the TABs are known
 abbrev pub KnownTabs : List ℕ → ℕ → ℕ → Type 0
 KnownTabs text unseen tabs = (length text - unseen ≤ 64) × (tabs ≡ tab_bits (take (length text - unseen) text))
 
--- the lowest bit known is the first TAB of all
+-- the lowest known bit is the first TAB of the text
 pub first_known : (text : List ℕ) (unseen tabs : ℕ) → KnownTabs text unseen tabs → 0 < tabs → (count_trailing_zeros 64 tabs < length text - unseen) × TabAt text (count_trailing_zeros 64 tabs)
 first_known text unseen tabs known some =
     let seen = length text - unseen in
@@ -181,7 +181,7 @@ first_known text unseen tabs known some =
     let first : position_or_len is_tab text ≡ i = first_seen text seen i within set below in
     (inside, subst (TabAt text) first (first_tab text (omega arith)))
 
--- what is known behind that TAB
+-- what is known after that TAB
 pub known_behind : (text rest : List ℕ) (unseen tabs place : ℕ) → KnownTabs text unseen tabs → place < length text - unseen → rest ≡ drop (place + 1) text → KnownTabs rest unseen (tabs / 2 ^ place / 2)
 known_behind text rest unseen tabs place known inside behind =
     let seen = length text - unseen in
@@ -194,7 +194,7 @@ known_behind text rest unseen tabs place known inside behind =
 pub known_first : (text : List ℕ) (unseen tabs : ℕ) → tabs ≡ tab_bits (take 64 text) → unseen ≡ length text - 64 → KnownTabs text unseen tabs
 known_first text unseen tabs known some = (omega arith, known ∙ ap tab_bits (sym (take_first text 64 (length text - unseen) (omega arith))))
 
--- each byte behind the first n may pass
+-- at most all bytes after the first n pass
 count_by-front : (p : ℕ → Bool) (n : ℕ) (xs : List ℕ) → count_by p xs ≤ count_by p (take n xs) + (length xs - n)
 count_by-front p n xs =
     let parts : filter p xs ≡ filter p (take n xs) ++ filter p (drop n xs) =
@@ -210,7 +210,7 @@ count_by-front p n xs =
       length-drop n xs,
     )
 
--- the TABs that are known, and the bytes that are unseen, are one fewer than the cells may be
+-- there is at most one cell more than known TABs and bytes not searched
 pub cells_known : (text : List ℕ) (unseen tabs : ℕ) → KnownTabs text unseen tabs
     → length (cells text) ≤ count_ones tabs + unseen + 1
 cells_known text unseen tabs known =
@@ -220,7 +220,7 @@ cells_known text unseen tabs known =
     let split : length (cells text) ≡ count_by is_tab text + 1 = length-slice_split is_tab text in
     omega (arith, ones, split, count_by-front is_tab seen text)
 
--- where no TAB is known, and all bytes are seen, the text is one cell
+-- if no TAB is known and all bytes are searched, the text is one cell
 pub only_cell_known : (text : List ℕ) (unseen tabs : ℕ) → KnownTabs text unseen tabs → tabs ≡ 0 → unseen ≡ 0 → cells text ≡ text ∷ []
 only_cell_known text unseen tabs known none all =
     let whole : tab_bits text ≡ 0 = ap tab_bits (sym (take_all (length text - unseen) text (omega arith))) ∙ sym known.1 ∙ none in

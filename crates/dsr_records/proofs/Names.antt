@@ -1,4 +1,4 @@
--- Record types by their first bytes.
+-- Lemmas on the first bytes of record types.
 use Rattle.std.proofs.Common.{◌≡◌, ℕ, List, length, true, refl, sym, ◌∙◌, w32}
 use Rattle.std.specs.Int.{from_le_bytes}
 use Rattle.std.specs.Str.{bytes_eq}
@@ -7,7 +7,7 @@ use Rattle.std.proofs.lemmas.Slice.Eq.{bytes_eq-Decides}
 use Rattle.dsr_cells.specs.Order.{AreBytes}
 use Rattle.dsr_records.specs.Names.{start_of}
 
--- two texts of four bytes are equal where their numbers are
+-- two texts of four bytes are equal if their numbers are
 pub same_start : (xs ys : List ℕ) → length xs ≡ 4 → length ys ≡ 4 → AreBytes xs → AreBytes ys → start_of xs ≡ start_of ys → bytes_eq xs ys ≡ true
 same_start xs ys long long' small small' same =
     let number : from_le_bytes w32 xs ≡ from_le_bytes w32 ys = rw (long, long') at same in

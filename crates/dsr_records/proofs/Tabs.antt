@@ -18,7 +18,7 @@ both line =
     let others = length-filter is_other line in
     rw (sym tabs, sym others) (length-filter_both is_tab is_other (λ b. refl) line)
 
--- a line has more than 64 cells where at most all but 64 of its bytes are other ones than TABs
+-- a line has more than 64 cells exactly if at most all but 64 of its bytes are not TABs
 pub many_cells : (line : List ℕ) → 64 ≤ length line → not (ltb (length line - 64) (count_by is_other line)) ≡ ltb 64 (length (cells line))
 many_cells line long =
     let split : length (cells line) ≡ count_by is_tab line + 1 = length-slice_split is_tab line in

@@ -1,10 +1,10 @@
--- What contracts see of a line that was checked.
+-- Checked lines, as contracts see them.
 use Rattle.dsr_records.specs.declared.record.Record.{Record}
 use Rattle.dsr_records.specs.declared.record.Record.TheVariants as records
 use Rattle.dsr_records.specs.declared.check.RecordLine.{RecordLine}
 use Rattle.dsr_records.specs.declared.check.RecordLine.TheVariants.{Head, Summary, Resource, Work, Usage, Foot, Skipped}
 
--- the record whose texts stand in the line
+-- the record whose texts are borrowed from the line
 abbrev pub record_seen : RecordLine → Record
 record_seen (Head h) = records.Head h
 record_seen (Summary s) = records.Summary s

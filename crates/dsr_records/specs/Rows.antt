@@ -1,4 +1,4 @@
--- What contracts see of the cells of a line, and of the answer that reads one of them.
+-- The cells of a line, and the results of reading one of them, as contracts see them.
 use Rattle.std.specs.Prelude.{◌≡◌, ℕ, List, [], length, if◌then◌else◌, Option, Some, None, Result, Ok, Err}
 use Rattle.std.specs.Borrow.{Bor}
 use Rattle.std.specs.List.{list_all}
@@ -10,30 +10,30 @@ use Rattle.dsr_records.specs.declared.rest.Rest.{Rest}
 use Rattle.dsr_records.specs.Records.{column_fault}
 use Rattle.dsr_records.specs.Tables.{cell_of, is_share, text_of}
 
--- the cells of what is left of a line, where anything is
+-- the cells of the rest of a line, if there is one
 abbrev pub cells_left : Option Rest → List (List ℕ)
 cells_left None = []
 cells_left (Some rest) = cells rest.text.now
 
--- the bytes behind a reference, where there is one
+-- the bytes of a reference, if there is one
 abbrev pub behind : Option (Bor (List ℕ)) → Option (List ℕ)
 behind None = None
 behind (Some text) = Some text.now
 
--- what is wrong with the column at place i
+-- the fault of the column at index i
 abbrev pub fault_at : List (Option (List ℕ)) → Column → ℕ → Option RecordFault
 fault_at row column i = column_fault row column (cell_of row i)
 
--- the answer is what the text of a column spells, or what is wrong with the column
+-- the result is what the text of a column spells, or the fault of the column
 abbrev pub ReadsValue : {V : Type 0} → (List ℕ → Option V) → List (Option (List ℕ)) → Column → ℕ → Result V RecordFault → Type 0
 ReadsValue spelled row column i (Ok value) = (fault_at row column i ≡ None) × (spelled (text_of row i) ≡ Some value)
 ReadsValue spelled row column i (Err fault) = fault_at row column i ≡ Some fault
 
--- the answer is the text of a column, or what is wrong with the column
+-- the result is the text of a column, or the fault of the column
 abbrev pub ReadsText : List (Option (List ℕ)) → Column → ℕ → Result (Bor (List ℕ)) RecordFault → Type 0
 ReadsText row column i (Ok text) = (fault_at row column i ≡ None) × (text.now ≡ text_of row i)
 ReadsText row column i (Err fault) = fault_at row column i ≡ Some fault
 
--- how many shares a list cell has, where each of its raw parts is one
+-- the number of shares in a list cell; None if a raw part is not a share
 abbrev pub share_count : List ℕ → Option ℕ
 share_count cell = if list_all is_share (raw_parts cell) then Some (length (raw_parts cell)) else None

@@ -1,4 +1,4 @@
-//! A line whose cells are those of a record, before anything of it is copied.
+//! Checking lines, and copying the records of lines without a fault.
 ghost use Rattle.std.specs.Prelude.{◌≡◌, ◌==◌, ◌+◌, ◌<◌, [], not, true, length, map, count_by};
 ghost use Rattle.std.specs.Prelude.{Ok, Err, IfOk, OnOk, OnErr, MatchResult, nat_lt, slice_get};
 ghost use Rattle.std.specs.Option.{option_map, unwrap_or};
@@ -26,7 +26,7 @@ use dsr_cells::NoMemory;
 use std::alloc::Global;
 use std::marker::Model;
 
-/// A line without a fault, which contracts see as the record that it spells.
+/// A line without a fault. Contracts see it as the record that it spells.
 #[derive(Drop)]
 pub struct CheckedLine<'l> {
     found: RecordLine<'l>,
@@ -58,7 +58,7 @@ impl<'l> CheckedLine<'l> {
         }
     }
 
-    /// The identifier of a summary, or that of the block of a resource, a work or a usage.
+    /// The identifier of a summary, or of the block of a resource, a work or a usage; None for other records.
     #[inline(always)]
     pub fn id(&self) -> Option<&'l str>
         ensures { option_map (λ i. i.now) result ≡ id_of_record self.now }
@@ -72,11 +72,11 @@ impl<'l> CheckedLine<'l> {
         }
     }
 
-    /// The record. A FOOT and a skipped record take no memory.
+    /// The record, with its texts copied. For a FOOT and a skipped record nothing is allocated.
     ///
     /// # Errors
     ///
-    /// `NoMemory`: no memory was left for the record's texts.
+    /// `NoMemory`: out of memory for the record's texts.
     pub fn read(&self, alloc: Global) -> Result<Record, NoMemory>
         ensures value { IfOk result (λ r. r ≡ self.now) }
         ensures memory { OnErr result (has_texts self.now ≡ true) }
@@ -92,11 +92,11 @@ impl<'l> CheckedLine<'l> {
         })
     }
 
-    /// Writes the block of the line's resource over a block, so far without works and usages.
+    /// Writes a new block of the line's resource, without works and usages, over a block.
     ///
     /// # Errors
     ///
-    /// `NoMemory`: no memory was left for the block's texts, and the block may have any value.
+    /// `NoMemory`: out of memory; the block may have any value.
     #[inline(always)]
     pub fn open_block(&self, alloc: Global, block: &mut Block) -> Result<(), NoMemory>
         requires resource { kind_of_record self.now ≡ kinds.Resource }
@@ -109,12 +109,12 @@ impl<'l> CheckedLine<'l> {
         Ok(())
     }
 
-    /// Appends the work or the usage of the line to a block of fewer than 64 records; another
-    /// record appends nothing.
+    /// Appends the work or the usage of the line to a block of fewer than 64 records; for any other
+    /// record nothing is appended.
     ///
     /// # Errors
     ///
-    /// `NoMemory`: no memory was left for the record's texts, and the block is unchanged.
+    /// `NoMemory`: out of memory; the block is unchanged.
     #[inline(always)]
     pub fn append_to(&self, alloc: Global, block: &mut Block) -> Result<(), NoMemory>
         requires room { 1 + length block.old.works + length block.old.usages < 64 }
@@ -130,7 +130,7 @@ impl<'l> CheckedLine<'l> {
     }
 }
 
-/// Whether more than so many of the bytes are other ones than TABs.
+/// Whether more than `count` of the bytes are not TABs.
 fn has_others(bytes: &[u8], count: usize) -> bool
     ensures { result ≡ nat_lt count (count_by (λ b. not (b == 9)) bytes.now) }
 {
@@ -141,8 +141,8 @@ fn has_others(bytes: &[u8], count: usize) -> bool
         .is_some()
 }
 
-/// Whether a line has more than 64 cells, by its bytes: it has not where more than all but 64 of
-/// them are other ones than TABs.
+/// Whether a line has more than 64 cells, that is, at least 64 TABs, so that at most `line.len() - 64` of
+/// its bytes are others.
 #[tactic(auto, using(crate::proofs::Tabs::many_cells))]
 #[inline(never)]
 fn counts_many_cells(line: &str) -> bool
@@ -151,8 +151,8 @@ fn counts_many_cells(line: &str) -> bool
     line.len() >= 64 && !has_others(line.as_bytes(), line.len() - 64)
 }
 
-/// Whether a line has more than 64 cells. A short line has not, and the TABs among the first bytes of
-/// a longer one mostly show that it has not.
+/// Whether a line has more than 64 cells. A line of fewer than 64 bytes has not, and for most longer ones
+/// the TABs among the first 64 bytes show that they have not.
 #[tactic(auto, using(crate::proofs::Tabs::few_cells))]
 #[inline(always)]
 fn has_many_cells(line: &str, whole: &Rest<'_>) -> bool
@@ -173,7 +173,7 @@ fn record_type<'l>(cursor: &mut Cursor<'l>) -> &'l str
     cursor.cell(0).unwrap_or("")
 }
 
-/// Checks the cells of a kind's columns: the line's record, not yet copied, or the first fault.
+/// Checks the cells of a kind's columns. Returns the line's record, not yet copied, or the first fault.
 #[inline(always)]
 fn check_row<'l>(row: &Row<'l>, kind: Kind) -> Result<CheckedLine<'l>, RecordFault>
     ensures { result ≡ record_by_row row.now kind }
@@ -190,8 +190,8 @@ fn check_row<'l>(row: &Row<'l>, kind: Kind) -> Result<CheckedLine<'l>, RecordFau
     Ok(CheckedLine { found })
 }
 
-/// A line whose record type is known to the layout: its kind, and the cells of the kind's columns, not
-/// yet checked. Contracts see it as what the check finds: its record, or its first fault.
+/// A line whose record type the layout has: its kind, and the cells of the kind's columns, not yet
+/// checked. Contracts see it as the result of the check: its record, or its first fault.
 #[derive(Drop)]
 pub struct TypedLine<'l> {
     row: Row<'l>,
@@ -210,7 +210,7 @@ impl<'l> Model for TypedLine<'l> {
 }
 
 impl<'l> TypedLine<'l> {
-    /// A skipped record, until a line is found.
+    /// A typed line of a skipped record, to be overwritten by `find`.
     #[inline(always)]
     pub fn new() -> TypedLine<'l>
         ensures { result ≡ Ok records.Skipped }
@@ -221,7 +221,7 @@ impl<'l> TypedLine<'l> {
         }
     }
 
-    /// Finds the kind of a line by a layout, and the cells of its columns. It takes no memory.
+    /// Finds the kind of a line by a layout, and the cells of its columns. Nothing is allocated.
     ///
     /// # Errors
     ///
@@ -269,12 +269,12 @@ impl<'l> TypedLine<'l> {
         self.kind
     }
 
-    /// Checks the cells: the line's record, not yet copied, or its first fault. It takes no memory.
+    /// Checks the cells. Returns the line's record, not yet copied, or its first fault. Nothing is allocated.
     ///
     /// # Errors
     ///
     /// `Missing` and `Bad`: the first such column, in the order of the columns. `Uneven`: a work has
-    /// more shares than parties, or fewer.
+    /// different numbers of parties and shares.
     #[inline(always)]
     pub fn check(&self) -> Result<CheckedLine<'l>, RecordFault>
         ensures { result ≡ self.now }
@@ -283,13 +283,13 @@ impl<'l> TypedLine<'l> {
     }
 }
 
-/// Checks a line by a layout: its record, not yet copied, or its first fault. It takes no memory.
+/// Checks a line by a layout. Returns its record, not yet copied, or its first fault. Nothing is allocated.
 ///
 /// # Errors
 ///
 /// `Many`: the line has more than 64 cells. `Unknown`: the layout does not have its record type.
 /// `Missing` and `Bad`: the first such column, in the order of the columns. `Uneven`: a work
-/// has more shares than parties, or fewer.
+/// has different numbers of parties and shares.
 pub fn check_line<'l>(layout: &Layout, line: &'l str) -> Result<CheckedLine<'l>, RecordFault>
     ensures { result ≡ record_of layout.now line.now }
 {
@@ -310,19 +310,19 @@ pub fn check_record(layout: &Layout, line: &str) -> Result<Kind, RecordFault>
 }
 
 /// The identifier of a line: that of a summary, or that of the block of a resource, a work or a
-/// usage. A faulty line has none, nor has another record.
+/// usage. A faulty line and any other record have none.
 pub fn record_id<'l>(layout: &Layout, line: &'l str) -> Option<&'l str>
     ensures { option_map (λ i. i.now) result ≡ id_of layout.now line.now }
 {
     check_line(layout, line).ok()?.id()
 }
 
-/// The record of a line by a layout, or its first fault. All cells are checked before memory is
-/// taken.
+/// The record of a line by a layout, or its first fault. All cells are checked before anything is
+/// allocated.
 ///
 /// # Errors
 ///
-/// `Fault`: the fault that `check_line` returns. `Memory`: no memory was left for the record's texts.
+/// `Fault`: the fault that `check_line` returns. `Memory`: out of memory for the record's texts.
 pub fn read_record(alloc: Global, layout: &Layout, line: &str) -> Result<Record, ReadRecordError>
     ensures { AnswersRecord (record_of layout.now line.now) result }
 {

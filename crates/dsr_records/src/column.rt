@@ -5,7 +5,7 @@ ghost use Rattle.dsr_records.specs.Tables.{columns_of, column_name, may_be_empty
 use crate::kinds::{Column, Kind};
 
 impl Column {
-    /// The name of the column, as it is spelled.
+    /// The name of the column.
     pub fn name(self) -> &'static str
         ensures { result.now ≡ column_name self }
     {
@@ -88,7 +88,7 @@ pub(crate) fn columns(kind: Kind) -> &'static [Column]
     }
 }
 
-/// Whether a column may be empty, and so missing.
+/// Whether a column may be empty or missing.
 pub(crate) fn column_may_be_empty(column: Column) -> bool
     ensures { result ≡ may_be_empty column }
 {

@@ -1,4 +1,4 @@
-//! Finding the cells of a line one after another.
+//! Finding the cells of a line, one after another.
 ghost use Rattle.std.specs.Prelude.{◌≡◌, ◌<◌, Some, IfSome, slice_get, drop};
 ghost use Rattle.std.specs.Option.{option_map};
 ghost use Rattle.dsr_cells.specs.Cells.{cells};
@@ -7,7 +7,7 @@ ghost use Rattle.dsr_records.specs.Rows.{cells_left};
 use crate::rest::Rest;
 use std::marker::Model;
 
-/// What is left behind this many cells, where there are more.
+/// The rest of a line after this many cells, if it has more.
 fn behind_cells(from: Option<Rest<'_>>, count: usize) -> Option<Rest<'_>>
     ensures { cells_left result ≡ drop count (cells_left from.entry) }
 {
@@ -21,11 +21,11 @@ fn behind_cells(from: Option<Rest<'_>>, count: usize) -> Option<Rest<'_>>
     rest
 }
 
-/// Where a cursor stands behind the last cell: no cell is looked for there.
+/// The index of a cursor after the last cell. No cell has this index.
 const NOWHERE: usize = 256;
 
-/// What is left from the cell at a place on, found from what is left from another cell on or, where
-/// that one stands behind it, from the line's beginning.
+/// The rest of a line from the cell at index `place`, found from the rest from index `next` or, if that
+/// is after `place`, from the beginning of the line.
 #[cold]
 #[inline(never)]
 fn rest_elsewhere<'l>(line: &'l str, rest: Rest<'l>, next: usize, place: usize) -> Option<Rest<'l>>
@@ -40,12 +40,12 @@ fn rest_elsewhere<'l>(line: &'l str, rest: Rest<'l>, next: usize, place: usize) 
     }
 }
 
-/// Finds the cells of a line from where the last one was found, which contracts see as the cells of
+/// Finds cells of a line, starting where the last one was found. Contracts see it as the cells of
 /// the line.
 #[derive(Drop)]
 pub(crate) struct Cursor<'l> {
     line: &'l str,
-    /// What is left from the cell at place `next` on, unless that is `NOWHERE`.
+    /// The rest of the line from the cell at index `next`, unless that is `NOWHERE`.
     rest: Rest<'l>,
     next: usize,
 }
@@ -62,7 +62,7 @@ impl<'l> Model for Cursor<'l> {
 }
 
 impl<'l> Cursor<'l> {
-    /// A cursor at the first cell of a line, of which nothing is taken yet.
+    /// A cursor at the first cell of a line.
     #[inline(always)]
     pub(crate) fn at(line: &'l str, whole: Rest<'l>) -> Cursor<'l>
         requires { whole.text.now ≡ line.now }
@@ -83,8 +83,8 @@ impl<'l> Cursor<'l> {
         self.line
     }
 
-    /// The cell at a place, where the cursor stands there. It calls nothing that answers more than a
-    /// number, so that a loop over it has the cursor in registers.
+    /// The cell at an index, if the cursor is there. All calls in it that are not inlined return a
+    /// number, so a loop over it can keep the cursor in registers.
     #[inline(always)]
     pub(crate) fn cell_here(&mut self, place: u8) -> Option<&'l str>
         ensures value { IfSome result (λ c. slice_get self.old place ≡ Some c.now) }
@@ -99,7 +99,7 @@ impl<'l> Cursor<'l> {
         Some(cell)
     }
 
-    /// The cell at a place, from 0, where the line has it.
+    /// The cell at an index, from 0, if the line has it.
     #[inline(always)]
     pub(crate) fn cell(&mut self, place: u8) -> Option<&'l str>
         ensures value { option_map (λ c. c.now) result ≡ slice_get self.old place }
@@ -111,7 +111,7 @@ impl<'l> Cursor<'l> {
         Some(cell)
     }
 
-    /// Stands at the cell at a place, from which on this is left.
+    /// Moves the cursor to the cell at an index, given the rest of the line from there.
     #[inline(always)]
     fn stand_at(&mut self, place: usize, rest: Option<Rest<'l>>)
         requires { cells_left rest ≡ drop place self.old }
@@ -125,7 +125,7 @@ impl<'l> Cursor<'l> {
         }
     }
 
-    /// What is left from the cell at a place on, where the line has it.
+    /// The rest of the line from the cell at an index, if the line has it.
     #[inline(always)]
     fn rest_from(&self, place: usize) -> Option<Rest<'l>>
         requires { place < 256 }

@@ -1,4 +1,4 @@
-//! A line of a layout: the record type that stands for a kind, and where its columns are.
+//! A line of a layout: the record type that stands for a kind, and the positions of its columns.
 ghost use Rattle.std.specs.Prelude.{◌≡◌, ◌≤◌, length};
 ghost use Rattle.std.specs.Str.{bytes_eq};
 ghost use Rattle.dsr_records.specs.Names.{start_of};
@@ -7,7 +7,7 @@ use crate::kinds::Kind;
 use arrayvec::{ArrayString, ArrayVec};
 use std::marker::Model;
 
-/// The first four bytes of a record type as a number; 0 where it has fewer.
+/// The first four bytes of a record type as a number; 0 if it is shorter.
 #[inline(always)]
 pub(crate) fn start(name: &str) -> u32
     ensures { result ≡ start_of name.now }
@@ -19,7 +19,7 @@ pub(crate) fn start(name: &str) -> u32
     u32::from_le_bytes([bytes[0], bytes[1], bytes[2], bytes[3]])
 }
 
-/// Whether two texts are equal, where it is seldom asked.
+/// Whether two texts are equal; not inlined, since it is rarely called.
 #[cold]
 #[inline(never)]
 fn is_same(text: &str, other: &str) -> bool
@@ -28,8 +28,8 @@ fn is_same(text: &str, other: &str) -> bool
     text == other
 }
 
-/// A record type, which contracts see as its bytes. Most have four of them, so that two are compared
-/// as numbers.
+/// A record type. Contracts see it as its bytes. Most have four bytes, so two are compared
+/// as numbers first.
 #[derive(Drop)]
 pub(crate) struct TypeName {
     text: ArrayString<16>,
@@ -68,7 +68,7 @@ impl TypeName {
         self.text.as_str()
     }
 
-    /// Whether it is the record type whose first bytes are given with it.
+    /// Whether this is the record type `name`, whose `start` is given with it.
     #[inline(always)]
     pub(crate) fn is(&self, name: &str, start: u32) -> bool
         requires { start ≡ start_of name.now }
@@ -77,7 +77,7 @@ impl TypeName {
         self.start == start && self.continues_as(name)
     }
 
-    /// The same, where the first bytes are known to be equal.
+    /// The same, if the first four bytes are known to be equal.
     #[inline(always)]
     fn continues_as(&self, name: &str) -> bool
         requires { start_of self.now ≡ start_of name.now }

@@ -48,7 +48,7 @@ fn all_of_type(bytes: &[u8]) -> bool
         .all(|byte| byte.is_ascii_alphanumeric() || *byte == b'.')
 }
 
-/// The position of a column, or none for a hyphen where the column may be empty.
+/// The position of a column; Some(None) for a hyphen if the column may be empty.
 fn read_position(column: Column, text: &str) -> Option<Option<u8>>
     ensures { result ≡ position_of column text.now }
 {
@@ -62,7 +62,7 @@ fn read_position(column: Column, text: &str) -> Option<Option<u8>>
     Some(Some(position as u8))
 }
 
-/// The positions of the columns, from cell 2 of a layout line on.
+/// The positions of the columns, from cell 2 of a layout line.
 fn read_positions(line: &str, columns: &[Column]) -> Option<ArrayVec<Option<u8>, 7>>
     requires { length columns.now ≤ 7 }
     ensures { option_map (λ p. p.items) result ≡ positions_from line.now columns.now 2 }
@@ -75,7 +75,7 @@ fn read_positions(line: &str, columns: &[Column]) -> Option<ArrayVec<Option<u8>,
 }
 
 impl Layout {
-    /// Adds a line whose role is known.
+    /// Adds a line for a kind, or for a record type to be skipped.
     fn add_line(&mut self, kind: Kind, line: &str) -> Result<(), LayoutFault>
         ensures { MatchResult result (λ _. with_line self.old kind (cell_at line.now 1) line.now ≡ Ok self.new) (λ fault. with_line self.old kind (cell_at line.now 1) line.now ≡ Err fault) }
     {
@@ -106,7 +106,7 @@ impl Layout {
         }
     }
 
-    /// Adds a line of text: an empty one and one that begins with `#` change nothing.
+    /// Adds a line of text. An empty line and one that begins with `#` change nothing.
     fn add_text(&mut self, line: &str) -> Result<(), LayoutFault>
         ensures { MatchResult result (λ _. with_text self.old line.now ≡ Ok self.new) (λ fault. with_text self.old line.now ≡ Err fault) }
     {
@@ -119,7 +119,7 @@ impl Layout {
         }
     }
 
-    /// Adds a piece of the layout's text.
+    /// Adds a line, given as bytes.
     fn add_piece(&mut self, piece: &[u8]) -> Result<(), LayoutFault>
         ensures { MatchResult result (λ _. with_piece self.old piece.now ≡ Ok self.new) (λ fault. with_piece self.old piece.now ≡ Err fault) }
     {
@@ -136,7 +136,7 @@ impl Layout {
     ///
     /// # Errors
     ///
-    /// The first faulty line and what is wrong with it; `LayoutFault` says each fault.
+    /// The first faulty line, and its fault.
     pub fn read(bytes: &[u8]) -> Result<Layout, LayoutError>
         ensures { result ≡ layout_of bytes.now }
     {
@@ -150,14 +150,14 @@ impl Layout {
     }
 }
 
-/// Whether a line is left out: an empty one, or one that begins with `#`.
+/// Whether a line is ignored: an empty one, or one that begins with `#`.
 fn is_comment(line: &str) -> bool
     ensures { result ≡ is_left_out line.now }
 {
     line.is_empty() || line.as_bytes()[0] == b'#'
 }
 
-/// A text without a carriage return at its end.
+/// The text without a carriage return at its end.
 fn strip_return(text: &str) -> &str
     ensures { result.now ≡ without_return text.now }
 {
@@ -167,7 +167,7 @@ fn strip_return(text: &str) -> &str
     }
 }
 
-/// The text of a piece, without a carriage return at its end.
+/// The text of a piece without a carriage return at its end, if it is UTF-8.
 fn read_text(piece: &[u8]) -> Option<&str>
     ensures { option_map (λ t. t.now) result ≡ (if is_utf8 piece.now then Some (without_return piece.now) else None) }
 {
@@ -177,7 +177,7 @@ fn read_text(piece: &[u8]) -> Option<&str>
     }
 }
 
-/// The layout of the pieces of a text.
+/// The layout that the pieces of a text spell.
 fn read_pieces(pieces: Pieces<'_>) -> Result<Layout, LayoutError>
     requires { length pieces ≤ 65537 }
     ensures { result ≡ with_lines 1 pieces.entry empty_layout }

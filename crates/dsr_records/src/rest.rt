@@ -1,4 +1,4 @@
-//! What is left of a line, and the first cell of it.
+//! The rest of a line, and its first cell.
 ghost use Rattle.std.specs.Prelude.{◌≡◌, ◌≢◌, ◌+◌, ◌-◌, ◌<◌, ◌≤◌, ◌==◌, ◌∷◌, length, take, drop};
 ghost use Rattle.std.specs.Prelude.{slice_index, false};
 ghost use Rattle.std.specs.List.{position, position_or_len};
@@ -7,14 +7,14 @@ ghost use Rattle.dsr_records.specs.Marks.{tab_bits};
 
 use crate::tab_bits::{more_tabs_of, tabs_of};
 
-/// Where the first TAB stands.
+/// The index of the first TAB.
 fn find_tab(bytes: &[u8]) -> Option<usize>
     ensures { result ≡ position (λ b. b == 9) bytes.now }
 {
     bytes.iter().position(|byte| *byte == b'\t')
 }
 
-/// The same, or behind the last byte where there is no TAB.
+/// The index of the first TAB, or the length if there is none; not inlined, since it is rarely called.
 #[cold]
 #[inline(never)]
 fn first_tab(bytes: &[u8]) -> usize
@@ -26,7 +26,7 @@ fn first_tab(bytes: &[u8]) -> usize
     }
 }
 
-/// What stands before and behind the TAB at a place.
+/// The text before the TAB at an index, and the text after it.
 #[inline(always)]
 fn around_tab(text: &str, place: usize) -> (&str, &str)
     requires within { place < length text.now }
@@ -37,14 +37,14 @@ fn around_tab(text: &str, place: usize) -> (&str, &str)
     (&text[..place], &text[place + 1..])
 }
 
-/// What is left of a line, and the TABs among its first bytes.
+/// The rest of a line, and the TABs among its first bytes.
 #[derive(Clone, Copy)]
 pub(crate) struct Rest<'l> {
     text: &'l str,
-    /// How many of the last bytes are not looked at yet. Of those before them, at most 64, the TABs
-    /// are known.
+    /// How many of the last bytes have not been searched yet. Of the bytes before them, at most 64,
+    /// the TABs are known.
     unseen: usize,
-    /// Bit k is set where byte k, of the bytes seen, is a TAB.
+    /// Bit k is set if byte k, of the searched bytes, is a TAB.
     tabs: u64,
     ghost known: { (length text.now - unseen ≤ 64)
         × (tabs ≡ tab_bits (take (length text.now - unseen) text.now)) },
@@ -53,7 +53,7 @@ pub(crate) struct Rest<'l> {
 impl<'l> Rest<'l> {
     ghost use Rattle.dsr_records.specs.Rows.{cells_left};
 
-    /// The whole of a text, with the TABs of its first 64 bytes.
+    /// A whole text, with the TABs of its first 64 bytes.
     #[inline(always)]
     pub(crate) fn of(text: &'l str) -> Rest<'l>
         ensures { result.text ≡ text.entry }
@@ -61,7 +61,7 @@ impl<'l> Rest<'l> {
         Rest::with(text, tabs_of(text.as_bytes()))
     }
 
-    /// The same, where it is seldom wanted.
+    /// The same as `of`, through a call that is not inlined, for the rare cases.
     #[inline(always)]
     fn again(text: &'l str) -> Rest<'l>
         ensures { result.text ≡ text.entry }
@@ -69,7 +69,7 @@ impl<'l> Rest<'l> {
         Rest::with(text, more_tabs_of(text.as_bytes()))
     }
 
-    /// The whole of a text of whose first 64 bytes these are the TABs.
+    /// A whole text, given the TABs of its first 64 bytes.
     #[inline(always)]
     fn with(text: &'l str, tabs: u64) -> Rest<'l>
         requires { tabs ≡ tab_bits (take 64 text.now) }
@@ -82,7 +82,7 @@ impl<'l> Rest<'l> {
         }
     }
 
-    /// Whether there may be more cells than so many: each byte that is not looked at yet may be a
+    /// Whether there may be more than `most` cells, since each byte that is not searched yet may be a
     /// TAB.
     #[inline(always)]
     pub(crate) fn may_have_more(&self, most: usize) -> bool
@@ -92,7 +92,7 @@ impl<'l> Rest<'l> {
         tabs >= most || self.unseen >= most - tabs
     }
 
-    /// The first cell, and what stands behind the TAB that ends it.
+    /// The first cell, and the rest after the TAB that ends it, if there is one.
     #[inline(always)]
     pub(crate) fn first_cell(self) -> (&'l str, Option<Rest<'l>>)
         ensures { cells self.entry.text.now ≡ result.0.now ∷ cells_left result.1 }
@@ -106,8 +106,8 @@ impl<'l> Rest<'l> {
         }
     }
 
-    /// The first cell of a text whose first 64 bytes were looked at, and what stands behind the TAB
-    /// that ends it.
+    /// The first cell of a text whose first 64 bytes were searched, and the rest after the TAB that
+    /// ends it.
     #[inline(always)]
     fn unknown_cell(self) -> (&'l str, Option<Rest<'l>>)
         ensures { cells self.entry.text.now ≡ result.0.now ∷ cells_left result.1 }
@@ -119,7 +119,7 @@ impl<'l> Rest<'l> {
         }
     }
 
-    /// The first cell where a TAB is known, and what stands behind that TAB.
+    /// The first cell, if a TAB is known, and the rest after that TAB.
     #[inline(always)]
     fn known_cell(self) -> (&'l str, Option<Rest<'l>>)
         requires { self.tabs ≢ 0 }
@@ -135,7 +135,7 @@ impl<'l> Rest<'l> {
         (cell, Some(rest))
     }
 
-    /// The first cell of a text that has no TAB among its first 64 bytes, and what stands behind the
+    /// The first cell of a text without a TAB among its first 64 bytes, and the rest after the
     /// TAB that ends it.
     #[inline(always)]
     fn long_cell(text: &'l str) -> (&'l str, Option<Rest<'l>>)

@@ -1,4 +1,4 @@
-//! Scanning of bytes by vectors (SIMD).
+//! Scanning bytes with SIMD.
 mod utf8;
 
 pub use utf8::text_of;

@@ -1,4 +1,4 @@
-//! Reading the cells of a row: each call answers what the column's text spells, or what is wrong with it.
+//! Reading the cells of a row: each call returns what the column's text spells, or the fault of the column.
 ghost use Rattle.std.specs.Prelude.{◌≡◌, ℕ, List, Some, None, MatchResult, is_some, false};
 ghost use Rattle.dsr_cells.specs.Days.{day_of};
 ghost use Rattle.dsr_cells.specs.Numbers.{amount_of, number_of, usages_of};
@@ -26,7 +26,7 @@ fn file_number(text: &str) -> Option<u32>
     Some(number as u32)
 }
 
-/// The cell of a column that may not be missing.
+/// The cell of a column that must not be missing.
 #[inline(always)]
 fn there<'l>(row: &Row<'l>, i: usize, column: Column) -> Result<&'l str, RecordFault>
     ensures { MatchResult result (λ text. cell_of row.now i ≡ Some text.now) (λ fault. (cell_of row.now i ≡ None) × (fault ≡ faults.Missing column)) }
@@ -37,7 +37,7 @@ fn there<'l>(row: &Row<'l>, i: usize, column: Column) -> Result<&'l str, RecordF
     }
 }
 
-/// An identifier of at most so many bytes, by the column that asks for it.
+/// An identifier of at most `most` bytes, in a column that requires one.
 #[inline(always)]
 pub(crate) fn read_identifier<'l>(
     row: &Row<'l>,
@@ -56,7 +56,7 @@ pub(crate) fn read_identifier<'l>(
     Ok(text)
 }
 
-/// A number, by the column that asks for it.
+/// A number, in a column that requires one.
 pub(crate) fn read_count(row: &Row<'_>, i: usize, column: Column) -> Result<u64, RecordFault>
     requires needed { may_be_empty column ≡ false }
     requires asked { (text : List ℕ) → is_spelled row.now column text ≡ is_some (number_of text) }
@@ -69,7 +69,7 @@ pub(crate) fn read_count(row: &Row<'_>, i: usize, column: Column) -> Result<u64,
     }
 }
 
-/// A file's number.
+/// The file number.
 pub(crate) fn read_file_number(row: &Row<'_>, i: usize) -> Result<u32, RecordFault>
     ensures { ReadsValue file_number_of row.now columns.FileNumber i result }
 {
@@ -80,7 +80,7 @@ pub(crate) fn read_file_number(row: &Row<'_>, i: usize) -> Result<u32, RecordFau
     }
 }
 
-/// The number of files, not below the file's number.
+/// The number of files, which is at least the file number.
 pub(crate) fn read_number_of_files(row: &Row<'_>, i: usize, least: u32) -> Result<u32, RecordFault>
     requires { file_number_of (text_of row.now 1) ≡ Some least }
     ensures { ReadsValue file_number_of row.now columns.NumberOfFiles i result }
@@ -172,7 +172,7 @@ pub(crate) fn read_amount(row: &Row<'_>, i: usize) -> Result<Amount, RecordFault
     }
 }
 
-/// How many shares a list cell has, where each of its raw parts is one.
+/// The number of shares in a list cell; None if a raw part is not a share.
 fn count_shares(cell: &str) -> Option<usize>
     ensures { result ≡ share_count cell.now }
 {
@@ -184,7 +184,7 @@ fn count_shares(cell: &str) -> Option<usize>
     Some(count)
 }
 
-/// How many shares a list cell of shares has, which may be missing.
+/// The number of shares in the cell of the column Shares, which may be missing.
 #[inline(always)]
 pub(crate) fn read_share_count(row: &Row<'_>, i: usize) -> Result<usize, RecordFault>
     ensures { ReadsValue share_count row.now columns.Shares i result }

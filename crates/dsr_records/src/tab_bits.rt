@@ -1,4 +1,4 @@
-//! The TABs of a text's first bytes, as a mask of bits (SIMD): bit k is set where byte k is a TAB.
+//! The TABs among the first bytes of a text, as a bit mask (SIMD): bit k is set if byte k is a TAB.
 ghost use Rattle.std.specs.Prelude.{◌≡◌, ◌+◌, ◌<◌, ◌≤◌, ℕ, length, take};
 ghost use Rattle.std.specs.Simd.Lanes.{chunk};
 ghost use Rattle.dsr_records.specs.Marks.{tab_bits};
@@ -19,7 +19,7 @@ fn tabs_of_few(bytes: &[u8]) -> u64
     tabs
 }
 
-/// The TABs of the 16 bytes from a place on.
+/// The TABs of the 16 bytes from offset `place`.
 #[inline(always)]
 fn tabs_of_16(bytes: &[u8], place: usize) -> u64
     requires { place + 16 ≤ length bytes.now }
@@ -30,8 +30,8 @@ fn tabs_of_16(bytes: &[u8], place: usize) -> u64
         .to_bitmask()
 }
 
-/// The TABs up to the end of the 16 bytes from a place on, of which those that came before, and perhaps
-/// more, are known.
+/// Adds the TABs of the 16 bytes from offset `place` to the known ones, which include those of all bytes
+/// before it.
 #[inline(always)]
 fn with_16_more(known: u64, bytes: &[u8], place: usize) -> u64
     requires near { place ≤ 48 }
@@ -41,8 +41,8 @@ fn with_16_more(known: u64, bytes: &[u8], place: usize) -> u64
     known | (tabs_of_16(bytes, place) << place)
 }
 
-/// The TABs of a text's first 64 bytes, or of all where it has fewer. No branch depends on how many there are, but for those of
-/// fewer than 16 bytes: four runs of 16 bytes, which may overlap, have them all.
+/// The TABs of a text's first 64 bytes, or of all if it has fewer. For 16 bytes or more there is no further branch:
+/// four vectors of 16 bytes, which may overlap, cover them.
 #[inline(always)]
 pub(crate) fn tabs_of(bytes: &[u8]) -> u64
     ensures { result ≡ tab_bits (take 64 bytes.now) }
@@ -57,7 +57,7 @@ pub(crate) fn tabs_of(bytes: &[u8]) -> u64
     with_16_more(third, bytes, last.min(48))
 }
 
-/// The same, where it is seldom wanted.
+/// The same, not inlined, for the rare cases.
 #[inline(never)]
 pub(crate) fn more_tabs_of(bytes: &[u8]) -> u64
     ensures { result ≡ tab_bits (take 64 bytes.now) }

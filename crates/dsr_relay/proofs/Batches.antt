@@ -1,8 +1,8 @@
--- A batch of which one more event was taken out.
+-- Taking one more event out of a batch.
 use Rattle.std.proofs.Common.{◌≡◌, ℕ, zero, suc, ◌+◌, ◌<◌, ◌≤◌, List, [], ◌∷◌, length, take, drop, set, slice_index_or, sym, ap, subst, arith}
 use Rattle.dsr_file.specs.Placed.{Placed}
 
--- the first event is taken out, and another stands in its slot
+-- the first event is taken out, and another one is put into its slot
 first_out : (xs : List Placed) (out count : ℕ) (d e : Placed) → out < count → count ≤ length xs → e ≡ slice_index_or xs out e → drop out (take count xs) ≡ e ∷ drop (suc out) (take count (set xs out d))
 first_out [] out count d e some few is = absurd (omega (arith, some, few))
 first_out (x ∷ xs) out zero d e some few is = absurd (omega (arith, some))

@@ -1,4 +1,4 @@
--- The steps at a view that is known.
+-- The steps, if the view is known.
 use Rattle.std.proofs.Common.{◌≡◌, ℕ, ◌≤◌, List, [], ◌∷◌, ◌++◌, length, refl, sym, subst}
 use Rattle.crossbeam_channel.specs.Fifo.{Pushes, Pops, Forks, Merges, Learns}
 use Rattle.dsr_file.specs.Orderly.{IsOrderly}

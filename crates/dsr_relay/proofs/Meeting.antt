@@ -1,4 +1,4 @@
--- What is left where the ends meet.
+-- What is left when the ends are joined.
 use Rattle.std.proofs.Common.{◌≡◌, ℕ, ◌+◌, ◌*◌, ◌≤◌, List, ◌++◌, length, drop, sym, ap, ◌∙◌, subst, arith, append_assoc, length-append}
 use Rattle.std.proofs.Math.Seq.{drop-append_seam}
 use Rattle.dsr_file.specs.Placed.{Placed}
@@ -10,7 +10,7 @@ use Rattle.dsr_relay.specs.Views.{TapView, FeedView}
 use Rattle.dsr_relay.proofs.Known.{both_is, left_is}
 use Rattle.dsr_relay.proofs.Messages.{events_of-append, events_of-length, messages_back}
 
--- what is left: the held rest, the queue and the batch
+-- what is left: the rest that is held, the queue and the batch
 pub record Meets (taken sent : List Placed) (capacity : ℕ) : Type 0 where
   pub whole : taken ++ drop (length taken) sent ≡ sent
   pub few : length (drop (length taken) sent) ≤ 32 * capacity + 62

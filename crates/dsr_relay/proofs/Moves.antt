@@ -21,7 +21,7 @@ module _ (feed tap : ℕ) (out received : List Message) (capacity : ℕ) where
       (λ (x : (j ≢ pass) × (get_elem? views j ≡ some u)). others j u x.0 x.1)
       (at_set views pass j w u e)
 
-  -- what the others know stays where the feed's list grows
+  -- what the other passes know stays true when the feed's list grows
   others_sent : (more : List Message) (j : ℕ) (u : Log) → j ≢ feed → Knows feed tap out received capacity j u → Knows feed tap more received capacity j u
   others_sent more j Fresh apart k = absurd (apart k.0)
   others_sent more j (Sends sent n) apart k = absurd (apart k.0)
@@ -29,7 +29,7 @@ module _ (feed tap : ℕ) (out received : List Message) (capacity : ℕ) where
   others_sent more j (Both sent taken n) apart k = absurd (apart k.0)
   others_sent more j Spent apart k = tt
 
-  -- and where the tap's list grows
+  -- and when the tap's list grows
   others_taken : (more : List Message) (j : ℕ) (u : Log) → j ≢ tap → Knows feed tap out received capacity j u → Knows feed tap out more capacity j u
   others_taken more j Fresh apart k = absurd (apart k.1)
   others_taken more j (Sends sent n) apart k = k
@@ -37,7 +37,7 @@ module _ (feed tap : ℕ) (out received : List Message) (capacity : ℕ) where
   others_taken more j (Both sent taken n) apart k = absurd (apart k.1)
   others_taken more j Spent apart k = tt
 
-  -- and where one pass is both ends, whatever the ends are then
+  -- and when one pass was both ends, whatever the ends are then
   others_spent : (feed' tap' : ℕ) (more got : List Message) (n j : ℕ) (u : Log) → j ≢ feed → j ≢ tap → Knows feed tap out received capacity j u → Knows feed' tap' more got n j u
   others_spent feed' tap' more got n j Fresh apart away k = absurd (apart k.0)
   others_spent feed' tap' more got n j (Sends sent m) apart away k = absurd (apart k.0)

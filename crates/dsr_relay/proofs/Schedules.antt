@@ -1,4 +1,4 @@
--- What every schedule of the core keeps.
+-- What every schedule preserves.
 use Rattle.std.proofs.Common.{◌≡◌, ℕ, ◌+◌, ◌*◌, ◌≤◌, Bool, true, false, true≢false, List, [], ◌∷◌, ◌++◌, length, map, set, Some, slice_get, refl, sym, ap, ◌∙◌, subst, arith, append_assoc, length-append}
 use Rattle.std.specs.Prelude.{sum}
 use Rattle.std.specs.List.{AllByRecursion, sum_by}
@@ -20,7 +20,7 @@ messages_push : (ms : List (List Placed)) (m : List Placed) → AllByRecursion I
 messages_push [] m h size = (size, tt)
 messages_push (n ∷ ms) m h size = (h.0, messages_push ms m h.1 size)
 
--- what each lane keeps
+-- what holds of each lane
 pub record IsGood (l : Lane) : Type 0 where
   pub orderly : IsOrderly l.source
   pub ends : has_ended l.source ≡ true
@@ -80,7 +80,7 @@ moves_done (put n m) l k p h = omega (arith, ap (λ (x : Lane). length x.sent) p
 moves_done (get n) l k g h =
     omega (arith, ap (λ (x : Lane). length x.sent) g.after_it, ap (λ (x : Lane). length x.taken) g.after_it, length-append l.taken g.message, (subst (AllByRecursion IsMessage) g.front h.messages).0.0)
 
--- what a step keeps of all lanes
+-- a step preserves it for all lanes
 happens_good : (step : Step) (s t : List Lane) → Happens step s t → AllByRecursion IsGood s → AllByRecursion IsGood t
 happens_good step s t h all =
     subst (AllByRecursion IsGood) (sym h.after_it) (all_set IsGood s (file_of step) h.moved all (moves_good step h.lane h.moved h.moves (all_get IsGood s (file_of step) h.lane all h.at)))
@@ -143,7 +143,7 @@ can_move lanes k l h at none = by_queue l.queue refl
       record { lane = l; moved = m; at = ap (λ n. slice_get lanes n) is ∙ at; moves = how; after_it = refl },
     )
 
-    -- where the queue is empty, what was sent was taken, so the source goes on
+    -- if the queue is empty, what was sent was taken, so the source has more events
     sends : l.queue ≡ [] → (rest : List Placed) → l.source ≡ l.sent ++ rest → has_ended l.sent ≡ false → (step : Step) × (next : List Lane) × (file_of step ≡ k) × Happens step lanes next
     sends empty [] is going = absurd (true≢false (sym h.ends ∙ ap has_ended (is ∙ append_nil l.sent) ∙ going))
     sends empty (e ∷ rest) is going = moves (put k (e ∷ [])) (record l { sent = l.sent ++ e ∷ []; queue = l.queue ++ (e ∷ []) ∷ [] }) refl record {

@@ -1,4 +1,4 @@
--- What a tap has after one more event was taken.
+-- A tap after one more event was taken.
 use Rattle.std.proofs.Common.{◌≡◌, ℕ, ◌+◌, Bool, true, false, ◌||◌, List, [], ◌∷◌, ◌++◌, length, take, refl, sym, ap, ◌∙◌, subst, arith, append_assoc, length-append}
 use Rattle.std.proofs.Math.Seq.{take-append_seam}
 use Rattle.dsr_file.specs.Placed.{Placed}
@@ -68,7 +68,7 @@ not_true : (b : Bool) → (b ≡ true → ⊥) → b ≡ false
 not_true true h = absurd (h refl)
 not_true false h = refl
 
--- nothing that has an event behind it has ended
+-- events that are followed by another one have no Ended
 pub going_on : (xs : List Placed) (e : Placed) → IsOrderly (xs ++ e ∷ []) → has_ended xs ≡ false
 going_on xs e orderly = not_true (has_ended xs) (λ ended. let none : e ∷ [] ≡ [] = ended_whole xs (e ∷ []) orderly ended in cc)
 
@@ -87,22 +87,22 @@ takes_lot arrived taken lot rest e seen same is last orderly =
 pub takes_again : (v : Log) (ms : List Message) → v ≡ Takes ms → v ≡ Takes (received_of v)
 takes_again v ms e = e ∙ ap (λ u. Takes (received_of u)) (sym e)
 
--- the events that have come in once a message came
+-- the events received after one more message
 pub come_in : (v w : Log) (m : Message) (taken : List Placed) → w ≡ Takes (received_of v ++ m ∷ []) → taken ++ [] ≡ events_of (received_of v) → taken ++ m ≡ events_of (received_of w)
 come_in v w m taken e all = ap (λ l. l ++ m) (sym (append_nil taken) ∙ all) ∙ sym (events_of-push (received_of v) m) ∙ ap (λ u. events_of (received_of u)) (sym e)
 
--- the message that came has 1 to 32 events
+-- the received message has 1 to 32 events
 pub has_size : (v w : Log) (m : Message) → w ≡ Takes (received_of v ++ m ∷ []) → AreMessages (received_of w) → IsMessage m
 has_size v w m e h = let last = messages_back (received_of v) (m ∷ []) (subst (λ (u : Log). AreMessages (received_of u)) e h) in last.0
 
--- the first event of a message that came
+-- the first event of a received message
 pub first_next : (v w : Log) (m : Message) (n : ℕ) (held came : List Placed) (e seen : Placed) (rest : List Placed) → seen ≡ e → w ≡ Takes (received_of v ++ m ∷ []) → take n (events_of (received_of v)) ++ held ≡ events_of (received_of v)
     → held ≡ [] → came ≡ m → came ≡ e ∷ rest → IsOrderly (events_of (received_of w)) → TakesNext (events_of (received_of w)) (take n (events_of (received_of v))) rest e seen
 first_next v w m n held came e seen rest same is whole none gives first orderly =
     let taken = take n (events_of (received_of v)) in
     takes_next (events_of (received_of w)) taken rest e seen same (ap (λ l. taken ++ l) (sym first ∙ gives) ∙ come_in v w m taken is (ap (λ l. taken ++ l) (sym none) ∙ whole)) orderly
 
--- all events of a message that came
+-- all events of a received message
 pub lot_next : (v w : Log) (m : Message) (n : ℕ) (held rest : List Placed) (e seen : Placed) → seen ≡ e → w ≡ Takes (received_of v ++ m ∷ []) → take n (events_of (received_of v)) ++ held ≡ events_of (received_of v)
     → held ≡ [] → m ≡ rest ++ e ∷ [] → IsOrderly (events_of (received_of w)) → TakesLot (events_of (received_of w)) (take n (events_of (received_of v))) m seen
 lot_next v w m n held rest e seen same is whole none last orderly =

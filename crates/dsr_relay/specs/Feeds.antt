@@ -10,7 +10,7 @@ use Rattle.dsr_relay.specs.Views.{FeedView}
 use Rattle.dsr_relay.specs.declared.rule.Log.TheVariants.{Sends}
 use Rattle.dsr_relay.specs.declared.feed.Feed.TheInside.{Inside}
 
--- what went out, followed by the batch
+-- the events of the messages sent, followed by the batch
 abbrev pub sent_of : Inside → List Placed
 sent_of f = events_of (out_of (view f.pass)) ++ f.batch
 

@@ -4,7 +4,7 @@ use Rattle.dsr_file.specs.Placed.{Placed}
 use Rattle.dsr_file.specs.Orderly.{IsOrderly, has_ended}
 use Rattle.dsr_relay.specs.Messages.{IsMessage}
 
--- one file: its events, how many messages its relay takes, what was sent, the messages in the queue, and what was taken
+-- one file: its events, the capacity of its relay, what was sent, the messages in the queue, and what was taken
 pub record Lane : Type 0 where
   pub source : List Placed
   pub capacity : ℕ
@@ -12,7 +12,7 @@ pub record Lane : Type 0 where
   pub queue : List (List Placed)
   pub taken : List Placed
 
--- a message goes into the queue of a file, or the front one is taken from there; a file has its number, from 0
+-- a message is put into the queue of a file, or the front one is taken from it; files are numbered from 0
 pub data Step : Type 0 where
   put : ℕ → List Placed → Step
   get : ℕ → Step
@@ -39,7 +39,7 @@ pub record Gets (before after : Lane) : Type 0 where
   pub front : before.queue ≡ message ∷ rest
   pub after_it : after ≡ record before { queue = rest; taken = before.taken ++ message }
 
--- what a step does to the lane of its file
+-- what a step changes in the lane of its file
 abbrev pub Moves : Step → Lane → Lane → Type 0
 Moves (put file message) = Puts message
 Moves (get file) = Gets
@@ -52,7 +52,7 @@ pub record Happens (step : Step) (before after : List Lane) : Type 0 where
   pub moves : Moves step lane moved
   pub after_it : after ≡ slice_set before (file_of step) moved
 
--- a schedule: steps one after another
+-- a schedule: steps, one after another
 abbrev pub Leads : List Lane → List Step → List Lane → Type 0
 Leads before [] after = before ≡ after
 Leads before (step ∷ steps) after = (next : List Lane) × Happens step before next × Leads next steps after

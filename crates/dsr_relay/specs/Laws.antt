@@ -10,7 +10,7 @@ abbrev pub joined : List (List Placed) → List Placed
 joined [] = []
 joined (message ∷ messages) = message ++ joined messages
 
--- what was taken, and then the queue, is what was sent, a prefix of the source; and the queue fits
+-- what was taken, followed by the queue, is what was sent, a prefix of the source; and the queue is within its capacity
 pub record IsInOrder (lane : Lane) : Type 0 where
   pub in_order : lane.taken ++ joined lane.queue ≡ lane.sent
   pub of_source : IsPrefix lane.sent lane.source
@@ -21,11 +21,11 @@ abbrev pub InEverySchedule : Type 0
 InEverySchedule = (first lanes : List Lane) (steps : List Step) → AllByRecursion IsFresh first → Leads first steps lanes
     → AllByRecursion IsInOrder lanes × (map (λ l. l.source) lanes ≡ map (λ l. l.source) first) × (map (λ l. l.capacity) lanes ≡ map (λ l. l.capacity) first)
 
--- a step on one file leaves the others
+-- a step of one file does not change the others
 abbrev pub LeavesOthers : Type 0
 LeavesOthers = (step : Step) (before after : List Lane) (k : ℕ) → Happens step before after → ¬ (k ≡ file_of step) → slice_get after k ≡ slice_get before k
 
--- while the Ended of a file was not taken, a step of that file can happen
+-- as long as the Ended of a file was not taken, a step of that file is possible
 abbrev pub IsNeverStuck : Type 0
 IsNeverStuck = (first lanes : List Lane) (steps : List Step) (k : ℕ) (l : Lane) → AllByRecursion IsFresh first → Leads first steps lanes → slice_get lanes k ≡ Some l → has_ended l.taken ≡ false
     → (step : Step) × (next : List Lane) × (file_of step ≡ k) × Happens step lanes next
@@ -34,7 +34,7 @@ IsNeverStuck = (first lanes : List Lane) (steps : List Step) (k : ℕ) (l : Lane
 abbrev pub IsBounded : Type 0
 IsBounded = (first lanes : List Lane) (steps : List Step) → AllByRecursion IsFresh first → Leads first steps lanes → length steps ≤ 2 * sum (map (λ l. length l.source) first)
 
--- a schedule that no step extends has taken every source whole
+-- a schedule that no step can extend has taken all events of every source
 abbrev pub IsDelivered : Type 0
 IsDelivered = (first lanes : List Lane) (steps : List Step) → AllByRecursion IsFresh first → Leads first steps lanes → ((step : Step) (next : List Lane) → ¬ Happens step lanes next)
     → map (λ l. l.taken) lanes ≡ map (λ l. l.source) first

@@ -2,7 +2,7 @@
 use Rattle.std.specs.Prelude.{◌<◌, ◌≤◌, List, [], ◌∷◌, ◌++◌, length}
 use Rattle.dsr_file.specs.Placed.{Placed}
 
--- what goes through the channel at once is seen as its events
+-- a message, as contracts see it, is the list of its events
 abbrev pub Message : Type 0
 Message = List Placed
 
@@ -15,7 +15,7 @@ events_of (message ∷ messages) = message ++ events_of messages
 abbrev pub IsMessage : List Placed → Type 0
 IsMessage events = (0 < length events) × (length events ≤ 32)
 
--- each of them is a message
+-- each of these is a message
 abbrev pub AreMessages : List Message → Type 0
 AreMessages [] = Unit {0}
 AreMessages (message ∷ messages) = IsMessage message × AreMessages messages

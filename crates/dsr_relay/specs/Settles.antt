@@ -1,4 +1,4 @@
--- The model of what two ends settle.
+-- The model of the result of joining two ends.
 use Rattle.std.specs.Prelude.{◌≡◌, length, drop}
 use Rattle.dsr_relay.specs.Views.{SettledView}
 use Rattle.dsr_relay.specs.declared.settled.Settled.TheInside.{Inside}

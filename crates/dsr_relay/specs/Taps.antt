@@ -10,7 +10,7 @@ use Rattle.dsr_relay.specs.Views.{TapView}
 use Rattle.dsr_relay.specs.declared.rule.Log.TheVariants.{Takes}
 use Rattle.dsr_relay.specs.declared.tap.Tap.TheInside.{Inside}
 
--- the events that came in
+-- the events received
 abbrev pub arrived : Inside → List Placed
 arrived t = events_of (received_of (view t.pass))
 

@@ -1,8 +1,8 @@
-//! The events that go through a relay at once.
+//! Batches: the events that go through a relay as one message.
 //!
-//! A batch lies in memory for 32 events, which goes round: the feed fills it, and the tap gives it back. An event is
-//! written over the stale one that stands in its slot, so that nothing is freed and nothing is taken for it. A block that
-//! was written over can be handed to the reader, who writes the next one into its memory.
+//! The memory of a batch, for 32 events, is reused: the feed fills it, and the tap gives it back. An event
+//! overwrites the stale one in its slot, so that nothing is freed and nothing is allocated for it. A block that
+//! was overwritten can be given to the reader, which writes the next one into its memory.
 ghost use Rattle.std.specs.Prelude.{◌≡◌, ◌∷◌, ◌++◌, [], MatchOption, MatchResult, IfOk};
 
 use dsr_cells::NoMemory;
@@ -11,27 +11,27 @@ use std::alloc::Global;
 use std::marker::Model;
 use std::mem;
 
-/// How many events a batch has at most.
+/// The maximum number of events in a batch.
 const MOST_EVENTS: usize = 32;
 
-/// For how many bytes of the file a batch's memory is written over before all that is stale in it is freed.
+/// The stale events in a batch's memory are freed once more than this many bytes were counted for them.
 const MOST_STALE: usize = 256 * 1024;
 
-/// How many bytes may have been read for a batch that are not noted yet: those of one read.
+/// The bytes counted for each round besides those noted: those of one read, which may not be noted yet.
 const MOST_UNNOTED: usize = 4096;
 
-/// Events that go through a relay at once, in memory of their own. Contracts see those that were not taken out.
+/// The events of one message of a relay, and their memory. Contracts see those that were not taken out.
 #[derive(Drop)]
 pub struct Batch {
-    /// The events, and after `count` those of earlier rounds, which are stale.
+    /// The events and, from index `count`, stale ones of earlier rounds.
     slots: Vec<Event>,
-    /// How many events the batch has, those that were taken out included.
+    /// The number of events, including those that were taken out.
     count: usize,
-    /// How many events were taken out. A placeholder is left of each.
+    /// The number of events that were taken out. Each left a placeholder.
     out: usize,
     /// The bytes of the file that were noted while the batch was filled.
     bytes: usize,
-    /// Those of earlier rounds, since the slots were last empty.
+    /// The bytes counted for earlier rounds, since the slots were last empty.
     stale: usize,
 }
 
@@ -47,7 +47,7 @@ impl Model for Batch {
 }
 
 impl Batch {
-    /// A batch with no event and with no memory for one.
+    /// An empty batch without memory.
     pub(crate) fn none(alloc: Global) -> Batch
         ensures { result ≡ [] }
     {
@@ -60,11 +60,11 @@ impl Batch {
         }
     }
 
-    /// A batch with no event and with memory for 32.
+    /// An empty batch with memory for 32 events.
     ///
     /// # Errors
     ///
-    /// `NoMemory`: no memory was left for the events.
+    /// `NoMemory`: out of memory.
     pub(crate) fn with_room(alloc: Global) -> Result<Batch, NoMemory>
         ensures { IfOk result (λ b. b ≡ []) }
     {
@@ -82,26 +82,26 @@ impl Batch {
         self.slots.capacity() > 0
     }
 
-    /// The events, in their order.
+    /// The events, in order.
     pub fn events(&self) -> &[Event]
         ensures { result.now ≡ self.now }
     {
         &self.slots.as_slice()[..self.count][self.out..]
     }
 
-    /// Notes that so many bytes of the file were read.
+    /// Notes that this many bytes of the file were read.
     pub(crate) fn note_bytes(&mut self, bytes: usize)
         ensures { self.new ≡ self.old }
     {
         self.bytes = self.bytes.saturating_add(bytes);
     }
 
-    /// How many bytes of the file were noted since the batch was restarted.
+    /// The number of bytes of the file noted since the batch was restarted.
     pub(crate) fn bytes(&self) -> usize {
         self.bytes
     }
 
-    /// Appends an event, and answers the stale one that it was written over, or hands it back if there is no room.
+    /// Appends an event, and returns the stale one that it overwrote. If there is no room, the event is returned.
     #[inline(always)]
     pub(crate) fn push(&mut self, event: Event) -> Result<Option<Event>, Event>
         ensures { MatchResult result (λ _. self.new ≡ self.old ++ event ∷ [])
@@ -119,7 +119,7 @@ impl Batch {
         Ok(over)
     }
 
-    /// Takes the first event out.
+    /// Takes out the first event; None if there is none.
     pub(crate) fn take_first(&mut self) -> Option<Event>
         ensures { MatchOption result ((self.old ≡ []) × (self.new ≡ []))
             (λ e. self.old ≡ e ∷ self.new) }
@@ -132,7 +132,7 @@ impl Batch {
         Some(event)
     }
 
-    /// Takes the last event out.
+    /// Takes out the last event; None if there is none.
     pub(crate) fn take_last(&mut self) -> Option<Event>
         ensures { MatchOption result ((self.old ≡ []) × (self.new ≡ []))
             (λ e. self.old ≡ self.new ++ e ∷ []) }
@@ -144,7 +144,7 @@ impl Batch {
         Some(mem::take(&mut self.slots[self.count]))
     }
 
-    /// Makes the events stale, so that others are written over them. What is stale is freed once it may be too much.
+    /// Makes the events stale, to be overwritten. Stale events are freed once they may take too much memory.
     pub(crate) fn restart(&mut self)
         ensures { self.new ≡ [] }
     {

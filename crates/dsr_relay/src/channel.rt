@@ -1,4 +1,4 @@
-//! The two kinds of step on the channel: a message goes in at its back, or comes out at its front.
+//! The two kinds of step on the channel: a message is put at its back, or taken from its front.
 ghost use Rattle.std.specs.Prelude.{◌≡◌, [], ◌∷◌, ◌++◌, OnOk, OnErr, IfSome, IfNone, OnSome};
 ghost use Rattle.crossbeam_channel.specs.Ends.{sends_on, receives_on, ruled_capacity};
 ghost use Rattle.crossbeam_channel.specs.Claims.{view, IsSeatAt};
@@ -17,7 +17,7 @@ use std::sync::Wait;
 #[derive(Clone, Copy, PartialEq, Eq)]
 pub struct Closed;
 
-/// Puts the batch as a message at the back of the channel, and begins the next one, or leaves everything as it was.
+/// Puts the batch as a message at the back of the channel, and begins the next one. On an error nothing changes.
 ///
 /// # Errors
 ///
@@ -51,7 +51,7 @@ pub fn send_out<R: Wait>(
     }
 }
 
-/// Takes the message at the front of the channel, or answers that there is none and the feed is gone.
+/// Takes the message at the front of the channel; None if there is none and the feed is gone.
 pub fn take_next<R: Wait>(
     rt: &R,
     receiver: &RuledReceiver<Batch, Log, InOrder>,

@@ -1,13 +1,13 @@
-//! One relay for each file: a bounded channel that hands the file's events from its reader's thread to the collector.
+//! One relay for each file: a bounded channel that sends the file's events from its reader's thread to the collector.
 //!
-//! 1. [`open_relay`] makes the two ends, and takes all memory that the relay will ever have (`open`, `memory`). For
+//! 1. [`open_relay`] makes the two ends, and allocates all memory that the relay will ever need (`open`, `memory`). In
 //!    contracts a relay has a name (`name`).
-//! 2. The [`Feed`] gathers the events that it is given in a [`Batch`] of up to 32, which it puts into the channel as one
+//! 2. The [`Feed`] collects the events that it is given in a [`Batch`] of up to 32, and puts it into the channel as one
 //!    message; if the channel is full, it waits (`feed`, `batch`, `channel`).
-//! 3. The [`Tap`] takes the events one after another, or those of a message at once; if there is none, it waits (`tap`).
-//! 4. A batch whose events are no longer needed goes back ([`Tap::give_back`]). The feed writes the next events over it,
-//!    and hands out the blocks that it wrote over ([`Feed::spare`]), so that the reader writes into their memory.
-//! 5. [`Tap::take_in`] joins the two ends and says what was taken and what is left ([`Settled`], in `settled`).
+//! 3. The [`Tap`] takes the events one by one, or those of a message at once; if there is none, it waits (`tap`).
+//! 4. A batch whose events are no longer needed is given back ([`Tap::give_back`]). The feed writes later events over
+//!    it, and returns the blocks that it overwrote ([`Feed::spare`]), so that the reader reuses their memory.
+//! 5. [`Tap::take_in`] joins the two ends and returns what was taken and what is left ([`Settled`], in `settled`).
 //!
 //! **Example**, compiled and proved in `crates/dsr_unit_tests/src/relay.rt`:
 //!
@@ -24,13 +24,13 @@
 //! }
 //! ```
 //!
-//! **The promise.** Whatever the schedule of the threads, the events come out once each and in their order, and what was
-//! taken followed by what is left is what was sent. It rests on a rule (`rule`), which the channel keeps at each of its two
-//! kinds of step, a message in and a message out: what the tap received, followed by what is in the channel, is what the
-//! feed sent. No clause says that a thread runs, or that a call which waits returns. [`laws`] says what holds of the relays of all files
-//! together.
+//! **The promise.** Whatever the schedule of the threads, the events come out once each and in order, and what was
+//! taken, followed by what is left, is what was sent. It rests on a rule (`rule`), which the channel keeps at each of
+//! its two kinds of step, sending a message and receiving one: the messages that the tap received, followed by those in
+//! the channel, are those that the feed sent. No clause says that a thread runs, or that a call which waits returns.
+//! [`laws`] has the laws of the relays of all files together.
 //!
-//! **Where to begin.** `specs/Views.antt` is what contracts see of the ends, and `specs/Rule.antt` the rule; then read
+//! **Where to begin.** `specs/Views.antt` has the ends as contracts see them, and `specs/Rule.antt` the rule; then read
 //! `feed`, `tap` and `open`.
 #![tactic(auto)]
 

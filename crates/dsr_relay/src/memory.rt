@@ -1,6 +1,6 @@
-//! The memory of batches, a pool of fixed size: the feed fills it, and the tap gives it back once its events are no longer
-//! needed. All of it is taken when a relay is made: that of the batches in the channel, of the one that is filled and of
-//! the one that is emptied. So a send takes none, and events are freed by the thread that made them.
+//! The memory of batches, a pool of fixed size: the feed fills it, and the tap gives it back once its events are no
+//! longer needed. All of it is allocated when a relay is made: for the batches in the channel, the one being filled
+//! and the one being emptied. So a send allocates nothing, and the feed's thread frees the events of returned batches.
 ghost use Rattle.std.specs.Prelude.{◌≡◌, [], ◌≤◌};
 
 use crate::batch::Batch;
@@ -9,23 +9,23 @@ use dsr_cells::NoMemory;
 use std::alloc::Global;
 use std::sync::Wait;
 
-/// The end that takes memory to fill it.
+/// The end of the pool that takes memory, to fill it.
 #[derive(Drop)]
 pub(crate) struct Supply {
     alloc: Global,
-    /// What was never filled.
+    /// The memory that was never filled.
     unused: Vec<Batch>,
     receiver: Receiver<Batch>,
 }
 
-/// The end that gives memory back.
+/// The end of the pool that gives memory back.
 #[derive(Drop)]
 pub(crate) struct Returns {
     alloc: Global,
     sender: Sender<Batch>,
 }
 
-/// Memory for so many batches.
+/// Memory for this many batches.
 fn rooms(alloc: Global, batches: usize) -> Result<Vec<Batch>, NoMemory> {
     let mut rooms = Vec::with_capacity(alloc, batches)?;
     for _ in 0..batches {
@@ -34,12 +34,12 @@ fn rooms(alloc: Global, batches: usize) -> Result<Vec<Batch>, NoMemory> {
     Ok(rooms)
 }
 
-/// The memory of a relay whose channel takes so many batches: that of these, of one that is filled and of one that is
-/// emptied.
+/// The memory of a relay whose channel has room for `capacity` batches: for these, for one that is being filled and for
+/// one that is being emptied.
 ///
 /// # Errors
 ///
-/// `NoMemory`: no memory was left for them.
+/// `NoMemory`: out of memory.
 pub(crate) fn memory(alloc: Global, capacity: u32) -> Result<(Supply, Returns), NoMemory>
     requires { capacity ≤ 1024 }
 {
@@ -55,8 +55,8 @@ pub(crate) fn memory(alloc: Global, capacity: u32) -> Result<(Supply, Returns), 
 }
 
 impl Supply {
-    /// Memory that can be filled. If all of it is away, because batches were not given back, the call waits for some to
-    /// come back; if the tap is gone it answers a batch with none.
+    /// Memory to be filled: that of a batch that came back, or memory that was never filled. If there is none, the call
+    /// waits until a batch comes back; if the tap is gone, it returns a batch without memory.
     fn find<R: Wait>(&mut self, rt: &R) -> Batch {
         if let Ok(used) = self.receiver.try_recv(rt) {
             return used;
@@ -70,7 +70,7 @@ impl Supply {
         }
     }
 
-    /// An empty batch to be filled. Its memory may be that of a batch that came back, whose events are stale from here on.
+    /// An empty batch to be filled. If its memory is that of a batch that came back, the old events are now stale.
     pub(crate) fn take<R: Wait>(&mut self, rt: &R) -> Batch
         ensures { result ≡ [] }
     {
@@ -79,7 +79,7 @@ impl Supply {
         batch
     }
 
-    /// A batch with no memory.
+    /// A batch without memory.
     pub(crate) fn none(&self) -> Batch
         ensures { result ≡ [] }
     {
@@ -88,14 +88,14 @@ impl Supply {
 }
 
 impl Returns {
-    /// Gives memory back.
+    /// Gives the memory of a batch back, if it has any. The call does not wait.
     pub(crate) fn give<R: Wait>(&self, rt: &R, batch: Batch) {
         if batch.has_room() {
             let _ = self.sender.try_send(rt, batch);
         }
     }
 
-    /// A batch with no memory.
+    /// A batch without memory.
     pub(crate) fn none(&self) -> Batch
         ensures { result ≡ [] }
     {

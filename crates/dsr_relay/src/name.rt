@@ -1,4 +1,4 @@
-//! What distinguishes one relay from another.
+//! The name that distinguishes a relay from other relays.
 ghost use Rattle.std.specs.Prelude.{ℕ};
 ghost use Rattle.atomic_table.specs.Seated.{TableId, table_id_coded};
 ghost use Rattle.atomic_table.specs.declared.badge.Badge.{Badge};
@@ -8,7 +8,7 @@ ghost use base.Fml.{ftrue};
 
 use std::marker::{Model, PhantomData};
 
-/// The name of a relay, with its capacity in messages. It is for contracts alone: no value of it is made.
+/// The name of a relay, with its capacity in messages. It is used only in contracts: no value of it is made.
 pub struct Name {
     of: PhantomData<()>,
     pub ghost table: { TableId } by { table_id_coded },

@@ -1,4 +1,4 @@
-//! What the two ends know of a relay, and the rule that ties it to what the channel holds.
+//! What the two ends of a relay know, and the rule that relates it to the messages in the channel.
 ghost use Rattle.std.specs.Prelude.{ℕ};
 
 use crate::batch::Batch;
@@ -6,17 +6,17 @@ use crossbeam_channel::protocol::{Join, Lesson, Outcome, Protocol, Split};
 use std::collections::LinkedList;
 use std::marker::{Brand, PhantomData};
 
-/// What an end knows by its pass. No value of it is made.
+/// What an end knows, as the view of its pass. No value of it is made.
 pub enum Log {
-    /// Of a relay that is not yet cut into its ends.
+    /// The relay is not yet split into its two ends.
     Fresh,
-    /// Of the feed: the messages that went out, and how many the channel takes.
+    /// The feed: the messages sent, and the capacity of the channel.
     Sends(LinkedList<Batch>, u64),
-    /// Of the tap: the messages that came in.
+    /// The tap: the messages received.
     Takes(LinkedList<Batch>),
-    /// Of both ends where they met: what went out, what came in, and how many the channel takes.
+    /// Both ends after they were joined: the messages sent, those received, and the capacity of the channel.
     Both(LinkedList<Batch>, LinkedList<Batch>, u64),
-    /// Of an end that the other took in.
+    /// An end that was joined into the other.
     Spent,
 }
 
@@ -29,7 +29,7 @@ impl Capacity for Brand {
     ghost capacity = { 0 };
 }
 
-/// What came in, followed by what the channel holds, is what went out, and its events are an orderly list.
+/// The messages received, followed by those in the channel, are those sent, and their events are an orderly list.
 pub struct InOrder;
 
 impl Protocol<Batch, Log> for InOrder {
@@ -41,7 +41,7 @@ impl Protocol<Batch, Log> for InOrder {
     ghost first = { Fresh };
 }
 
-/// Cuts the pass of a fresh relay into the feed's and the tap's.
+/// Splits the pass of a fresh relay into the feed's and the tap's.
 pub struct Cut<C> {
     of: PhantomData<C>,
 }
@@ -67,7 +67,7 @@ impl Join<Log> for Meet {
     ghost spent = { Spent };
 }
 
-/// A message goes out: the feed's list grows by it.
+/// A message is sent: it is appended to the feed's list.
 pub struct Sent;
 
 impl Outcome<Batch, Log> for Sent {
@@ -76,14 +76,14 @@ impl Outcome<Batch, Log> for Sent {
     ghost then = { Goes };
 }
 
-/// A send learns nothing of what the channel holds.
+/// A send learns nothing about the messages in the channel.
 impl Lesson<Batch, Log> for Sent {
     ghost use Rattle.std.specs.Prelude.{⊤};
 
     ghost fact = { λ v items. ⊤ };
 }
 
-/// A message comes in: the tap's list grows by it.
+/// A message is received: it is appended to the tap's list.
 pub struct Received;
 
 impl Outcome<Batch, Log> for Received {
@@ -92,14 +92,14 @@ impl Outcome<Batch, Log> for Received {
     ghost then = { Comes };
 }
 
-/// A receive learns nothing of what the channel still holds.
+/// A receive learns nothing about the messages still in the channel.
 impl Lesson<Batch, Log> for Received {
     ghost use Rattle.std.specs.Prelude.{⊤};
 
     ghost fact = { λ v items. ⊤ };
 }
 
-/// What the channel holds where the ends meet: what went out and did not come in.
+/// The messages in the channel when the ends are joined: those sent and not received.
 pub struct Rest;
 
 impl Lesson<Batch, Log> for Rest {

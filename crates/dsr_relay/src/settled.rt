@@ -1,16 +1,16 @@
-//! What the two ends of a relay settle when they are joined.
+//! The result of joining the two ends of a relay.
 use crate::feed::Feed;
 use crate::tap::Tap;
 use std::marker::Model;
 use std::snapshot::Snapshot;
 
-/// How many events were taken, and how many are left of those that were sent. Contracts see the two lists, whose lengths
-/// the numbers are.
+/// The number of events taken, and the number of those left. Contracts see the two lists, of which these are the
+/// lengths.
 #[derive(Drop)]
 pub struct Settled {
-    /// How many events were taken.
+    /// The number of events taken.
     pub taken: u64,
-    /// How many events that were sent were not taken.
+    /// The number of events that were sent and not taken.
     pub left: u64,
     pub(crate) tap: Snapshot<Tap>,
     pub(crate) feed: Snapshot<Feed>,

@@ -1,4 +1,4 @@
-//! The end that takes.
+//! The receiving end of a relay.
 ghost use Rattle.std.specs.Prelude.{◌≡◌, ◌+◌, ◌*◌, ◌<◌, ◌≤◌, true, false, [], ◌∷◌, ◌++◌, length};
 ghost use Rattle.std.specs.Prelude.{IfSome, IfNone, IfOk, OnErr};
 ghost use Rattle.dsr_file.specs.Orderly.{IsOrderly, has_ended};
@@ -16,7 +16,7 @@ use std::mem;
 use std::snapshot::Snapshot;
 use std::sync::Wait;
 
-/// The taking end of a relay. Contracts see the relay's name, the events taken, and those of the last message that are still held.
+/// The receiving end of a relay. Contracts see its name, the events taken, and the held rest of the last message.
 #[derive(Drop)]
 pub struct Tap {
     pub(crate) receiver: RuledReceiver<Batch, Log, InOrder>,
@@ -43,7 +43,7 @@ impl Tap {
     ///
     /// # Errors
     ///
-    /// `Closed`: the feed is gone and nothing is left. Nothing has changed.
+    /// `Closed`: the feed is gone and nothing is left; nothing changes.
     pub fn take<R: Wait>(&mut self, rt: &R) -> Result<Event, Closed>
         requires { has_ended self.old.taken ≡ false }
         ensures taken { IfOk result (λ e. self.new ≡ record self.old {
@@ -65,7 +65,7 @@ impl Tap {
         }
     }
 
-    /// Takes the next event of the last message.
+    /// Takes the next held event of the last message.
     fn take_held(&mut self) -> Option<Event>
         requires { has_ended self.old.taken ≡ false }
         ensures taken { IfSome result (λ e. self.new ≡ record self.old {
@@ -107,7 +107,7 @@ impl Tap {
         Ok(event)
     }
 
-    /// Gives back the memory of the last message, of which no event is held.
+    /// Gives back the memory of the last message, all of whose events were taken.
     fn let_go<R: Wait>(&mut self, rt: &R)
         requires { self.old.held ≡ [] }
         ensures { self.new ≡ self.old }
@@ -117,12 +117,12 @@ impl Tap {
         self.returns.give(rt, used);
     }
 
-    /// Takes what is held of the last message, or else the next message. If there is none yet, the call waits. A batch is
-    /// given back before the next one is taken: the feed has no other memory for what comes.
+    /// Takes the held events of the last message, or else the next message. If there is none yet, the call waits.
+    /// A batch should be given back before the next one is taken, since the feed has no other memory.
     ///
     /// # Errors
     ///
-    /// `Closed`: the feed is gone and nothing is left. Nothing has changed.
+    /// `Closed`: the feed is gone and nothing is left; nothing changes.
     pub fn take_batch<R: Wait>(&mut self, rt: &R) -> Result<Batch, Closed>
         requires { has_ended self.old.taken ≡ false }
         ensures taken { IfOk result (λ b. self.new ≡ record self.old {
@@ -143,7 +143,7 @@ impl Tap {
         }
     }
 
-    /// Takes what is held of the last message.
+    /// Takes the held events of the last message.
     fn take_rest(&mut self) -> Batch
         requires going { has_ended self.old.taken ≡ false }
         requires some { 0 < length self.old.held }
@@ -161,7 +161,7 @@ impl Tap {
         batch
     }
 
-    /// Receives a message and takes it.
+    /// Receives a message and takes all its events.
     fn take_message<R: Wait>(&mut self, rt: &R) -> Result<Batch, Closed>
         requires going { has_ended self.old.taken ≡ false }
         requires none_held { self.old.held ≡ [] }
@@ -185,8 +185,8 @@ impl Tap {
         Ok(batch)
     }
 
-    /// Gives a batch back that was taken and is no longer needed: the thread of the feed frees its events and fills its
-    /// memory again. The call does not wait for room, and what contracts see of the tap stays as it is.
+    /// Gives back a batch that was taken and is no longer needed: the feed's thread frees its events and reuses its
+    /// memory. The call does not wait, and for contracts the tap is unchanged.
     pub fn give_back<R: Wait>(&mut self, rt: &R, batch: Batch)
         ensures { self.new ≡ self.old }
     {
@@ -200,7 +200,7 @@ impl Tap {
         self.ended
     }
 
-    /// How many events of the last message were not taken yet.
+    /// The number of events of the last message that were not taken yet.
     pub fn held(&self) -> u32
         ensures held { result ≡ length self.now.held }
         ensures few { result ≤ 31 }
@@ -208,7 +208,7 @@ impl Tap {
         self.held.events().len() as u32
     }
 
-    /// Joins the two ends of one relay, and says what was taken and what is left of what was sent. It never waits.
+    /// Joins the two ends of one relay, and returns what was taken and what is left of what was sent. It never waits.
     pub fn take_in(self, feed: Feed) -> Settled
         requires { self.name ≡ feed.name }
         ensures taken { result.taken ≡ self.taken }

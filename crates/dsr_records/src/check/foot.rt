@@ -9,7 +9,7 @@ use crate::record::Foot;
 use crate::row::Row;
 use crate::spelled::read_count;
 
-/// The foot of a row.
+/// The foot that a row spells, or its first fault.
 #[inline(always)]
 pub(crate) fn check_foot(row: &Row<'_>) -> Result<Foot, RecordFault>
     ensures { MatchResult result (λ f. record_by_row row.now kinds.Foot ≡ Ok (records.Foot f))

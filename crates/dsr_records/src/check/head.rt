@@ -14,7 +14,7 @@ use dsr_cells::{Day, NoMemory, Text};
 use std::alloc::Global;
 use std::marker::Model;
 
-/// A head whose texts stand in its line, which contracts see as the head.
+/// A head whose texts are borrowed from its line. Contracts see it as the head.
 #[derive(Drop)]
 pub(crate) struct HeadLine<'l> {
     message_id: &'l str,
@@ -42,7 +42,7 @@ impl<'l> Model for HeadLine<'l> {
     } };
 }
 
-/// The head of a row.
+/// The head that a row spells, or its first fault.
 #[inline(always)]
 pub(crate) fn check_head<'l>(row: &Row<'l>) -> Result<HeadLine<'l>, RecordFault>
     ensures { MatchResult result (λ h. record_by_row row.now kinds.Head ≡ Ok (records.Head h))
@@ -65,7 +65,7 @@ pub(crate) fn check_head<'l>(row: &Row<'l>) -> Result<HeadLine<'l>, RecordFault>
 }
 
 impl<'l> HeadLine<'l> {
-    /// The head, with texts of its own.
+    /// The head, with its texts copied.
     pub(crate) fn copy(&self, alloc: Global) -> Result<Head, NoMemory>
         ensures { IfOk result (λ r. r ≡ self.now) }
     {

@@ -13,7 +13,7 @@ use std::alloc::Global;
 use std::default::MadeWith;
 use std::marker::Model;
 
-/// A resource whose texts and list cells stand in its line, which contracts see as the resource.
+/// A resource whose texts and list cells are borrowed from its line. Contracts see it as the resource.
 #[derive(Drop)]
 pub(crate) struct ResourceLine<'l> {
     pub(crate) block_id: &'l str,
@@ -36,7 +36,7 @@ impl<'l> Model for ResourceLine<'l> {
     } };
 }
 
-/// The resource of a row.
+/// The resource that a row spells, or its first fault.
 #[inline(always)]
 pub(crate) fn check_resource<'l>(row: &Row<'l>) -> Result<ResourceLine<'l>, RecordFault>
     ensures { MatchResult result
@@ -52,7 +52,7 @@ pub(crate) fn check_resource<'l>(row: &Row<'l>) -> Result<ResourceLine<'l>, Reco
 }
 
 impl<'l> ResourceLine<'l> {
-    /// The resource, with texts of its own.
+    /// The resource, with its texts copied.
     pub(crate) fn read(&self, alloc: Global) -> Result<Resource, NoMemory>
         ensures { IfOk result (λ r. r ≡ self.now) }
     {

@@ -14,7 +14,7 @@ use dsr_cells::{Amount, NoMemory, Text};
 use std::alloc::Global;
 use std::marker::Model;
 
-/// A summary whose texts stand in its line, which contracts see as the summary.
+/// A summary whose texts are borrowed from its line. Contracts see it as the summary.
 #[derive(Drop)]
 pub(crate) struct SummaryLine<'l> {
     pub(crate) id: &'l str,
@@ -40,7 +40,7 @@ impl<'l> Model for SummaryLine<'l> {
     } };
 }
 
-/// The summary of a row.
+/// The summary that a row spells, or its first fault.
 #[inline(always)]
 pub(crate) fn check_summary<'l>(row: &Row<'l>) -> Result<SummaryLine<'l>, RecordFault>
     ensures { MatchResult result (λ s. record_by_row row.now kinds.Summary ≡ Ok (records.Summary s))
@@ -57,7 +57,7 @@ pub(crate) fn check_summary<'l>(row: &Row<'l>) -> Result<SummaryLine<'l>, Record
 }
 
 impl<'l> SummaryLine<'l> {
-    /// The summary, with texts of its own.
+    /// The summary, with its texts copied.
     pub(crate) fn copy(&self, alloc: Global) -> Result<Summary, NoMemory>
         ensures { IfOk result (λ r. r ≡ self.now) }
     {

@@ -13,7 +13,7 @@ use std::alloc::Global;
 use std::default::MadeWith;
 use std::marker::Model;
 
-/// A usage whose texts stand in its line, which contracts see as the usage.
+/// A usage whose texts are borrowed from its line. Contracts see it as the usage.
 #[derive(Drop)]
 pub(crate) struct UsageLine<'l> {
     pub(crate) block_id: &'l str,
@@ -35,7 +35,7 @@ impl<'l> Model for UsageLine<'l> {
     } };
 }
 
-/// The usage of a row.
+/// The usage that a row spells, or its first fault.
 #[inline(always)]
 pub(crate) fn check_usage<'l>(row: &Row<'l>) -> Result<UsageLine<'l>, RecordFault>
     ensures { MatchResult result (λ u. record_by_row row.now kinds.Usage ≡ Ok (records.Usage u))
@@ -50,7 +50,7 @@ pub(crate) fn check_usage<'l>(row: &Row<'l>) -> Result<UsageLine<'l>, RecordFaul
 }
 
 impl<'l> UsageLine<'l> {
-    /// The usage, with texts of its own.
+    /// The usage, with its texts copied.
     pub(crate) fn read(&self, alloc: Global) -> Result<Usage, NoMemory>
         ensures { IfOk result (λ u. u ≡ self.now) }
     {

@@ -16,7 +16,7 @@ use std::alloc::Global;
 use std::default::MadeWith;
 use std::marker::Model;
 
-/// A work whose texts and list cells stand in its line, which contracts see as the work.
+/// A work whose texts and list cells are borrowed from its line. Contracts see it as the work.
 #[derive(Drop)]
 pub(crate) struct WorkLine<'l> {
     pub(crate) block_id: &'l str,
@@ -48,7 +48,7 @@ impl<'l> Model for WorkLine<'l> {
         × (length (raw_parts w.parties.now) ≡ length (raw_parts w.shares.now)) };
 }
 
-/// The work of a row.
+/// The work that a row spells, or its first fault.
 #[inline(always)]
 pub(crate) fn check_work<'l>(row: &Row<'l>) -> Result<WorkLine<'l>, RecordFault>
     ensures { MatchResult result (λ w. record_by_row row.now kinds.Work ≡ Ok (records.Work w))
@@ -83,7 +83,7 @@ fn read_shares_into(cell: &str, shares: &mut Shares) -> Result<(), NoMemory>
 }
 
 impl<'l> WorkLine<'l> {
-    /// Writes the parties and their shares over lists. Where memory is refused, both are empty.
+    /// Writes the parties and their shares over two lists. If memory is refused, both become empty.
     fn write_parties(
         &self,
         alloc: Global,
@@ -104,7 +104,7 @@ impl<'l> WorkLine<'l> {
         Err(NoMemory)
     }
 
-    /// The work, with texts of its own.
+    /// The work, with its texts copied.
     pub(crate) fn read(&self, alloc: Global) -> Result<Work, NoMemory>
         ensures { IfOk result (λ w. w ≡ self.now) }
     {

@@ -6,7 +6,7 @@ use Rattle.std.proofs.lemmas.Slice.{take-put_mid, drop-put_mid, drop-append-drop
 use borrow.Rule.Slice.PartMut.{put_mid, mid_of}
 use Rattle.dsr_cells.proofs.short.copy_ends.Goals as goal
 
--- the vectors are written over as many bytes: the first of the text, and the last
+-- the vectors overwrite as many bytes: the first of the text, and the last
 abbrev front_of : List ℕ → List ℕ → ℕ → List ℕ
 front_of bytes text half = put_chunk 0 (take half bytes) (chunk 0 half text)
 
@@ -25,7 +25,7 @@ back_is bytes text half k long room e =
     (omega (arith, e, whole, length-take k (drop tail before), length-drop tail before, length-take half (drop tail text), length-drop tail text))
     ∙ take_all half (drop tail text) (omega (arith, length-drop tail text))
 
--- the first and the last bytes of a text, which meet or overlap, are the text
+-- the first and the last bytes of a text, which meet or overlap, make up the text
 ends : (text front back rest : List ℕ) (half k : ℕ) → half ≤ length text → length text ≤ half + half → front ≡ take half text → back ≡ drop (length text - half) text
     → take (length text) (put_mid (length text - half) k (front ++ rest) back) ≡ text
 ends text front back rest half k long short e1 e2 =
@@ -43,7 +43,7 @@ returns-clause-front g c =
     (front_is c.args.bytes.now c.args.text.now g.row.HALF c.requires.long (omega (arith, c.requires.long, room)))
     (back_is c.args.bytes.now c.args.text.now g.row.HALF _ c.requires.long room (omega arith))
 
--- and what stood behind the text stays
+-- and the bytes after the text are unchanged
 behind : (text front back bytes : List ℕ) (half : ℕ) → half ≤ length text → length front ≡ half → length back ≡ half → length text ≤ length bytes
     → drop (length text) (put_mid (length text - half) (length text - half + half - (length text - half)) (front ++ drop half bytes) back) ≡ drop (length text) bytes
 behind text front back bytes half long lf lb room =
