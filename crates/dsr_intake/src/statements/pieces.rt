@@ -72,16 +72,24 @@ impl<'a, W: Outlet> Pieces<'a, W> {
             && self.waiting.extend_from_slice(bytes).is_ok()
     }
 
-    /// Writes what waits, and then these bytes, which wait if there is room for them.
+    /// Writes what waits, and lets these bytes wait; if there are too many, writes them too.
     #[cold]
     #[inline(never)]
-    fn send_past(&mut self, bytes: &[u8])
+    fn put_past(&mut self, bytes: &[u8])
         ensures { Carries W.told self.old self.new bytes.now }
     {
         self.send_waiting();
         if self.keep(bytes) {
             return;
         }
+        self.send_past(bytes);
+    }
+
+    /// Writes what waits, and then these bytes.
+    fn send_past(&mut self, bytes: &[u8])
+        ensures { Carries W.told self.old self.new bytes.now }
+    {
+        self.send_waiting();
         self.sender.send(bytes);
     }
 
@@ -130,9 +138,10 @@ impl<'a, W: Outlet> Put for Pieces<'a, W> {
 
     #[inline(always)]
     fn put(&mut self, bytes: &[u8]) {
-        if !self.keep(bytes) {
-            self.send_past(bytes);
+        if self.keep(bytes) {
+            return;
         }
+        self.put_past(bytes);
     }
 
     fn put_decimal(&mut self, number: u64) {

@@ -4,13 +4,10 @@ use Rattle.dsr_intake.proofs.statements.pieces.PiecesPut.put.Goals as goal
 
 pub returns-then-keep : goal.returns-then-keep
 returns-then-keep g c =
-    let told = g.W.Outlet.told in
-    puts_from told c.args.self.now c.keep.new.self c.args.bytes.now
-    (carry_then told c.args.self.now c.make_room.new.self c.keep.new.self [] c.args.bytes.now c.make_room.ensures (rw c.if-keep.true at c.keep.ensures))
+    puts_from g.W.Outlet.told c.args.self.now c.keep.new.self c.args.bytes.now (rw c.if-keep.true at c.keep.ensures)
 
 pub returns : goal.returns
 returns g c =
     let told = g.W.Outlet.told in
-    puts_from told c.args.self.now c.send_past.new.self c.args.bytes.now
-    (carry_then told c.args.self.now c.make_room.new.self c.send_past.new.self [] c.args.bytes.now c.make_room.ensures
-    (carry_then told c.make_room.new.self c.keep.new.self c.send_past.new.self [] c.args.bytes.now (rw c.if-keep.false at c.keep.ensures) c.send_past.ensures))
+    puts_from told c.args.self.now c.put_past.new.self c.args.bytes.now
+    (carry_then told c.args.self.now c.keep.new.self c.put_past.new.self [] c.args.bytes.now (rw c.if-keep.false at c.keep.ensures) c.put_past.ensures)
