@@ -35,7 +35,8 @@ pub fn write_fault<W: Write>(error: &RunError, out: &mut W) -> bool
 
 /// Writes the line for an error without a report.
 fn write_intake_fault<W: Write>(error: &IntakeError, out: &mut W) -> bool
-    ensures { IsWritten result (W.contents out.old) (W.contents out.new) (fault_line (RunError.Intake error.now)) }
+    ensures { IsWritten result (W.contents out.old) (W.contents out.new)
+        (fault_line (RunError.Intake error.now)) }
 {
     match error {
         IntakeError::NoFiles => write_line("no files", out),
@@ -75,14 +76,16 @@ fn write_failed<W: Write>(written: u64, out: &mut W) -> bool
 
 /// Writes the line for a file that cannot be opened.
 pub fn write_cannot_open<W: Write>(name: &Text, out: &mut W) -> bool
-    ensures { IsWritten result (W.contents out.old) (W.contents out.new) (cannot_open_line name.now) }
+    ensures { IsWritten result (W.contents out.old) (W.contents out.new)
+        (cannot_open_line name.now) }
 {
     write_parts(&["dsr: cannot open ", name.as_str(), "\n"], out)
 }
 
 /// Writes the line for a layout that cannot be read.
 pub fn write_cannot_read<W: Write>(name: &Text, out: &mut W) -> bool
-    ensures { IsWritten result (W.contents out.old) (W.contents out.new) (cannot_read_line name.now) }
+    ensures { IsWritten result (W.contents out.old) (W.contents out.new)
+        (cannot_read_line name.now) }
 {
     write_parts(&["dsr: cannot read ", name.as_str(), "\n"], out)
 }

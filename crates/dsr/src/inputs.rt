@@ -100,7 +100,8 @@ pub fn open_inputs<H: Files<File = File> + io::Input<Reader = StdinLock<'static>
     alloc: Global,
     files: &Names,
 ) -> Result<Inputs, OpenError>
-    ensures unfailed { IfOk result (λ v. All (λ i. (⟦<Input as Source>⟧.told i).failed ≡ false) v.items) }
+    ensures unfailed { IfOk result (λ v. All
+        (λ i. (⟦<Input as Source>⟧.told i).failed ≡ false) v.items) }
     ensures sources { IfOk result (λ v. map (λ i. i.name) v.items ≡ sources_of files.now) }
     ensures refused { IfErr result (IsRefusal files.now) }
 {
@@ -125,7 +126,8 @@ fn standard_input<H: io::Input<Reader = StdinLock<'static>>>(
     rt: &H,
     alloc: Global,
 ) -> Result<Inputs, OpenError>
-    ensures unfailed { IfOk result (λ v. All (λ i. (⟦<Input as Source>⟧.told i).failed ≡ false) v.items) }
+    ensures unfailed { IfOk result (λ v. All
+        (λ i. (⟦<Input as Source>⟧.told i).failed ≡ false) v.items) }
     ensures sources { IfOk result (λ v. map (λ i. i.name) v.items ≡ sources_of []) }
     ensures refused { IfErr result (IsRefusal []) }
 {

@@ -34,7 +34,8 @@ pub fn read_layout<R: Read>(alloc: Global, reader: &mut R) -> Result<Layout, Lay
 
 /// All bytes of the reader, or the first 65,537 if there are more.
 fn read_bytes<R: Read>(alloc: Global, reader: &mut R) -> Result<Vec<u8>, LayoutReadError>
-    ensures taken { IfOk result (λ v. IsTaken (R.remaining reader.old) (R.remaining reader.new) v.items) }
+    ensures taken { IfOk result (λ v. IsTaken (R.remaining reader.old)
+        (R.remaining reader.new) v.items) }
     ensures good { IfErr result IsNoBytes }
 {
     let mut bytes = Vec::new(alloc);

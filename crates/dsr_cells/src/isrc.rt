@@ -85,7 +85,8 @@ impl Isrc {
 }
 
 impl Hash for Isrc {
-    ghost hash_input = { λ x. fed.u64 (number_of_bytes (take 8 x)) ++ fed.u32 (number_of_bytes (drop 8 x)) };
+    ghost hash_input = { λ x. fed.u64 (number_of_bytes (take 8 x)) ++ fed.u32
+        (number_of_bytes (drop 8 x)) };
 
     ghost respects_eq = { Prim.search (hashing, rules) };
 

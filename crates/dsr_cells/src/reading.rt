@@ -67,7 +67,8 @@ pub fn read_texts_into(alloc: Global, cell: &str, texts: &mut Texts) -> Result<(
 /// `NoMemory`: out of memory; the list may then have any items.
 pub fn read_shares_into(cell: &str, shares: &mut Shares) -> Result<(), NoMemory>
     requires { list_all (λ part. is_some (share_of part)) (raw_parts cell.now) ≡ true }
-    ensures { OnOk result (shares.new ≡ map (λ part. unwrap_or (share_of part) 0) (raw_parts cell.now)) }
+    ensures { OnOk result (shares.new ≡ map (λ part. unwrap_or (share_of part) 0)
+        (raw_parts cell.now)) }
 {
     shares.restart();
     for part in values(cell) {

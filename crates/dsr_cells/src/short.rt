@@ -25,7 +25,8 @@ impl Model for ShortText {
 
     ghost view = { λ s. take s.size s.bytes };
 
-    ghost invariant = { λ s. (s.size ≤ 22) × HasZerosBehind s.size s.bytes × ∥ IsUtf8 (take s.size s.bytes) ∥₁ };
+    ghost invariant = { λ s. (s.size ≤ 22) × HasZerosBehind s.size s.bytes
+        × ∥ IsUtf8 (take s.size s.bytes) ∥₁ };
 }
 
 /// Copies a text of `HALF` to twice as many bytes to the front: its first and its last `HALF`, which may overlap. Each

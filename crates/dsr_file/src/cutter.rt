@@ -48,7 +48,9 @@ impl Cutter {
         requires { 0 < length piece.now }
         ensures some { 0 < result.0 }
         ensures bound { result.0 ≤ length piece.now }
-        ensures cut { (b : List ℕ) (ps : List (List ℕ)) → CutsTo self.old.bytes.items self.old.fresh b ps → CutSteps b (take result.0 piece.now) ps result.1 self.new }
+        ensures cut { (b : List ℕ) (ps : List (List ℕ))
+            → CutsTo self.old.bytes.items self.old.fresh b ps
+            → CutSteps b (take result.0 piece.now) ps result.1 self.new }
         ensures fits { FitsCut result.1 (take result.0 piece.now) self.new }
     {
         if self.fresh {
@@ -61,7 +63,9 @@ impl Cutter {
     /// Uses a byte at the start of a text, which may belong to a byte order mark.
     fn first(&mut self, byte: u8) -> Cut
         requires { IsTrue self.old.fresh }
-        ensures cut { (b : List ℕ) (ps : List (List ℕ)) → CutsTo self.old.bytes.items self.old.fresh b ps → CutSteps b (byte ∷ []) ps result self.new }
+        ensures cut { (b : List ℕ) (ps : List (List ℕ))
+            → CutsTo self.old.bytes.items self.old.fresh b ps
+            → CutSteps b (byte ∷ []) ps result self.new }
         ensures fits { FitsCut result (byte ∷ []) self.new }
     {
         if byte == b'\n' {
@@ -94,7 +98,8 @@ impl Cutter {
         requires fresh { self.old.fresh ≡ false }
         ensures some { 0 < result.0 }
         ensures bound { result.0 ≤ length piece.now }
-        ensures cut { (b : List ℕ) (ps : List (List ℕ)) → CutsTo self.old.bytes.items false b ps → CutSteps b (take result.0 piece.now) ps result.1 self.new }
+        ensures cut { (b : List ℕ) (ps : List (List ℕ)) → CutsTo self.old.bytes.items false b ps
+            → CutSteps b (take result.0 piece.now) ps result.1 self.new }
         ensures fits { FitsCut result.1 (take result.0 piece.now) self.new }
     {
         let end = line_end(piece);

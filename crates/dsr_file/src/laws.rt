@@ -10,15 +10,19 @@ ghost use Rattle.dsr_file.specs.declared.fault.Ending.{Ending};
 
 /// The events of bytes are the first events of every text that begins with these bytes.
 pub fn so_far_begins()
-    ensures { (layout : LayoutTable) (bytes more : List ℕ) (ending : Ending) → IsPrefix (so_far layout bytes) (text_events layout (bytes ++ more) ending) }
+    ensures { (layout : LayoutTable) (bytes more : List ℕ) (ending : Ending)
+        → IsPrefix (so_far layout bytes) (text_events layout (bytes ++ more) ending) }
 {}
 
 /// A fault is final: if the events of bytes have ended, they are those of every text that begins with these bytes.
 pub fn fault_is_final()
-    ensures { (layout : LayoutTable) (bytes more : List ℕ) (ending : Ending) → has_ended (so_far layout bytes) ≡ true → so_far layout bytes ≡ text_events layout (bytes ++ more) ending }
+    ensures { (layout : LayoutTable) (bytes more : List ℕ) (ending : Ending)
+        → has_ended (so_far layout bytes) ≡ true
+        → so_far layout bytes ≡ text_events layout (bytes ++ more) ending }
 {}
 
 /// Every run of a text is an orderly list.
 pub fn run_is_orderly()
-    ensures { (layout : LayoutTable) (text : FileText) (events : List Placed) → IsRun layout text events → IsOrderly events }
+    ensures { (layout : LayoutTable) (text : FileText) (events : List Placed)
+        → IsRun layout text events → IsOrderly events }
 {}

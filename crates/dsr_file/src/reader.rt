@@ -391,7 +391,8 @@ impl FileReader {
             → (result.0 ≡ 0) × (result.1 ≡ None) × (self.new ≡ self.old) }
         ensures used { bytes_used self.new ≡ bytes_used self.old + result.0 }
         ensures open { ending_told self.new ≡ None }
-        ensures progress { OnSome result.1 (events_left self.new < result.0 + events_left self.old) }
+        ensures progress { OnSome result.1
+            (events_left self.new < result.0 + events_left self.old) }
     {
         match self.phase {
             Phase::Reading => self.read(piece),

@@ -254,7 +254,8 @@ impl<'l> TypedLine<'l> {
     /// Takes the cells of a line's columns, by the layout line of its record type.
     #[inline(always)]
     fn take(&mut self, cursor: Cursor<'l>, role: &RoleLine)
-        ensures { self.new ≡ record_by_row (map (cell_in cursor.entry) role.now.positions) role.now.kind }
+        ensures { self.new ≡ record_by_row
+            (map (cell_in cursor.entry) role.now.positions) role.now.kind }
     {
         self.kind = role.kind;
         self.row.clear();

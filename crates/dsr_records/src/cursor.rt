@@ -58,7 +58,8 @@ impl<'l> Model for Cursor<'l> {
 
     ghost view = { λ c. cells c.line.now };
 
-    ghost invariant = { λ c. c.next < 256 → cells c.rest.text.now ≡ drop c.next (cells c.line.now) };
+    ghost invariant = { λ c. c.next < 256
+        → cells c.rest.text.now ≡ drop c.next (cells c.line.now) };
 }
 
 impl<'l> Cursor<'l> {

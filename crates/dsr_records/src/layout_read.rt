@@ -77,7 +77,9 @@ fn read_positions(line: &str, columns: &[Column]) -> Option<ArrayVec<Option<u8>,
 impl Layout {
     /// Adds a line for a kind, or for a record type to be skipped.
     fn add_line(&mut self, kind: Kind, line: &str) -> Result<(), LayoutFault>
-        ensures { MatchResult result (λ _. with_line self.old kind (cell_at line.now 1) line.now ≡ Ok self.new) (λ fault. with_line self.old kind (cell_at line.now 1) line.now ≡ Err fault) }
+        ensures { MatchResult result (λ _. with_line self.old kind
+            (cell_at line.now 1) line.now ≡ Ok self.new)
+            (λ fault. with_line self.old kind (cell_at line.now 1) line.now ≡ Err fault) }
     {
         let name = cell(line, 1).unwrap_or("");
         let is_role = place(kind) < 6;
@@ -108,7 +110,8 @@ impl Layout {
 
     /// Adds a line of text. An empty line and one that begins with `#` change nothing.
     fn add_text(&mut self, line: &str) -> Result<(), LayoutFault>
-        ensures { MatchResult result (λ _. with_text self.old line.now ≡ Ok self.new) (λ fault. with_text self.old line.now ≡ Err fault) }
+        ensures { MatchResult result (λ _. with_text self.old line.now ≡ Ok self.new)
+            (λ fault. with_text self.old line.now ≡ Err fault) }
     {
         if is_comment(line) {
             return Ok(());
@@ -121,7 +124,8 @@ impl Layout {
 
     /// Adds a line, given as bytes.
     fn add_piece(&mut self, piece: &[u8]) -> Result<(), LayoutFault>
-        ensures { MatchResult result (λ _. with_piece self.old piece.now ≡ Ok self.new) (λ fault. with_piece self.old piece.now ≡ Err fault) }
+        ensures { MatchResult result (λ _. with_piece self.old piece.now ≡ Ok self.new)
+            (λ fault. with_piece self.old piece.now ≡ Err fault) }
     {
         if piece.len() > 8192 {
             return Err(LayoutFault::LongLine);
@@ -169,7 +173,8 @@ fn strip_return(text: &str) -> &str
 
 /// The text of a piece without a carriage return at its end, if it is UTF-8.
 fn read_text(piece: &[u8]) -> Option<&str>
-    ensures { option_map (λ t. t.now) result ≡ (if is_utf8 piece.now then Some (without_return piece.now) else None) }
+    ensures { option_map (λ t. t.now) result
+        ≡ (if is_utf8 piece.now then Some (without_return piece.now) else None) }
 {
     match str::from_utf8(piece) {
         Ok(text) => Some(strip_return(text)),

@@ -29,7 +29,8 @@ fn file_number(text: &str) -> Option<u32>
 /// The cell of a column that must not be missing.
 #[inline(always)]
 fn there<'l>(row: &Row<'l>, i: usize, column: Column) -> Result<&'l str, RecordFault>
-    ensures { MatchResult result (λ text. cell_of row.now i ≡ Some text.now) (λ fault. (cell_of row.now i ≡ None) × (fault ≡ faults.Missing column)) }
+    ensures { MatchResult result (λ text. cell_of row.now i ≡ Some text.now)
+        (λ fault. (cell_of row.now i ≡ None) × (fault ≡ faults.Missing column)) }
 {
     match row.cell(i) {
         Some(text) => Ok(text),
@@ -46,7 +47,8 @@ pub(crate) fn read_identifier<'l>(
     most: usize,
 ) -> Result<&'l str, RecordFault>
     requires needed { may_be_empty column ≡ false }
-    requires asked { (text : List ℕ) → is_spelled row.now column text ≡ is_identifier_text most text }
+    requires asked { (text : List ℕ) → is_spelled row.now column text
+        ≡ is_identifier_text most text }
     ensures { ReadsText row.now column i result }
 {
     let text = there(row, i, column)?;

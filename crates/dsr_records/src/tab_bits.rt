@@ -36,7 +36,8 @@ fn tabs_of_16(bytes: &[u8], place: usize) -> u64
 fn with_16_more(known: u64, bytes: &[u8], place: usize) -> u64
     requires near { place ≤ 48 }
     requires within { place + 16 ≤ length bytes.now }
-    ensures { (seen : ℕ) → place ≤ seen → seen ≤ place + 16 → known ≡ tab_bits (take seen bytes.now) → result ≡ tab_bits (take (place + 16) bytes.now) }
+    ensures { (seen : ℕ) → place ≤ seen → seen ≤ place + 16 → known ≡ tab_bits (take seen bytes.now)
+        → result ≡ tab_bits (take (place + 16) bytes.now) }
 {
     known | (tabs_of_16(bytes, place) << place)
 }

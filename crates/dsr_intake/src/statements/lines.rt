@@ -117,7 +117,8 @@ pub(crate) fn put_difference<P: Put>(out: &mut P, difference: &Difference)
 
 /// Puts the usages that a summary states, and those that were found for it.
 fn put_usages<P: Put>(out: &mut P, stated: i64, found: i128)
-    ensures { Puts P.after out.old out.new (tabbed (signed_decimal stated ∷ signed_decimal found ∷ [])) }
+    ensures { Puts P.after out.old out.new
+        (tabbed (signed_decimal stated ∷ signed_decimal found ∷ [])) }
 {
     put_signed(out, i128::from(stated));
     put_signed(out, found)
