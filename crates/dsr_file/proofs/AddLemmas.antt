@@ -1,5 +1,6 @@
 -- Adding a record to a grammar.
-use Rattle.std.proofs.Common.{◌≡◌, ◌+◌, ◌∙◌, sym, ap, refl, subst, Bool, true, false, List, [], ◌∷◌, ◌++◌, length, count_by, Option, None, Some, add-zero, length-append}
+use Rattle.std.proofs.Common.{◌≡◌, ◌+◌, ◌∙◌, sym, ap, refl, subst, Bool, true, false, List, [], ◌∷◌, ◌++◌, length, count_by, Option, None, Some, add-zero}
+use Rattle.std.proofs.Common.{length-append}
 use Rattle.std.proofs.lemmas.List.Sums.{sum_by-append}
 use Rattle.std.proofs.Common.{cond}
 use Rattle.std.specs.Prelude.{option_and_then, if◌then◌else◌}
@@ -37,9 +38,13 @@ pub record Adds (old new : Grammar) (item : Record) (part : Option EventPart) : 
 
 -- how a work or a usage changes the numbers
 module _ (old new : Grammar) where
-  pub member_adds : (item : Record) → IsMember item → new.stage ≡ stage_after old.stage item → new.lines ≡ old.lines + 1 → new.records ≡ old.records + 1 → new.skipped_lines ≡ old.skipped_lines → new.skipped_records ≡ old.skipped_records → new.summaries ≡ old.summaries + 0 → new.blocks ≡ old.blocks + 0 → Adds old new item None
-  member_adds (Work w) m s l r a b ss bs = record { stage = s; given = refl; lines = l; records = r; skipped_lines = a; skipped_records = b; summaries = ss; blocks = bs }
-  member_adds (Usage u) m s l r a b ss bs = record { stage = s; given = refl; lines = l; records = r; skipped_lines = a; skipped_records = b; summaries = ss; blocks = bs }
+  pub member_adds : (item : Record) → IsMember item → new.stage ≡ stage_after old.stage item → new.lines ≡ old.lines + 1 → new.records ≡ old.records + 1
+      → new.skipped_lines ≡ old.skipped_lines → new.skipped_records ≡ old.skipped_records → new.summaries ≡ old.summaries + 0 → new.blocks ≡ old.blocks + 0
+      → Adds old new item None
+  member_adds (Work w) m s l r a b ss bs =
+      record { stage = s; given = refl; lines = l; records = r; skipped_lines = a; skipped_records = b; summaries = ss; blocks = bs }
+  member_adds (Usage u) m s l r a b ss bs =
+      record { stage = s; given = refl; lines = l; records = r; skipped_lines = a; skipped_records = b; summaries = ss; blocks = bs }
   member_adds (Head h) m s l r a b ss bs = absurd m
   member_adds (Summary h) m s l r a b ss bs = absurd m
   member_adds (Resource h) m s l r a b ss bs = absurd m
@@ -56,10 +61,12 @@ module _ (old new : Grammar) where
   member_has_no_counts Skipped m = refl
 
   -- how a resource changes the numbers
-  pub resource_adds : (item : Record) (part : Option EventPart) → kind_of_record item ≡ kinds.Resource → new.stage ≡ stage_after old.stage item → part ≡ given_by old.stage item
+  pub resource_adds : (item : Record) (part : Option EventPart) → kind_of_record item ≡ kinds.Resource → new.stage ≡ stage_after old.stage item
+      → part ≡ given_by old.stage item
       → new.lines ≡ old.lines + 1 → new.records ≡ old.records + 1 → new.skipped_lines ≡ old.skipped_lines → new.skipped_records ≡ old.skipped_records
       → new.summaries ≡ old.summaries + 0 → new.blocks ≡ old.blocks + block_count part → Adds old new item part
-  resource_adds (Resource r) part e s g l n a b ss bs = record { stage = s; given = g; lines = l; records = n; skipped_lines = a; skipped_records = b; summaries = ss; blocks = bs }
+  resource_adds (Resource r) part e s g l n a b ss bs =
+      record { stage = s; given = g; lines = l; records = n; skipped_lines = a; skipped_records = b; summaries = ss; blocks = bs }
   resource_adds (Head h) part e s g l n a b ss bs = absurd (cc)
   resource_adds (Summary h) part e s g l n a b ss bs = absurd (cc)
   resource_adds (Work h) part e s g l n a b ss bs = absurd (cc)
@@ -117,7 +124,8 @@ count_by_push_yes p xs x e = sum_by-append (λ y. cond (p y) 1 0) xs (x ∷ []) 
 some_same : (f g : FileFault) → Some f ≡ Some g → f ≡ g
 some_same f g e = cc
 
-one_of_three : (a b c : Bool) (f : FileFault) → or_else (fault_if a faults.FootLines) (or_else (fault_if b faults.FootSummaries) (fault_if c faults.FootBlocks)) ≡ Some f → counts_fault f ≡ true
+one_of_three : (a b c : Bool) (f : FileFault) → or_else (fault_if a faults.FootLines) (or_else (fault_if b faults.FootSummaries) (fault_if c faults.FootBlocks))
+    ≡ Some f → counts_fault f ≡ true
 one_of_three true b c f e = ap counts_fault (some_same _ _ (sym e))
 one_of_three false true c f e = ap counts_fault (some_same _ _ (sym e))
 one_of_three false false true f e = ap counts_fault (some_same _ _ (sym e))
@@ -133,7 +141,8 @@ count_faults g (Work w) f e = cc
 count_faults g (Usage u) f e = cc
 count_faults g Skipped f e = cc
 
-module _ (old new : Grammar) (ls : List Reading) (item : Record) (part : Option EventPart) (k : Keeps old ls) (e : early_fault (records ls) item ≡ None) (i : IsRecord item) (a : Adds old new item part) where
+module _ (old new : Grammar) (ls : List Reading) (item : Record) (part : Option EventPart) (k : Keeps old ls) (e : early_fault (records ls) item ≡ None)
+    (i : IsRecord item) (a : Adds old new item part) where
   step : Steps old.stage (records ls) item
   step = step_record old.stage (records ls) item i k.stage_is e
 
@@ -141,22 +150,28 @@ module _ (old new : Grammar) (ls : List Reading) (item : Record) (part : Option 
   blocks_after = a.blocks ∙ ap (λ p. old.blocks + block_count p) a.given ∙ ap (λ n. n + block_count (given_by old.stage item)) k.blocks_are ∙ sym (step.blocks)
 
   summaries_after : new.summaries ≡ length (summaries (records ls ++ item ∷ []))
-  summaries_after = a.summaries ∙ ap (λ n. n + summary_count item) k.summaries_are ∙ ap (λ n. length (summaries (records ls)) + n) (sym (summary_added item)) ∙ sym (ap length (summaries-append (records ls) (item ∷ [])) ∙ length-append (summaries (records ls)) (summaries (item ∷ [])))
+  summaries_after =
+      a.summaries ∙ ap (λ n. n + summary_count item) k.summaries_are ∙ ap (λ n. length (summaries (records ls)) + n) (sym (summary_added item))
+      ∙ sym (ap length (summaries-append (records ls) (item ∷ [])) ∙ length-append (summaries (records ls)) (summaries (item ∷ [])))
 
   records_after : new.records ≡ length (records ls) + 1
   records_after = a.records ∙ ap (λ n. n + 1) k.records_are
 
   -- the counts that the code compares are those of the records
-  foot_agrees : (f : foot.Foot) → item ≡ Foot f → count_fault (records ls) (count_by is_skipped_record ls) (count_by is_skipped_line ls) (Foot f) ≡ kept_count_fault new f
+  foot_agrees : (f : foot.Foot) → item ≡ Foot f → count_fault (records ls) (count_by is_skipped_record ls) (count_by is_skipped_line ls) (Foot f)
+      ≡ kept_count_fault new f
   foot_agrees f is =
-      let s0 : new.summaries ≡ length (summaries (records ls)) = a.summaries ∙ ap (λ r. old.summaries + summary_count r) is ∙ add-zero old.summaries ∙ k.summaries_are in
+      let s0 : new.summaries ≡ length (summaries (records ls)) =
+      a.summaries ∙ ap (λ r. old.summaries + summary_count r) is ∙ add-zero old.summaries ∙ k.summaries_are in
       let b0 : new.blocks ≡ length (closed (records ls ++ Foot f ∷ [])) = blocks_after ∙ ap (λ r. length (closed (records ls ++ r ∷ []))) is in
       rw (records_after, a.skipped_records, a.skipped_lines, k.types_are, k.skipped_are, s0, b0) refl
 
-  counts_agree : count_fault (records ls) (count_by is_skipped_record ls) (count_by is_skipped_line ls) item ≡ option_and_then (kept_count_fault new) (foot_in item)
+  counts_agree : count_fault (records ls) (count_by is_skipped_record ls) (count_by is_skipped_line ls) item
+      ≡ option_and_then (kept_count_fault new) (foot_in item)
   counts_agree = by_kind item refl
     where
-      by_kind : (r : Record) → item ≡ r → count_fault (records ls) (count_by is_skipped_record ls) (count_by is_skipped_line ls) r ≡ option_and_then (kept_count_fault new) (foot_in r)
+      by_kind : (r : Record) → item ≡ r → count_fault (records ls) (count_by is_skipped_record ls) (count_by is_skipped_line ls) r
+          ≡ option_and_then (kept_count_fault new) (foot_in r)
       by_kind (Foot f) is = foot_agrees f is
       by_kind (Head h) is = refl
       by_kind (Summary s) is = refl
@@ -172,11 +187,14 @@ module _ (old new : Grammar) (ls : List Reading) (item : Record) (part : Option 
   events_with : events_of (records (ls ++ Holds item ∷ [])) ≡ events_of (records ls) ++ option_to_list part
   events_with = ap events_of (with_item ls item i) ∙ step.events ∙ ap (λ p. events_of (records ls) ++ option_to_list p) (sym a.given)
 
-  pub added_good : option_and_then (kept_count_fault new) (foot_in item) ≡ None → Keeps new (ls ++ Holds item ∷ []) × (fault_of ls (Holds item) ≡ None) × (events_of (records (ls ++ Holds item ∷ [])) ≡ events_of (records ls) ++ option_to_list part)
+  pub added_good : option_and_then (kept_count_fault new) (foot_in item) ≡ None
+      → Keeps new (ls ++ Holds item ∷ []) × (fault_of ls (Holds item) ≡ None)
+      × (events_of (records (ls ++ Holds item ∷ [])) ≡ events_of (records ls) ++ option_to_list part)
   added_good n = (
     record {
       good = first_good ls (Holds item) k.good (fault_is ∙ n);
-      stage_is = subst (λ rs. KeepsStage new.stage rs) (sym (with_item ls item i)) (subst (λ st. KeepsStage st (records ls ++ item ∷ [])) (sym a.stage) step.keeps);
+      stage_is =
+          subst (λ rs. KeepsStage new.stage rs) (sym (with_item ls item i)) (subst (λ st. KeepsStage st (records ls ++ item ∷ [])) (sym a.stage) step.keeps);
       lines_are = a.lines ∙ ap (λ n. n + 1) k.lines_are ∙ sym (length-append ls (Holds item ∷ []));
       skipped_are = a.skipped_lines ∙ k.skipped_are ∙ sym (count_by_push_no is_skipped_line ls (Holds item) refl);
       types_are = a.skipped_records ∙ k.types_are ∙ sym (count_by_push_no is_skipped_record ls (Holds item) (unskipped item i));
@@ -188,5 +206,7 @@ module _ (old new : Grammar) (ls : List Reading) (item : Record) (part : Option 
     events_with,
   )
 
-  pub added_faulty : (f : FileFault) → option_and_then (kept_count_fault new) (foot_in item) ≡ Some f → (fault_of ls (Holds item) ≡ Some f) × (events_of (records (if counts_fault f then ls ++ Holds item ∷ [] else ls)) ≡ events_of (records ls) ++ option_to_list part)
+  pub added_faulty : (f : FileFault) → option_and_then (kept_count_fault new) (foot_in item) ≡ Some f
+      → (fault_of ls (Holds item) ≡ Some f) × (events_of (records (if counts_fault f then ls ++ Holds item ∷ [] else ls))
+      ≡ events_of (records ls) ++ option_to_list part)
   added_faulty f n = (fault_is ∙ n, rw (count_faults new item f n) events_with)

@@ -1,5 +1,6 @@
 -- More bytes, and the pieces after them.
-use Rattle.std.proofs.Common.{◌≡◌, ℕ, suc, ◌+◌, ◌<◌, ◌≤◌, ◌∙◌, sym, ap, refl, subst, Bool, true, false, cond, ◌||◌, ◌&&◌, eqb, List, [], ◌∷◌, ◌++◌, length, take, drop, ◌-◌, append_assoc, arith, length-append, length-take}
+use Rattle.std.proofs.Common.{◌≡◌, ℕ, suc, ◌+◌, ◌<◌, ◌≤◌, ◌∙◌, sym, ap, refl, subst, Bool, true, false, cond, ◌||◌, ◌&&◌, eqb, List, [], ◌∷◌, ◌++◌, length}
+use Rattle.std.proofs.Common.{take, drop, ◌-◌, append_assoc, arith, length-append, length-take}
 use Rattle.std.specs.Prelude.{nat_eq, zero, ◌==◌, slice_index, if◌then◌else◌}
 use Rattle.std.proofs.lemmas.List.{append-nil, take_more}
 use Rattle.std.proofs.lemmas.Grind.{common_steps}
@@ -17,14 +18,16 @@ split_some p (x ∷ xs) =
     [ true ↦ ([], slice_split p xs, refl) | false ↦ (x ∷ e.0, e.1, ap (onto_first x) e.2) ]
 
 onto_split-append : (p : ℕ → Bool) (x : ℕ) (xs : List ℕ) (qs : List (List ℕ)) → onto_first x (slice_split p xs ++ qs) ≡ onto_first x (slice_split p xs) ++ qs
-onto_split-append p x xs qs = let e = split_some p xs in let h : onto_first x (slice_split p xs ++ qs) ≡ onto_first x (slice_split p xs) ++ qs = rw e.2 refl in h
+onto_split-append p x xs qs = let e = split_some p xs in let h : onto_first x (slice_split p xs ++ qs) ≡ onto_first x (slice_split p xs) ++ qs = rw e.2 refl in
+    h
 
 -- an element at which the list is cut
 pub split_open : (p : ℕ → Bool) (xs : List ℕ) (y : ℕ) → p y ≡ true → slice_split p (xs ++ y ∷ []) ≡ slice_split p xs ++ [] ∷ []
 split_open p [] y o = rw o refl
 split_open p (x ∷ xs) y o =
     let e = split_open p xs y o in
-    elim (p x) as (λ b. cond b ([] ∷ slice_split p (xs ++ y ∷ [])) (onto_first x (slice_split p (xs ++ y ∷ []))) ≡ cond b ([] ∷ slice_split p xs) (onto_first x (slice_split p xs)) ++ [] ∷ [])
+    elim (p x) as (λ b. cond b ([] ∷ slice_split p (xs ++ y ∷ [])) (onto_first x (slice_split p (xs ++ y ∷ [])))
+    ≡ cond b ([] ∷ slice_split p xs) (onto_first x (slice_split p xs)) ++ [] ∷ [])
     [ true ↦ ap (λ ps. [] ∷ ps) e | false ↦ ap (onto_first x) e ∙ onto_split-append p x xs ([] ∷ []) ]
 
 -- any other element
@@ -33,8 +36,12 @@ split_stay p [] y o = rw o refl
 split_stay p (x ∷ xs) y o =
     let e = split_stay p xs y o in
     let s = split_some p xs in
-    elim (p x) as (λ b. cond b ([] ∷ slice_split p (xs ++ y ∷ [])) (onto_first x (slice_split p (xs ++ y ∷ []))) ≡ onto_last y (cond b ([] ∷ slice_split p xs) (onto_first x (slice_split p xs))))
-    [ true ↦ ap (λ ps. [] ∷ ps) e ∙ sym (onto_last-cons y [] (slice_split p xs) s.0 s.1 s.2) | false ↦ ap (onto_first x) e ∙ onto_first-last x y (slice_split p xs) ]
+    elim (p x) as (λ b. cond b ([] ∷ slice_split p (xs ++ y ∷ [])) (onto_first x (slice_split p (xs ++ y ∷ [])))
+    ≡ onto_last y (cond b ([] ∷ slice_split p xs) (onto_first x (slice_split p xs)))) [
+      | true ↦ ap (λ ps. [] ∷ ps) e ∙ sym (onto_last-cons y [] (slice_split p xs) s.0 s.1 s.2)
+      | false ↦ ap (onto_first x) e
+          ∙ onto_first-last x y (slice_split p xs)
+    ]
 
 or_first : (a b : Bool) → (a || b) ≡ false → a ≡ false
 or_first true b e = cc
@@ -45,11 +52,13 @@ or_second true b e = cc
 or_second false b e = e
 
 -- elements at which the list is not cut
-pub split_front : (p : ℕ → Bool) (ys xs : List ℕ) (ps : List (List ℕ)) (k : List ℕ) → slice_split p xs ≡ ps ++ k ∷ [] → list_any p ys ≡ false → slice_split p (xs ++ ys) ≡ ps ++ (k ++ ys) ∷ []
+pub split_front : (p : ℕ → Bool) (ys xs : List ℕ) (ps : List (List ℕ)) (k : List ℕ) → slice_split p xs ≡ ps ++ k ∷ [] → list_any p ys ≡ false
+    → slice_split p (xs ++ ys) ≡ ps ++ (k ++ ys) ∷ []
 split_front p [] xs ps k e n = ap (slice_split p) (append-nil xs) ∙ e ∙ ap (λ q. ps ++ q ∷ []) (sym (append-nil k))
 split_front p (y ∷ ys) xs ps k e n =
     ap (slice_split p) (sym (append_assoc xs (y ∷ []) ys))
-    ∙ split_front p ys (xs ++ y ∷ []) ps (k ++ y ∷ []) (split_stay p xs y (or_first (p y) (list_any p ys) n) ∙ ap (onto_last y) e ∙ onto_last_push ps k y) (or_second (p y) (list_any p ys) n)
+    ∙ split_front p ys (xs ++ y ∷ []) ps (k ++ y ∷ []) (split_stay p xs y (or_first (p y) (list_any p ys) n) ∙ ap (onto_last y) e ∙ onto_last_push ps k y)
+    (or_second (p y) (list_any p ys) n)
     ∙ ap (λ q. ps ++ q ∷ []) (append_assoc k (y ∷ []) ys)
 
 -- after three bytes it is known whether the text begins with the mark
@@ -58,25 +67,35 @@ settled_three [] h more = absurd (omega arith)
 settled_three (x ∷ []) h more = absurd (omega arith)
 settled_three (x ∷ y ∷ []) h more = absurd (omega arith)
 settled_three (x ∷ y ∷ z ∷ bytes) h more =
-    elim (starts_with nat_eq (x ∷ y ∷ z ∷ []) byte_order_mark) as (λ b. (if b then bytes ++ more else x ∷ y ∷ z ∷ (bytes ++ more)) ≡ (if b then bytes else x ∷ y ∷ z ∷ bytes) ++ more) [ true ↦ refl | false ↦ refl ]
+    elim (starts_with nat_eq (x ∷ y ∷ z ∷ []) byte_order_mark) as (λ b. (if b then bytes ++ more else x ∷ y ∷ z ∷ (bytes ++ more))
+    ≡ (if b then bytes else x ∷ y ∷ z ∷ bytes) ++ more) [ true ↦ refl | false ↦ refl ]
 
 -- it is known after a line feed, too
 pub settled_lf : (bytes : List ℕ) → length bytes < 3 → IsSettled (bytes ++ 10 ∷ [])
 settled_lf [] h more = refl
-settled_lf (x ∷ []) h more = elim (eqb 239 x) as (λ b. (if b && false then drop 3 (x ∷ 10 ∷ more) else x ∷ 10 ∷ more) ≡ (if b && false then drop 3 (x ∷ 10 ∷ []) else x ∷ 10 ∷ []) ++ more) [ true ↦ refl | false ↦ refl ]
+settled_lf (x ∷ []) h more =
+    elim (eqb 239 x) as (λ b. (if b && false then drop 3 (x ∷ 10 ∷ more) else x ∷ 10 ∷ more)
+    ≡ (if b && false then drop 3 (x ∷ 10 ∷ []) else x ∷ 10 ∷ []) ++ more) [ true ↦ refl | false ↦ refl ]
 settled_lf (x ∷ y ∷ bytes) h more = settled_three (x ∷ y ∷ (bytes ++ 10 ∷ [])) (simp length-append (omega arith)) more
 
 -- fewer bytes are not the mark
 pub unmarked_short : (bytes : List ℕ) → length bytes < 3 → without_mark bytes ≡ bytes
 unmarked_short [] h = refl
 unmarked_short (x ∷ []) h = elim (eqb 239 x) as (λ b. (if b && false then [] else x ∷ []) ≡ x ∷ []) [ true ↦ refl | false ↦ refl ]
-unmarked_short (x ∷ y ∷ []) h = elim (eqb 239 x) as (λ b. (if b && (eqb 187 y && false) then [] else x ∷ y ∷ []) ≡ x ∷ y ∷ []) [ true ↦ elim (eqb 187 y) as (λ b. (if b && false then [] else x ∷ y ∷ []) ≡ x ∷ y ∷ []) [ true ↦ refl | false ↦ refl ] | false ↦ refl ]
+unmarked_short (x ∷ y ∷ []) h =
+    elim (eqb 239 x) as (λ b. (if b && (eqb 187 y && false) then [] else x ∷ y ∷ [])
+    ≡ x ∷ y ∷ []) [ true ↦ elim (eqb 187 y) as (λ b. (if b && false then [] else x ∷ y ∷ []) ≡ x ∷ y ∷ []) [ true ↦ refl | false ↦ refl ] | false ↦ refl ]
 unmarked_short (x ∷ y ∷ z ∷ bytes) h = absurd (omega arith)
 
 unmarked_lf : (bytes : List ℕ) → length bytes < 3 → without_mark (bytes ++ 10 ∷ []) ≡ bytes ++ 10 ∷ []
 unmarked_lf [] h = refl
 unmarked_lf (x ∷ []) h = elim (eqb 239 x) as (λ b. (if b && false then drop 3 (x ∷ 10 ∷ []) else x ∷ 10 ∷ []) ≡ x ∷ 10 ∷ []) [ true ↦ refl | false ↦ refl ]
-unmarked_lf (x ∷ y ∷ []) h = elim (eqb 239 x) as (λ b. (if b && (eqb 187 y && false) then [] else x ∷ y ∷ 10 ∷ []) ≡ x ∷ y ∷ 10 ∷ []) [ true ↦ elim (eqb 187 y) as (λ b. (if b && false then [] else x ∷ y ∷ 10 ∷ []) ≡ x ∷ y ∷ 10 ∷ []) [ true ↦ refl | false ↦ refl ] | false ↦ refl ]
+unmarked_lf (x ∷ y ∷ []) h =
+    elim (eqb 239 x) as (λ b. (if b && (eqb 187 y && false) then [] else x ∷ y ∷ 10 ∷ [])
+    ≡ x ∷ y ∷ 10 ∷ []) [
+      | true ↦ elim (eqb 187 y) as (λ b. (if b && false then [] else x ∷ y ∷ 10 ∷ []) ≡ x ∷ y ∷ 10 ∷ []) [ true ↦ refl | false ↦ refl ]
+      | false ↦ refl
+    ]
 unmarked_lf (x ∷ y ∷ z ∷ bytes) h = absurd (omega arith)
 
 -- bytes without a line feed
@@ -84,7 +103,8 @@ pub more_bytes : (kept b ys : List ℕ) (ps : List (List ℕ)) → CutsTo kept f
 more_bytes kept b ys ps k n = record {
   pieces_are = ap (slice_split is_line_feed) (k.settled refl ys) ∙ split_front is_line_feed ys (without_mark b) ps kept k.pieces_are n;
   settled = λ e more.
-      ap without_mark (append_assoc b ys more) ∙ k.settled refl (ys ++ more) ∙ sym (append_assoc (without_mark b) ys more) ∙ ap (λ xs. xs ++ more) (sym (k.settled refl ys));
+      ap without_mark (append_assoc b ys more) ∙ k.settled refl (ys ++ more) ∙ sym (append_assoc (without_mark b) ys more)
+      ∙ ap (λ xs. xs ++ more) (sym (k.settled refl ys));
   start = λ e. absurd (not_both e);
 }
   where
@@ -94,9 +114,11 @@ more_bytes kept b ys ps k n = record {
 -- a line feed
 pub line_feed : (kept b : List ℕ) (ps : List (List ℕ)) → CutsTo kept false b ps → CutsTo [] false (b ++ 10 ∷ []) (ps ++ kept ∷ [])
 line_feed kept b ps k = record {
-  pieces_are = ap (slice_split is_line_feed) (k.settled refl (10 ∷ [])) ∙ split_open is_line_feed (without_mark b) 10 refl ∙ ap (λ qs. qs ++ [] ∷ []) k.pieces_are;
+  pieces_are =
+      ap (slice_split is_line_feed) (k.settled refl (10 ∷ [])) ∙ split_open is_line_feed (without_mark b) 10 refl ∙ ap (λ qs. qs ++ [] ∷ []) k.pieces_are;
   settled = λ e more.
-      ap without_mark (append_assoc b (10 ∷ []) more) ∙ k.settled refl (10 ∷ more) ∙ sym (append_assoc (without_mark b) (10 ∷ []) more) ∙ ap (λ xs. xs ++ more) (sym (k.settled refl (10 ∷ [])));
+      ap without_mark (append_assoc b (10 ∷ []) more) ∙ k.settled refl (10 ∷ more) ∙ sym (append_assoc (without_mark b) (10 ∷ []) more)
+      ∙ ap (λ xs. xs ++ more) (sym (k.settled refl (10 ∷ [])));
   start = λ e. absurd (not_both e);
 }
   where
@@ -108,7 +130,9 @@ pub start_lf : (kept b : List ℕ) (ps : List (List ℕ)) → CutsTo kept true b
 start_lf kept b ps k =
     let few : length b < 3 = rw (k.start refl).0 ((k.start refl).1) in
     record {
-      pieces_are = ap (slice_split is_line_feed) (unmarked_lf b few ∙ ap (λ xs. xs ++ 10 ∷ []) (sym (unmarked_short b few))) ∙ split_open is_line_feed (without_mark b) 10 refl ∙ ap (λ qs. qs ++ [] ∷ []) k.pieces_are;
+      pieces_are =
+          ap (slice_split is_line_feed) (unmarked_lf b few ∙ ap (λ xs. xs ++ 10 ∷ []) (sym (unmarked_short b few)))
+          ∙ split_open is_line_feed (without_mark b) 10 refl ∙ ap (λ qs. qs ++ [] ∷ []) k.pieces_are;
       settled = λ e. settled_lf b few;
       start = λ e. absurd (not_both e);
     }
@@ -116,13 +140,15 @@ start_lf kept b ps k =
     not_both : false ≡ true → ⊥
     not_both e = cc
 
-start_pieces : (kept b : List ℕ) (ps : List (List ℕ)) (c : ℕ) → CutsTo kept true b ps → is_line_feed c ≡ false → slice_split is_line_feed (b ++ c ∷ []) ≡ ps ++ (kept ++ c ∷ []) ∷ []
+start_pieces : (kept b : List ℕ) (ps : List (List ℕ)) (c : ℕ) → CutsTo kept true b ps → is_line_feed c ≡ false
+    → slice_split is_line_feed (b ++ c ∷ []) ≡ ps ++ (kept ++ c ∷ []) ∷ []
 start_pieces kept b ps c k n =
     let few : length b < 3 = rw (k.start refl).0 ((k.start refl).1) in
     split_front is_line_feed (c ∷ []) b ps kept (ap (slice_split is_line_feed) (sym (unmarked_short b few)) ∙ k.pieces_are) (rw n refl)
 
 -- another byte, before the third
-pub start_more : (kept b : List ℕ) (ps : List (List ℕ)) (c : ℕ) → CutsTo kept true b ps → is_line_feed c ≡ false → length (kept ++ c ∷ []) < 3 → CutsTo (kept ++ c ∷ []) true (b ++ c ∷ []) ps
+pub start_more : (kept b : List ℕ) (ps : List (List ℕ)) (c : ℕ) → CutsTo kept true b ps → is_line_feed c ≡ false → length (kept ++ c ∷ []) < 3
+    → CutsTo (kept ++ c ∷ []) true (b ++ c ∷ []) ps
 start_more kept b ps c k n few =
     let same : b ++ c ∷ [] ≡ kept ++ c ∷ [] = ap (λ xs. xs ++ c ∷ []) (k.start refl).0 in
     let short : length (b ++ c ∷ []) < 3 = rw same few in
@@ -140,17 +166,20 @@ three_pieces [] h e = absurd (omega arith)
 three_pieces (x ∷ []) h e = absurd (omega arith)
 three_pieces (x ∷ y ∷ []) h e = absurd (omega arith)
 three_pieces (x ∷ y ∷ z ∷ []) h e =
-    elim (starts_with nat_eq (x ∷ y ∷ z ∷ []) byte_order_mark) as (λ b. slice_split is_line_feed (if b then [] else x ∷ y ∷ z ∷ []) ≡ (if b then [] else x ∷ y ∷ z ∷ []) ∷ []) [ true ↦ refl | false ↦ e ]
+    elim (starts_with nat_eq (x ∷ y ∷ z ∷ []) byte_order_mark) as (λ b. slice_split is_line_feed (if b then [] else x ∷ y ∷ z ∷ [])
+    ≡ (if b then [] else x ∷ y ∷ z ∷ []) ∷ []) [ true ↦ refl | false ↦ e ]
 three_pieces (x ∷ y ∷ z ∷ w ∷ xs) h e = absurd (omega arith)
 
 -- the third byte
-pub start_third : (kept b : List ℕ) (ps : List (List ℕ)) (c : ℕ) → CutsTo kept true b ps → is_line_feed c ≡ false → length (kept ++ c ∷ []) ≡ 3 → CutsTo (without_mark (kept ++ c ∷ [])) false (b ++ c ∷ []) ps
+pub start_third : (kept b : List ℕ) (ps : List (List ℕ)) (c : ℕ) → CutsTo kept true b ps → is_line_feed c ≡ false → length (kept ++ c ∷ []) ≡ 3
+    → CutsTo (without_mark (kept ++ c ∷ [])) false (b ++ c ∷ []) ps
 start_third kept b ps c k n three =
     let same : b ++ c ∷ [] ≡ kept ++ c ∷ [] = ap (λ xs. xs ++ c ∷ []) (k.start refl).0 in
     let none = (k.start refl).2 in
     record {
       pieces_are =
-          ap pieces same ∙ three_pieces (kept ++ c ∷ []) three (ap (slice_split is_line_feed) (sym same) ∙ start_pieces kept b ps c k n ∙ ap (λ qs. qs ++ (kept ++ c ∷ []) ∷ []) none)
+          ap pieces same ∙ three_pieces (kept ++ c ∷ []) three
+          (ap (slice_split is_line_feed) (sym same) ∙ start_pieces kept b ps c k n ∙ ap (λ qs. qs ++ (kept ++ c ∷ []) ∷ []) none)
           ∙ ap (λ qs. qs ++ without_mark (kept ++ c ∷ []) ∷ []) (sym none);
       settled = λ e. settled_three (b ++ c ∷ []) (rw (same, three) (omega arith));
       start = λ e. absurd (not_both e);
@@ -170,7 +199,8 @@ none_among (x ∷ xs) (suc k) h = by_first (eqb x 10) refl (none_among xs k (λ 
     by_first false e n = n
 
 -- the bytes up to a line feed, and the line feed
-pub fed_line : (kept b piece : List ℕ) (ps : List (List ℕ)) (n : ℕ) → CutsTo kept false b ps → list_any is_line_feed (take n piece) ≡ false → n < length piece → slice_index piece n ≡ 10 → CutsTo [] false (b ++ take (n + 1) piece) (ps ++ (kept ++ take n piece) ∷ [])
+pub fed_line : (kept b piece : List ℕ) (ps : List (List ℕ)) (n : ℕ) → CutsTo kept false b ps → list_any is_line_feed (take n piece) ≡ false → n < length piece
+    → slice_index piece n ≡ 10 → CutsTo [] false (b ++ take (n + 1) piece) (ps ++ (kept ++ take n piece) ∷ [])
 fed_line kept b piece ps n k none short found =
     let fed = line_feed _ _ ps (more_bytes kept b (take n piece) ps k none) in
     let one : take (n + 1) piece ≡ take n piece ++ 10 ∷ [] = take_more piece n 0 short ∙ ap (λ x. take n piece ++ x ∷ []) found in

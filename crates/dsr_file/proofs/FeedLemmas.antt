@@ -1,5 +1,6 @@
 -- The state of a reader and a sink while a source is read.
-use Rattle.std.proofs.Common.{◌≡◌, ℕ, ◌+◌, ◌-◌, ◌≤◌, ◌⊎◌, inl, inr, ◌∙◌, sym, ap, refl, subst, List, [], ◌∷◌, ◌++◌, length, take, drop, Option, None, Some, append_assoc, length-take, length-drop, arith}
+use Rattle.std.proofs.Common.{◌≡◌, ℕ, ◌+◌, ◌-◌, ◌≤◌, ◌⊎◌, inl, inr, ◌∙◌, sym, ap, refl, subst, List, [], ◌∷◌, ◌++◌, length, take, drop, Option, None, Some}
+use Rattle.std.proofs.Common.{append_assoc, length-take, length-drop, arith}
 use Rattle.std.specs.Option.{option_to_list, IfNone}
 use Rattle.std.proofs.lemmas.List.{append-nil}
 use mathlib.Core.List.{IsPrefix}
@@ -27,8 +28,10 @@ pub prefix_event : (xs ys zs : List Placed) (e : Placed) → IsPrefix xs ys → 
 prefix_event xs ys zs e p is = prefix_more xs ys zs p (e ∷ [], sym is)
 
 -- the first events of bytes are the first of each text that begins with the bytes
-pub begins_later : (layout : LayoutTable) (b more : List ℕ) (ending : Ending) (es : List Placed) → BeginsEvents layout b None es → BeginsEvents layout (b ++ more) (Some ending) es
-begins_later layout b more ending es (inl p) = inl (prefix_more es (so_far layout b) (text_events layout (b ++ more) ending) p (so_far_begins_lem layout b more ending))
+pub begins_later : (layout : LayoutTable) (b more : List ℕ) (ending : Ending) (es : List Placed) → BeginsEvents layout b None es
+    → BeginsEvents layout (b ++ more) (Some ending) es
+begins_later layout b more ending es (inl p) =
+    inl (prefix_more es (so_far layout b) (text_events layout (b ++ more) ending) p (so_far_begins_lem layout b more ending))
 begins_later layout b more ending es (inr c) = inr (cut_off_later layout b more ending es c)
 
 pub begins_run : (layout : LayoutTable) (text : FileText) (es : List Placed) → BeginsEvents layout text.bytes (Some text.ending) es → IsRun layout text es
@@ -36,13 +39,16 @@ begins_run layout text es (inl p) = inl p
 begins_run layout text es (inr c) = inr (cut_off_run layout text.bytes text.ending es c)
 
 pub known_run : (layout : LayoutTable) (b : List ℕ) (told : Option Ending) (es : List Placed) → BeginsEvents layout b told es → IsSomeRun es
-known_run layout b None es h = let text : FileText = record { bytes = b ++ []; ending = endings.Read } in (layout, text, begins_run layout text es (begins_later layout b [] endings.Read es h))
+known_run layout b None es h = let text : FileText = record { bytes = b ++ []; ending = endings.Read } in
+    (layout, text, begins_run layout text es (begins_later layout b [] endings.Read es h))
 known_run layout b (Some ending) es h = let text : FileText = record { bytes = b; ending = ending } in (layout, text, begins_run layout text es h)
 
 -- the event that a reader gives makes a run with the events before it
 pub event_run : (layout : LayoutTable) (r : FileReader) (b : List ℕ) (told : Option Ending) (es : List Placed) (o : Option Placed) (e : Placed) → o ≡ Some e
-    → ((layout : LayoutTable) (c : List ℕ) (gs : List Placed) → Stands layout r c gs → BeginsEvents layout c told gs) → Stands layout r b (es ++ option_to_list o) → IsSomeRun (es ++ e ∷ [])
-event_run layout r b told es o e is begins s = known_run layout b told (es ++ e ∷ []) (subst (λ x. BeginsEvents layout b told (es ++ option_to_list x)) is (begins layout b _ s))
+    → ((layout : LayoutTable) (c : List ℕ) (gs : List Placed) → Stands layout r c gs → BeginsEvents layout c told gs)
+    → Stands layout r b (es ++ option_to_list o) → IsSomeRun (es ++ e ∷ [])
+event_run layout r b told es o e is begins s =
+    known_run layout b told (es ++ e ∷ []) (subst (λ x. BeginsEvents layout b told (es ++ option_to_list x)) is (begins layout b _ s))
 
 abbrev rest_of : List ℕ → ℕ → List ℕ
 rest_of piece m = take (length piece - m) (drop m piece)
@@ -52,10 +58,13 @@ all_used m n piece D h (inl e) = inl (omega (arith, simp (length-take, length-dr
 all_used m n piece D h (inr d) = inr d
 
 -- a call of `take` that returned no event, after other calls
-pub fed_all : (layout : LayoutTable) (r : FileReader) (b piece : List ℕ) (es : List Placed) (m n : ℕ) (o : Option Placed) → m ≤ length piece → n ≤ length (rest_of piece m) → o ≡ None → Stands layout r ((b ++ take m piece) ++ take n (rest_of piece m)) (es ++ option_to_list o)
-    → IfNone o ((n ≡ length (rest_of piece m)) ⊎ IsDone r) → IfNone o ((layout : LayoutTable) (c : List ℕ) (gs : List Placed) → Stands layout r c gs → HasEvents layout c None gs) → Fed layout r b piece es
+pub fed_all : (layout : LayoutTable) (r : FileReader) (b piece : List ℕ) (es : List Placed) (m n : ℕ) (o : Option Placed) → m ≤ length piece
+    → n ≤ length (rest_of piece m) → o ≡ None → Stands layout r ((b ++ take m piece) ++ take n (rest_of piece m)) (es ++ option_to_list o)
+    → IfNone o ((n ≡ length (rest_of piece m)) ⊎ IsDone r) → IfNone o
+    ((layout : LayoutTable) (c : List ℕ) (gs : List Placed) → Stands layout r c gs → HasEvents layout c None gs) → Fed layout r b piece es
 fed_all layout r b piece es m n None h k is s w all =
-    let now : Stands layout r (b ++ take (m + n) piece) es = subst (λ x. Stands layout r (b ++ take (m + n) piece) x) (append-nil es) (stands_joined layout r b piece es m n None None h refl s) in
+    let now : Stands layout r (b ++ take (m + n) piece) es =
+    subst (λ x. Stands layout r (b ++ take (m + n) piece) x) (append-nil es) (stands_joined layout r b piece es m n None None h refl s) in
     record {
       used = m + n;
       bound = omega (arith, simp (length-take, length-drop) at k);
@@ -66,8 +75,11 @@ fed_all layout r b piece es m n None h k is s w all =
 fed_all layout r b piece es m n (Some e) h k is s w all = absurd (cc)
 
 -- an event that was refused
-pub fed_some : (layout : LayoutTable) (r : FileReader) (b piece : List ℕ) (es fs : List Placed) (m n : ℕ) (o : Option Placed) (e v : Placed) → m ≤ length piece → n ≤ length (rest_of piece m) → o ≡ Some v → (e ≡ v) × (fs ≡ es)
-    → Stands layout r ((b ++ take m piece) ++ take n (rest_of piece m)) (es ++ option_to_list o) → ((layout : LayoutTable) (c : List ℕ) (gs : List Placed) → Stands layout r c gs → BeginsEvents layout c None gs) → FedSome layout b piece (fs ++ e ∷ [])
+pub fed_some : (layout : LayoutTable) (r : FileReader) (b piece : List ℕ) (es fs : List Placed) (m n : ℕ) (o : Option Placed) (e v : Placed) → m ≤ length piece
+    → n ≤ length (rest_of piece m) → o ≡ Some v → (e ≡ v) × (fs ≡ es)
+    → Stands layout r ((b ++ take m piece) ++ take n (rest_of piece m)) (es ++ option_to_list o)
+    → ((layout : LayoutTable) (c : List ℕ) (gs : List Placed) → Stands layout r c gs → BeginsEvents layout c None gs)
+    → FedSome layout b piece (fs ++ e ∷ [])
 fed_some layout r b piece es fs m n o e v h k is same s begins = record {
   used = m + n;
   bound = omega (arith, simp (length-take, length-drop) at k);
@@ -75,7 +87,10 @@ fed_some layout r b piece es fs m n o e v h k is same s begins = record {
 }
 
 -- the same at the end of a text
-pub end_some : (layout : LayoutTable) (r : FileReader) (b : List ℕ) (told ending : Ending) (es fs : List Placed) (o : Option Placed) (e v : Placed) → told ≡ ending → o ≡ Some v → (e ≡ v) × (fs ≡ es)
-    → ((layout : LayoutTable) (c : List ℕ) (gs : List Placed) → Stands layout r c gs → BeginsEvents layout c (Some told) gs) → Stands layout r b (es ++ option_to_list o) → BeginsEvents layout b (Some ending) (fs ++ e ∷ [])
+pub end_some : (layout : LayoutTable) (r : FileReader) (b : List ℕ) (told ending : Ending) (es fs : List Placed) (o : Option Placed) (e v : Placed)
+    → told ≡ ending → o ≡ Some v → (e ≡ v) × (fs ≡ es)
+    → ((layout : LayoutTable) (c : List ℕ) (gs : List Placed) → Stands layout r c gs → BeginsEvents layout c (Some told) gs)
+    → Stands layout r b (es ++ option_to_list o) → BeginsEvents layout b (Some ending) (fs ++ e ∷ [])
 end_some layout r b told ending es fs o e v t is same begins s =
-    subst (λ x. BeginsEvents layout b (Some x) (fs ++ e ∷ [])) t (rw (same.1, same.0) (subst (λ x. BeginsEvents layout b (Some told) (es ++ option_to_list x)) is (begins layout b _ s)))
+    subst (λ x. BeginsEvents layout b (Some x) (fs ++ e ∷ [])) t
+    (rw (same.1, same.0) (subst (λ x. BeginsEvents layout b (Some told) (es ++ option_to_list x)) is (begins layout b _ s)))

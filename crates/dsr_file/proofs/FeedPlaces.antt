@@ -1,5 +1,6 @@
 -- Bytes without a line feed.
-use Rattle.std.proofs.Common.{◌≡◌, ℕ, ◌+◌, ◌-◌, ◌<◌, ◌≤◌, ◌∙◌, ◌++◌, ◌||◌, sym, ap, subst, true, false, eqb, not, List, length, map, take, drop, get_or, inl, inr, arith, take-add, take_all, length-drop, Bool}
+use Rattle.std.proofs.Common.{◌≡◌, ℕ, ◌+◌, ◌-◌, ◌<◌, ◌≤◌, ◌∙◌, ◌++◌, ◌||◌, sym, ap, subst, true, false, eqb, not, List, length, map, take, drop, get_or, inl}
+use Rattle.std.proofs.Common.{inr, arith, take-add, take_all, length-drop, Bool}
 use Rattle.std.specs.List.{list_any, prefix_len}
 use Rattle.std.specs.Simd.Lanes.{chunk, mask_l}
 use Rattle.std.proofs.lemmas.List.Folds.{list_any-append}
@@ -14,7 +15,8 @@ abbrev pub NoneBefore : List ℕ → ℕ → Type 0
 NoneBefore xs n = (k : ℕ) → k < n → eqb (get_or xs k 0) 10 ≡ false
 
 -- 16 more bytes, up to the first line feed among them
-pub none_before_more : (xs : List ℕ) (at run : ℕ) → at + 16 ≤ length xs → run ≡ prefix_len (λ b. not (eqb b 10)) (chunk at 16 xs) → NoneBefore xs at → NoneBefore xs (at + run)
+pub none_before_more : (xs : List ℕ) (at run : ℕ) → at + 16 ≤ length xs → run ≡ prefix_len (λ b. not (eqb b 10)) (chunk at 16 xs)
+    → NoneBefore xs at → NoneBefore xs (at + run)
 none_before_more xs at run room counted before k lt = elim (cases_lt k at) [
   | inl near ↦ before k near
   | inr far ↦ run_in_chunk_fails (λ b. eqb b 10) xs at 16 run 0 room counted k far lt
@@ -35,15 +37,18 @@ abbrev is_feed : ℕ → Bool
 is_feed b = eqb b 10
 
 -- the mask of 16 bytes gives the number of bytes before the first line feed
-pub all_of_16 : (xs : List ℕ) (at feeds : ℕ) → at + 16 ≤ length xs → feeds ≡ mask_l (map is_feed (chunk at 16 xs)) → feeds ≡ 0 → 16 ≡ prefix_len (λ b. not (is_feed b)) (chunk at 16 xs)
+pub all_of_16 : (xs : List ℕ) (at feeds : ℕ) → at + 16 ≤ length xs → feeds ≡ mask_l (map is_feed (chunk at 16 xs)) → feeds ≡ 0
+    → 16 ≡ prefix_len (λ b. not (is_feed b)) (chunk at 16 xs)
 all_of_16 xs at feeds room are none = sym (leading_from_mask_l is_feed (chunk at 16 xs) (sym are ∙ none) ∙ length-chunk at 16 xs room)
 
-pub some_of_16 : (xs : List ℕ) (at feeds : ℕ) → at + 16 ≤ length xs → feeds ≡ mask_l (map is_feed (chunk at 16 xs)) → (feeds ≡ 0 → ⊥) → count_trailing_zeros 64 feeds ≡ prefix_len (λ b. not (is_feed b)) (chunk at 16 xs)
+pub some_of_16 : (xs : List ℕ) (at feeds : ℕ) → at + 16 ≤ length xs → feeds ≡ mask_l (map is_feed (chunk at 16 xs)) → (feeds ≡ 0 → ⊥)
+    → count_trailing_zeros 64 feeds ≡ prefix_len (λ b. not (is_feed b)) (chunk at 16 xs)
 some_of_16 xs at feeds room are some =
     ap (count_trailing_zeros 64) are ∙ trailing_mask_l is_feed 64 (chunk at 16 xs) (omega (arith, length-chunk at 16 xs room)) (omega (arith, are, some))
 
 pub run_within : (xs : List ℕ) (at run : ℕ) → at + 16 ≤ length xs → run ≡ prefix_len (λ b. not (is_feed b)) (chunk at 16 xs) → run ≤ 16
 run_within xs at run room counted = run_in_chunk_le is_feed xs at 16 run 0 room counted
 
-pub run_ends : (xs : List ℕ) (at run : ℕ) → at + 16 ≤ length xs → run ≡ prefix_len (λ b. not (is_feed b)) (chunk at 16 xs) → run < 16 → get_or xs (at + run) 0 ≡ 10
+pub run_ends : (xs : List ℕ) (at run : ℕ) → at + 16 ≤ length xs → run ≡ prefix_len (λ b. not (is_feed b)) (chunk at 16 xs) → run < 16
+    → get_or xs (at + run) 0 ≡ 10
 run_ends xs at run room counted short = eqb-true _ 10 (run_in_chunk_stops is_feed xs at 16 run 0 room counted short)

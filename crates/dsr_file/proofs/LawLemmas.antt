@@ -1,5 +1,6 @@
 -- The events of bytes, and of texts that begin with them.
-use Rattle.std.proofs.Common.{◌≡◌, ℕ, ◌+◌, ◌<◌, ◌≤◌, ◌⊎◌, inl, inr, ◌∙◌, sym, ap, refl, subst, Bool, true, false, cond, ◌||◌, eqb, List, [], ◌∷◌, ◌++◌, length, map, Option, None, Some, append_assoc, length-append, arith}
+use Rattle.std.proofs.Common.{◌≡◌, ℕ, ◌+◌, ◌<◌, ◌≤◌, ◌⊎◌, inl, inr, ◌∙◌, sym, ap, refl, subst, Bool, true, false, cond, ◌||◌, eqb, List, [], ◌∷◌, ◌++◌, length}
+use Rattle.std.proofs.Common.{map, Option, None, Some, append_assoc, length-append, arith}
 use Rattle.std.specs.Prelude.{if◌then◌else◌}
 use Rattle.std.specs.Option.{option_to_list, option_map}
 use Rattle.std.specs.List.{slice_split, onto_first, list_any, filter_map}
@@ -27,7 +28,8 @@ use Rattle.dsr_file.specs.Lines.{lines_among}
 use Rattle.dsr_file.specs.Readings.{Reading, Holds, Faulty, SkippedLine, reading, kept, records}
 use Rattle.dsr_file.specs.Parts.{events_of, opened, opening_of, opens, closed, block_of}
 use Rattle.dsr_file.specs.Faults.{fault_of, early_fault}
-use Rattle.dsr_file.specs.Texts.{First, AllGood, At, first_if, first_from, counts_fault, taken, outcome, ended_so_far, events, events_so_far, placed, readings, so_far, text_events}
+use Rattle.dsr_file.specs.Texts.{First, AllGood, At, first_if, first_from, counts_fault, taken, outcome, ended_so_far, events, events_so_far, placed, readings}
+use Rattle.dsr_file.specs.Texts.{so_far, text_events}
 use Rattle.dsr_file.specs.Stages.{KeepsStage, stage_after}
 use Rattle.dsr_file.specs.Grammars.{IsRecord}
 use Rattle.dsr_file.specs.Cutting.{IsSettled}
@@ -72,7 +74,8 @@ record Onward (ls : List Reading) (l : Reading) : Type 0 where
 same_stage : (stage : Stage) (ls : List Reading) (l : Reading) → kept l ≡ [] → KeepsStage stage (records ls) → KeepsStage stage (records (ls ++ l ∷ []))
 same_stage stage ls l e k = subst (KeepsStage stage) (sym (records-same ls l e)) k
 
-onward_item : (stage : Stage) (ls : List Reading) (r : Record) → KeepsStage stage (records ls) → fault_of ls (Holds r) ≡ None → (kept (Holds r) ≡ []) ⊎ IsRecord r → Onward ls (Holds r)
+onward_item : (stage : Stage) (ls : List Reading) (r : Record) → KeepsStage stage (records ls) → fault_of ls (Holds r) ≡ None
+    → (kept (Holds r) ≡ []) ⊎ IsRecord r → Onward ls (Holds r)
 unfolding fault_of
 onward_item stage ls r k e (inl n) = record { stage = stage; keeps = same_stage stage ls (Holds r) n k }
 onward_item stage ls r k e (inr i) =
@@ -88,42 +91,52 @@ onward stage ls (Holds r) k e = onward_item stage ls r k e (left_or_real r)
 abbrev GoesOn : List Reading → List Record → Type 0
 GoesOn ls rs = (more : List EventPart) × (events_of rs ≡ events_of (records ls) ++ more)
 
-more_of_item : (stage : Stage) (ls : List Reading) (r : Record) → KeepsStage stage (records ls) → counted (fault_of ls (Holds r)) ≡ true → (kept (Holds r) ≡ []) ⊎ IsRecord r → GoesOn ls (records (ls ++ Holds r ∷ []))
+more_of_item : (stage : Stage) (ls : List Reading) (r : Record) → KeepsStage stage (records ls) → counted (fault_of ls (Holds r)) ≡ true
+    → (kept (Holds r) ≡ []) ⊎ IsRecord r → GoesOn ls (records (ls ++ Holds r ∷ []))
 unfolding fault_of
 more_of_item stage ls r k c (inl n) = ([], same_events ls (Holds r) n)
 more_of_item stage ls r k c (inr i) =
     let step = step_record stage (records ls) r i k (none_early (records ls) r _ _ refl c) in
     (_, ap events_of (with_item ls r i) ∙ step.events)
 
-more_of : (stage : Stage) (ls : List Reading) (l : Reading) → KeepsStage stage (records ls) → counted (fault_of ls l) ≡ true → GoesOn ls (records (ls ++ l ∷ []))
+more_of : (stage : Stage) (ls : List Reading) (l : Reading) → KeepsStage stage (records ls) → counted (fault_of ls l) ≡ true
+    → GoesOn ls (records (ls ++ l ∷ []))
 more_of stage ls (Faulty f) k c = ([], same_events ls (Faulty f) refl)
 more_of stage ls SkippedLine k c = ([], same_events ls SkippedLine refl)
 more_of stage ls (Holds r) k c = more_of_item stage ls r k c (left_or_real r)
 
-with_count : (stage : Stage) (ls : List Reading) (l : Reading) (f : FileFault) → KeepsStage stage (records ls) → fault_of ls l ≡ Some f → (b : Bool) → counts_fault f ≡ b → GoesOn ls (records (if b then ls ++ l ∷ [] else ls))
+with_count : (stage : Stage) (ls : List Reading) (l : Reading) (f : FileFault) → KeepsStage stage (records ls) → fault_of ls l ≡ Some f → (b : Bool)
+    → counts_fault f ≡ b → GoesOn ls (records (if b then ls ++ l ∷ [] else ls))
 with_count stage ls l f k e true t = more_of stage ls l k (ap counted e ∙ t)
 with_count stage ls l f k e false t = ([], sym (append-nil (events_of (records ls))))
 
 -- the events of more lines begin with those of the first
-taken_more : (stage : Stage) (ls ms : List Reading) → first_from [] ls ≡ AllGood → KeepsStage stage (records ls) → GoesOn ls (taken (ls ++ ms) (first_from [] (ls ++ ms)))
-taken_more stage ls [] g k = ([], ap (λ xs. events_of (taken xs (first_from [] xs))) (append-nil ls) ∙ ap (λ f. events_of (taken ls f)) g ∙ sym (append-nil (events_of (records ls))))
+taken_more : (stage : Stage) (ls ms : List Reading) → first_from [] ls ≡ AllGood → KeepsStage stage (records ls)
+    → GoesOn ls (taken (ls ++ ms) (first_from [] (ls ++ ms)))
+taken_more stage ls [] g k =
+    ([], ap (λ xs. events_of (taken xs (first_from [] xs))) (append-nil ls) ∙ ap (λ f. events_of (taken ls f)) g ∙ sym (append-nil (events_of (records ls))))
 taken_more stage ls (m ∷ ms) g k =
     elim (fault_of ls m) as (λ o. fault_of ls m ≡ o → GoesOn ls (taken (ls ++ m ∷ ms) (first_from [] (ls ++ m ∷ ms)))) [
       | None ↦ λ e.
           let on = onward stage ls m k e in
           let rest = taken_more on.stage (ls ++ m ∷ []) ms (first_good ls m g e) on.keeps in
-          let one = more_of stage ls m k (ap counted e) in
-          (one.0 ++ rest.0, ap (λ xs. events_of (taken xs (first_from [] xs))) (sym (append_assoc ls (m ∷ []) ms)) ∙ rest.1 ∙ ap (λ es. es ++ rest.0) one.1 ∙ append_assoc (events_of (records ls)) one.0 rest.0)
+          let one = more_of stage ls m k (ap counted e) in (
+            one.0 ++ rest.0,
+            ap (λ xs. events_of (taken xs (first_from [] xs))) (sym (append_assoc ls (m ∷ []) ms)) ∙ rest.1 ∙ ap (λ es. es ++ rest.0) one.1
+                ∙ append_assoc (events_of (records ls)) one.0 rest.0,
+          )
       | Some f ↦ λ e.
           let one = with_count stage ls m f k e (counts_fault f) refl in
           (one.0, ap (λ x. events_of (taken (ls ++ m ∷ ms) x)) (first_at ls m f ms g e) ∙ one.1)
     ] refl
 
 -- good lines have a stage
-stage_from : (stage : Stage) (ls ms : List Reading) → first_from [] ls ≡ AllGood → first_from ls ms ≡ AllGood → KeepsStage stage (records ls) → (after : Stage) × KeepsStage after (records (ls ++ ms))
+stage_from : (stage : Stage) (ls ms : List Reading) → first_from [] ls ≡ AllGood → first_from ls ms ≡ AllGood → KeepsStage stage (records ls)
+    → (after : Stage) × KeepsStage after (records (ls ++ ms))
 stage_from stage ls [] g h k = (stage, subst (λ xs. KeepsStage stage (records xs)) (sym (append-nil ls)) k)
 stage_from stage ls (m ∷ ms) g h k =
-    elim (fault_of ls m) as (λ o. fault_of ls m ≡ o → first_if o ls m (first_from (ls ++ m ∷ []) ms) ≡ AllGood → (after : Stage) × KeepsStage after (records (ls ++ m ∷ ms))) [
+    elim (fault_of ls m) as (λ o. fault_of ls m ≡ o → first_if o ls m (first_from (ls ++ m ∷ []) ms) ≡ AllGood
+    → (after : Stage) × KeepsStage after (records (ls ++ m ∷ ms))) [
       | None ↦ λ e h.
           let on = onward stage ls m k e in
           let rest = stage_from on.stage (ls ++ m ∷ []) ms (first_good ls m g e) h on.keeps in
@@ -135,10 +148,12 @@ stage_from stage ls (m ∷ ms) g h k =
     not_good e = cc
 
 -- the first fault stays the first
-fault_stays : (before ls ms : List Reading) (b : List Reading) (l : Reading) (f : FileFault) → first_from before ls ≡ At b l f → first_from before (ls ++ ms) ≡ At b l f
+fault_stays : (before ls ms : List Reading) (b : List Reading) (l : Reading) (f : FileFault) → first_from before ls ≡ At b l f
+    → first_from before (ls ++ ms) ≡ At b l f
 fault_stays before [] ms b l f e = cc
 fault_stays before (m ∷ ls) ms b l f e =
-    elim (fault_of before m) as (λ o. first_if o before m (first_from (before ++ m ∷ []) ls) ≡ At b l f → first_if o before m (first_from (before ++ m ∷ []) (ls ++ ms)) ≡ At b l f)
+    elim (fault_of before m) as (λ o. first_if o before m (first_from (before ++ m ∷ []) ls) ≡ At b l f
+    → first_if o before m (first_from (before ++ m ∷ []) (ls ++ ms)) ≡ At b l f)
     [ None ↦ λ h. fault_stays (before ++ m ∷ []) ls ms b l f h | Some g ↦ λ h. h ] e
 
 -- the events of lines, and of more lines
@@ -150,9 +165,13 @@ lines_begin ls ms ending = by_first (first_from [] ls) refl
     by_first AllGood e =
         let at = stage_from Start [] ls refl e refl in
         let on = taken_more at.0 ls ms e at.1 in
-        let last : List EventPart = tell.Ended (outcome (ls ++ ms) ending (first_from [] (ls ++ ms))) ∷ [] in
-        (on.0 ++ last, ap (λ es. es ++ last) on.1 ∙ append_assoc (events_of (records ls)) on.0 last ∙ ap (λ es. es ++ (on.0 ++ last)) (sym (append-nil (events_of (records ls)))))
-    by_first (At b l f) e = ([], ap (λ x. events_of (taken (ls ++ ms) x) ++ tell.Ended (outcome (ls ++ ms) ending x) ∷ []) (fault_stays [] ls ms b l f e) ∙ sym (append-nil _))
+        let last : List EventPart = tell.Ended (outcome (ls ++ ms) ending (first_from [] (ls ++ ms))) ∷ [] in (
+          on.0 ++ last,
+          ap (λ es. es ++ last) on.1 ∙ append_assoc (events_of (records ls)) on.0 last
+              ∙ ap (λ es. es ++ (on.0 ++ last)) (sym (append-nil (events_of (records ls)))),
+        )
+    by_first (At b l f) e =
+        ([], ap (λ x. events_of (taken (ls ++ ms) x) ++ tell.Ended (outcome (ls ++ ms) ending x) ∷ []) (fault_stays [] ls ms b l f e) ∙ sym (append-nil _))
 
 -- the events of records have no Ended
 pub no_ended : (rs : List Record) → list_any is_ended (events_of rs) ≡ false
@@ -180,7 +199,8 @@ pub lines_final : (ls ms : List Reading) (ending : Ending) → list_any is_ended
 unfolding events events_so_far
 lines_final ls ms ending = by_first (first_from [] ls) refl
   where
-    by_first : (f : First) → first_from [] ls ≡ f → list_any is_ended (events_of (taken ls f) ++ ended_so_far f) ≡ true → events (ls ++ ms) ending ≡ events_of (taken ls f) ++ ended_so_far f
+    by_first : (f : First) → first_from [] ls ≡ f → list_any is_ended (events_of (taken ls f) ++ ended_so_far f) ≡ true
+        → events (ls ++ ms) ending ≡ events_of (taken ls f) ++ ended_so_far f
     by_first AllGood e h = absurd (not_both (sym (list_any-append is_ended (events_of (records ls)) [] ∙ rw (no_ended (records ls)) refl) ∙ h))
       where
         not_both : false ≡ true → ⊥
@@ -204,9 +224,11 @@ split_join p [] ys = let s = split_some p ys in let h : slice_split p ys ≡ joi
 split_join p (x ∷ xs) ys =
     let s = split_some p xs in
     let e = split_join p xs ys in
-    elim (p x) as (λ b. cond b ([] ∷ slice_split p (xs ++ ys)) (onto_first x (slice_split p (xs ++ ys))) ≡ join (cond b ([] ∷ slice_split p xs) (onto_first x (slice_split p xs))) (slice_split p ys)) [
+    elim (p x) as (λ b. cond b ([] ∷ slice_split p (xs ++ ys)) (onto_first x (slice_split p (xs ++ ys)))
+    ≡ join (cond b ([] ∷ slice_split p xs) (onto_first x (slice_split p xs))) (slice_split p ys)) [
       | true ↦ ap (λ z. [] ∷ z) e ∙ ap (λ z. [] ∷ join z (slice_split p ys)) s.2 ∙ sym (ap (λ z. join ([] ∷ z) (slice_split p ys)) s.2)
-      | false ↦ ap (onto_first x) e ∙ ap (λ z. onto_first x (join z (slice_split p ys))) s.2 ∙ sym (join_onto x s.0 s.1 (slice_split p ys)) ∙ ap (λ z. join (onto_first x z) (slice_split p ys)) (sym s.2)
+      | false ↦ ap (onto_first x) e ∙ ap (λ z. onto_first x (join z (slice_split p ys))) s.2 ∙ sym (join_onto x s.0 s.1 (slice_split p ys))
+          ∙ ap (λ z. join (onto_first x z) (slice_split p ys)) (sym s.2)
     ]
 
 join_last : (ps : List (List ℕ)) (k q : List ℕ) (qs : List (List ℕ)) → join (ps ++ k ∷ []) (q ∷ qs) ≡ ps ++ (k ++ q) ∷ qs
@@ -242,19 +264,28 @@ begin_settled layout b more ending s =
     let last = snoc one.0 one.1 in
     let pieces_b : pieces b ≡ last.0 ++ last.1 ∷ [] = one.2 ∙ last.2 in
     let pieces_more : pieces (b ++ more) ≡ last.0 ++ (last.1 ++ two.0) ∷ two.1 =
-    ap (slice_split is_line_feed) (s more) ∙ split_join is_line_feed (without_mark b) more ∙ ap (λ z. join z (slice_split is_line_feed more)) pieces_b ∙ ap (join (last.0 ++ last.1 ∷ [])) two.2 ∙ join_last last.0 last.1 two.0 two.1 in
+    ap (slice_split is_line_feed) (s more) ∙ split_join is_line_feed (without_mark b) more ∙ ap (λ z. join z (slice_split is_line_feed more)) pieces_b
+    ∙ ap (join (last.0 ++ last.1 ∷ [])) two.2 ∙ join_last last.0 last.1 two.0 two.1 in
     let now : readings layout (b ++ more) ending ≡ map (reading layout) last.0 ++ map (reading layout) (lines_among ending ((last.1 ++ two.0) ∷ two.1)) =
     ap (map (reading layout)) (ap (lines_among ending) pieces_more ∙ lines_app ending last.0 (last.1 ++ two.0) two.1) ∙ map-append (reading layout) last.0 _ in
     by_length last.0 last.1 two.0 two.1 pieces_b now (cases_lt line_limit (length last.1))
   where
-    by_length : (ps : List (List ℕ)) (k q : List ℕ) (qs : List (List ℕ)) → pieces b ≡ ps ++ k ∷ [] → readings layout (b ++ more) ending ≡ map (reading layout) ps ++ map (reading layout) (lines_among ending ((k ++ q) ∷ qs)) → (line_limit < length k) ⊎ (length k ≤ line_limit) → BeginLines layout b more ending
-    by_length ps k q qs e now (inr h) = (lines_among ending ((k ++ q) ∷ qs), now ∙ ap (λ z. z ++ map (reading layout) (lines_among ending ((k ++ q) ∷ qs))) (sym (readings_short layout b k ps e h)))
+    by_length : (ps : List (List ℕ)) (k q : List ℕ) (qs : List (List ℕ)) → pieces b ≡ ps ++ k ∷ []
+        → readings layout (b ++ more) ending ≡ map (reading layout) ps ++ map (reading layout) (lines_among ending ((k ++ q) ∷ qs))
+        → (line_limit < length k) ⊎ (length k ≤ line_limit) → BeginLines layout b more ending
+    by_length ps k q qs e now (inr h) = (
+      lines_among ending ((k ++ q) ∷ qs),
+      now ∙ ap (λ z. z ++ map (reading layout) (lines_among ending ((k ++ q) ∷ qs)))
+          (sym (readings_short layout b k ps e h)),
+    )
     by_length ps k q qs e now (inl h) =
         let h2 : line_limit < length (k ++ q) = simp length-append (omega arith) in
         let z = long_first ending (k ++ q) qs h2 in (
           z.0,
-          now ∙ ap (λ x. map (reading layout) ps ++ map (reading layout) x) z.1 ∙ ap (λ l. map (reading layout) ps ++ l ∷ map (reading layout) z.0) (reading_long layout (k ++ q) h2 ∙ sym (reading_long layout k h))
-              ∙ sym (append_assoc (map (reading layout) ps) (reading layout k ∷ []) (map (reading layout) z.0)) ∙ ap (λ x. x ++ map (reading layout) z.0) (sym (readings_long layout b k ps e h)),
+          now ∙ ap (λ x. map (reading layout) ps ++ map (reading layout) x) z.1
+              ∙ ap (λ l. map (reading layout) ps ++ l ∷ map (reading layout) z.0) (reading_long layout (k ++ q) h2 ∙ sym (reading_long layout k h))
+              ∙ sym (append_assoc (map (reading layout) ps) (reading layout k ∷ []) (map (reading layout) z.0))
+              ∙ ap (λ x. x ++ map (reading layout) z.0) (sym (readings_long layout b k ps e h)),
         )
 
 settled_ten : (y : ℕ) → IsSettled (10 ∷ y ∷ [])
@@ -285,7 +316,8 @@ settled_any (x ∷ y ∷ []) h e = by_first (eqb x 10) refl e
 settled_any (x ∷ y ∷ z ∷ b) h e = absurd (omega arith)
 
 none_yet : (layout : LayoutTable) (b : List ℕ) → length b < 3 → list_any is_line_feed b ≡ false → readings layout b endings.Read ≡ []
-none_yet layout b h e = readings_short layout b b [] (ap (slice_split is_line_feed) (unmarked_short b h) ∙ split_front is_line_feed b [] [] [] refl e) (omega arith)
+none_yet layout b h e =
+    readings_short layout b b [] (ap (slice_split is_line_feed) (unmarked_short b h) ∙ split_front is_line_feed b [] [] [] refl e) (omega arith)
 
 pub readings_begin : (layout : LayoutTable) (b more : List ℕ) (ending : Ending) → BeginLines layout b more ending
 readings_begin layout b more ending = by_length (cases_lt (length b) 3)
@@ -307,7 +339,9 @@ so_far_begins_lem layout b more ending =
     let l = lines_begin (readings layout b endings.Read) (map (reading layout) r.0) ending in
     prefix_placed 0 (events_so_far (readings layout b endings.Read)) _ l.0 (ap (λ z. events z ending) r.1 ∙ l.1)
 
-pub fault_is_final_lem : (layout : LayoutTable) (b more : List ℕ) (ending : Ending) → has_ended (so_far layout b) ≡ true → so_far layout b ≡ text_events layout (b ++ more) ending
+pub fault_is_final_lem : (layout : LayoutTable) (b more : List ℕ) (ending : Ending) → has_ended (so_far layout b) ≡ true
+    → so_far layout b ≡ text_events layout (b ++ more) ending
 fault_is_final_lem layout b more ending h =
     let r = readings_begin layout b more ending in
-    ap (placed 0) (sym (ap (λ z. events z ending) r.1 ∙ lines_final (readings layout b endings.Read) (map (reading layout) r.0) ending (sym (ended_placed 0 (events_so_far (readings layout b endings.Read))) ∙ h)))
+    ap (placed 0) (sym (ap (λ z. events z ending) r.1 ∙ lines_final (readings layout b endings.Read) (map (reading layout) r.0) ending
+    (sym (ended_placed 0 (events_so_far (readings layout b endings.Read))) ∙ h)))

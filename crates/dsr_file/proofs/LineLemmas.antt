@@ -22,11 +22,13 @@ records-same ls l e = records-push ls l ∙ ap (λ rs. records ls ++ rs) e ∙ a
 pub first_append : (before ls more : List Reading) → first_from before ls ≡ AllGood → first_from before (ls ++ more) ≡ first_from (before ++ ls) more
 first_append before [] more e = ap (λ xs. first_from xs more) (sym (append-nil before))
 first_append before (l ∷ ls) more e =
-    elim (fault_of before l) as (λ o. first_if o before l (first_from (before ++ l ∷ []) ls) ≡ AllGood → first_if o before l (first_from (before ++ l ∷ []) (ls ++ more)) ≡ first_from (before ++ l ∷ ls) more)
+    elim (fault_of before l) as (λ o. first_if o before l (first_from (before ++ l ∷ []) ls) ≡ AllGood
+    → first_if o before l (first_from (before ++ l ∷ []) (ls ++ more)) ≡ first_from (before ++ l ∷ ls) more)
     [ None ↦ λ h. first_append (before ++ l ∷ []) ls more h ∙ ap (λ xs. first_from xs more) (append_assoc before (l ∷ []) ls) | Some f ↦ λ h. cc ] e
 
 pub first_good : (ls : List Reading) (l : Reading) → first_from [] ls ≡ AllGood → fault_of ls l ≡ None → first_from [] (ls ++ l ∷ []) ≡ AllGood
 first_good ls l e n = first_append [] ls (l ∷ []) e ∙ rw n refl
 
-pub first_at : (ls : List Reading) (l : Reading) (f : FileFault) (more : List Reading) → first_from [] ls ≡ AllGood → fault_of ls l ≡ Some f → first_from [] (ls ++ l ∷ more) ≡ At ls l f
+pub first_at : (ls : List Reading) (l : Reading) (f : FileFault) (more : List Reading) → first_from [] ls ≡ AllGood → fault_of ls l ≡ Some f
+    → first_from [] (ls ++ l ∷ more) ≡ At ls l f
 first_at ls l f more e n = first_append [] ls (l ∷ more) e ∙ rw n refl

@@ -32,11 +32,15 @@ distinct_push [] s d n = refl
 distinct_push (x ∷ ss) s d n =
     let one : list_any (λ t. bytes_eq x.id t.id) ss ≡ false = not_false _ (and_first (not (list_any (λ t. bytes_eq x.id t.id) ss)) (distinct ss) d) in
     let two : bytes_eq x.id s.id ≡ false = or_first (bytes_eq x.id s.id) (list_any (λ t. bytes_eq t.id s.id) ss) n in
-    let rest = distinct_push ss s (and_second (not (list_any (λ t. bytes_eq x.id t.id) ss)) (distinct ss) d) (or_second (bytes_eq x.id s.id) (list_any (λ t. bytes_eq t.id s.id) ss) n) in
-    let any : list_any (λ t. bytes_eq x.id t.id) (ss ++ s ∷ []) ≡ false = list_any-append (λ t. bytes_eq x.id t.id) ss (s ∷ []) ∙ ap (λ b. b || (bytes_eq x.id s.id || false)) one ∙ ap (λ b. b || false) two in
+    let rest =
+    distinct_push ss s (and_second (not (list_any (λ t. bytes_eq x.id t.id) ss)) (distinct ss) d)
+    (or_second (bytes_eq x.id s.id) (list_any (λ t. bytes_eq t.id s.id) ss) n) in
+    let any : list_any (λ t. bytes_eq x.id t.id) (ss ++ s ∷ []) ≡ false =
+    list_any-append (λ t. bytes_eq x.id t.id) ss (s ∷ []) ∙ ap (λ b. b || (bytes_eq x.id s.id || false)) one ∙ ap (λ b. b || false) two in
     ap (λ b. not b && distinct (ss ++ s ∷ [])) any ∙ rest
 
 -- what holds of a list with and without an item holds after the item was pushed or refused
-pub pushed : {T X : Type 0} (P : X → Type 0) (r : Result (Unit {0}) T) (t : T) (new a b : X) → MatchResult r (λ _. new ≡ a) (λ back. (back ≡ t) × (new ≡ b)) → P a → P b → P new
+pub pushed : {T X : Type 0} (P : X → Type 0) (r : Result (Unit {0}) T) (t : T) (new a b : X) → MatchResult r (λ _. new ≡ a) (λ back. (back ≡ t) × (new ≡ b))
+    → P a → P b → P new
 pushed P (Ok x) t new a b e p q = subst P (sym e) p
 pushed P (Err x) t new a b e p q = subst P (sym e.1) q

@@ -33,21 +33,26 @@ onto_parts-append r rs qs = let e = parts_some rs in let h : onto_first r (parts
 pub parts_open : (rs : List Record) (r : Record) → opens r ≡ true → parts (rs ++ r ∷ []) ≡ parts rs ++ (r ∷ []) ∷ []
 parts_open [] r o = rw o refl
 parts_open (x ∷ rs) r o =
-    let e : onto_first x (parts (rs ++ r ∷ [])) ≡ onto_first x (parts rs) ++ (r ∷ []) ∷ [] = ap (onto_first x) (parts_open rs r o) ∙ onto_parts-append x rs ((r ∷ []) ∷ []) in
-    elim (opens x) as (λ b. cond b ([] ∷ onto_first x (parts (rs ++ r ∷ []))) (onto_first x (parts (rs ++ r ∷ []))) ≡ cond b ([] ∷ onto_first x (parts rs)) (onto_first x (parts rs)) ++ (r ∷ []) ∷ [])
+    let e : onto_first x (parts (rs ++ r ∷ [])) ≡ onto_first x (parts rs) ++ (r ∷ []) ∷ [] =
+    ap (onto_first x) (parts_open rs r o) ∙ onto_parts-append x rs ((r ∷ []) ∷ []) in
+    elim (opens x) as (λ b. cond b ([] ∷ onto_first x (parts (rs ++ r ∷ []))) (onto_first x (parts (rs ++ r ∷ [])))
+    ≡ cond b ([] ∷ onto_first x (parts rs)) (onto_first x (parts rs)) ++ (r ∷ []) ∷ [])
     [ true ↦ ap (λ ps. [] ∷ ps) e | false ↦ e ]
 
-pub onto_last-cons : {X : Type 0} (r : X) (p : List X) (ps : List (List X)) (q : List X) (qs : List (List X)) → ps ≡ q ∷ qs → onto_last r (p ∷ ps) ≡ p ∷ onto_last r ps
+pub onto_last-cons : {X : Type 0} (r : X) (p : List X) (ps : List (List X)) (q : List X) (qs : List (List X)) → ps ≡ q ∷ qs
+    → onto_last r (p ∷ ps) ≡ p ∷ onto_last r ps
 onto_last-cons r p ps q qs e = rw e refl
 
 -- any other record
 pub parts_stay : (rs : List Record) (r : Record) → opens r ≡ false → parts (rs ++ r ∷ []) ≡ onto_last r (parts rs)
 parts_stay [] r o = rw o refl
 parts_stay (x ∷ rs) r o =
-    let e : onto_first x (parts (rs ++ r ∷ [])) ≡ onto_last r (onto_first x (parts rs)) = ap (onto_first x) (parts_stay rs r o) ∙ onto_first-last x r (parts rs) in
+    let e : onto_first x (parts (rs ++ r ∷ [])) ≡ onto_last r (onto_first x (parts rs)) =
+    ap (onto_first x) (parts_stay rs r o) ∙ onto_first-last x r (parts rs) in
     let s = parts_some rs in
     let f : onto_first x (parts rs) ≡ (x ∷ s.0) ∷ s.1 = ap (onto_first x) s.2 in
-    elim (opens x) as (λ b. cond b ([] ∷ onto_first x (parts (rs ++ r ∷ []))) (onto_first x (parts (rs ++ r ∷ []))) ≡ onto_last r (cond b ([] ∷ onto_first x (parts rs)) (onto_first x (parts rs))))
+    elim (opens x) as (λ b. cond b ([] ∷ onto_first x (parts (rs ++ r ∷ []))) (onto_first x (parts (rs ++ r ∷ [])))
+    ≡ onto_last r (cond b ([] ∷ onto_first x (parts rs)) (onto_first x (parts rs))))
     [ true ↦ ap (λ ps. [] ∷ ps) e ∙ sym (onto_last-cons r [] (onto_first x (parts rs)) (x ∷ s.0) s.1 f) | false ↦ e ]
 
 pub but_last_push : {X : Type 0} (xs : List X) (x : X) → but_last (xs ++ x ∷ []) ≡ xs

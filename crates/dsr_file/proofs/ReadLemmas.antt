@@ -1,5 +1,6 @@
 -- The results of reading a file.
-use Rattle.std.proofs.Common.{◌≡◌, ℕ, ◌+◌, ◌-◌, ◌<◌, ◌≤◌, ◌⊎◌, inl, inr, ◌∙◌, sym, ap, refl, subst, Bool, true, false, List, [], ◌∷◌, ◌++◌, length, take, drop, Option, None, Some, append_assoc, take-append-drop, length-append, take_all, arith}
+use Rattle.std.proofs.Common.{◌≡◌, ℕ, ◌+◌, ◌-◌, ◌<◌, ◌≤◌, ◌⊎◌, inl, inr, ◌∙◌, sym, ap, refl, subst, Bool, true, false, List, [], ◌∷◌, ◌++◌, length, take, drop}
+use Rattle.std.proofs.Common.{Option, None, Some, append_assoc, take-append-drop, length-append, take_all, arith}
 use Rattle.std.proofs.lemmas.List.{append-nil}
 use Rattle.std.proofs.Math.Seq.{take-append_seam, take-nil}
 use mathlib.Core.List.{IsPrefix}
@@ -118,7 +119,8 @@ cut_off_ended : (layout : LayoutTable) (b : List ℕ) (es : List Placed) → Has
 cut_off_ended layout b es (inl h) n = h
 cut_off_ended layout b es (inr c) n =
     let front = placed 0 (events_of (records c.before)) in
-    absurd (not_both (sym (ap has_ended (cut_off_is (readings layout b endings.Read) es c) ∙ ended_last front (length front) (outcomes.Fault (length c.before + 1) faults.Memory)) ∙ n))
+    absurd (not_both (sym (ap has_ended (cut_off_is (readings layout b endings.Read) es c)
+    ∙ ended_last front (length front) (outcomes.Fault (length c.before + 1) faults.Memory)) ∙ n))
 
 ended_not : (b : Bool) → (b ≡ true → ⊥) → b ≡ false
 ended_not true n = absurd (n refl)
@@ -126,7 +128,8 @@ ended_not false n = refl
 
 -- a read gave this piece, after `reads` reads that each gave bytes
 module _ (layout : LayoutTable) (before mid after : Told) (reads limit : ℕ) (file new : FileReader) (es fs : List Placed)
-    (r : Reads layout before mid reads file es) (piece : List ℕ) (c : Consumes mid.remaining after.remaining piece) (counts : AddsRead mid.reads after.reads (length piece))
+    (r : Reads layout before mid reads file es) (piece : List ℕ) (c : Consumes mid.remaining after.remaining piece)
+    (counts : AddsRead mid.reads after.reads (length piece))
     (some : 0 < length piece) (few : length piece ≤ 4096)
     (kept : after.failed ≡ mid.failed) (less : reads < limit) where
   consumed : Consumes before.remaining after.remaining (r.given ++ piece)
@@ -265,7 +268,8 @@ module _ (layout : LayoutTable) (before mid after : Told) (reads limit : ℕ) (f
   abbrev failed_gave : Keeps mid.remaining after.remaining → Gave limit before after r.given
   failed_gave c = gave_none (consumes_kept before.remaining mid.remaining after.remaining r.given r.consumed c)
 
-  pub whole_read : Consumes mid.remaining after.remaining [] → IsAtEnd after.remaining → before.failed ≡ false → after.failed ≡ mid.failed → HasEvents layout r.given (Some endings.Whole) fs
+  pub whole_read : Consumes mid.remaining after.remaining [] → IsAtEnd after.remaining → before.failed ≡ false → after.failed ≡ mid.failed
+      → HasEvents layout r.given (Some endings.Whole) fs
       → IsRead layout limit before after fs
   whole_read c e unfailed k h = end_read layout limit before after r.given endings.Whole fs
       (ended_gave c, (refl, e, k ∙ r.kept ∙ unfailed), r.going) first h
@@ -307,11 +311,13 @@ module _ (layout : LayoutTable) (before after : Told) (limit : ℕ) (file : File
 pub not_done : {D : Type 0} (t : Bool) → (D → t ≡ true) → t ≡ false → D → ⊥
 not_done t back f d = not_both (sym (back d) ∙ f)
 
-pub done_ends : (layout : LayoutTable) (r : FileReader) (b : List ℕ) (es : List Placed) (o : Outcome) → Stands layout r b es → r.phase ≡ phases.Done o → EndsWith es o
+pub done_ends : (layout : LayoutTable) (r : FileReader) (b : List ℕ) (es : List Placed) (o : Outcome) → Stands layout r b es → r.phase ≡ phases.Done o
+    → EndsWith es o
 done_ends layout r b es o s d = let at : StandsAt layout (phases.Done o) r b es = subst (λ x. StandsAt layout x r b es) d s.phase_is in at.1
 
 -- the piece has a fault
-pub fed_done : (layout : LayoutTable) (r : FileReader) (b piece : List ℕ) (es : List Placed) (o : Outcome) (ending : Ending) → Fed layout r b piece es → r.phase ≡ phases.Done o → HasEvents layout (b ++ piece) (Some ending) es × EndsWith es o
+pub fed_done : (layout : LayoutTable) (r : FileReader) (b piece : List ℕ) (es : List Placed) (o : Outcome) (ending : Ending) → Fed layout r b piece es
+    → r.phase ≡ phases.Done o → HasEvents layout (b ++ piece) (Some ending) es × EndsWith es o
 fed_done layout r b piece es o ending f d =
     let ends : EndsWith es o = done_ends layout r (b ++ take f.used piece) es o f.stands d in (
       subst (λ x. HasEvents layout x (Some ending) es)
@@ -329,7 +335,8 @@ last_by_memory None = false
 last_by_memory (Some e) = part_by_memory e.part
 
 -- unless memory was refused, the events are all
-pub all_kept : (layout : LayoutTable) (b : List ℕ) (ending : Ending) (es : List Placed) (o : Outcome) (t : Bool) → HasEvents layout b (Some ending) es × EndsWith es o → t ≡ by_memory o → t ≡ false → es ≡ text_events layout b ending
+pub all_kept : (layout : LayoutTable) (b : List ℕ) (ending : Ending) (es : List Placed) (o : Outcome) (t : Bool)
+    → HasEvents layout b (Some ending) es × EndsWith es o → t ≡ by_memory o → t ≡ false → es ≡ text_events layout b ending
 all_kept layout b ending es o t (inl h, ends) m f = h
 all_kept layout b ending es o t (inr c, (before, is)) m f =
     let front = placed 0 (events_of (records c.before)) in

@@ -78,29 +78,36 @@ resource_place Closed i = refl
 skipped_place : (stage : Stage) → stage_fault stage kinds.Skipped None ≡ None
 skipped_place Start = refl
 skipped_place (Front o) = refl
-skipped_place (Open b) = elim (eqb (length b.usages) 0) as (λ u. or_else (place (if u then columns.Open else columns.Used) kinds.Skipped) None ≡ None) [ true ↦ refl | false ↦ refl ]
+skipped_place (Open b) =
+    elim (eqb (length b.usages) 0) as (λ u. or_else (place (if u then columns.Open else columns.Used) kinds.Skipped) None ≡ None) [ true ↦ refl | false ↦ refl ]
 skipped_place Closed = refl
 
-summary_place : (stage : Stage) (rs : List Record) (i : List ℕ) → KeepsStage stage rs → stage_fault stage kinds.Summary (Some i) ≡ or_else (place (column_at stage) kinds.Summary) (summary_fault (summaries rs) i)
+summary_place : (stage : Stage) (rs : List Record) (i : List ℕ) → KeepsStage stage rs
+    → stage_fault stage kinds.Summary (Some i) ≡ or_else (place (column_at stage) kinds.Summary) (summary_fault (summaries rs) i)
 summary_place Start rs i k = refl
 summary_place (Front o) rs i k = ap (λ ss. summary_fault ss i) (sym (ap summaries k ∙ summaries_map o.summaries))
-summary_place (Open b) rs i k = elim (eqb (length b.usages) 0) as (λ u. or_else (place (if u then columns.Open else columns.Used) kinds.Summary) None ≡ or_else (place (if u then columns.Open else columns.Used) kinds.Summary) (summary_fault (summaries rs) i)) [ true ↦ refl | false ↦ refl ]
+summary_place (Open b) rs i k =
+    elim (eqb (length b.usages) 0) as (λ u. or_else (place (if u then columns.Open else columns.Used) kinds.Summary) None
+    ≡ or_else (place (if u then columns.Open else columns.Used) kinds.Summary) (summary_fault (summaries rs) i)) [ true ↦ refl | false ↦ refl ]
 summary_place Closed rs i k = refl
 
-work_place : (stage : Stage) (rs : List Record) (i : List ℕ) → KeepsStage stage rs → stage_fault stage kinds.Work (Some i) ≡ or_else (place (column_at stage) kinds.Work) (in_part (last_part rs) i)
+work_place : (stage : Stage) (rs : List Record) (i : List ℕ) → KeepsStage stage rs
+    → stage_fault stage kinds.Work (Some i) ≡ or_else (place (column_at stage) kinds.Work) (in_part (last_part rs) i)
 work_place Start rs i k = refl
 work_place (Front o) rs i k = refl
 work_place (Open b) rs i k = ap (or_else (place (column_at (Open b)) kinds.Work)) (in_part_kept b rs i k)
 work_place Closed rs i k = refl
 
-usage_place : (stage : Stage) (rs : List Record) (i : List ℕ) → KeepsStage stage rs → stage_fault stage kinds.Usage (Some i) ≡ or_else (place (column_at stage) kinds.Usage) (in_part (last_part rs) i)
+usage_place : (stage : Stage) (rs : List Record) (i : List ℕ) → KeepsStage stage rs
+    → stage_fault stage kinds.Usage (Some i) ≡ or_else (place (column_at stage) kinds.Usage) (in_part (last_part rs) i)
 usage_place Start rs i k = refl
 usage_place (Front o) rs i k = refl
 usage_place (Open b) rs i k = ap (or_else (place (column_at (Open b)) kinds.Usage)) (in_part_kept b rs i k)
 usage_place Closed rs i k = refl
 
 -- the fault that the stage finds is that of the records
-pub fault_agrees : (stage : Stage) (rs : List Record) (r : Record) → KeepsStage stage rs → stage_fault stage (kind_of_record r) (id_of_record r) ≡ early_fault rs r
+pub fault_agrees : (stage : Stage) (rs : List Record) (r : Record) → KeepsStage stage rs
+    → stage_fault stage (kind_of_record r) (id_of_record r) ≡ early_fault rs r
 fault_agrees stage rs (the.Head h) k = rw (column_kept stage rs k) (head_place stage)
 fault_agrees stage rs (the.Summary s) k = rw (column_kept stage rs k) (summary_place stage rs s.id k)
 fault_agrees stage rs (the.Resource r) k = rw (column_kept stage rs k) (resource_place stage r.block_id)

@@ -1,5 +1,6 @@
 -- One more record: the stage changes as the records do, and gives their next event.
-use Rattle.std.proofs.Common.{◌≡◌, ◌≢◌, ℕ, suc, ◌+◌, ◌<◌, ◌≤◌, ◌∙◌, sym, ap, refl, Bool, true, false, not, ◌||◌, eqb, leb, List, [], ◌∷◌, ◌++◌, length, map, drop, Option, None, Some, arith, append_assoc, add-zero, length-append}
+use Rattle.std.proofs.Common.{◌≡◌, ◌≢◌, ℕ, suc, ◌+◌, ◌<◌, ◌≤◌, ◌∙◌, sym, ap, refl, Bool, true, false, not, ◌||◌, eqb, leb, List, [], ◌∷◌, ◌++◌, length, map}
+use Rattle.std.proofs.Common.{drop, Option, None, Some, arith, append_assoc, add-zero, length-append}
 use Rattle.std.specs.Prelude.{if◌then◌else◌}
 use Rattle.std.specs.Option.{option_to_list, option_map}
 use Rattle.std.proofs.lemmas.Bool.Decides.{nat_tests}
@@ -27,7 +28,8 @@ use Rattle.dsr_file.specs.declared.event.EventPart.TheVariants as tell
 use Rattle.dsr_file.specs.declared.stage.Before.TheVariants as columns
 use Rattle.dsr_file.specs.declared.stage.Stage.{Stage}
 use Rattle.dsr_file.specs.declared.stage.Stage.TheVariants.{Start, Front, Open, Closed}
-use Rattle.dsr_file.specs.Parts.{parts, opens, but_last, closed, block_limit, has_id, summaries, works, usages, works_then_usages, is_usage, block_of, opening_of, opened, events_of}
+use Rattle.dsr_file.specs.Parts.{parts, opens, but_last, closed, block_limit, has_id, summaries, works, usages, works_then_usages, is_usage, block_of}
+use Rattle.dsr_file.specs.Parts.{opening_of, opened, events_of}
 use Rattle.dsr_file.specs.Faults.{column, place, fault_if, summary_fault, member_fault, early_fault}
 use Rattle.dsr_file.specs.Stages.{column_at, block_length, stage_fault, given_by, stage_after, records_of, IsOpen, KeepsStage, IsFree}
 use Rattle.dsr_file.specs.Grammars.{IsRecord}
@@ -96,7 +98,8 @@ nothing : events_of [] ≡ []
 unfolding events_of
 nothing = refl
 
-pub step_head : (stage : Stage) (rs : List Record) (h : head.Head) → KeepsStage stage rs → place (column_at stage) kinds.Head ≡ None → Steps stage rs (the.Head h)
+pub step_head : (stage : Stage) (rs : List Record) (h : head.Head) → KeepsStage stage rs → place (column_at stage) kinds.Head ≡ None
+    → Steps stage rs (the.Head h)
 step_head Start rs h k e = record {
   keeps = ap (λ xs. xs ++ the.Head h ∷ []) k;
   blocks = ap (λ xs. length (closed (xs ++ the.Head h ∷ []))) k ∙ ap (λ xs. length (closed xs)) (sym k) ∙ sym (add-zero _);
@@ -107,15 +110,19 @@ step_head (Open b) rs h k e = absurd (neither _ kinds.Head (λ x. cc) (λ x. cc)
 step_head Closed rs h k e = cc
 
 -- a summary after a head and summaries is appended to the summaries
-summary_events : (o : OpeningParts) (rs : List Record) (s : summary.Summary) → rs ≡ the.Head o.head ∷ map the.Summary o.summaries → rs ++ the.Summary s ∷ [] ≡ the.Head o.head ∷ map the.Summary (o.summaries ++ s ∷ [])
+summary_events : (o : OpeningParts) (rs : List Record) (s : summary.Summary) → rs ≡ the.Head o.head ∷ map the.Summary o.summaries
+    → rs ++ the.Summary s ∷ [] ≡ the.Head o.head ∷ map the.Summary (o.summaries ++ s ∷ [])
 summary_events o rs s k = ap (λ xs. xs ++ the.Summary s ∷ []) k ∙ ap (λ xs. the.Head o.head ∷ xs) (sym (map-append the.Summary o.summaries (s ∷ [])))
 
-pub step_summary : (stage : Stage) (rs : List Record) (s : summary.Summary) → KeepsStage stage rs → place (column_at stage) kinds.Summary ≡ None → Steps stage rs (the.Summary s)
+pub step_summary : (stage : Stage) (rs : List Record) (s : summary.Summary) → KeepsStage stage rs → place (column_at stage) kinds.Summary ≡ None
+    → Steps stage rs (the.Summary s)
 step_summary Start rs s k e = cc
 step_summary (Front o) rs s k e = record {
   keeps = summary_events o rs s k;
   blocks = ap length (closed_stay rs (the.Summary s) refl) ∙ sym (add-zero _);
-  events = ap events_of (summary_events o rs s k) ∙ front_events o.head (o.summaries ++ s ∷ []) ∙ sym (append-nil (events_of rs) ∙ ap events_of k ∙ front_events o.head o.summaries);
+  events =
+      ap events_of (summary_events o rs s k) ∙ front_events o.head (o.summaries ++ s ∷ [])
+      ∙ sym (append-nil (events_of rs) ∙ ap events_of k ∙ front_events o.head o.summaries);
 }
 step_summary (Open b) rs s k e = absurd (neither _ kinds.Summary (λ x. cc) (λ x. cc) e)
 step_summary Closed rs s k e = cc
@@ -137,7 +144,8 @@ summaries-append (the.Skipped ∷ rs) ss = summaries-append rs ss
 summaries_same : (rs : List Record) (r : Record) → summaries (r ∷ []) ≡ [] → summaries (rs ++ r ∷ []) ≡ summaries rs
 summaries_same rs r none = summaries-append rs (r ∷ []) ∙ ap (λ ss. summaries rs ++ ss) none ∙ append-nil (summaries rs)
 
-pub opened_known : (rs : List Record) (h : head.Head) (rest : List Record) → rs ≡ the.Head h ∷ rest → list_any opens rs ≡ true → opened rs ≡ tell.Opened (record { head = h; summaries = summaries rest }) ∷ []
+pub opened_known : (rs : List Record) (h : head.Head) (rest : List Record) → rs ≡ the.Head h ∷ rest → list_any opens rs ≡ true
+    → opened rs ≡ tell.Opened (record { head = h; summaries = summaries rest }) ∷ []
 opened_known rs h rest bs any = rw any (ap (λ xs. option_to_list (option_map tell.Opened (opening_of xs))) bs)
 
 any_push : (rs : List Record) (r : Record) → list_any opens rs ≡ true → list_any opens (rs ++ r ∷ []) ≡ true
@@ -148,14 +156,16 @@ any_last [] r h = rw h refl
 any_last (x ∷ rs) r h = elim (opens x) as (λ b. (b || list_any opens (rs ++ r ∷ [])) ≡ true) [ true ↦ refl | false ↦ any_last rs r h ]
 
 -- the opening stays as it is
-opened_stay : (rs : List Record) (r : Record) (h : head.Head) (rest : List Record) → summaries (r ∷ []) ≡ [] → rs ≡ the.Head h ∷ rest → list_any opens rs ≡ true → opened (rs ++ r ∷ []) ≡ opened rs
+opened_stay : (rs : List Record) (r : Record) (h : head.Head) (rest : List Record) → summaries (r ∷ []) ≡ [] → rs ≡ the.Head h ∷ rest → list_any opens rs ≡ true
+    → opened (rs ++ r ∷ []) ≡ opened rs
 opened_stay rs r h rest none bs any =
     opened_known (rs ++ r ∷ []) h (rest ++ r ∷ []) (ap (λ xs. xs ++ r ∷ []) bs) (any_push rs r any)
     ∙ ap (λ ss. tell.Opened (record { head = h; summaries = ss }) ∷ []) (summaries_same rest r none)
     ∙ sym (opened_known rs h rest bs any)
 
 -- a record that opens a part after HEAD and summaries
-front_opens : (o : OpeningParts) (rs : List Record) (r : Record) → opens r ≡ true → summaries (r ∷ []) ≡ [] → rs ≡ the.Head o.head ∷ map the.Summary o.summaries → events_of (rs ++ r ∷ []) ≡ events_of rs ++ tell.Opened o ∷ []
+front_opens : (o : OpeningParts) (rs : List Record) (r : Record) → opens r ≡ true → summaries (r ∷ []) ≡ [] → rs ≡ the.Head o.head ∷ map the.Summary o.summaries
+    → events_of (rs ++ r ∷ []) ≡ events_of rs ++ tell.Opened o ∷ []
 unfolding events_of
 front_opens o rs r op none k =
     ap (λ ps. opened (rs ++ r ∷ []) ++ map tell.Block (filter_map block_of ps)) (closed_open rs r op ∙ ap (drop 1) (front_parts o rs k))
@@ -189,18 +199,21 @@ usages_kept : (ws : List WorkParts) (us : List usage.Usage) → usages (map the.
 usages_kept [] us = all_usages_kept us
 usages_kept (w ∷ ws) us = usages_kept ws us
 
-same_block : (b : BlockParts) (i : List ℕ) (ws : List WorkParts) (us : List usage.Usage) → i ≡ b.id → ws ≡ b.works → us ≡ b.usages → Some (record b { id = i; works = ws; usages = us }) ≡ Some b
+same_block : (b : BlockParts) (i : List ℕ) (ws : List WorkParts) (us : List usage.Usage) → i ≡ b.id → ws ≡ b.works → us ≡ b.usages
+    → Some (record b { id = i; works = ws; usages = us }) ≡ Some b
 same_block b i ws us p q r = rw (p, q, r) refl
 
 few : (b : BlockParts) → block_length b ≤ block_limit → leb (length (map the.Work b.works ++ map the.Usage b.usages) + 1) block_limit ≡ true
-few b h = let e : length (map the.Work b.works ++ map the.Usage b.usages) ≡ length b.works + length b.usages = simp (length-append, length-map) in rw e (grind (arith, nat_tests))
+few b h = let e : length (map the.Work b.works ++ map the.Usage b.usages) ≡ length b.works + length b.usages = simp (length-append, length-map) in
+    rw e (grind (arith, nat_tests))
 
 -- an open block with a usage is complete
 block_complete : (b : BlockParts) (rs : List Record) → IsOpen b rs → eqb (length b.usages) 0 ≡ false → block_of (records_of b) ≡ Some b
 block_complete b rs k u =
     rw (works_then b.works b.usages u, k.ids, few b k.short) (same_block b _ _ _ (sym k.id) (works_kept b.works b.usages) (usages_kept b.works b.usages))
 
-blocks_push : (ps : List (List Record)) (part : List Record) (b : BlockParts) → block_of part ≡ Some b → map tell.Block (filter_map block_of (ps ++ part ∷ [])) ≡ map tell.Block (filter_map block_of ps) ++ tell.Block b ∷ []
+blocks_push : (ps : List (List Record)) (part : List Record) (b : BlockParts) → block_of part ≡ Some b
+    → map tell.Block (filter_map block_of (ps ++ part ∷ [])) ≡ map tell.Block (filter_map block_of ps) ++ tell.Block b ∷ []
 blocks_push ps part b h =
     ap (map tell.Block) (filter_map-append block_of ps (part ∷ []))
     ∙ map-append tell.Block (filter_map block_of ps) (filter_map block_of (part ∷ []))
@@ -210,7 +223,8 @@ closed_before : (b : BlockParts) (rs : List Record) (k : IsOpen b rs) → closed
 closed_before b rs k = ap (λ ps. drop 1 (but_last ps)) k.parts ∙ ap (drop 1) (but_last_push (k.first ∷ k.before) (records_of b))
 
 -- a record that closes a block
-open_opens : (b : BlockParts) (rs : List Record) (r : Record) → opens r ≡ true → summaries (r ∷ []) ≡ [] → IsOpen b rs → eqb (length b.usages) 0 ≡ false → events_of (rs ++ r ∷ []) ≡ events_of rs ++ tell.Block b ∷ []
+open_opens : (b : BlockParts) (rs : List Record) (r : Record) → opens r ≡ true → summaries (r ∷ []) ≡ [] → IsOpen b rs → eqb (length b.usages) 0 ≡ false
+    → events_of (rs ++ r ∷ []) ≡ events_of rs ++ tell.Block b ∷ []
 unfolding events_of
 open_opens b rs r op none k u =
     ap (λ ps. opened (rs ++ r ∷ []) ++ map tell.Block (filter_map block_of ps)) (closed_open rs r op ∙ ap (drop 1) k.parts)
@@ -219,7 +233,8 @@ open_opens b rs r op none k u =
     ∙ sym (append_assoc (opened rs) (map tell.Block (filter_map block_of k.before)) (tell.Block b ∷ []))
     ∙ ap (λ ps. (opened rs ++ map tell.Block (filter_map block_of ps)) ++ tell.Block b ∷ []) (sym (closed_before b rs k))
 
-open_stays : (b : BlockParts) (rs : List Record) (r : Record) → opens r ≡ false → summaries (r ∷ []) ≡ [] → IsOpen b rs → events_of (rs ++ r ∷ []) ≡ events_of rs
+open_stays : (b : BlockParts) (rs : List Record) (r : Record) → opens r ≡ false → summaries (r ∷ []) ≡ [] → IsOpen b rs
+    → events_of (rs ++ r ∷ []) ≡ events_of rs
 unfolding events_of
 open_stays b rs r op none k =
     ap (λ ps. opened (rs ++ r ∷ []) ++ map tell.Block (filter_map block_of ps)) (closed_stay rs r op)
@@ -229,7 +244,8 @@ abbrev fresh : resource.Resource → BlockParts
 fresh r = record { id = r.block_id; resource = r; works = []; usages = [] }
 
 -- a new part
-new_part : (r : resource.Resource) (rs : List Record) (h : head.Head) (rest first : List Record) (before : List (List Record)) → rs ≡ the.Head h ∷ rest → parts rs ≡ first ∷ before → IsOpen (fresh r) (rs ++ the.Resource r ∷ [])
+new_part : (r : resource.Resource) (rs : List Record) (h : head.Head) (rest first : List Record) (before : List (List Record)) → rs ≡ the.Head h ∷ rest
+    → parts rs ≡ first ∷ before → IsOpen (fresh r) (rs ++ the.Resource r ∷ [])
 new_part r rs h rest first before bs ps = record {
   head = h;
   rest = rest ++ the.Resource r ∷ [];
@@ -244,14 +260,17 @@ new_part r rs h rest first before bs ps = record {
   short = omega arith;
 }
 
-front_blocks : (o : OpeningParts) (rs : List Record) (r : Record) → opens r ≡ true → rs ≡ the.Head o.head ∷ map the.Summary o.summaries → length (closed (rs ++ r ∷ [])) ≡ length (closed rs) + 0
-front_blocks o rs r op k = ap length (closed_open rs r op ∙ ap (drop 1) (front_parts o rs k)) ∙ sym (add-zero _ ∙ ap (λ ps. length (drop 1 (but_last ps))) (front_parts o rs k))
+front_blocks : (o : OpeningParts) (rs : List Record) (r : Record) → opens r ≡ true → rs ≡ the.Head o.head ∷ map the.Summary o.summaries
+    → length (closed (rs ++ r ∷ [])) ≡ length (closed rs) + 0
+front_blocks o rs r op k =
+    ap length (closed_open rs r op ∙ ap (drop 1) (front_parts o rs k)) ∙ sym (add-zero _ ∙ ap (λ ps. length (drop 1 (but_last ps))) (front_parts o rs k))
 
 open_blocks : (b : BlockParts) (rs : List Record) (r : Record) → opens r ≡ true → IsOpen b rs → length (closed (rs ++ r ∷ [])) ≡ length (closed rs) + 1
 open_blocks b rs r op k =
     ap length (closed_open rs r op ∙ ap (drop 1) k.parts) ∙ length-append k.before (records_of b ∷ []) ∙ ap (λ ps. length ps + 1) (sym (closed_before b rs k))
 
-pub step_resource : (stage : Stage) (rs : List Record) (r : resource.Resource) → KeepsStage stage rs → place (column_at stage) kinds.Resource ≡ None → Steps stage rs (the.Resource r)
+pub step_resource : (stage : Stage) (rs : List Record) (r : resource.Resource) → KeepsStage stage rs → place (column_at stage) kinds.Resource ≡ None
+    → Steps stage rs (the.Resource r)
 step_resource Start rs r k e = cc
 step_resource (Front o) rs r k e = record {
   keeps = new_part r rs o.head (map the.Summary o.summaries) rs [] k (front_parts o rs k);
@@ -265,7 +284,8 @@ step_resource (Open b) rs r k e = record {
 }
 step_resource Closed rs r k e = cc
 
-pub step_foot : (stage : Stage) (rs : List Record) (f : foot.Foot) → KeepsStage stage rs → place (column_at stage) kinds.Foot ≡ None → Steps stage rs (the.Foot f)
+pub step_foot : (stage : Stage) (rs : List Record) (f : foot.Foot) → KeepsStage stage rs → place (column_at stage) kinds.Foot ≡ None
+    → Steps stage rs (the.Foot f)
 step_foot Start rs f k e = cc
 step_foot (Front o) rs f k e = record {
   keeps = ap column (last_of_push rs (the.Foot f));
@@ -280,7 +300,9 @@ step_foot (Open b) rs f k e = record {
 step_foot Closed rs f k e = cc
 
 -- the open block with one more record
-more_part : (b c : BlockParts) (r : Record) (rs : List Record) → opens r ≡ false → IsOpen b rs → c.id ≡ b.id → c.resource ≡ b.resource → records_of c ≡ records_of b ++ r ∷ [] → has_id b.resource.block_id r ≡ true → column (Some r) ≡ column_at (Open c) → block_length c ≤ block_limit → IsOpen c (rs ++ r ∷ [])
+more_part : (b c : BlockParts) (r : Record) (rs : List Record) → opens r ≡ false → IsOpen b rs → c.id ≡ b.id → c.resource ≡ b.resource
+    → records_of c ≡ records_of b ++ r ∷ [] → has_id b.resource.block_id r ≡ true → column (Some r) ≡ column_at (Open c) → block_length c ≤ block_limit
+    → IsOpen c (rs ++ r ∷ [])
 more_part b c r rs op k i res e h col short = record {
   head = k.head;
   rest = k.rest ++ r ∷ [];
@@ -289,7 +311,8 @@ more_part b c r rs op k i res e h col short = record {
   begins = ap (λ xs. xs ++ r ∷ []) k.begins;
   opened = any_push rs r k.opened;
   column = ap column (last_of_push rs r) ∙ col;
-  parts = parts_stay rs r op ∙ ap (onto_last r) k.parts ∙ onto_last_push (k.first ∷ k.before) (records_of b) r ∙ ap (λ p. k.first ∷ (k.before ++ p ∷ [])) (sym e);
+  parts =
+      parts_stay rs r op ∙ ap (onto_last r) k.parts ∙ onto_last_push (k.first ∷ k.before) (records_of b) r ∙ ap (λ p. k.first ∷ (k.before ++ p ∷ [])) (sym e);
   id = i ∙ k.id ∙ ap (λ x. x.block_id) (sym res);
   ids =
       ap (λ x. list_all (has_id x.block_id) (map the.Work c.works ++ map the.Usage c.usages)) res
@@ -305,40 +328,52 @@ some_not_empty n e = grind (arith, nat_tests)
 pub below_limit : (n : ℕ) → leb block_limit n ≡ false → n < block_limit
 below_limit n e = grind (arith, nat_tests)
 
-work_records : (ws : List WorkParts) (us : List usage.Usage) (w : WorkParts) → eqb (length us) 0 ≡ true → map the.Work (ws ++ w ∷ []) ++ map the.Usage us ≡ (map the.Work ws ++ map the.Usage us) ++ the.Work w ∷ []
+work_records : (ws : List WorkParts) (us : List usage.Usage) (w : WorkParts) → eqb (length us) 0 ≡ true
+    → map the.Work (ws ++ w ∷ []) ++ map the.Usage us ≡ (map the.Work ws ++ map the.Usage us) ++ the.Work w ∷ []
 work_records ws [] w e = append-nil _ ∙ map-append the.Work ws (w ∷ []) ∙ ap (λ xs. xs ++ the.Work w ∷ []) (sym (append-nil (map the.Work ws)))
 work_records ws (u ∷ us) w e = absurd (some_not_empty (length us) e)
 
-usage_records : (ws : List WorkParts) (us : List usage.Usage) (u : usage.Usage) → map the.Work ws ++ map the.Usage (us ++ u ∷ []) ≡ (map the.Work ws ++ map the.Usage us) ++ the.Usage u ∷ []
-usage_records ws us u = ap (λ xs. map the.Work ws ++ xs) (map-append the.Usage us (u ∷ [])) ∙ sym (append_assoc (map the.Work ws) (map the.Usage us) (the.Usage u ∷ []))
+usage_records : (ws : List WorkParts) (us : List usage.Usage) (u : usage.Usage)
+    → map the.Work ws ++ map the.Usage (us ++ u ∷ []) ≡ (map the.Work ws ++ map the.Usage us) ++ the.Usage u ∷ []
+usage_records ws us u =
+    ap (λ xs. map the.Work ws ++ xs) (map-append the.Usage us (u ∷ [])) ∙ sym (append_assoc (map the.Work ws) (map the.Usage us) (the.Usage u ∷ []))
 
 pushed_some : (us : List usage.Usage) (u : usage.Usage) → eqb (length (us ++ u ∷ [])) 0 ≡ false
 pushed_some us u = let e : length (us ++ u ∷ []) ≡ length us + 1 = simp length-append in rw e (grind (arith, nat_tests))
 
 -- a record that opens no part gives no event
-stays : (b : BlockParts) (rs : List Record) (r : Record) → opens r ≡ false → summaries (r ∷ []) ≡ [] → IsOpen b rs → events_of (rs ++ r ∷ []) ≡ events_of rs ++ []
+stays : (b : BlockParts) (rs : List Record) (r : Record) → opens r ≡ false → summaries (r ∷ []) ≡ [] → IsOpen b rs
+    → events_of (rs ++ r ∷ []) ≡ events_of rs ++ []
 stays b rs r op none k = open_stays b rs r op none k ∙ sym (append-nil (events_of rs))
 
-pub step_work : (stage : Stage) (rs : List Record) (w : WorkParts) → KeepsStage stage rs → stage_fault stage kinds.Work (Some w.block_id) ≡ None → Steps stage rs (the.Work w)
+pub step_work : (stage : Stage) (rs : List Record) (w : WorkParts) → KeepsStage stage rs → stage_fault stage kinds.Work (Some w.block_id) ≡ None
+    → Steps stage rs (the.Work w)
 step_work Start rs w k e = cc
 step_work (Front o) rs w k e = cc
 step_work (Open b) rs w k e =
     let un = unused _ kinds.Work (λ x. cc) (or_else_first _ _ e) in
     let ok = member_ok b.id w.block_id _ (or_else_second (place (column_at (Open b)) kinds.Work) _ e) in
     record {
-      keeps = more_part b (record b { works = b.works ++ w ∷ [] }) (the.Work w) rs refl k refl refl (ap (λ xs. the.Resource b.resource ∷ xs) (work_records b.works b.usages w un)) (rw (← k.id) ok.0) (rw un refl) (let h : block_length b < block_limit = below_limit _ ok.1 in simp length-append (omega arith));
+      keeps =
+          more_part b (record b { works = b.works ++ w ∷ [] }) (the.Work w) rs refl k refl refl
+          (ap (λ xs. the.Resource b.resource ∷ xs) (work_records b.works b.usages w un)) (rw (← k.id) ok.0) (rw un refl)
+          (let h : block_length b < block_limit = below_limit _ ok.1 in simp length-append (omega arith));
       blocks = ap length (closed_stay rs (the.Work w) refl) ∙ sym (add-zero _);
       events = stays b rs (the.Work w) refl refl k;
     }
 step_work Closed rs w k e = cc
 
-pub step_usage : (stage : Stage) (rs : List Record) (u : usage.Usage) → KeepsStage stage rs → stage_fault stage kinds.Usage (Some u.block_id) ≡ None → Steps stage rs (the.Usage u)
+pub step_usage : (stage : Stage) (rs : List Record) (u : usage.Usage) → KeepsStage stage rs → stage_fault stage kinds.Usage (Some u.block_id) ≡ None
+    → Steps stage rs (the.Usage u)
 step_usage Start rs u k e = cc
 step_usage (Front o) rs u k e = cc
 step_usage (Open b) rs u k e =
     let ok = member_ok b.id u.block_id _ (or_else_second (place (column_at (Open b)) kinds.Usage) _ e) in
     record {
-      keeps = more_part b (record b { usages = b.usages ++ u ∷ [] }) (the.Usage u) rs refl k refl refl (ap (λ xs. the.Resource b.resource ∷ xs) (usage_records b.works b.usages u)) (rw (← k.id) ok.0) (rw pushed_some refl) (let h : block_length b < block_limit = below_limit _ ok.1 in simp length-append (omega arith));
+      keeps =
+          more_part b (record b { usages = b.usages ++ u ∷ [] }) (the.Usage u) rs refl k refl refl
+          (ap (λ xs. the.Resource b.resource ∷ xs) (usage_records b.works b.usages u)) (rw (← k.id) ok.0) (rw pushed_some refl)
+          (let h : block_length b < block_limit = below_limit _ ok.1 in simp length-append (omega arith));
       blocks = ap length (closed_stay rs (the.Usage u) refl) ∙ sym (add-zero _);
       events = stays b rs (the.Usage u) refl refl k;
     }
@@ -347,7 +382,9 @@ step_usage Closed rs u k e = cc
 -- a record with no early fault
 pub step_record : (stage : Stage) (rs : List Record) (r : Record) → IsRecord r → KeepsStage stage rs → early_fault rs r ≡ None → Steps stage rs r
 step_record stage rs (the.Head h) i k e = step_head stage rs h k (sym (ap (λ c. place c kinds.Head) (column_kept stage rs k)) ∙ e)
-step_record stage rs (the.Summary s) i k e = step_summary stage rs s k (or_else_first _ _ (sym (ap (λ c. or_else (place c kinds.Summary) (summary_fault (summaries rs) s.id)) (column_kept stage rs k)) ∙ e))
+step_record stage rs (the.Summary s) i k e =
+    step_summary stage rs s k (or_else_first _ _ (sym (ap (λ c. or_else (place c kinds.Summary) (summary_fault (summaries rs) s.id)) (column_kept stage rs k))
+    ∙ e))
 step_record stage rs (the.Resource r) i k e = step_resource stage rs r k (sym (ap (λ c. place c kinds.Resource) (column_kept stage rs k)) ∙ e)
 step_record stage rs (the.Work w) i k e = step_work stage rs w k (fault_agrees stage rs (the.Work w) k ∙ e)
 step_record stage rs (the.Usage u) i k e = step_usage stage rs u k (fault_agrees stage rs (the.Usage u) k ∙ e)

@@ -24,7 +24,8 @@ use Rattle.dsr_file.specs.declared.grammar.Step.TheVariants.{Good, Faulty}
 use Rattle.dsr_file.specs.declared.stage.Before.{Before}
 use Rattle.dsr_file.specs.declared.stage.Before.TheVariants as columns
 use Rattle.dsr_file.specs.declared.stage.Stage.{Stage}
-use Rattle.dsr_file.specs.Readings.{Reading, Holds, SkippedLine, reading, of_text, of_utf8, of_record, is_skipped_text, kept, records, is_skipped_line, is_skipped_record, file_fault}
+use Rattle.dsr_file.specs.Readings.{Reading, Holds, SkippedLine, reading, of_text, of_utf8, of_record, is_skipped_text, kept, records, is_skipped_line}
+use Rattle.dsr_file.specs.Readings.{is_skipped_record, file_fault}
 use Rattle.dsr_file.specs.Readings as line
 use Rattle.dsr_file.specs.Parts.{closed, summaries, events_of, last_of}
 use Rattle.dsr_file.specs.Faults.{fault_if, fault_of, early_fault, place, column, member_fault, in_part, summary_fault, summary_limit, last_part, first_id}
@@ -86,20 +87,28 @@ no_count_place columns.Closed kinds.Foot = refl
 no_count_place columns.Closed kinds.Skipped = refl
 
 no_count_member : (part_id : List ℕ) (n : ℕ) (i : List ℕ) → no_count (member_fault part_id n i) ≡ true
-no_count_member part_id n i = no_count_else (fault_if _ faults.BlockNumber) (fault_if _ faults.LongBlock) (no_count_if _ faults.BlockNumber refl) (no_count_if _ faults.LongBlock refl)
+no_count_member part_id n i =
+    no_count_else (fault_if _ faults.BlockNumber) (fault_if _ faults.LongBlock) (no_count_if _ faults.BlockNumber refl) (no_count_if _ faults.LongBlock refl)
 
 no_count_summary : (ss : List summary.Summary) (i : List ℕ) → no_count (summary_fault ss i) ≡ true
 no_count_summary ss i =
     let twice = list_any (λ s. bytes_eq s.id i) ss in
     let many = nat_le summary_limit (length ss) in
-    no_count_else (fault_if twice faults.SummaryTwice) (fault_if many faults.ManySummaries) (no_count_if twice faults.SummaryTwice refl) (no_count_if many faults.ManySummaries refl)
+    no_count_else (fault_if twice faults.SummaryTwice) (fault_if many faults.ManySummaries) (no_count_if twice faults.SummaryTwice refl)
+    (no_count_if many faults.ManySummaries refl)
 
 no_count_early : (rs : List Record) (r : Record) → no_count (early_fault rs r) ≡ true
 no_count_early rs (Head h) = no_count_place (column (last_of rs)) kinds.Head
-no_count_early rs (Summary s) = no_count_else (place (column (last_of rs)) kinds.Summary) (summary_fault (summaries rs) s.id) (no_count_place (column (last_of rs)) kinds.Summary) (no_count_summary (summaries rs) s.id)
+no_count_early rs (Summary s) =
+    no_count_else (place (column (last_of rs)) kinds.Summary) (summary_fault (summaries rs) s.id) (no_count_place (column (last_of rs)) kinds.Summary)
+    (no_count_summary (summaries rs) s.id)
 no_count_early rs (Resource r) = no_count_place (column (last_of rs)) kinds.Resource
-no_count_early rs (Work w) = no_count_else (place (column (last_of rs)) kinds.Work) (in_part (last_part rs) w.block_id) (no_count_place (column (last_of rs)) kinds.Work) (no_count_member (first_id (last_part rs)) (length (last_part rs)) w.block_id)
-no_count_early rs (Usage u) = no_count_else (place (column (last_of rs)) kinds.Usage) (in_part (last_part rs) u.block_id) (no_count_place (column (last_of rs)) kinds.Usage) (no_count_member (first_id (last_part rs)) (length (last_part rs)) u.block_id)
+no_count_early rs (Work w) =
+    no_count_else (place (column (last_of rs)) kinds.Work) (in_part (last_part rs) w.block_id) (no_count_place (column (last_of rs)) kinds.Work)
+    (no_count_member (first_id (last_part rs)) (length (last_part rs)) w.block_id)
+no_count_early rs (Usage u) =
+    no_count_else (place (column (last_of rs)) kinds.Usage) (in_part (last_part rs) u.block_id) (no_count_place (column (last_of rs)) kinds.Usage)
+    (no_count_member (first_id (last_part rs)) (length (last_part rs)) u.block_id)
 no_count_early rs (Foot f) = no_count_place (column (last_of rs)) kinds.Foot
 no_count_early rs Skipped = refl
 
@@ -111,14 +120,16 @@ pub early_not_count : (rs : List Record) (r : Record) (f : FileFault) → early_
 early_not_count rs r f e = not_true _ (sym (ap no_count e) ∙ no_count_early rs r)
 
 -- a record with an early fault
-pub early_steps : (g h : Grammar) (ls : List Reading) (r : Record) (f : FileFault) → Keeps g ls → stage_fault g.stage (kind_of_record r) (id_of_record r) ≡ Some f → LineSteps ls (Holds r) (Faulty f) None h
+pub early_steps : (g h : Grammar) (ls : List Reading) (r : Record) (f : FileFault) → Keeps g ls
+    → stage_fault g.stage (kind_of_record r) (id_of_record r) ≡ Some f → LineSteps ls (Holds r) (Faulty f) None h
 unfolding fault_of
 early_steps g h ls r f k e =
     let early : early_fault (records ls) r ≡ Some f = sym (fault_agrees g.stage (records ls) r k.stage_is) ∙ e in
     (rw early refl, rw (early_not_count (records ls) r f early) (sym (append-nil (events_of (records ls)))))
 
 -- a record without an early fault
-pub early_none : (g : Grammar) (ls : List Reading) (r : Record) → Keeps g ls → stage_fault g.stage (kind_of_record r) (id_of_record r) ≡ None → early_fault (records ls) r ≡ None
+pub early_none : (g : Grammar) (ls : List Reading) (r : Record) → Keeps g ls → stage_fault g.stage (kind_of_record r) (id_of_record r) ≡ None
+    → early_fault (records ls) r ≡ None
 early_none g ls r k e = sym (fault_agrees g.stage (records ls) r k.stage_is) ∙ e
 
 -- a line that has a fault itself
@@ -133,7 +144,8 @@ own_not_count (own.Missing c) = refl
 own_not_count (own.Bad c) = refl
 own_not_count own.Uneven = refl
 
-pub skip_line_steps : (g h : Grammar) (ls : List Reading) → Keeps g ls → h.stage ≡ g.stage → h.lines ≡ g.lines + 1 → h.skipped_lines ≡ g.skipped_lines + 1 → h.skipped_records ≡ g.skipped_records → h.records ≡ g.records → h.summaries ≡ g.summaries → h.blocks ≡ g.blocks → LineSteps ls SkippedLine Good None h
+pub skip_line_steps : (g h : Grammar) (ls : List Reading) → Keeps g ls → h.stage ≡ g.stage → h.lines ≡ g.lines + 1 → h.skipped_lines ≡ g.skipped_lines + 1
+    → h.skipped_records ≡ g.skipped_records → h.records ≡ g.records → h.summaries ≡ g.summaries → h.blocks ≡ g.blocks → LineSteps ls SkippedLine Good None h
 unfolding fault_of
 skip_line_steps g h ls k s l a b r m n =
     let same = records-same ls SkippedLine refl in (
@@ -151,7 +163,9 @@ skip_line_steps g h ls k s l a b r m n =
       ap events_of same ∙ sym (append-nil (events_of (records ls))),
     )
 
-pub skip_record_steps : (g h : Grammar) (ls : List Reading) → Keeps g ls → h.stage ≡ g.stage → h.lines ≡ g.lines + 1 → h.skipped_lines ≡ g.skipped_lines → h.skipped_records ≡ g.skipped_records + 1 → h.records ≡ g.records → h.summaries ≡ g.summaries → h.blocks ≡ g.blocks → LineSteps ls (Holds Skipped) Good None h
+pub skip_record_steps : (g h : Grammar) (ls : List Reading) → Keeps g ls → h.stage ≡ g.stage → h.lines ≡ g.lines + 1 → h.skipped_lines ≡ g.skipped_lines
+    → h.skipped_records ≡ g.skipped_records + 1 → h.records ≡ g.records → h.summaries ≡ g.summaries → h.blocks ≡ g.blocks
+    → LineSteps ls (Holds Skipped) Good None h
 unfolding fault_of
 skip_record_steps g h ls k s l a b r m n =
     let same = records-same ls (Holds Skipped) refl in (
@@ -174,15 +188,18 @@ unfolding of_utf8
 of_utf8_skipped layout t e = rw e refl
 
 -- the text of a line that is not skipped
-pub of_utf8_record : (layout : LayoutTable) (t : List ℕ) (found : Result Record RecordFault) → is_skipped_text t ≡ false → found ≡ record_of layout t → of_utf8 layout t ≡ of_record found
+pub of_utf8_record : (layout : LayoutTable) (t : List ℕ) (found : Result Record RecordFault) → is_skipped_text t ≡ false → found ≡ record_of layout t
+    → of_utf8 layout t ≡ of_record found
 unfolding of_utf8
 of_utf8_record layout t found e f = rw e (ap of_record (sym f))
 
-pub reading_text : (layout : LayoutTable) (line : List ℕ) → length line ≤ line_limit → is_utf8 (without_return line) ≡ true → reading layout line ≡ of_utf8 layout (without_return line)
+pub reading_text : (layout : LayoutTable) (line : List ℕ) → length line ≤ line_limit → is_utf8 (without_return line) ≡ true
+    → reading layout line ≡ of_utf8 layout (without_return line)
 unfolding reading of_text
 reading_text layout line h u = let n : is_long line ≡ false = grind (arith, nat_tests) in rw (n, u) refl
 
-pub reading_garbled : (layout : LayoutTable) (bytes : List ℕ) → length bytes ≤ line_limit → is_utf8 (without_return bytes) ≡ false → reading layout bytes ≡ line.Faulty faults.NotUtf8
+pub reading_garbled : (layout : LayoutTable) (bytes : List ℕ) → length bytes ≤ line_limit → is_utf8 (without_return bytes) ≡ false
+    → reading layout bytes ≡ line.Faulty faults.NotUtf8
 unfolding reading of_text
 reading_garbled layout bytes h u = let n : is_long bytes ≡ false = grind (arith, nat_tests) in rw (n, u) refl
 
@@ -200,7 +217,8 @@ real_record (Usage h) n = tt
 real_record (Foot h) n = tt
 
 -- a record that does not belong to a block, by its kind
-pub other_record : (r : Record) → (kinds.Resource ≡ kind_of_record r → ⊥) → (kinds.Work ≡ kind_of_record r → ⊥) → (kinds.Usage ≡ kind_of_record r → ⊥) → IsOther r
+pub other_record : (r : Record) → (kinds.Resource ≡ kind_of_record r → ⊥) → (kinds.Work ≡ kind_of_record r → ⊥) → (kinds.Usage ≡ kind_of_record r → ⊥)
+    → IsOther r
 other_record (Resource h) n m u = n refl
 other_record (Work h) n m u = m refl
 other_record (Usage h) n m u = u refl
@@ -219,5 +237,6 @@ skipped_record (Usage s) e = cc
 skipped_record (Foot s) e = cc
 
 -- the fault that the code finds is that of the record
-pub fault_found : (stage : Stage) (r : Record) (k : Kind) (i : Option (List ℕ)) (f g : Option FileFault) → f ≡ stage_fault stage k i → k ≡ kind_of_record r → i ≡ id_of_record r → f ≡ g → stage_fault stage (kind_of_record r) (id_of_record r) ≡ g
+pub fault_found : (stage : Stage) (r : Record) (k : Kind) (i : Option (List ℕ)) (f g : Option FileFault) → f ≡ stage_fault stage k i → k ≡ kind_of_record r
+    → i ≡ id_of_record r → f ≡ g → stage_fault stage (kind_of_record r) (id_of_record r) ≡ g
 fault_found stage r k i f g e h j is = sym (ap (λ x. stage_fault stage x i) h ∙ ap (stage_fault stage (kind_of_record r)) j) ∙ sym e ∙ is

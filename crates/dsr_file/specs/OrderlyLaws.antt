@@ -1,5 +1,6 @@
 -- Laws of orderly lists.
-use Rattle.std.proofs.Common.{◌≡◌, ℕ, zero, suc, Bool, true, false, true≢false, ◌||◌, ◌⊎◌, inl, inr, ⊎_elim, append_assoc, List, [], ◌∷◌, ◌++◌, length, Some, slice_get, refl, sym, ap, ◌∙◌, subst, arith, length-append}
+use Rattle.std.proofs.Common.{◌≡◌, ℕ, zero, suc, Bool, true, false, true≢false, ◌||◌, ◌⊎◌, inl, inr, ⊎_elim, append_assoc, List, [], ◌∷◌, ◌++◌, length, Some}
+use Rattle.std.proofs.Common.{slice_get, refl, sym, ap, ◌∙◌, subst, arith, length-append}
 use Rattle.std.proofs.lemmas.Option.{slice_get_within}
 use Rattle.dsr_file.specs.Placed.{Placed}
 use Rattle.dsr_file.specs.Orderly.{is_ended, has_ended, MayStandAt, IsOrderly}
@@ -78,10 +79,15 @@ no_ended (x ∷ xs) (suc k) e none at = no_ended xs k e (second (is_ended x.part
     second false b h = h
 
 -- an orderly list without Ended stays orderly with one more event that has the next place and is allowed there
-pub orderly_push : (xs : List Placed) (e : Placed) → IsOrderly xs → has_ended xs ≡ false → e.place ≡ length xs → MayStandAt (length xs) e.part → IsOrderly (xs ++ e ∷ [])
+pub orderly_push : (xs : List Placed) (e : Placed) → IsOrderly xs → has_ended xs ≡ false → e.place ≡ length xs → MayStandAt (length xs) e.part
+    → IsOrderly (xs ++ e ∷ [])
 orderly_push xs e h none place part = record {
-  places = λ k f at. ⊎_elim (h.places k f) (λ (t : (k ≡ length xs) × (e ≡ f)). ap (λ (g : Placed). g.place) (sym t.1) ∙ place ∙ sym t.0) (slice_get_push xs e f k at);
-  parts = λ k f at. ⊎_elim (h.parts k f) (λ (t : (k ≡ length xs) × (e ≡ f)). subst (λ (p : ℕ × Placed). MayStandAt p.0 p.1.part) (λ i. (sym t.0 i, t.1 i)) part) (slice_get_push xs e f k at);
+  places =
+      λ k f at. ⊎_elim (h.places k f) (λ (t : (k ≡ length xs) × (e ≡ f)). ap (λ (g : Placed). g.place) (sym t.1) ∙ place ∙ sym t.0)
+      (slice_get_push xs e f k at);
+  parts =
+      λ k f at. ⊎_elim (h.parts k f) (λ (t : (k ≡ length xs) × (e ≡ f)). subst (λ (p : ℕ × Placed). MayStandAt p.0 p.1.part) (λ i. (sym t.0 i, t.1 i)) part)
+      (slice_get_push xs e f k at);
   ended_last = λ k f at end. ⊎_elim
       (λ (was : slice_get xs k ≡ Some f). absurd (true≢false (sym end ∙ no_ended xs k f none was)))
       (λ (t : (k ≡ length xs) × (e ≡ f)). omega (arith, t.0, length-append xs (e ∷ [])))

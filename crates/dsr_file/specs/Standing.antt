@@ -79,7 +79,8 @@ pub record AtLine (layout : LayoutTable) (r : FileReader) (line : List ℕ) (byt
   pub open_is : r.ending ≡ None
 
 -- the last line had this result, and closed this
-pub record AtAnswer (layout : LayoutTable) (r : FileReader) (number : ℕ) (step : Step) (closed : Option EventPart) (bytes : List ℕ) (es : List Placed) : Type 0 where
+pub record AtAnswer (layout : LayoutTable) (r : FileReader) (number : ℕ) (step : Step) (closed : Option EventPart) (bytes : List ℕ)
+    (es : List Placed) : Type 0 where
   pub whole : List (List ℕ)
   pub line : List ℕ
   pub cuts : CutsTo [] false bytes (whole ++ line ∷ [])

@@ -60,8 +60,11 @@ impl<R: Read> FromRead<R> {
 }
 
 impl<R: Read> Source for FromRead<R> {
-    ghost told = { λ s. record { remaining = R.remaining s.reader; failed = s.failed; reads =
-        s.reads } };
+    ghost told = { λ s. record {
+      remaining = R.remaining s.reader;
+      failed = s.failed;
+      reads = s.reads;
+    } };
 
     fn read(&mut self, piece: &mut [u8]) -> Result<usize, Failed> {
         match self.reader.read(piece) {

@@ -22,7 +22,8 @@ first_tab text some = record {
 }
 
 pub no_tab : (text : List ℕ) → length text ≤ position_or_len (λ b. eqb b 9) text → cells text ≡ text ∷ []
-no_tab text none = slice_split_none (λ b. eqb b 9) text (All-from_get_or (λ b. eqb b 9 ≡ false) text 0 (λ k h. fails_before_first (λ b. eqb b 9) text k 0 (omega arith)))
+no_tab text none =
+    slice_split_none (λ b. eqb b 9) text (All-from_get_or (λ b. eqb b 9 ≡ false) text 0 (λ k h. fails_before_first (λ b. eqb b 9) text k 0 (omega arith)))
 
 -- the result of `position`
 pub place_found : (text : List ℕ) (i : ℕ) → position (λ b. eqb b 9) text ≡ Some i → i ≡ position_or_len (λ b. eqb b 9) text

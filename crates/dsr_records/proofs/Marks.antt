@@ -1,10 +1,13 @@
 -- Lemmas on the TABs of bytes as a bit mask.
-use Rattle.std.proofs.Common.{◌≡◌, ◌+◌, ◌-◌, ◌*◌, ◌/◌, ◌%◌, ◌^◌, ◌<◌, ◌≤◌, ℕ, zero, suc, Bool, List, [], ◌∷◌, length, map, take, drop, get_or, cond, true, false, eqb, refl, sym, ap, subst, ◌∙◌, arith, inl, inr, bit_or, min, w64, pow_mono, pow-suc, mul_comm, div-one, add_comm, mod-eq_of_lt, mul-lt-mul_of_pos_right, ◌++◌, count_by, length-append}
+use Rattle.std.proofs.Common.{◌≡◌, ◌+◌, ◌-◌, ◌*◌, ◌/◌, ◌%◌, ◌^◌, ◌<◌, ◌≤◌, ℕ, zero, suc, Bool, List, [], ◌∷◌, length, map, take, drop, get_or, cond, true}
+use Rattle.std.proofs.Common.{false, eqb, refl, sym, ap, subst, ◌∙◌, arith, inl, inr, bit_or, min, w64, pow_mono, pow-suc, mul_comm, div-one, add_comm}
+use Rattle.std.proofs.Common.{mod-eq_of_lt, mul-lt-mul_of_pos_right, ◌++◌, count_by, length-append}
 use Rattle.std.specs.Int.{bit_at, from_bool}
 use Rattle.std.specs.List.{filter, position_or_len}
 use Rattle.std.specs.Simd.Lanes.{chunk}
 use Rattle.std.proofs.lemmas.Bool.{cases_lt}
-use Rattle.std.proofs.lemmas.List.{get_or_past, get_or-take, length-take, length-map, length-drop, drop-drop, drop-take, drop_more, take_min, take_all, take-append-drop}
+use Rattle.std.proofs.lemmas.List.{get_or_past, get_or-take, length-take, length-map, length-drop, drop-drop, drop-take, drop_more, take_min, take_all}
+use Rattle.std.proofs.lemmas.List.{take-append-drop}
 use Rattle.std.proofs.lemmas.List.Elements.{filter-append}
 use Rattle.std.proofs.lemmas.List.Splits.{length-slice_split}
 use Rattle.std.proofs.lemmas.List.Sums.{count_by-le-length, length-filter, position_or_len_is}
@@ -97,11 +100,19 @@ module _ (bytes : List ℕ) (place seen : ℕ) (within : place + 16 ≤ length b
       shifted_from (tab_bits (chunk place 16 bytes)) place i (omega arith)
       ∙ bit_at-past (chunk place 16 bytes) (i - place) (omega (arith, length-chunk place 16 bytes within))
 
-  same_bit : (i : ℕ) → bit_at (bit_or (tab_bits (take seen bytes)) (tab_bits (chunk place 16 bytes) * 2 ^ place)) i ≡ bit_at (tab_bits (take (place + 16) bytes)) i
+  same_bit : (i : ℕ) → bit_at (bit_or (tab_bits (take seen bytes)) (tab_bits (chunk place 16 bytes) * 2 ^ place)) i
+      ≡ bit_at (tab_bits (take (place + 16) bytes)) i
   same_bit i =
       let joined = bit_at_or (tab_bits (take seen bytes)) (tab_bits (chunk place 16 bytes) * 2 ^ place) i in
       elim (cases_lt i place) [
-        | inl low ↦ omega (arith, joined, known_bit i (omega arith), shifted_below (tab_bits (chunk place 16 bytes)) place i low, bit_at-take (place + 16) bytes i (omega arith))
+        | inl low ↦ omega (
+          arith,
+          joined,
+          known_bit i (omega arith),
+          shifted_below (tab_bits (chunk place 16 bytes)) place i low,
+          bit_at-take
+              (place + 16) bytes i (omega arith),
+        )
         | inr from_place ↦
             elim (cases_lt i (place + 16)) [
               | inl high ↦
@@ -109,22 +120,38 @@ module _ (bytes : List ℕ) (place seen : ℕ) (within : place + 16 ≤ length b
                     | inl inside ↦ omega (arith, joined, known_bit i inside, run_bit i from_place high, bit_at-take (place + 16) bytes i high)
                     | inr outside ↦ omega (arith, joined, known_past i outside, run_bit i from_place high, bit_at-take (place + 16) bytes i high)
                   ]
-              | inr past ↦ omega (arith, joined, known_past i (omega arith), run_past i past, bit_at-past (take (place + 16) bytes) i (omega (arith, length-take (place + 16) bytes)))
+              | inr past ↦ omega (
+                arith,
+                joined,
+                known_past i (omega arith),
+                run_past i past,
+                bit_at-past (take (place + 16) bytes) i
+                    (omega (arith, length-take (place + 16) bytes)),
+              )
             ]
       ]
 
   -- the bits of the searched bytes, and those of 16 bytes from an offset among them
-  pub tab_bits-more : place ≤ 48 → bit_or (tab_bits (take seen bytes)) (tab_bits (chunk place 16 bytes) * 2 ^ place % 2 ^ 64) ≡ tab_bits (take (place + 16) bytes)
+  pub tab_bits-more : place ≤ 48 → bit_or (tab_bits (take seen bytes)) (tab_bits (chunk place 16 bytes) * 2 ^ place % 2 ^ 64)
+      ≡ tab_bits (take (place + 16) bytes)
   tab_bits-more near =
       ap (bit_or (tab_bits (take seen bytes))) (mod-eq_of_lt (shifted_fits (chunk place 16 bytes) place (length-chunk place 16 bytes within) near))
       ∙ same_from_bits _ _ same_bit
 
 -- one more byte at the front
-pub tab_bits-front : (bytes : List ℕ) (place : ℕ) → place < length bytes → tab_bits (drop place bytes) ≡ 2 * tab_bits (drop (place + 1) bytes) + mark (get_or bytes place 0)
+pub tab_bits-front : (bytes : List ℕ) (place : ℕ) → place < length bytes
+    → tab_bits (drop place bytes) ≡ 2 * tab_bits (drop (place + 1) bytes) + mark (get_or bytes place 0)
 tab_bits-front bytes place within = ap tab_bits (drop_more bytes place 0 within) ∙ add_comm _ _
 
 pub tab_bits-few : (bytes : List ℕ) → length bytes < 16 → tab_bits bytes < 2 ^ 15
-tab_bits-few bytes few = omega (arith, mask_l-lt (map is_tab bytes), length-map bytes is_tab, pow_mono {i = length (map is_tab bytes)} {j = 15} (omega (arith, length-map bytes is_tab)))
+tab_bits-few bytes few =
+    omega (
+      arith,
+      mask_l-lt (map is_tab bytes),
+      length-map bytes is_tab,
+      pow_mono {i = length (map is_tab bytes)} {j = 15}
+          (omega (arith, length-map bytes is_tab)),
+    )
 
 is_set : (t : Bool) → cond {A = ℕ} t 1 0 ≡ 1 → t ≡ true
 is_set true e = refl
@@ -142,7 +169,8 @@ no_tab_seen text none =
     (λ past. absurd (omega arith))
 
 -- the lowest bit of the searched bytes is the first TAB of the text
-module _ (text : List ℕ) (seen i : ℕ) (within : seen ≤ length text) (set : bit_at (tab_bits (take seen text)) i ≡ 1) (below : (k : ℕ) → k < i → bit_at (tab_bits (take seen text)) k ≡ 0) where
+module _ (text : List ℕ) (seen i : ℕ) (within : seen ≤ length text) (set : bit_at (tab_bits (take seen text)) i ≡ 1)
+    (below : (k : ℕ) → k < i → bit_at (tab_bits (take seen text)) k ≡ 0) where
   pub seen_within : i < seen
   seen_within =
       elim (cases_lt i seen) [
@@ -157,7 +185,8 @@ module _ (text : List ℕ) (seen i : ℕ) (within : seen ≤ length text) (set :
       (λ _. is_set _ (sym (bit_at-take seen text i seen_within) ∙ set))
 
 pub tab_bits-fits : (bytes : List ℕ) → length bytes ≤ 64 → tab_bits bytes < 2 ^ 64
-tab_bits-fits bytes few = omega (arith, mask_l-lt (map is_tab bytes), pow_mono {i = length (map is_tab bytes)} {j = 64} (omega (arith, length-map bytes is_tab)))
+tab_bits-fits bytes few =
+    omega (arith, mask_l-lt (map is_tab bytes), pow_mono {i = length (map is_tab bytes)} {j = 64} (omega (arith, length-map bytes is_tab)))
 
 -- the first bytes, at most as many as there are
 pub take_first : (bytes : List ℕ) (most n : ℕ) → n ≡ min most (length bytes) → take n bytes ≡ take most bytes
@@ -168,7 +197,8 @@ abbrev pub KnownTabs : List ℕ → ℕ → ℕ → Type 0
 KnownTabs text unseen tabs = (length text - unseen ≤ 64) × (tabs ≡ tab_bits (take (length text - unseen) text))
 
 -- the lowest known bit is the first TAB of the text
-pub first_known : (text : List ℕ) (unseen tabs : ℕ) → KnownTabs text unseen tabs → 0 < tabs → (count_trailing_zeros 64 tabs < length text - unseen) × TabAt text (count_trailing_zeros 64 tabs)
+pub first_known : (text : List ℕ) (unseen tabs : ℕ) → KnownTabs text unseen tabs → 0 < tabs
+    → (count_trailing_zeros 64 tabs < length text - unseen) × TabAt text (count_trailing_zeros 64 tabs)
 first_known text unseen tabs known some =
     let seen = length text - unseen in
     let within : seen ≤ length text = omega arith in
@@ -182,7 +212,8 @@ first_known text unseen tabs known some =
     (inside, subst (TabAt text) first (first_tab text (omega arith)))
 
 -- what is known after that TAB
-pub known_behind : (text rest : List ℕ) (unseen tabs place : ℕ) → KnownTabs text unseen tabs → place < length text - unseen → rest ≡ drop (place + 1) text → KnownTabs rest unseen (tabs / 2 ^ place / 2)
+pub known_behind : (text rest : List ℕ) (unseen tabs place : ℕ) → KnownTabs text unseen tabs → place < length text - unseen → rest ≡ drop (place + 1) text
+    → KnownTabs rest unseen (tabs / 2 ^ place / 2)
 known_behind text rest unseen tabs place known inside behind =
     let seen = length text - unseen in
     let left : length rest - unseen ≡ seen - (place + 1) = omega (arith, ap length behind, length-drop (place + 1) text) in (

@@ -15,7 +15,8 @@ pub record Meets (taken sent : List Placed) (capacity : ℕ) : Type 0 where
   pub whole : taken ++ drop (length taken) sent ≡ sent
   pub few : length (drop (length taken) sent) ≤ 32 * capacity + 62
 
-pub meets : (out received queue : List Message) (taken held batch : List Placed) (n : ℕ) → out ≡ received ++ queue → length queue ≤ n → AreMessages out → taken ++ held ≡ events_of received → length held ≤ 31 → length batch ≤ 31
+pub meets : (out received queue : List Message) (taken held batch : List Placed) (n : ℕ) → out ≡ received ++ queue → length queue ≤ n → AreMessages out
+    → taken ++ held ≡ events_of received → length held ≤ 31 → length batch ≤ 31
     → Meets taken (events_of out ++ batch) n
 meets out received queue taken held batch n order fits messages arrived few waits =
     let rest = held ++ (events_of queue ++ batch) in
@@ -25,10 +26,19 @@ meets out received queue taken held batch n order fits messages arrived few wait
     let left : drop (length taken) (events_of out ++ batch) ≡ rest = ap (λ l. drop (length taken) l) is ∙ drop-append_seam taken rest in
     record {
       whole = ap (λ l. taken ++ l) left ∙ sym is;
-      few = omega (arith, ap length left, length-append held (events_of queue ++ batch), length-append (events_of queue) batch, events_of-length queue (messages_back received queue (subst AreMessages order messages)));
+      few =
+          omega (
+            arith,
+            ap length left,
+            length-append held (events_of queue ++ batch),
+            length-append (events_of queue) batch,
+            events_of-length queue
+                (messages_back received queue (subst AreMessages order messages)),
+          );
     }
 
-pub meets_as : (v u w : Log) (queue : List Message) (taken held batch : List Placed) (n : ℕ) → v ≡ Sends (out_of v) n → u ≡ Takes (received_of u) → w ≡ both_of v u → IsLeft w queue
+pub meets_as : (v u w : Log) (queue : List Message) (taken held batch : List Placed) (n : ℕ) → v ≡ Sends (out_of v) n → u ≡ Takes (received_of u)
+    → w ≡ both_of v u → IsLeft w queue
     → taken ++ held ≡ events_of (received_of u) → length held ≤ 31 → length batch ≤ 31 → Meets taken (events_of (out_of v) ++ batch) n
 meets_as v u w queue taken held batch n sends_is takes_is both left arrived few waits =
     let h = left_is w (out_of v) (received_of u) queue n (both ∙ both_is v u n sends_is takes_is) left in

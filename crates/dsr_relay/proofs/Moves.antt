@@ -1,5 +1,6 @@
 -- Each step keeps the rule of the relay.
-use Rattle.std.proofs.Common.{◌≡◌, ◌≢◌, ℕ, zero, suc, List, [], ◌∷◌, ◌++◌, length, set, ◌⊎◌, inl, inr, refl, sym, ap, ◌∙◌, subst, ⊎_elim, arith, append_assoc, length-append}
+use Rattle.std.proofs.Common.{◌≡◌, ◌≢◌, ℕ, zero, suc, List, [], ◌∷◌, ◌++◌, length, set, ◌⊎◌, inl, inr, refl, sym, ap, ◌∙◌, subst, ⊎_elim, arith, append_assoc}
+use Rattle.std.proofs.Common.{length-append}
 use mathlib.Core.Option.{some, some-ne-none, some-injective}
 use lib.ListN.{get_elem?}
 use Rattle.crossbeam_channel.specs.Fifo.{Pushes, Pops, Forks, Merges, Learns}
@@ -13,7 +14,8 @@ use Rattle.dsr_relay.specs.Rule.{Knows, Relayed, Goes, Comes, IsLeft}
 use Rattle.dsr_relay.proofs.Messages.{events_of-append, events_of-push, messages_push, messages_front}
 
 module _ (feed tap : ℕ) (out received : List Message) (capacity : ℕ) where
-  knows_set : (views : List Log) (pass : ℕ) (w : Log) → ((j : ℕ) (u : Log) → j ≢ pass → get_elem? views j ≡ some u → Knows feed tap out received capacity j u) → Knows feed tap out received capacity pass w
+  knows_set : (views : List Log) (pass : ℕ) (w : Log) → ((j : ℕ) (u : Log) → j ≢ pass → get_elem? views j ≡ some u → Knows feed tap out received capacity j u)
+      → Knows feed tap out received capacity pass w
       → (j : ℕ) (u : Log) → get_elem? (set views pass w) j ≡ some u → Knows feed tap out received capacity j u
   knows_set views pass w others mine j u e =
       ⊎_elim
@@ -38,7 +40,8 @@ module _ (feed tap : ℕ) (out received : List Message) (capacity : ℕ) where
   others_taken more j Spent apart k = tt
 
   -- and when one pass was both ends, whatever the ends are then
-  others_spent : (feed' tap' : ℕ) (more got : List Message) (n j : ℕ) (u : Log) → j ≢ feed → j ≢ tap → Knows feed tap out received capacity j u → Knows feed' tap' more got n j u
+  others_spent : (feed' tap' : ℕ) (more got : List Message) (n j : ℕ) (u : Log) → j ≢ feed → j ≢ tap → Knows feed tap out received capacity j u
+      → Knows feed' tap' more got n j u
   others_spent feed' tap' more got n j Fresh apart away k = absurd (apart k.0)
   others_spent feed' tap' more got n j (Sends sent m) apart away k = absurd (apart k.0)
   others_spent feed' tap' more got n j (Takes taken) apart away k = absurd (away k.0)
@@ -91,7 +94,8 @@ receives pass taken x queue views h at =
     let mine : Knows h.feed h.tap h.out h.received h.capacity pass (Takes taken) = h.knows pass (Takes taken) at in
     let received = h.received ++ x ∷ [] in
     let order : h.out ≡ received ++ queue = h.in_order ∙ sym (append_assoc h.received (x ∷ []) queue) in
-    let orderly : IsOrderly (events_of received) = orderly_front (events_of received) (events_of queue) (subst IsOrderly (ap events_of order ∙ events_of-append received queue) h.orderly) in
+    let orderly : IsOrderly (events_of received) =
+    orderly_front (events_of received) (events_of queue) (subst IsOrderly (ap events_of order ∙ events_of-append received queue) h.orderly) in
     let messages : AreMessages received = messages_front received queue (subst AreMessages order h.messages) in (
       Takes (taken ++ x ∷ []),
       record {
@@ -146,9 +150,11 @@ forks pass capacity queue views h at =
       fits = omega (arith, ap length (empty_back h.received queue none));
       knows = λ j u e. ⊎_elim
           (λ was. knows_set pass (length vs) h.out h.received capacity views pass (Sends [] capacity)
-          (λ i w apart there. others_spent h.feed h.tap h.out h.received h.capacity pass (length vs) h.out h.received capacity i w (λ i_is. apart (i_is ∙ sym mine.0)) (λ i_is. apart (i_is ∙ sym mine.1)) (h.knows i w there))
+          (λ i w apart there. others_spent h.feed h.tap h.out h.received h.capacity pass (length vs) h.out h.received capacity i w
+          (λ i_is. apart (i_is ∙ sym mine.0)) (λ i_is. apart (i_is ∙ sym mine.1)) (h.knows i w there))
           (refl, sym mine.2, refl) j u was)
-          (λ (last : (j ≡ length vs) × (Takes [] ≡ u)). subst (Knows pass (length vs) h.out h.received capacity j) last.1 (last.0, sym (empty_front h.received queue none)))
+          (λ (last : (j ≡ length vs) × (Takes [] ≡ u)). subst (Knows pass (length vs) h.out h.received capacity j) last.1
+          (last.0, sym (empty_front h.received queue none)))
           (at_end vs (Takes []) u j e);
     }
 
@@ -156,7 +162,8 @@ pub merges : (pass other : ℕ) (sent taken : List Message) (n : ℕ) → Merges
 merges pass other sent taken n queue views h at apart there =
     let mine : Knows h.feed h.tap h.out h.received h.capacity pass (Sends sent n) = h.knows pass (Sends sent n) at in
     let was : get_elem? views other ≡ some (Takes taken) =
-    ⊎_elim (λ (t : (other ≡ pass) × (Both sent taken n ≡ Takes taken)). absurd (apart t.0)) (λ (t : (other ≢ pass) × (get_elem? views other ≡ some (Takes taken))). t.1)
+    ⊎_elim (λ (t : (other ≡ pass) × (Both sent taken n ≡ Takes taken)). absurd (apart t.0))
+    (λ (t : (other ≢ pass) × (get_elem? views other ≡ some (Takes taken))). t.1)
     (at_set views pass other (Both sent taken n) (Takes taken) there) in
     let theirs : Knows h.feed h.tap h.out h.received h.capacity other (Takes taken) = h.knows other (Takes taken) was in
     let vs : List Log = set views pass (Both sent taken n) in
@@ -172,8 +179,10 @@ merges pass other sent taken n queue views h at apart there =
       fits = h.fits;
       knows = knows_set pass pass h.out h.received h.capacity vs other Spent
           (λ j u away e. ⊎_elim
-          (λ (t : (j ≡ pass) × (Both sent taken n ≡ u)). subst (λ (y : ℕ × Log). Knows pass pass h.out h.received h.capacity y.0 y.1) (λ i. (sym t.0 i, t.1 i)) (refl, refl, mine.1, theirs.1, mine.2))
-          (λ (t : (j ≢ pass) × (get_elem? views j ≡ some u)). others_spent h.feed h.tap h.out h.received h.capacity pass pass h.out h.received h.capacity j u (λ j_is. t.0 (j_is ∙ sym mine.0)) (λ j_is. away (j_is ∙ sym theirs.0)) (h.knows j u t.1))
+          (λ (t : (j ≡ pass) × (Both sent taken n ≡ u)). subst (λ (y : ℕ × Log). Knows pass pass h.out h.received h.capacity y.0 y.1) (λ i. (sym t.0 i, t.1 i))
+          (refl, refl, mine.1, theirs.1, mine.2))
+          (λ (t : (j ≢ pass) × (get_elem? views j ≡ some u)). others_spent h.feed h.tap h.out h.received h.capacity pass pass h.out h.received h.capacity j u
+          (λ j_is. t.0 (j_is ∙ sym mine.0)) (λ j_is. away (j_is ∙ sym theirs.0)) (h.knows j u t.1))
           (at_set views pass j (Both sent taken n) u e))
           tt;
     }

@@ -1,5 +1,6 @@
 -- What every schedule preserves.
-use Rattle.std.proofs.Common.{◌≡◌, ℕ, ◌+◌, ◌*◌, ◌≤◌, Bool, true, false, true≢false, List, [], ◌∷◌, ◌++◌, length, map, set, Some, slice_get, refl, sym, ap, ◌∙◌, subst, arith, append_assoc, length-append}
+use Rattle.std.proofs.Common.{◌≡◌, ℕ, ◌+◌, ◌*◌, ◌≤◌, Bool, true, false, true≢false, List, [], ◌∷◌, ◌++◌, length, map, set, Some, slice_get, refl, sym, ap, ◌∙◌}
+use Rattle.std.proofs.Common.{subst, arith, append_assoc, length-append}
 use Rattle.std.specs.Prelude.{sum}
 use Rattle.std.specs.List.{AllByRecursion, sum_by}
 use Rattle.std.proofs.lemmas.List.Sums.{sum-map, sum_by-cons}
@@ -76,14 +77,22 @@ done l = length l.sent + length l.taken
 
 moves_done : (step : Step) (l k : Lane) → Moves step l k → IsGood l → done l + 1 ≤ done k
 unfolding done
-moves_done (put n m) l k p h = omega (arith, ap (λ (x : Lane). length x.sent) p.after_it, ap (λ (x : Lane). length x.taken) p.after_it, length-append l.sent m, p.size.0)
+moves_done (put n m) l k p h =
+    omega (arith, ap (λ (x : Lane). length x.sent) p.after_it, ap (λ (x : Lane). length x.taken) p.after_it, length-append l.sent m, p.size.0)
 moves_done (get n) l k g h =
-    omega (arith, ap (λ (x : Lane). length x.sent) g.after_it, ap (λ (x : Lane). length x.taken) g.after_it, length-append l.taken g.message, (subst (AllByRecursion IsMessage) g.front h.messages).0.0)
+    omega (
+      arith,
+      ap (λ (x : Lane). length x.sent) g.after_it,
+      ap (λ (x : Lane). length x.taken) g.after_it,
+      length-append l.taken g.message,
+      (subst (AllByRecursion IsMessage) g.front h.messages).0.0,
+    )
 
 -- a step preserves it for all lanes
 happens_good : (step : Step) (s t : List Lane) → Happens step s t → AllByRecursion IsGood s → AllByRecursion IsGood t
 happens_good step s t h all =
-    subst (AllByRecursion IsGood) (sym h.after_it) (all_set IsGood s (file_of step) h.moved all (moves_good step h.lane h.moved h.moves (all_get IsGood s (file_of step) h.lane all h.at)))
+    subst (AllByRecursion IsGood) (sym h.after_it) (all_set IsGood s (file_of step) h.moved all
+    (moves_good step h.lane h.moved h.moves (all_get IsGood s (file_of step) h.lane all h.at)))
 
 leads_good : (s t : List Lane) (steps : List Step) → AllByRecursion IsGood s → Leads s steps t → AllByRecursion IsGood t
 leads_good s t [] all h = subst (AllByRecursion IsGood) h all
@@ -98,7 +107,9 @@ module _ {A : Type 0} (f : Lane → A) (kept : (step : Step) (l k : Lane) → Mo
 leads_done : (s t : List Lane) (steps : List Step) → AllByRecursion IsGood s → Leads s steps t → total done s + length steps ≤ total done t
 leads_done s t [] all h = omega (arith, ap (total done) h)
 leads_done s t (step ∷ steps) all h =
-    let once = total_set done s (file_of step) h.1.lane h.1.moved h.1.at (moves_done step h.1.lane h.1.moved h.1.moves (all_get IsGood s (file_of step) h.1.lane all h.1.at)) in
+    let once =
+    total_set done s (file_of step) h.1.lane h.1.moved h.1.at
+    (moves_done step h.1.lane h.1.moved h.1.moves (all_get IsGood s (file_of step) h.1.lane all h.1.at)) in
     omega (arith, once, ap (total done) h.1.after_it, leads_done h.0 t steps (happens_good step s h.0 h.1 all) h.2)
 
 total_sum : (f : Lane → ℕ) (ls : List Lane) → total f ls ≡ sum (map f ls)
@@ -128,11 +139,13 @@ bounded first lanes steps fresh h =
     let start : AllByRecursion IsGood first = all_map IsFresh IsGood first fresh_good fresh in
     let good : AllByRecursion IsGood lanes = leads_good first lanes steps start h in
     let most = total_below done (λ l. length l.source) lanes (all_map IsGood (λ l. done l ≤ 2 * length l.source) lanes half_done good) in
-    let same : map (λ l. length l.source) lanes ≡ map (λ l. length l.source) first = leads_kept (λ l. length l.source) (λ step l k m. ap length (moves_source step l k m).0) first lanes steps h in
+    let same : map (λ l. length l.source) lanes ≡ map (λ l. length l.source) first =
+    leads_kept (λ l. length l.source) (λ step l k m. ap length (moves_source step l k m).0) first lanes steps h in
     omega (arith, leads_done first lanes steps start h, most, total_sum (λ l. length l.source) lanes, ap sum same)
 
 -- a lane that is good and has not taken its Ended can move
-can_move : (lanes : List Lane) (k : ℕ) (l : Lane) → IsGood l → slice_get lanes k ≡ Some l → has_ended l.taken ≡ false → (step : Step) × (next : List Lane) × (file_of step ≡ k) × Happens step lanes next
+can_move : (lanes : List Lane) (k : ℕ) (l : Lane) → IsGood l → slice_get lanes k ≡ Some l → has_ended l.taken ≡ false
+    → (step : Step) × (next : List Lane) × (file_of step ≡ k) × Happens step lanes next
 can_move lanes k l h at none = by_queue l.queue refl
   where
     moves : (step : Step) (m : Lane) → file_of step ≡ k → Moves step l m → (step : Step) × (next : List Lane) × (file_of step ≡ k) × Happens step lanes next
@@ -144,7 +157,8 @@ can_move lanes k l h at none = by_queue l.queue refl
     )
 
     -- if the queue is empty, what was sent was taken, so the source has more events
-    sends : l.queue ≡ [] → (rest : List Placed) → l.source ≡ l.sent ++ rest → has_ended l.sent ≡ false → (step : Step) × (next : List Lane) × (file_of step ≡ k) × Happens step lanes next
+    sends : l.queue ≡ [] → (rest : List Placed) → l.source ≡ l.sent ++ rest → has_ended l.sent ≡ false
+        → (step : Step) × (next : List Lane) × (file_of step ≡ k) × Happens step lanes next
     sends empty [] is going = absurd (true≢false (sym h.ends ∙ ap has_ended (is ∙ append_nil l.sent) ∙ going))
     sends empty (e ∷ rest) is going = moves (put k (e ∷ [])) (record l { sent = l.sent ++ e ∷ []; queue = l.queue ++ (e ∷ []) ∷ [] }) refl record {
       room = omega (arith, ap length empty, h.has_place);
@@ -158,10 +172,12 @@ can_move lanes k l h at none = by_queue l.queue refl
     by_queue [] is =
         let same : l.taken ≡ l.sent = sym (append_nil l.taken) ∙ ap (λ q. l.taken ++ joined q) (sym is) ∙ h.in_order in
         sends is h.of_source.0 h.of_source.1 (ap has_ended (sym same) ∙ none)
-    by_queue (m ∷ rest) is = moves (get k) (record l { queue = rest; taken = l.taken ++ m }) refl record { message = m; rest = rest; front = is; after_it = refl }
+    by_queue (m ∷ rest) is =
+        moves (get k) (record l { queue = rest; taken = l.taken ++ m }) refl record { message = m; rest = rest; front = is; after_it = refl }
 
 pub never_stuck : IsNeverStuck
-never_stuck first lanes steps k l fresh h at none = can_move lanes k l (all_get IsGood lanes k l (leads_good first lanes steps (all_map IsFresh IsGood first fresh_good fresh) h) at) at none
+never_stuck first lanes steps k l fresh h at none =
+    can_move lanes k l (all_get IsGood lanes k l (leads_good first lanes steps (all_map IsFresh IsGood first fresh_good fresh) h) at) at none
 
 pub delivered : IsDelivered
 delivered first lanes steps fresh h no_more =
@@ -175,5 +191,6 @@ delivered first lanes steps fresh h no_more =
     all_taken : (l : Lane) → IsGood l → (b : Bool) → has_ended l.taken ≡ b → (has_ended l.taken ≡ false → ⊥) → l.taken ≡ l.source
     all_taken l g false is stuck = absurd (stuck is)
     all_taken l g true is stuck =
-        let whole : l.source ≡ l.taken ++ (joined l.queue ++ g.of_source.0) = g.of_source.1 ∙ ap (λ s. s ++ g.of_source.0) (sym g.in_order) ∙ append_assoc l.taken (joined l.queue) g.of_source.0 in
+        let whole : l.source ≡ l.taken ++ (joined l.queue ++ g.of_source.0) =
+        g.of_source.1 ∙ ap (λ s. s ++ g.of_source.0) (sym g.in_order) ∙ append_assoc l.taken (joined l.queue) g.of_source.0 in
         sym (whole ∙ ap (λ r. l.taken ++ r) (ended_whole l.taken (joined l.queue ++ g.of_source.0) (subst IsOrderly whole g.orderly) is) ∙ append_nil l.taken)

@@ -12,9 +12,11 @@ pub sends_again : (v : Log) (ms : List Message) (n : ℕ) → v ≡ Sends ms n �
 sends_again v ms n e = e ∙ ap (λ u. Sends (out_of u) n) (sym e)
 
 -- the events sent are the same after the batch became a message
-pub sent_out : (v w : Log) (n : ℕ) (m : Message) (batch rest : List Placed) → w ≡ Sends (out_of v ++ m ∷ []) n → m ≡ batch → rest ≡ [] → events_of (out_of w) ++ rest ≡ events_of (out_of v) ++ batch
+pub sent_out : (v w : Log) (n : ℕ) (m : Message) (batch rest : List Placed) → w ≡ Sends (out_of v ++ m ∷ []) n → m ≡ batch → rest ≡ []
+    → events_of (out_of w) ++ rest ≡ events_of (out_of v) ++ batch
 sent_out v w n m batch rest e same none =
-    ap (λ l. events_of (out_of w) ++ l) none ∙ append_nil (events_of (out_of w)) ∙ ap (λ u. events_of (out_of u)) e ∙ events_of-push (out_of v) m ∙ ap (λ l. events_of (out_of v) ++ l) same
+    ap (λ l. events_of (out_of w) ++ l) none ∙ append_nil (events_of (out_of w)) ∙ ap (λ u. events_of (out_of u)) e ∙ events_of-push (out_of v) m
+    ∙ ap (λ l. events_of (out_of v) ++ l) same
 
 -- a batch that is not sent with this event has room for another one
 pub has_room : (batch : List Placed) (e : Placed) → goes_out batch e ≡ false → length batch ≤ 31 → length batch ≤ 30

@@ -27,14 +27,20 @@ LeavesOthers = (step : Step) (before after : List Lane) (k : ℕ) → Happens st
 
 -- as long as the Ended of a file was not taken, a step of that file is possible
 abbrev pub IsNeverStuck : Type 0
-IsNeverStuck = (first lanes : List Lane) (steps : List Step) (k : ℕ) (l : Lane) → AllByRecursion IsFresh first → Leads first steps lanes → slice_get lanes k ≡ Some l → has_ended l.taken ≡ false
+IsNeverStuck =
+    (first lanes : List Lane) (steps : List Step) (k : ℕ) (l : Lane) → AllByRecursion IsFresh first → Leads first steps lanes → slice_get lanes k ≡ Some l
+    → has_ended l.taken ≡ false
     → (step : Step) × (next : List Lane) × (file_of step ≡ k) × Happens step lanes next
 
 -- a schedule has at most twice as many steps as the sources have events
 abbrev pub IsBounded : Type 0
-IsBounded = (first lanes : List Lane) (steps : List Step) → AllByRecursion IsFresh first → Leads first steps lanes → length steps ≤ 2 * sum (map (λ l. length l.source) first)
+IsBounded =
+    (first lanes : List Lane) (steps : List Step) → AllByRecursion IsFresh first → Leads first steps lanes
+    → length steps ≤ 2 * sum (map (λ l. length l.source) first)
 
 -- a schedule that no step can extend has taken all events of every source
 abbrev pub IsDelivered : Type 0
-IsDelivered = (first lanes : List Lane) (steps : List Step) → AllByRecursion IsFresh first → Leads first steps lanes → ((step : Step) (next : List Lane) → ¬ Happens step lanes next)
+IsDelivered =
+    (first lanes : List Lane) (steps : List Step) → AllByRecursion IsFresh first → Leads first steps lanes
+    → ((step : Step) (next : List Lane) → ¬ Happens step lanes next)
     → map (λ l. l.taken) lanes ≡ map (λ l. l.source) first

@@ -11,7 +11,8 @@ invariant-loop-event g l = record {
   ending : ending_told l.file ≡ None;
   name : g.S.Sink.name l.sink ≡ g.S.Sink.name l.fn.sink;
   grows : IsPrefix (g.S.Sink.list l.fn.sink) (g.S.Sink.list l.sink);
-  stands : (layout : LayoutTable) (b : List ℕ) → Stands layout l.fn.file b (g.S.Sink.list l.fn.sink) → Stands layout l.file (b ++ take l.used l.piece) (g.S.Sink.list l.sink);
+  stands : (layout : LayoutTable) (b : List ℕ) → Stands layout l.fn.file b (g.S.Sink.list l.fn.sink)
+      → Stands layout l.file (b ++ take l.used l.piece) (g.S.Sink.list l.sink);
 }
 
 abbrev pub decreases-loop-event : goal.decreases-loop-event

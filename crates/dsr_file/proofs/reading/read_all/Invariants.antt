@@ -9,5 +9,6 @@ invariant-loop g l = record {
   ending : ending_told l.file ≡ None;
   count : bytes_used l.file ≤ 4096 * l.counter;
   name : g.S.Sink.name l.sink ≡ g.S.Sink.name l.fn.sink;
-  read : (layout : LayoutTable) → Stands layout l.fn.file [] (g.S.Sink.list l.fn.sink) → Reads layout (g.R.Source.told l.fn.reader) (g.R.Source.told l.reader) l.counter l.file (g.S.Sink.list l.sink);
+  read : (layout : LayoutTable) → Stands layout l.fn.file [] (g.S.Sink.list l.fn.sink)
+      → Reads layout (g.R.Source.told l.fn.reader) (g.R.Source.told l.reader) l.counter l.file (g.S.Sink.list l.sink);
 }

@@ -9,5 +9,6 @@ returns-in-Ok-clause-steps c = λ ls k e i.
     let line = c.args.line.now in
     let numbers = c.count.ensures in
     added_good old new ls line None k e i
-    (member_adds old new line c.requires.member (numbers.stage ∙ c.in-Ok.ensures.next) numbers.lines numbers.records numbers.skipped_lines numbers.skipped_records numbers.summaries numbers.blocks)
+    (member_adds old new line c.requires.member (numbers.stage ∙ c.in-Ok.ensures.next) numbers.lines numbers.records numbers.skipped_lines
+    numbers.skipped_records numbers.summaries numbers.blocks)
     (member_has_no_counts old new line c.requires.member)

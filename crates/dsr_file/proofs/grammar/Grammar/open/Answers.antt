@@ -9,6 +9,7 @@ returns-clause-steps c = λ ls k e i.
     let line = c.args.line.now in
     let numbers = c.count.ensures in
     added_good old new ls line c.open.new.closed k e i
-    (resource_adds old new line c.open.new.closed c.requires.resource (numbers.stage ∙ c.in-Ok.ensures.next) c.in-Ok.ensures.given numbers.lines numbers.records numbers.skipped_lines numbers.skipped_records
+    (resource_adds old new line c.open.new.closed c.requires.resource
+    (numbers.stage ∙ c.in-Ok.ensures.next) c.in-Ok.ensures.given numbers.lines numbers.records numbers.skipped_lines numbers.skipped_records
     numbers.summaries (numbers.blocks ∙ ap (λ n. old.blocks + n) c.block_count-blocks.ensures))
     (resource_has_no_counts old new line c.requires.resource)

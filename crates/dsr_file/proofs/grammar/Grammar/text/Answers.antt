@@ -4,11 +4,18 @@ use Rattle.dsr_file.proofs.TestLemmas.{of_utf8_skipped, of_utf8_record, faulty_s
 use Rattle.dsr_file.proofs.grammar.Grammar.text.Goals as goal
 
 pub returns-then-is_skipped-clause-steps : goal.returns-then-is_skipped-clause-steps
-returns-then-is_skipped-clause-steps c = λ ls k. rw (of_utf8_skipped c.args.layout.now c.args.text.now (sym c.is_skipped.ensures ∙ c.if-is_skipped.true), c.requires.none) (c.skip_line.ensures.steps ls k)
+returns-then-is_skipped-clause-steps c =
+    λ ls k. rw (of_utf8_skipped c.args.layout.now c.args.text.now (sym c.is_skipped.ensures ∙ c.if-is_skipped.true), c.requires.none)
+    (c.skip_line.ensures.steps ls k)
 
 pub returns-in-Err-clause-steps : goal.returns-in-Err-clause-steps
 returns-in-Err-clause-steps c = λ ls k.
-    rw (of_utf8_record c.args.layout.now c.args.text.now _ (sym c.is_skipped.ensures ∙ c.if-is_skipped.false) (sym c.in-Err.ensures), c.file_fault.ensures, c.requires.none)
+    rw (
+      of_utf8_record c.args.layout.now c.args.text.now _ (sym c.is_skipped.ensures ∙ c.if-is_skipped.false)
+          (sym c.in-Err.ensures),
+      c.file_fault.ensures,
+      c.requires.none,
+    )
     (faulty_steps c.args.self.now ls (file_fault c.in-Err.fault) (own_not_count c.in-Err.fault))
 
 pub returns-in-Ok-clause-steps : goal.returns-in-Ok-clause-steps

@@ -9,7 +9,10 @@ use Rattle.dsr_file.proofs.reader.FileReader.read.Goals as goal
 
 pub returns-in-Some-clause-stands : goal.returns-in-Some-clause-stands
 returns-in-Some-clause-stands c = λ layout b es s.
-    stands_more layout c.step-used.new.self b c.args.piece.now es c.loop-used.used c.step-used.result _ _ c.loop-used.invariant.bound (ap (λ n. placed n (option_to_list c.step-used.new.part)) c.loop-used.invariant.place ∙ ap (λ o. placed c.args.self.now.place (option_to_list o)) c.in-Some.is) (c.step-used.ensures.stands layout _ es (c.loop-used.invariant.stands layout b es s))
+    stands_more layout c.step-used.new.self b c.args.piece.now es c.loop-used.used c.step-used.result _ _ c.loop-used.invariant.bound
+    (ap (λ n. placed n (option_to_list c.step-used.new.part)) c.loop-used.invariant.place
+    ∙ ap (λ o. placed c.args.self.now.place (option_to_list o)) c.in-Some.is)
+    (c.step-used.ensures.stands layout _ es (c.loop-used.invariant.stands layout b es s))
 
 pub loop-used-preserved : goal.loop-used-preserved
 loop-used-preserved c =
@@ -23,5 +26,7 @@ loop-used-preserved c =
       ending = c.step-used.ensures.ending ∙ c.loop-used.invariant.ending;
       stands = λ layout b es s.
           subst (λ x. Stands layout c.step-used.new.self (b ++ take (c.loop-used.used + c.step-used.result) c.args.piece.now) x) (append-nil es)
-          (stands_more layout c.step-used.new.self b c.args.piece.now es c.loop-used.used c.step-used.result _ [] c.loop-used.invariant.bound (ap (λ o. placed c.loop-used.self.place (option_to_list o)) none) (c.step-used.ensures.stands layout _ es (c.loop-used.invariant.stands layout b es s)));
+          (stands_more layout c.step-used.new.self b c.args.piece.now es c.loop-used.used c.step-used.result _ [] c.loop-used.invariant.bound
+          (ap (λ o. placed c.loop-used.self.place (option_to_list o)) none)
+          (c.step-used.ensures.stands layout _ es (c.loop-used.invariant.stands layout b es s)));
     }

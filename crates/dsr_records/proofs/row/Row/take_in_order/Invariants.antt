@@ -5,4 +5,5 @@ use Rattle.dsr_records.proofs.row.Row.take_in_order.Given as goal
 
 abbrev pub invariant-loop-position : goal.invariant-loop-position
 invariant-loop-position l =
-    (map behind l.self-inside.cells.items ≡ map (cell_in l.fn.cursor) (take l.position-index l.positions)) × (l.cursor ≡ l.fn.cursor) × (l.done ≡ l.position-index)
+    (map behind l.self-inside.cells.items ≡ map (cell_in l.fn.cursor) (take l.position-index l.positions)) × (l.cursor ≡ l.fn.cursor)
+    × (l.done ≡ l.position-index)

@@ -23,15 +23,21 @@ loop-at-preserved-else-high-eq0 c =
     let at = c.loop-at.at in
     let le : at + 16 ≤ length b = omega (arith, c.if-bytes-at-ge16.true, c.loop-at.invariant.0) in
     let run = run_before b at c.high_16-high.result le c.high_16-high.ensures (omega (arith, c.if-high-eq0.false)) in
-    let char = c.char_len-size.ensures (omega (arith, c.if-size-eq0.false)) in
-    (char.0, utf8_more b (at + count_trailing_zeros 64 c.high_16-high.result) c.char_len-size.result (utf8_more b at (count_trailing_zeros 64 c.high_16-high.result) c.loop-at.invariant.1 run.1) char.1)
+    let char = c.char_len-size.ensures (omega (arith, c.if-size-eq0.false)) in (
+      char.0,
+      utf8_more b (at + count_trailing_zeros 64 c.high_16-high.result) c.char_len-size.result
+          (utf8_more b at (count_trailing_zeros 64 c.high_16-high.result) c.loop-at.invariant.1 run.1) char.1,
+    )
 
 pub loop-at-preserved-then-bytes-at-lt128 : goal.loop-at-preserved-then-bytes-at-lt128
 loop-at-preserved-then-bytes-at-lt128 c =
     let b = c.args.bytes.now in
     let at = c.loop-at.at in
-    let le : at + 1 ≤ length b = omega (arith, c.loop-at-test.true) in
-    (le, utf8_more b at 1 c.loop-at.invariant.1 (utf8_ascii b at 1 le (λ k from to. (let same : k ≡ at = omega arith in rw same (omega (arith, c.if-bytes-at-lt128.true))))))
+    let le : at + 1 ≤ length b = omega (arith, c.loop-at-test.true) in (
+      le,
+      utf8_more b at 1 c.loop-at.invariant.1 (utf8_ascii b at 1 le
+          (λ k from to. (let same : k ≡ at = omega arith in rw same (omega (arith, c.if-bytes-at-lt128.true))))),
+    )
 
 pub loop-at-preserved : goal.loop-at-preserved
 loop-at-preserved c =

@@ -8,4 +8,5 @@ returns c =
     let e = c.take-event.ensures.value in
     let is = e ∙ c.index_mut.ensures.value ∙ ap (λ d. slice_index_or b.slots.items b.out d) (sym e) in
     sym c.self.view_is
-    ∙ first_taken b.slots.items b.out b.count c.take-event.new.dest c.take-event.result (omega (arith, c.if-self.false, c.self.invariant.0)) c.self.invariant.1 is
+    ∙ first_taken b.slots.items b.out b.count c.take-event.new.dest c.take-event.result
+    (omega (arith, c.if-self.false, c.self.invariant.0)) c.self.invariant.1 is

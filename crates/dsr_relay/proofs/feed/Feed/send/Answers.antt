@@ -20,9 +20,17 @@ invariant_of-self-then-not-goes_out g c =
     record {
       seat = c.self.invariant.seat;
       knows = c.self.invariant.knows;
-      waits = omega (arith, ap length c.in_ok-self-inside.ensures, length-append f.batch (e ∷ []), has_room f.batch e (sym c.goes_out-goes_out.ensures ∙ c.if-not-goes_out.true) c.self.invariant.waits);
+      waits =
+          omega (
+            arith,
+            ap length c.in_ok-self-inside.ensures,
+            length-append f.batch (e ∷ []),
+            has_room f.batch e
+                (sym c.goes_out-goes_out.ensures ∙ c.if-not-goes_out.true) c.self.invariant.waits,
+          );
       orderly = subst IsOrderly (sym same) asked;
-      count = omega (arith, ap (λ (v : Placed). v.place) c.event.view_is, orderly_next (sent_of f) e [] asked, ap length same, length-append (sent_of f) (e ∷ []));
+      count =
+          omega (arith, ap (λ (v : Placed). v.place) c.event.view_is, orderly_next (sent_of f) e [] asked, ap length same, length-append (sent_of f) (e ∷ []));
     }
 
 pub invariant_of-self-in_default : goal.invariant_of-self-in_default
@@ -40,7 +48,8 @@ invariant_of-self-in_default g c =
       knows = sends_again _ _ _ went.0;
       waits = omega (arith, ap length went.1);
       orderly = subst IsOrderly (sym same) asked;
-      count = omega (arith, ap (λ (v : Placed). v.place) c.event.view_is, orderly_next (sent_of f) e [] asked, ap length same, length-append (sent_of f) (e ∷ []));
+      count =
+          omega (arith, ap (λ (v : Placed). v.place) c.event.view_is, orderly_next (sent_of f) e [] asked, ap length same, length-append (sent_of f) (e ∷ []));
     }
 
 pub returns-in_default-clause-sent : goal.returns-in_default-clause-sent
@@ -55,7 +64,8 @@ returns-in_default-clause-sent g c =
     let seat = c.send_out.ensures.seat in
     let was = c.self.invariant.seat in
     let batch = went.1 ∙ sym (batch_goes f.batch e (sym c.goes_out-goes_out.ensures ∙ c.if-not-goes_out.false)) in
-    let next : feed_view (record f { pass = c.send_out.new.pass; batch = c.send_out.new.batch; count = c.event.inside.place + 1 }) ≡ record (feed_view f) { sent = sent_of f ++ e ∷ []; batch = batch_after f.batch e } =
+    let next : feed_view (record f { pass = c.send_out.new.pass; batch = c.send_out.new.batch; count = c.event.inside.place + 1 })
+    ≡ record (feed_view f) { sent = sent_of f ++ e ∷ []; batch = batch_after f.batch e } =
     λ i. record {
       name = record { of = record {}; table = (seat.0 ∙ sym was.0) i; key = (seat.1 ∙ sym was.1) i; capacity = (feed_view f).name.capacity };
       sent = same i;

@@ -10,7 +10,9 @@ invariant_of-self-2 c =
     let t = c.self.inside in
     let taken = take t.count (arrived t) in
     let was = c.in_ok-event.ensures in
-    let next = takes_next (arrived t) taken c.take_first.new.self c.in_ok-event.event _ c.event.view_is (ap (λ l. taken ++ l) (sym was) ∙ c.self.invariant.whole) c.self.invariant.orderly in
+    let next =
+    takes_next (arrived t) taken c.take_first.new.self c.in_ok-event.event _ c.event.view_is
+    (ap (λ l. taken ++ l) (sym was) ∙ c.self.invariant.whole) c.self.invariant.orderly in
     record {
       seat = c.self.invariant.seat;
       knows = c.self.invariant.knows;
@@ -26,8 +28,11 @@ returns-clause-taken c =
     let t = c.self.inside in
     let taken = take t.count (arrived t) in
     let e = c.in_ok-event.event in
-    let next = takes_next (arrived t) taken c.take_first.new.self e _ c.event.view_is (ap (λ l. taken ++ l) (sym c.in_ok-event.ensures) ∙ c.self.invariant.whole) c.self.invariant.orderly in
-    let view : tap_view (record t { held = c.take_first.new.self; count = c.event.inside.place + 1; ended = c.is_ended-self-inside.result }) ≡ record (tap_view t) { taken = taken ++ e ∷ []; held = c.take_first.new.self } =
+    let next =
+    takes_next (arrived t) taken c.take_first.new.self e _ c.event.view_is
+    (ap (λ l. taken ++ l) (sym c.in_ok-event.ensures) ∙ c.self.invariant.whole) c.self.invariant.orderly in
+    let view : tap_view (record t { held = c.take_first.new.self; count = c.event.inside.place + 1; ended = c.is_ended-self-inside.result })
+    ≡ record (tap_view t) { taken = taken ++ e ∷ []; held = c.take_first.new.self } =
     λ i. record { name = (tap_view t).name; taken = next.front i; held = c.take_first.new.self } in
     view ∙ ap (λ (v : TapView). record v { taken = v.taken ++ e ∷ []; held = c.take_first.new.self }) c.self.view_is
 
@@ -35,11 +40,14 @@ pub returns-clause-place : goal.returns-clause-place
 returns-clause-place c =
     let t = c.self.inside in
     let taken = take t.count (arrived t) in
-    let next = takes_next (arrived t) taken c.take_first.new.self c.in_ok-event.event _ c.event.view_is (ap (λ l. taken ++ l) (sym c.in_ok-event.ensures) ∙ c.self.invariant.whole) c.self.invariant.orderly in
+    let next =
+    takes_next (arrived t) taken c.take_first.new.self c.in_ok-event.event _ c.event.view_is
+    (ap (λ l. taken ++ l) (sym c.in_ok-event.ensures) ∙ c.self.invariant.whole) c.self.invariant.orderly in
     next.place ∙ ap (λ (v : TapView). length v.taken) c.self.view_is
 
 pub returns-clause-orderly : goal.returns-clause-orderly
 returns-clause-orderly c =
     let t = c.self.inside in
     let taken = take t.count (arrived t) in
-    (takes_next (arrived t) taken c.take_first.new.self c.in_ok-event.event _ c.event.view_is (ap (λ l. taken ++ l) (sym c.in_ok-event.ensures) ∙ c.self.invariant.whole) c.self.invariant.orderly).orderly
+    (takes_next (arrived t) taken c.take_first.new.self c.in_ok-event.event _ c.event.view_is
+    (ap (λ l. taken ++ l) (sym c.in_ok-event.ensures) ∙ c.self.invariant.whole) c.self.invariant.orderly).orderly

@@ -15,7 +15,9 @@ invariant_of-self-2 g c =
     let t = c.self.inside in
     let none = ap (λ (v : TapView). v.held) c.self.view_is ∙ c.requires.none_held in
     let last = sym c.events.ensures ∙ c.in-Some-split_last.ensures.cases.0 in
-    let next = lot_next (view t.pass) (view c.take_next.new.pass) c.in-Some.batch t.count t.held _ _ _ c.last.view_is c.in-Some.ensures.taken c.self.invariant.whole none last c.in-Some.ensures.orderly.0 in
+    let next =
+    lot_next (view t.pass) (view c.take_next.new.pass) c.in-Some.batch t.count t.held _ _ _ c.last.view_is c.in-Some.ensures.taken c.self.invariant.whole
+    none last c.in-Some.ensures.orderly.0 in
     record {
       seat = c.in-Some.ensures.seat;
       knows = takes_again _ _ c.in-Some.ensures.taken;
@@ -31,12 +33,20 @@ returns-clause-taken g c =
     let t = c.self.inside in
     let none = ap (λ (v : TapView). v.held) c.self.view_is ∙ c.requires.none_held in
     let last = sym c.events.ensures ∙ c.in-Some-split_last.ensures.cases.0 in
-    let next = lot_next (view t.pass) (view c.take_next.new.pass) c.in-Some.batch t.count t.held _ _ _ c.last.view_is c.in-Some.ensures.taken c.self.invariant.whole none last c.in-Some.ensures.orderly.0 in
+    let next =
+    lot_next (view t.pass) (view c.take_next.new.pass) c.in-Some.batch t.count t.held _ _ _ c.last.view_is c.in-Some.ensures.taken c.self.invariant.whole
+    none last c.in-Some.ensures.orderly.0 in
     let seat = c.in-Some.ensures.seat in
     let was = c.self.invariant.seat in
     let front = next.front in
-    let after : tap_view (record t { pass = c.take_next.new.pass; count = c.last.inside.place + 1; ended = c.is_ended-self-inside.result }) ≡ record (tap_view t) { taken = take t.count (arrived t) ++ c.in-Some.batch; held = [] } =
-    λ i. record { name = record { of = record {}; table = (seat.0 ∙ sym was.0) i; key = (seat.1 ∙ sym was.1) i; capacity = (tap_view t).name.capacity }; taken = front i; held = none i } in
+    let after : tap_view (record t { pass = c.take_next.new.pass; count = c.last.inside.place + 1; ended = c.is_ended-self-inside.result })
+    ≡ record (tap_view t) { taken = take t.count (arrived t) ++ c.in-Some.batch; held = [] } =
+    λ i. record {
+      name = record { of = record {}; table = (seat.0 ∙ sym was.0) i; key = (seat.1 ∙ sym was.1) i; capacity = (tap_view t).name.capacity };
+      taken =
+          front i;
+      held = none i;
+    } in
     after ∙ ap (λ (v : TapView). record v { taken = v.taken ++ c.in-Some.batch; held = [] }) c.self.view_is
 
 pub returns-clause-few : goal.returns-clause-few
@@ -49,4 +59,5 @@ returns-clause-orderly g c =
     let t = c.self.inside in
     let none = ap (λ (v : TapView). v.held) c.self.view_is ∙ c.requires.none_held in
     let last = sym c.events.ensures ∙ c.in-Some-split_last.ensures.cases.0 in
-    (lot_next (view t.pass) (view c.take_next.new.pass) c.in-Some.batch t.count t.held _ _ _ c.last.view_is c.in-Some.ensures.taken c.self.invariant.whole none last c.in-Some.ensures.orderly.0).orderly
+    (lot_next (view t.pass) (view c.take_next.new.pass) c.in-Some.batch t.count t.held _ _ _ c.last.view_is c.in-Some.ensures.taken c.self.invariant.whole none
+    last c.in-Some.ensures.orderly.0).orderly

@@ -10,7 +10,9 @@ invariant_of-self c =
     let taken = take t.count (arrived t) in
     let none = c.replace-batch.ensures.after ∙ c.none-none.ensures in
     let all = ap (λ l. taken ++ l) c.replace-batch.ensures.value ∙ c.self.invariant.whole in
-    let next = takes_lot (arrived t) taken c.replace-batch.result _ _ _ c.last.view_is all (sym c.events.ensures ∙ c.in-Some.ensures.cases.0) c.self.invariant.orderly in
+    let next =
+    takes_lot (arrived t) taken c.replace-batch.result _ _ _ c.last.view_is all
+    (sym c.events.ensures ∙ c.in-Some.ensures.cases.0) c.self.invariant.orderly in
     record {
       seat = c.self.invariant.seat;
       knows = c.self.invariant.knows;
@@ -27,8 +29,11 @@ returns-clause-taken c =
     let taken = take t.count (arrived t) in
     let none = c.replace-batch.ensures.after ∙ c.none-none.ensures in
     let all = ap (λ l. taken ++ l) c.replace-batch.ensures.value ∙ c.self.invariant.whole in
-    let next = takes_lot (arrived t) taken c.replace-batch.result _ _ _ c.last.view_is all (sym c.events.ensures ∙ c.in-Some.ensures.cases.0) c.self.invariant.orderly in
-    let after : tap_view (record t { held = c.replace-batch.new.dest; count = c.last.inside.place + 1; ended = c.is_ended-self-inside.result }) ≡ record (tap_view t) { taken = taken ++ c.replace-batch.result; held = [] } =
+    let next =
+    takes_lot (arrived t) taken c.replace-batch.result _ _ _ c.last.view_is all
+    (sym c.events.ensures ∙ c.in-Some.ensures.cases.0) c.self.invariant.orderly in
+    let after : tap_view (record t { held = c.replace-batch.new.dest; count = c.last.inside.place + 1; ended = c.is_ended-self-inside.result })
+    ≡ record (tap_view t) { taken = taken ++ c.replace-batch.result; held = [] } =
     λ i. record { name = (tap_view t).name; taken = next.front i; held = none i } in
     after ∙ ap (λ (v : TapView). record v { taken = v.taken ++ c.replace-batch.result; held = [] }) c.self.view_is
 
@@ -37,4 +42,5 @@ returns-clause-orderly c =
     let t = c.self.inside in
     let taken = take t.count (arrived t) in
     let all = ap (λ l. taken ++ l) c.replace-batch.ensures.value ∙ c.self.invariant.whole in
-    (takes_lot (arrived t) taken c.replace-batch.result _ _ _ c.last.view_is all (sym c.events.ensures ∙ c.in-Some.ensures.cases.0) c.self.invariant.orderly).orderly
+    (takes_lot (arrived t) taken c.replace-batch.result _ _ _ c.last.view_is all
+    (sym c.events.ensures ∙ c.in-Some.ensures.cases.0) c.self.invariant.orderly).orderly

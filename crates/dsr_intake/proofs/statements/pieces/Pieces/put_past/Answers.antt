@@ -11,4 +11,5 @@ pub returns : goal.returns
 returns g c =
     let told = g.W.Outlet.told in
     carry_then told c.args.self.now c.send_waiting.new.self c.send_past.new.self [] c.args.bytes.now c.send_waiting.ensures.nothing
-    (carry_then told c.send_waiting.new.self c.keep.new.self c.send_past.new.self [] c.args.bytes.now (rw c.if-keep.false at c.keep.ensures) c.send_past.ensures)
+    (carry_then told c.send_waiting.new.self c.keep.new.self c.send_past.new.self [] c.args.bytes.now
+    (rw c.if-keep.false at c.keep.ensures) c.send_past.ensures)
