@@ -1,5 +1,5 @@
-use Rattle.std.proofs.Common.{arith, sym, ◌∙◌, ◌≡◌, ◌<◌, ◌^◌, length}
-use Rattle.dsr_cells.proofs.Numbers.{sum-lt, sum_small, sum_more, digits_more}
+use Rattle.std.proofs.Common.{arith, sym, ◌∙◌, ◌≡◌, ◌<◌, ◌^◌, length, get_or}
+use Rattle.dsr_cells.proofs.Numbers.{sum-lt, sum_small, sum_more, digits_more, digit_low}
 use Rattle.dsr_cells.proofs.number.leading_digits.Goals as goal
 
 pub returns-then-count-most-clause-bound : goal.returns-then-count-most-clause-bound
@@ -19,11 +19,13 @@ overflow_add-sum c =
     omega arith
 
 pub loop-count-preserved : goal.loop-count-preserved
-loop-count-preserved c = record {
-  few = omega arith;
-  digits = digits_more c.args.bytes.now c.loop-count.count (omega arith) c.loop-count.invariant.digits (sym c.is_ascii_digit.ensures.value ∙ c.if-not-is_ascii_digit.false);
-  value = omega (arith, c.from.ensures, c.loop-count.invariant.value, sum_more c.args.bytes.now c.loop-count.count (omega arith));
-}
+loop-count-preserved c =
+    let digit = sym c.is_ascii_digit.ensures.value ∙ c.if-not-is_ascii_digit.false in
+    record {
+      few = omega arith;
+      digits = digits_more c.args.bytes.now c.loop-count.count (omega arith) c.loop-count.invariant.digits digit;
+      value = omega (arith, c.from.ensures, c.loop-count.invariant.value, sum_more c.args.bytes.now c.loop-count.count (omega arith), digit_low (get_or c.args.bytes.now c.loop-count.count 0) digit);
+    }
 
 pub returns-clause-bound : goal.returns-clause-bound
 returns-clause-bound c =
