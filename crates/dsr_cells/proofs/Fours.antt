@@ -1,5 +1,5 @@
 -- Lemmas on four digits in the bytes of a word.
-use Rattle.std.proofs.Common.{arith, ◌≡◌, ◌≤◌, ◌<◌, ◌+◌, ◌-◌, ◌*◌, ◌/◌, ◌%◌, ◌^◌, ◌∙◌, ◌++◌, ◌∷◌, [], ℕ, Bool, List, length, take, drop, get_or, true, false, suc, Fits, w8, w32, drop-cons, not, refl, sym, ap, eqb, ltb, inl, inr}
+use Rattle.std.proofs.Common.{arith, ◌≡◌, ◌≤◌, ◌<◌, ◌+◌, ◌-◌, ◌*◌, ◌/◌, ◌^◌, ◌∙◌, ◌∷◌, [], ℕ, List, length, take, drop, get_or, true, suc, Fits, w8, w16, w32, drop-cons, not, refl, sym, ap, eqb, ltb}
 use Rattle.std.specs.Prelude.{◌||◌}
 use Rattle.std.specs.Int.{from_le_bytes}
 use Rattle.std.specs.Simd.Lanes.{chunk}
@@ -7,7 +7,7 @@ use Rattle.std.specs.Int.Bits.{bit_and, bit_xor}
 use Rattle.std.specs.Char.{is_ascii_digit}
 use Rattle.std.specs.List.{list_all}
 use Rattle.std.proofs.lemmas.Nat.{and_block, xor_block, and_mask, xor_lt}
-use Rattle.std.proofs.lemmas.Bool.{agree_below, agree_below_at, eqb-true, cases_lt}
+use Rattle.std.proofs.lemmas.Bool.{agree_below_at, eqb-true}
 use Rattle.std.proofs.lemmas.Bool.Decides.{nat_tests}
 use Rattle.dsr_cells.specs.Numbers.{digits_sum}
 use Rattle.dsr_cells.specs.Fours.{word_of_four}
@@ -133,3 +133,27 @@ four_read bs at word h fits is passes =
 
 pub four_small : (bs : List ℕ) → list_all is_ascii_digit bs ≡ true → length bs ≤ 4 → digits_sum bs < 10000
 four_small bs digits few = digits_sum-lt bs 4 digits few
+
+-- the same of two bytes
+pub two_read : (bs : List ℕ) (at word : ℕ) → ((k : ℕ) → Fits w8 (get_or bs k 0))
+    → word ≡ bit_xor (from_le_bytes w16 (get_or bs at 0 ∷ get_or bs (at + 1) 0 ∷ [])) 0x3030
+    → ((a b c d : ℕ) → a < 256 → b < 256 → c < 256 → d < 256 → word ≡ word_of_four a b c d → (a < 10) × (b < 10) × (c < 10) × (d < 10))
+    → (is_ascii_digit (get_or bs at 0) ≡ true) × (is_ascii_digit (get_or bs (at + 1) 0) ≡ true)
+    × ((n : ℕ) → ((a b : ℕ) → a < 10 → b < 10 → word ≡ word_of_four a b 0 0 → n ≡ 10 * a + b) → n ≡ (get_or bs at 0 - 48) * 10 + (get_or bs (at + 1) 0 - 48))
+two_read bs at word fits is passes =
+    let a = get_or bs at 0 in
+    let b = get_or bs (at + 1) 0 in
+    let A : a < 256 = (fits at).fits in
+    let B : b < 256 = (fits (at + 1)).fits in
+    let plain : from_le_bytes w16 (a ∷ b ∷ []) ≡ word_of_four a b 0 0 = omega arith in
+    let none : bit_xor 0 0 ≡ 0 = refl in
+    let lanes : word ≡ word_of_four (bit_xor a 48) (bit_xor b 48) 0 0 = is ∙ ap (λ w. bit_xor w 0x3030) plain ∙ xor_four a b 0 0 48 48 0 0 A B (omega arith) (omega arith) (omega arith) (omega arith) in
+    let few = passes (bit_xor a 48) (bit_xor b 48) 0 0 (xor_lt 8 a 48 A (omega arith)) (xor_lt 8 b 48 B (omega arith)) (omega arith) (omega arith) lanes in
+    let p = digit a A few.0 in
+    let q = digit b B few.1 in
+    (p.0, q.0, λ n number. number _ _ few.0 few.1 lanes ∙ omega (arith, p.1, q.1))
+
+pub two_is : (a b word : ℕ) → a < 10 → b < 10 → word ≡ word_of_four a b 0 0 → bit_and word 255 * 10 + word / 256 ≡ 10 * a + b
+two_is a b word A B e =
+    let low_byte : bit_and word 255 ≡ a = and_mask word 8 ∙ omega arith in
+    rw low_byte (omega arith)

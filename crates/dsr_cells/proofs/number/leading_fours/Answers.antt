@@ -1,4 +1,4 @@
-use Rattle.std.proofs.Common.{arith, ◌<◌, ◌∙◌, take, drop, length-take}
+use Rattle.std.proofs.Common.{arith, ◌<◌, drop, length-take}
 use Rattle.dsr_cells.proofs.Fours.{four_small}
 use Rattle.dsr_cells.proofs.number.leading_fours.Goals as goal
 

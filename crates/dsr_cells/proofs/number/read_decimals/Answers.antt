@@ -1,4 +1,3 @@
-use Rattle.std.proofs.Common.{arith, ◌<◌, ◌^◌}
 use Rattle.dsr_cells.proofs.Numbers.{scaled-lt}
 use Rattle.dsr_cells.proofs.number.read_decimals.Goals as goal
 
