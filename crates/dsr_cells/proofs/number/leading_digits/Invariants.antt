@@ -4,9 +4,9 @@ use Rattle.std.specs.List.{list_all}
 use Rattle.dsr_cells.specs.Numbers.{digits_sum}
 use Rattle.dsr_cells.proofs.number.leading_digits.Given as goal
 
-abbrev pub invariant-loop-at : goal.invariant-loop-at
-invariant-loop-at l = record {
-  few : l.at ≤ l.most;
-  digits : list_all is_ascii_digit (take l.at l.bytes) ≡ true;
-  value : l.sum ≡ digits_sum (take l.at l.bytes);
+abbrev pub invariant-loop-count : goal.invariant-loop-count
+invariant-loop-count l = record {
+  few : l.count ≤ l.most;
+  digits : list_all is_ascii_digit (take l.count l.bytes) ≡ true;
+  value : l.sum ≡ digits_sum (take l.count l.bytes);
 }
