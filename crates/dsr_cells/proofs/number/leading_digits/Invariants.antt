@@ -6,6 +6,7 @@ use Rattle.dsr_cells.proofs.number.leading_digits.Given as goal
 
 abbrev pub invariant-loop-count : goal.invariant-loop-count
 invariant-loop-count l = record {
+  few : l.count ≤ l.most;
   digits : list_all is_ascii_digit (take l.count l.bytes) ≡ true;
-  value : l.count ≤ 12 → l.sum ≡ digits_sum (take l.count l.bytes);
+  value : l.sum ≡ digits_sum (take l.count l.bytes);
 }
