@@ -1,5 +1,5 @@
 -- Lemmas on four digits in the bytes of a word.
-use Rattle.std.proofs.Common.{arith, ◌≡◌, ◌≤◌, ◌<◌, ◌+◌, ◌-◌, ◌*◌, ◌/◌, ◌^◌, ◌∙◌, ◌∷◌, [], ℕ, List, length, take, drop, get_or, Some, None, ◌↔◌, ◌++◌, ◌&&◌, cond, leb, Bool, false, inl, inr, length-append, mul_assoc, true, suc, Fits, w8, w16, w32, drop-cons, not, refl, sym, ap, eqb, ltb}
+use Rattle.std.proofs.Common.{arith, ◌≡◌, ◌≤◌, ◌<◌, ◌+◌, ◌-◌, ◌*◌, ◌/◌, ◌^◌, ◌∙◌, ◌∷◌, [], ℕ, List, length, take, drop, get_or, Some, None, ◌↔◌, ◌++◌, Bool, false, inl, inr, length-append, mul_assoc, true, suc, Fits, w8, w16, w32, drop-cons, not, refl, sym, ap, eqb, ltb}
 use Rattle.std.specs.Prelude.{◌||◌, IfSome}
 use Rattle.std.specs.Int.{from_le_bytes}
 use Rattle.std.specs.Simd.Lanes.{chunk}
@@ -11,11 +11,11 @@ use Rattle.std.proofs.Math.Nat.{add-mul}
 use Rattle.std.proofs.Math.Seq.{take-add}
 use Rattle.std.proofs.lemmas.List.Folds.{list_all-append}
 use Rattle.std.proofs.lemmas.Simd.{length-chunk}
-use Rattle.std.proofs.lemmas.Bool.{agree_below_at, eqb-true, ltb-true, cases_Bool, and_left, and_parts}
+use Rattle.std.proofs.lemmas.Bool.{agree_below_at, eqb-true, ltb-true, cases_Bool, and_parts}
 use Rattle.std.proofs.lemmas.Bool.Decides.{nat_tests}
-use Rattle.dsr_cells.specs.Numbers.{digits_sum, digits_of}
+use Rattle.dsr_cells.specs.Numbers.{digits_sum}
 use Rattle.dsr_cells.specs.Fours.{if_digits, word_of_four}
-use Rattle.dsr_cells.proofs.Numbers.{digits_sum-lt, is_digits_yes}
+use Rattle.dsr_cells.proofs.Numbers.{digits_sum-lt}
 use Rattle.dsr_cells.proofs.Lanes.{part_fails}
 
 -- an operation by bits on each byte of a word
@@ -141,8 +141,8 @@ to_none text h = rw h refl
 pub of_some : (text : List ℕ) (n : ℕ) → if_digits text ≡ Some n → (list_all is_ascii_digit text ≡ true) × (n ≡ digits_sum text)
 of_some text n e = elim (cases_Bool (list_all is_ascii_digit text)) [
   | inl all ↦
-    let both : Some (digits_sum text) ≡ Some n = to_some text all (digits_sum text) refl ∙ e in
-    let same : n ≡ digits_sum text = cc in (all, same)
+      let both : Some (digits_sum text) ≡ Some n = to_some text all (digits_sum text) refl ∙ e in
+      let same : n ≡ digits_sum text = cc in (all, same)
   | inr other ↦ let no : None ≡ Some n = to_none text other ∙ e in cc
 ]
 
@@ -184,12 +184,6 @@ pub if_digits_small : (text : List ℕ) (most : ℕ) → length text ≤ most �
 if_digits_small text most few = elim (cases_Bool (list_all is_ascii_digit text)) [
   | inl all ↦ rw all (digits_sum-lt text most all few)
   | inr other ↦ rw other tt
-]
-
-pub as_digits_of : (most : ℕ) (text : List ℕ) → 0 < length text → length text ≤ most → if_digits text ≡ digits_of most text
-as_digits_of most text some few = elim (cases_Bool (list_all is_ascii_digit text)) [
-  | inl all ↦ sym (to_some text all (digits_sum text) refl) ∙ ap (λ b. cond b (Some (digits_sum text)) None) (sym (is_digits_yes most text all some few))
-  | inr other ↦ sym (to_none text other) ∙ ap (λ b. cond b (Some (digits_sum text)) None) (sym (and_left (list_all is_ascii_digit text) (ltb 0 (length text) && leb (length text) most) other))
 ]
 
 -- ---- bytes in a word, each of them taken with '0'
@@ -236,12 +230,12 @@ module _ (bs : List ℕ) (at word : ℕ) (passes : Bool) (fits : (k : ℕ) → F
     pub four_none : passes ≡ false → None ≡ if_digits (chunk at 4 bs)
     four_none no_ = elim (cases_Bool (list_all is_ascii_digit (chunk at 4 bs))) [
       | inl all ↦
-        let each = and_parts _ _ (rw (four_at bs at h) at all) in
-        let rest = and_parts _ _ each.1 in
-        let last = and_parts _ _ rest.1 in
-        let end = and_parts _ _ last.1 in
-        let yes_ : passes ≡ true = tells.1 (less p (fits at).fits each.0, less q (fits (at + 1)).fits rest.0, less r (fits (at + 2)).fits last.0, less s (fits (at + 3)).fits end.0) in
-        let wrong : true ≡ false = sym yes_ ∙ no_ in cc
+          let each = and_parts _ _ (rw (four_at bs at h) at all) in
+          let rest = and_parts _ _ each.1 in
+          let last = and_parts _ _ rest.1 in
+          let end = and_parts _ _ last.1 in
+          let yes_ : passes ≡ true = tells.1 (less p (fits at).fits each.0, less q (fits (at + 1)).fits rest.0, less r (fits (at + 2)).fits last.0, less s (fits (at + 3)).fits end.0) in
+          let wrong : true ≡ false = sym yes_ ∙ no_ in cc
       | inr other ↦ to_none (chunk at 4 bs) other
     ]
 
@@ -264,10 +258,10 @@ module _ (bs : List ℕ) (at word : ℕ) (passes : Bool) (fits : (k : ℕ) → F
     pub two_none : passes ≡ false → None ≡ if_digits (chunk at 2 bs)
     two_none no_ = elim (cases_Bool (list_all is_ascii_digit (chunk at 2 bs))) [
       | inl all ↦
-        let each = and_parts _ _ (rw (two_at bs at h) at all) in
-        let rest = and_parts _ _ each.1 in
-        let yes_ : passes ≡ true = two_tells.1 (less p (fits at).fits each.0, less q (fits (at + 1)).fits rest.0, omega arith, omega arith) in
-        let wrong : true ≡ false = sym yes_ ∙ no_ in cc
+          let each = and_parts _ _ (rw (two_at bs at h) at all) in
+          let rest = and_parts _ _ each.1 in
+          let yes_ : passes ≡ true = two_tells.1 (less p (fits at).fits each.0, less q (fits (at + 1)).fits rest.0, omega arith, omega arith) in
+          let wrong : true ≡ false = sym yes_ ∙ no_ in cc
       | inr other ↦ to_none (chunk at 2 bs) other
     ]
 
