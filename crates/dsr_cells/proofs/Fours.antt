@@ -52,7 +52,8 @@ low a h e =
 low_four : (a b c d : ℕ) → a < 256 → b < 256 → c < 256 → d < 256 → bit_and (word_of_four a b c d) 0x8080_8080 ≡ 0
     → (a < 128) × (b < 128) × (c < 128) × (d < 128)
 low_four a b c d A B C D e =
-    let parts : word_of_four (bit_and a 128) (bit_and b 128) (bit_and c 128) (bit_and d 128) ≡ 0 = sym (and_four a b c d 128 128 128 128 A B C (omega arith) (omega arith) (omega arith)) ∙ e in
+    let parts : word_of_four (bit_and a 128) (bit_and b 128) (bit_and c 128) (bit_and d 128) ≡ 0 =
+    sym (and_four a b c d 128 128 128 128 A B C (omega arith) (omega arith) (omega arith)) ∙ e in
     (low a A (omega (arith, parts)), low b B (omega (arith, parts)), low c C (omega (arith, parts)), low d D (omega (arith, parts)))
 
 -- bytes are below ten where neither they have a high bit, nor 118 more than they are
@@ -61,7 +62,8 @@ pub below_ten : (a b c d : ℕ) → a < 256 → b < 256 → c < 256 → d < 256 
 below_ten a b c d A B C D e f =
     let small = low_four a b c d A B C D e in
     let more : word_of_four a b c d + 0x7676_7676 ≡ word_of_four (a + 118) (b + 118) (c + 118) (d + 118) = omega arith in
-    let again = low_four (a + 118) (b + 118) (c + 118) (d + 118) (omega (arith, small.0)) (omega (arith, small.1)) (omega (arith, small.2)) (omega (arith, small.3)) (ap (λ x. bit_and x 0x8080_8080) (sym more) ∙ f) in
+    let again = low_four (a + 118) (b + 118) (c + 118) (d + 118) (omega (arith, small.0)) (omega (arith, small.1)) (omega (arith, small.2)) (omega
+    (arith, small.3)) (ap (λ x. bit_and x 0x8080_8080) (sym more) ∙ f) in
     (omega (arith, again.0), omega (arith, again.1), omega (arith, again.2), omega (arith, again.3))
 
 kept : (a : ℕ) → a < 256 → bit_and a 255 ≡ a
@@ -87,7 +89,8 @@ four_is a b c d word A B C D e =
 digit : (a : ℕ) → a < 256 → bit_xor a 48 < 10 → (is_ascii_digit a ≡ true) × (bit_xor a 48 ≡ a - 48)
 digit a h less =
     let is : ltb (bit_xor a 48) 10 ≡ is_ascii_digit a = agree_below_at (λ b. ltb (bit_xor b 48) 10) is_ascii_digit 256 a refl h in
-    let worth : (not (is_ascii_digit a) || eqb (bit_xor a 48) (a - 48)) ≡ true = agree_below_at (λ b. (not (is_ascii_digit b) || eqb (bit_xor b 48) (b - 48))) (λ b. true) 256 a refl h in
+    let worth : (not (is_ascii_digit a) || eqb (bit_xor a 48) (a - 48)) ≡ true =
+    agree_below_at (λ b. (not (is_ascii_digit b) || eqb (bit_xor b 48) (b - 48))) (λ b. true) 256 a refl h in
     let yes : is_ascii_digit a ≡ true = sym is ∙ grind (arith, nat_tests) in
     (yes, eqb-true _ _ (rw yes at worth))
 
@@ -99,7 +102,8 @@ next bs i j h e =
 four_at : (bs : List ℕ) (at : ℕ) → at + 4 ≤ length bs
     → chunk at 4 bs ≡ get_or bs at 0 ∷ get_or bs (at + 1) 0 ∷ get_or bs (at + 2) 0 ∷ get_or bs (at + 3) 0 ∷ []
 four_at bs at h =
-    let third = next bs (at + 2) (at + 3) (omega arith) (omega arith) ∙ ap (λ t. get_or bs (at + 2) 0 ∷ t) (next bs (at + 3) (at + 4) (omega arith) (omega arith)) in
+    let third = next bs (at + 2) (at + 3) (omega arith) (omega arith)
+    ∙ ap (λ t. get_or bs (at + 2) 0 ∷ t) (next bs (at + 3) (at + 4) (omega arith) (omega arith)) in
     let second = next bs (at + 1) (at + 2) (omega arith) (omega arith) ∙ ap (λ t. get_or bs (at + 1) 0 ∷ t) third in
     ap (take 4) (next bs at (at + 1) (omega arith) (omega arith) ∙ ap (λ t. get_or bs at 0 ∷ t) second)
 
@@ -159,7 +163,8 @@ digits_sum-append : (xs ys : List ℕ) → digits_sum (xs ++ ys) ≡ digits_sum 
 digits_sum-append [] ys = omega arith
 digits_sum-append (d ∷ ds) ys =
     let more : 10 ^ length (ds ++ ys) ≡ 10 ^ length ds * 10 ^ length ys = ap (λ k. 10 ^ k) (length-append ds ys) ∙ pow-add 10 (length ds) (length ys) in
-    let first : (d - 48) * 10 ^ length (ds ++ ys) ≡ (d - 48) * 10 ^ length ds * 10 ^ length ys = ap (λ k. (d - 48) * k) more ∙ sym (mul_assoc (d - 48) (10 ^ length ds) (10 ^ length ys)) in
+    let first : (d - 48) * 10 ^ length (ds ++ ys) ≡ (d - 48) * 10 ^ length ds * 10 ^ length ys = ap (λ k. (d - 48) * k) more
+    ∙ sym (mul_assoc (d - 48) (10 ^ length ds) (10 ^ length ys)) in
     let both = add-mul ((d - 48) * 10 ^ length ds) (digits_sum ds) (10 ^ length ys) in
     omega (arith, first, both, digits_sum-append ds ys)
 
@@ -171,10 +176,12 @@ more_digits bs i n j p there within power front back e f =
     let y = of_some (chunk i n bs) back f in
     let cut : take j bs ≡ take i bs ++ chunk i n bs = ap (λ k. take k bs) (sym there) ∙ take-add i n bs in
     let long : length (chunk i n bs) ≡ n = length-chunk i n bs (omega arith) in
-    let digits : list_all is_ascii_digit (take j bs) ≡ true = ap (list_all is_ascii_digit) cut ∙ list_all-append is_ascii_digit (take i bs) (chunk i n bs) ∙ rw (x.0, y.0) refl in
+    let digits : list_all is_ascii_digit (take j bs) ≡ true = ap (list_all is_ascii_digit) cut
+    ∙ list_all-append is_ascii_digit (take i bs) (chunk i n bs) ∙ rw (x.0, y.0) refl in
     let scale : 10 ^ length (chunk i n bs) ≡ p = ap (λ k. 10 ^ k) long ∙ power in
     let sum : front * p + back ≡ digits_sum (take j bs) =
-    rw (x.1, y.1) (sym (ap digits_sum cut ∙ digits_sum-append (take i bs) (chunk i n bs) ∙ ap (λ k. digits_sum (take i bs) * k + digits_sum (chunk i n bs)) scale)) in
+    rw (x.1, y.1) (sym (ap digits_sum cut ∙ digits_sum-append (take i bs) (chunk i n bs)
+    ∙ ap (λ k. digits_sum (take i bs) * k + digits_sum (chunk i n bs)) scale)) in
     sym (to_some (take j bs) digits (front * p + back) sum)
 
 pub all_small : (text : List ℕ) (most : ℕ) → length text ≤ most → (n : ℕ) → if_digits text ≡ Some n → n < 10 ^ most
@@ -192,7 +199,8 @@ less : (a : ℕ) → a < 256 → is_ascii_digit a ≡ true → bit_xor a 48 < 10
 less a h yes_ = ltb-true _ _ (agree_below_at (λ b. ltb (bit_xor b 48) 10) is_ascii_digit 256 a refl h ∙ yes_)
 
 abbrev FourTest : ℕ → Bool → Type 0
-FourTest word passes = (a b c d : ℕ) → a < 256 → b < 256 → c < 256 → d < 256 → word ≡ word_of_four a b c d → (passes ≡ true) ↔ ((a < 10) × (b < 10) × (c < 10) × (d < 10))
+FourTest word passes = (a b c d : ℕ) → a < 256 → b < 256 → c < 256 → d < 256 → word ≡ word_of_four a b c d
+    → (passes ≡ true) ↔ ((a < 10) × (b < 10) × (c < 10) × (d < 10))
 
 module _ (bs : List ℕ) (at word : ℕ) (passes : Bool) (fits : (k : ℕ) → Fits w8 (get_or bs k 0)) (test : FourTest word passes) where
   abbrev p : ℕ
@@ -218,14 +226,16 @@ module _ (bs : List ℕ) (at word : ℕ) (passes : Bool) (fits : (k : ℕ) → F
     tells = test _ _ _ _ (x at) (x (at + 1)) (x (at + 2)) (x (at + 3)) lanes
 
     pub four_some : passes ≡ true → (n : ℕ)
-        → ((a b c d : ℕ) → a < 10 → b < 10 → c < 10 → d < 10 → word ≡ word_of_four a b c d → n ≡ 1000 * a + 100 * b + 10 * c + d) → Some n ≡ if_digits (chunk at 4 bs)
+        → ((a b c d : ℕ) → a < 10 → b < 10 → c < 10 → d < 10 → word ≡ word_of_four a b c d → n ≡ 1000 * a + 100 * b + 10 * c + d)
+        → Some n ≡ if_digits (chunk at 4 bs)
     four_some yes_ n number =
         let few = tells.0 yes_ in
         let a = digit p (fits at).fits few.0 in
         let b = digit q (fits (at + 1)).fits few.1 in
         let c = digit r (fits (at + 2)).fits few.2 in
         let d = digit s (fits (at + 3)).fits few.3 in
-        to_some (chunk at 4 bs) (rw (four_at bs at h, a.0, b.0, c.0, d.0) refl) n (number _ _ _ _ few.0 few.1 few.2 few.3 lanes ∙ rw (four_at bs at h) (omega (arith, a.1, b.1, c.1, d.1)))
+        to_some (chunk at 4 bs) (rw (four_at bs at h, a.0, b.0, c.0, d.0) refl) n (number _ _ _ _ few.0 few.1 few.2 few.3 lanes
+        ∙ rw (four_at bs at h) (omega (arith, a.1, b.1, c.1, d.1)))
 
     pub four_none : passes ≡ false → None ≡ if_digits (chunk at 4 bs)
     four_none no_ = elim (cases_Bool (list_all is_ascii_digit (chunk at 4 bs))) [
@@ -234,7 +244,13 @@ module _ (bs : List ℕ) (at word : ℕ) (passes : Bool) (fits : (k : ℕ) → F
           let rest = and_parts _ _ each.1 in
           let last = and_parts _ _ rest.1 in
           let end = and_parts _ _ last.1 in
-          let yes_ : passes ≡ true = tells.1 (less p (fits at).fits each.0, less q (fits (at + 1)).fits rest.0, less r (fits (at + 2)).fits last.0, less s (fits (at + 3)).fits end.0) in
+          let yes_ : passes ≡ true = tells.1 (
+            less p (fits at).fits each.0,
+            less q (fits (at + 1)).fits rest.0,
+            less r (fits
+                (at + 2)).fits last.0,
+            less s (fits (at + 3)).fits end.0,
+          ) in
           let wrong : true ≡ false = sym yes_ ∙ no_ in cc
       | inr other ↦ to_none (chunk at 4 bs) other
     ]
@@ -243,7 +259,8 @@ module _ (bs : List ℕ) (at word : ℕ) (passes : Bool) (fits : (k : ℕ) → F
     two_lanes : word ≡ word_of_four (bit_xor p 48) (bit_xor q 48) 0 0
     two_lanes =
         let plain : from_le_bytes w16 (p ∷ q ∷ []) ≡ word_of_four p q 0 0 = omega arith in
-        is ∙ ap (λ w. bit_xor w 0x3030) plain ∙ xor_four p q 0 0 48 48 0 0 (fits at).fits (fits (at + 1)).fits (omega arith) (omega arith) (omega arith) (omega arith)
+        is ∙ ap (λ w. bit_xor w 0x3030) plain ∙ xor_four p q 0 0 48 48 0 0 (fits at).fits (fits (at + 1)).fits (omega arith) (omega arith)
+        (omega arith) (omega arith)
 
     two_tells : (passes ≡ true) ↔ ((bit_xor p 48 < 10) × (bit_xor q 48 < 10) × (0 < 10) × (0 < 10))
     two_tells = test _ _ _ _ (x at) (x (at + 1)) (omega arith) (omega arith) two_lanes
