@@ -1,5 +1,6 @@
 -- Lemmas on testing several bytes at a time.
-use Rattle.std.proofs.Common.{arith, ◌≡◌, ◌≤◌, ◌+◌, ◌-◌, ◌*◌, ◌∙◌, ◌&&◌, ℕ, Bool, List, [], ◌∷◌, length, map, take, drop, true, false, not, refl, sym, ap, ap₂, eqb, inl, inr, w8, Fits, take-append-drop, length-drop}
+use Rattle.std.proofs.Common.{arith, ◌≡◌, ◌≤◌, ◌+◌, ◌-◌, ◌*◌, ◌∙◌, ◌&&◌, ℕ, Bool, List, [], ◌∷◌, length, map, take, drop, true, false, not, refl, sym, ap, ap₂}
+use Rattle.std.proofs.Common.{eqb, inl, inr, w8, Fits, take-append-drop, length-drop}
 use Rattle.std.specs.List.{list_all}
 use Rattle.std.specs.Simd.Lanes.{Each1, chunk, mask_l}
 use Rattle.std.proofs.lemmas.Bool.{cases_Bool, cases_eq, ne_eqb, and_left, and_right, and_parts, agree_below, agree_below_at}

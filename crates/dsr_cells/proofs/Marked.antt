@@ -25,7 +25,8 @@ found_mark text i within plain mark =
 
 pub no_mark : (text : List ℕ) → PlainTo text (length text) → None ≡ position is_mark text
 no_mark text plain =
-    let none : position_or_len is_mark text ≡ length text = position_or_len_is is_mark text (length text) 0 (omega arith) plain (λ less. absurd (omega arith)) in
+    let none : position_or_len is_mark text ≡ length text =
+    position_or_len_is is_mark text (length text) 0 (omega arith) plain (λ less. absurd (omega arith)) in
     rw (none, le-ltb (length text) (length text) (omega arith)) refl
 
 -- n more plain bytes, from a place that may be before the end of the plain ones

@@ -1,5 +1,6 @@
 -- Big-endian numbers of bytes have the order of the bytes.
-use Rattle.std.proofs.Common.{◌≡◌, ◌∙◌, refl, sym, ap, ℕ, zero, suc, ◌+◌, ◌*◌, ◌^◌, ◌<◌, List, [], ◌∷◌, length, take, drop, slice_index, nat_cmp, Ordering, Less, Equal, Greater, arith}
+use Rattle.std.proofs.Common.{◌≡◌, ◌∙◌, refl, sym, ap, ℕ, zero, suc, ◌+◌, ◌*◌, ◌^◌, ◌<◌, List, [], ◌∷◌, length, take, drop, slice_index, nat_cmp, Ordering}
+use Rattle.std.proofs.Common.{Less, Equal, Greater, arith}
 use Rattle.std.specs.Cmp.{nat_cmp_is, ranks}
 use Rattle.std.specs.Cmp.Lexicographic.{slice_cmp}
 use Rattle.std.specs.Int.{w32, w64, from_be_bytes}
@@ -10,7 +11,8 @@ use Rattle.dsr_cells.specs.Order.{number_of_bytes, AreBytes}
 
 below : (bytes : List ℕ) → AreBytes bytes → number_of_bytes bytes < 256 ^ length bytes
 below [] small = omega arith
-below (b ∷ bytes) small = rw (pow-suc 256 (length bytes)) (mul-add-lt b (256 ^ length bytes) (number_of_bytes bytes) 256 (small 0) (below bytes (λ i. small (suc i))))
+below (b ∷ bytes) small =
+    rw (pow-suc 256 (length bytes)) (mul-add-lt b (256 ^ length bytes) (number_of_bytes bytes) 256 (small 0) (below bytes (λ i. small (suc i))))
 
 abbrev Ranked : ℕ → ℕ → Ordering → Type 0
 Ranked x y o = MatchOrdering o (x < y) (x ≡ y) (y < x)
@@ -37,10 +39,13 @@ ranked (x ∷ xs) (y ∷ ys) l small small' =
     let more = λ (i : ℕ). small (suc i) in
     let more' = λ (i : ℕ). small' (suc i) in
     let low : number_of_bytes ys < 256 ^ length xs = rw tail (below ys more') in
-    let done = step (nat_cmp x y) (slice_cmp nat_cmp xs ys) x y (256 ^ length xs) (number_of_bytes xs) (number_of_bytes ys) (below xs more) low (ranks x y) (ranked xs ys tail more more') in
+    let done =
+    step (nat_cmp x y) (slice_cmp nat_cmp xs ys) x y (256 ^ length xs) (number_of_bytes xs) (number_of_bytes ys) (below xs more) low (ranks x y)
+    (ranked xs ys tail more more') in
     rw (← tail) done
 
-pub by_number : (xs ys : List ℕ) → length xs ≡ length ys → AreBytes xs → AreBytes ys → slice_cmp nat_cmp xs ys ≡ nat_cmp (number_of_bytes xs) (number_of_bytes ys)
+pub by_number : (xs ys : List ℕ) → length xs ≡ length ys → AreBytes xs → AreBytes ys
+    → slice_cmp nat_cmp xs ys ≡ nat_cmp (number_of_bytes xs) (number_of_bytes ys)
 by_number xs ys l small small' = nat_cmp_is _ _ _ (ranked xs ys l small small')
 
 then_assoc : (a b c : Ordering) → ordering_then a (ordering_then b c) ≡ ordering_then (ordering_then a b) c
@@ -48,7 +53,8 @@ then_assoc Less b c = refl
 then_assoc Equal b c = refl
 then_assoc Greater b c = refl
 
-cut : (n : ℕ) (xs ys : List ℕ) → length xs ≡ length ys → slice_cmp nat_cmp xs ys ≡ ordering_then (slice_cmp nat_cmp (take n xs) (take n ys)) (slice_cmp nat_cmp (drop n xs) (drop n ys))
+cut : (n : ℕ) (xs ys : List ℕ) → length xs ≡ length ys → slice_cmp nat_cmp xs ys
+    ≡ ordering_then (slice_cmp nat_cmp (take n xs) (take n ys)) (slice_cmp nat_cmp (drop n xs) (drop n ys))
 cut zero xs ys l = refl
 cut (suc n) [] [] l = refl
 cut (suc n) [] (y ∷ ys) l = absurd (omega arith)
@@ -82,14 +88,16 @@ same_backs (suc n) (x ∷ xs) (y ∷ ys) l = same_backs n xs ys (omega arith)
 
 -- the order of bytes is that of the numbers of their first n, and if these are equal, of the numbers of the others
 pub by_numbers : (n : ℕ) (xs ys : List ℕ) → length xs ≡ length ys → AreBytes xs → AreBytes ys
-    → ordering_then (nat_cmp (number_of_bytes (take n xs)) (number_of_bytes (take n ys))) (nat_cmp (number_of_bytes (drop n xs)) (number_of_bytes (drop n ys))) ≡ slice_cmp nat_cmp xs ys
+    → ordering_then (nat_cmp (number_of_bytes (take n xs)) (number_of_bytes (take n ys))) (nat_cmp (number_of_bytes (drop n xs)) (number_of_bytes (drop n ys)))
+    ≡ slice_cmp nat_cmp xs ys
 by_numbers n xs ys l small small' =
     let fronts = by_number (take n xs) (take n ys) (same_fronts n xs ys l) (small_front n xs small) (small_front n ys small') in
     let backs = by_number (drop n xs) (drop n ys) (same_backs n xs ys l) (small_back n xs small) (small_back n ys small') in
     rw (← fronts, ← backs) (sym (cut n xs ys l))
 
 pub front_number : (bs : List ℕ) → length bs ≡ 12
-    → from_be_bytes w64 (slice_index bs 0 ∷ slice_index bs 1 ∷ slice_index bs 2 ∷ slice_index bs 3 ∷ slice_index bs 4 ∷ slice_index bs 5 ∷ slice_index bs 6 ∷ slice_index bs 7 ∷ []) ≡ number_of_bytes (take 8 bs)
+    → from_be_bytes w64 (slice_index bs 0 ∷ slice_index bs 1 ∷ slice_index bs 2 ∷ slice_index bs 3 ∷ slice_index bs 4 ∷ slice_index bs 5 ∷ slice_index bs 6
+    ∷ slice_index bs 7 ∷ []) ≡ number_of_bytes (take 8 bs)
 front_number (a ∷ b ∷ c ∷ d ∷ e ∷ f ∷ g ∷ h ∷ i ∷ j ∷ k ∷ l ∷ []) long = omega arith
 front_number (a ∷ b ∷ c ∷ d ∷ e ∷ f ∷ g ∷ h ∷ i ∷ j ∷ k ∷ l ∷ m ∷ bs) long = absurd (omega arith)
 front_number [] long = absurd (omega arith)

@@ -15,7 +15,8 @@ use Rattle.dsr_cells.specs.Short.{HasZerosBehind}
 use Rattle.dsr_cells.proofs.Ordered.{small_front, small_back}
 
 -- a text copied to the front of zeros has zeros after it
-pub copied_zeros : (text given bytes : List ℕ) → given ≡ text → drop (length given) bytes ≡ drop (length given) (replicate 22 0) → HasZerosBehind (length text) bytes
+pub copied_zeros : (text given bytes : List ℕ) → given ≡ text → drop (length given) bytes ≡ drop (length given) (replicate 22 0)
+    → HasZerosBehind (length text) bytes
 copied_zeros text given bytes same rest = rw same at (rest ∙ drop-replicate (length given) 22 0)
 
 -- and is UTF-8, as the text is
@@ -38,7 +39,8 @@ same_in_place size size' xs ys same zeros zeros' =
 abbrev pub word_at : ℕ → List ℕ → ℕ
 word_at i xs = from_le_bytes w64 (take 8 (drop i xs))
 
-same_word : (i : ℕ) (xs ys : List ℕ) → i ≤ 14 → length xs ≡ 22 → length ys ≡ 22 → AreBytes xs → AreBytes ys → word_at i xs ≡ word_at i ys → take 8 (drop i xs) ≡ take 8 (drop i ys)
+same_word : (i : ℕ) (xs ys : List ℕ) → i ≤ 14 → length xs ≡ 22 → length ys ≡ 22 → AreBytes xs → AreBytes ys → word_at i xs ≡ word_at i ys
+    → take 8 (drop i xs) ≡ take 8 (drop i ys)
 same_word i xs ys low l l' small small' e =
     let long : length (take 8 (drop i xs)) ≡ 8 = omega (arith, length-take 8 (drop i xs), length-drop i xs) in
     let long' : length (take 8 (drop i ys)) ≡ 8 = omega (arith, length-take 8 (drop i ys), length-drop i ys) in
@@ -60,7 +62,9 @@ same_words xs ys l l' small small' =
     let p = nat_eq (word_at 0 xs) (word_at 0 ys) in
     let q = nat_eq (word_at 8 xs) (word_at 8 ys) in
     let r = nat_eq (word_at 14 xs) (word_at 14 ys) in
-    let same = λ (i : ℕ) (low : i ≤ 14) (h : nat_eq (word_at i xs) (word_at i ys) ≡ true). same_word i xs ys low l l' small small' ((Decides-eqb (word_at i xs) (word_at i ys)).0 h) in
+    let same =
+    λ (i : ℕ) (low : i ≤ 14) (h : nat_eq (word_at i xs) (word_at i ys) ≡ true). same_word i xs ys low l l' small small'
+    ((Decides-eqb (word_at i xs) (word_at i ys)).0 h) in
     let whole = λ (h : ((p && q) && r) ≡ true).
     in_words xs l
     ∙ ap (λ t. t ++ (take 8 (drop 8 xs) ++ drop 2 (take 8 (drop 14 xs)))) (same 0 (omega arith) (first_so p q (first_so (p && q) r h)))

@@ -43,7 +43,8 @@ impl Share {
     pub fn read(text: &str) -> Option<Share>
         ensures { result ≡ share_of text.now }
     {
-        let parts = read_decimal(text.as_bytes(), 3, 4)?;
+        let (whole, decimals) = read_decimal(text.as_bytes(), 3, 4)?;
+        let parts = whole * 10_000 + decimals;
         if parts > 1_000_000 {
             return None;
         }

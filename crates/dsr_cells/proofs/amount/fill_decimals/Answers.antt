@@ -13,4 +13,5 @@ returns c =
     let w = c.write_digits in
     let short : length (decimal c.args.units) ≤ 10 = length-decimal-le 10 c.args.units (omega arith) (omega arith) (omega arith) in
     drop-set w.new.buf 53 46 (omega arith)
-    ∙ ap (λ (ds : List ℕ). 46 ∷ ds) (filled 54 10 64 w.result c.args.text.now w.new.buf (decimal c.args.units) refl short w.ensures.start c.requires.zeros w.ensures.before w.ensures.written)
+    ∙ ap (λ (ds : List ℕ). 46 ∷ ds) (filled 54 10 64 w.result c.args.text.now w.new.buf
+    (decimal c.args.units) refl short w.ensures.start c.requires.zeros w.ensures.before w.ensures.written)

@@ -9,9 +9,12 @@ loop-front-preserved c =
     let cut = split_parts 92 c.loop-front.rest.now (Some (c.in-Some.front, c.in-Some.after)) c.in-Some.ensures.cases (lit< tt) in
     record {
       text = search rules;
-      value = unescape_step (string_bytes c.loop-front.value) c.in-Some.front.now c.in-Some.after.now c.after_backslash-character.result.1.now c.loop-front.rest.now _
+      value =
+          unescape_step (string_bytes c.loop-front.value) c.in-Some.front.now c.in-Some.after.now c.after_backslash-character.result.1.now c.loop-front.rest.now
+          _
           (string_bytes c.push_str.new.self) _ _ cut.0 cut.1 c.after_backslash-character.ensures.value c.in_ok-push_str.ensures.bytes
-          (c.in_ok-push.ensures.bytes ∙ ap (λ t. string_bytes c.push_str.new.self ++ t) (c.in_ok-push.ensures.ascii c.after_backslash-character.ensures.ascii)) c.loop-front.invariant.value;
+          (c.in_ok-push.ensures.bytes ∙ ap (λ t. string_bytes c.push_str.new.self ++ t) (c.in_ok-push.ensures.ascii c.after_backslash-character.ensures.ascii))
+          c.loop-front.invariant.value;
     }
 
 pub returns : goal.returns

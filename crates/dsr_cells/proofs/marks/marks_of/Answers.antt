@@ -16,4 +16,5 @@ returns g c =
     ap (λ (vs : List ℕ). mask_l (map (top 7) (zip2 (λ a b. cond (eqb a b) 255 0) vs (replicate {A = ℕ} n 124))) % 2 ^ 64) (zip2_splat bit_or run n 32 long)
     ∙ bitmask_splat w8 eqb joined n 124 (length-map run (λ b. bit_or b 32) ∙ long) c.requires.few
     ∙ ap mask_l
-    (map-map (λ b. eqb b 124) (λ b. bit_or b 32) run ∙ same_flags is_pipe_with_bit is_mark run refl (chunk-fits w8 c.args.at n c.args.bytes.now c.type_inv.bytes))
+    (map-map (λ b. eqb b 124) (λ b. bit_or b 32) run ∙ same_flags is_pipe_with_bit is_mark run refl
+    (chunk-fits w8 c.args.at n c.args.bytes.now c.type_inv.bytes))

@@ -12,10 +12,12 @@ front_of bytes text half = put_chunk 0 (take half bytes) (chunk 0 half text)
 
 front_is : (bytes text : List ℕ) (half : ℕ) → half ≤ length text → half ≤ length bytes
     → front_of bytes text half ≡ take half text
-front_is bytes text half long room = put_chunk_whole (take half bytes) (take half text) (omega (arith, length-take-le half bytes room, length-take-le half text long))
+front_is bytes text half long room =
+    put_chunk_whole (take half bytes) (take half text) (omega (arith, length-take-le half bytes room, length-take-le half text long))
 
 back_is : (bytes text : List ℕ) (half k : ℕ) → half ≤ length text → length text ≤ length bytes → k ≡ half
-    → put_chunk 0 (mid_of (length text - half) k (front_of bytes text half ++ drop half bytes)) (chunk (length text - half) half text) ≡ drop (length text - half) text
+    → put_chunk 0 (mid_of (length text - half) k (front_of bytes text half ++ drop half bytes)) (chunk (length text - half) half text)
+    ≡ drop (length text - half) text
 back_is bytes text half k long room e =
     let tail = length text - half in
     let before = front_of bytes text half ++ drop half bytes in
@@ -26,7 +28,8 @@ back_is bytes text half k long room e =
     ∙ take_all half (drop tail text) (omega (arith, length-drop tail text))
 
 -- the first and the last bytes of a text, which meet or overlap, make up the text
-ends : (text front back rest : List ℕ) (half k : ℕ) → half ≤ length text → length text ≤ half + half → front ≡ take half text → back ≡ drop (length text - half) text
+ends : (text front back rest : List ℕ) (half k : ℕ) → half ≤ length text → length text ≤ half + half → front ≡ take half text
+    → back ≡ drop (length text - half) text
     → take (length text) (put_mid (length text - half) k (front ++ rest) back) ≡ text
 ends text front back rest half k long short e1 e2 =
     let lf : length front ≡ half = omega (arith, ap length e1, length-take half text) in
@@ -34,7 +37,8 @@ ends text front back rest half k long short e1 e2 =
     let within : length text - half ≤ length (front ++ rest) = omega (arith, length-append front rest) in
     take-put_mid (length text - half) k (front ++ rest) back (length text) (omega arith) within
     ∙ ap (λ t. t ++ back) (take-append-le (length text - half) front rest (omega arith) ∙ ap (take (length text - half)) e1)
-    ∙ ap (λ t. take (length text - half) (take half text) ++ t) e2 ∙ ap (λ t. t ++ drop (length text - half) text) (take-take (length text - half) half text (omega arith)) ∙ take-append-drop (length text - half) text
+    ∙ ap (λ t. take (length text - half) (take half text) ++ t) e2
+    ∙ ap (λ t. t ++ drop (length text - half) text) (take-take (length text - half) half text (omega arith)) ∙ take-append-drop (length text - half) text
 
 pub returns-clause-front : goal.returns-clause-front
 returns-clause-front g c =
@@ -45,7 +49,8 @@ returns-clause-front g c =
 
 -- and the bytes after the text are unchanged
 behind : (text front back bytes : List ℕ) (half : ℕ) → half ≤ length text → length front ≡ half → length back ≡ half → length text ≤ length bytes
-    → drop (length text) (put_mid (length text - half) (length text - half + half - (length text - half)) (front ++ drop half bytes) back) ≡ drop (length text) bytes
+    → drop (length text) (put_mid (length text - half) (length text - half + half - (length text - half)) (front ++ drop half bytes) back)
+    ≡ drop (length text) bytes
 behind text front back bytes half long lf lb room =
     let within : length text - half ≤ length (front ++ drop half bytes) = omega (arith, length-append front (drop half bytes), length-drop half bytes) in
     drop-put_mid _ _ (front ++ drop half bytes) back (length text) (omega arith) within (omega arith) ∙ drop-append-drop half bytes front (length text) long lf
