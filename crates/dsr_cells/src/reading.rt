@@ -1,15 +1,11 @@
 //! Reading all values of a list cell.
-ghost use Rattle.std.specs.Prelude.{◌≡◌, ◌∷◌, IfOk, OnOk, length, map, is_some, true};
-ghost use Rattle.std.specs.List.{list_all};
-ghost use Rattle.std.specs.Option.{unwrap_or};
-ghost use Rattle.dsr_cells.specs.Numbers.{share_of};
+ghost use Rattle.std.specs.Prelude.{◌≡◌, ◌∷◌, IfOk, OnOk, length, map};
 ghost use Rattle.dsr_cells.specs.Parts.{parts_left};
 ghost use Rattle.dsr_cells.specs.Values.{parts_after, raw_parts, value_of};
 
 use crate::cells::values;
 use crate::escape::unescape;
 use crate::parts::{first_part, plain_part};
-use crate::share::{Share, Shares};
 use crate::text::{NoMemory, Text, Texts};
 use std::alloc::Global;
 
@@ -56,24 +52,6 @@ pub fn read_texts_into(alloc: Global, cell: &str, texts: &mut Texts) -> Result<(
     while let Some(text) = rest {
         let value = texts.next()?;
         rest = read_first(alloc, text, value)?;
-    }
-    Ok(())
-}
-
-/// Writes the shares of a list cell, each part of which is a share, over the items of a list.
-///
-/// # Errors
-///
-/// `NoMemory`: out of memory; the list may then have any items.
-pub fn read_shares_into(cell: &str, shares: &mut Shares) -> Result<(), NoMemory>
-    requires { list_all (λ part. is_some (share_of part)) (raw_parts cell.now) ≡ true }
-    ensures { OnOk result (shares.new ≡ map (λ part. unwrap_or (share_of part) 0)
-        (raw_parts cell.now)) }
-{
-    shares.restart();
-    for part in values(cell) {
-        let share = Share::read(part).unwrap();
-        *shares.next()? = share;
     }
     Ok(())
 }
