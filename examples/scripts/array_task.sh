@@ -1,9 +1,9 @@
 #!/usr/bin/env bash
-# array_task.sh DSR FOLDER NUMBER: one task of a job array on a cluster: the statement of report NUMBER, from 1, of a
-# folder that has a folder for each report, in the order of their names. FOLDER/REPORT.statement, .errors and .status
-# (the exit status) are written beside it. Runs share nothing, so tasks may run anywhere and in any order.
+# array_task.sh DSR FOLDER NUMBER: one task of a job array on a cluster. Makes the statement of report NUMBER (from 1)
+# of a folder that has a folder for each report, in the order of their names. Writes FOLDER/REPORT.statement, .errors
+# and .status (the exit status) next to it. Runs share nothing, so tasks may run anywhere and in any order.
 # With Slurm: sbatch --array=1-N --wrap 'array_task.sh dsr FOLDER $SLURM_ARRAY_TASK_ID'
-# The statuses afterwards: grep -H . FOLDER/*.status
+# To print the statuses afterwards: grep -H . FOLDER/*.status
 set -euo pipefail
 dsr=$1
 mapfile -d '' reports < <(find "$2" -mindepth 1 -maxdepth 1 -type d -print0 | sort -z)

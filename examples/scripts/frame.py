@@ -1,5 +1,5 @@
 #!/usr/bin/env python3
-"""frame.py STATEMENT: the ledger as a pandas table with exact amounts (decimal.Decimal), by territory and currency."""
+"""frame.py STATEMENT: reads the ledger into pandas; prints exact sums (decimal.Decimal) by territory and currency."""
 import sys
 from decimal import Decimal, getcontext
 

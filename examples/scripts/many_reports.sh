@@ -1,8 +1,8 @@
 #!/usr/bin/env bash
-# many_reports.sh DSR FOLDER RUNS: the statement of each report of a folder, RUNS reports at a time. FOLDER has a
-# folder for each report, with its files; FOLDER/REPORT.statement and .errors are written beside it, and a line
-# for each report on standard output: its exit status and its name, in the order of the names.
-# A report is one run, and runs share nothing, so on a cluster each report can be one task of a job array.
+# many_reports.sh DSR FOLDER RUNS: makes the statement of each report of a folder, RUNS reports at a time. FOLDER has a
+# folder for each report, with its files. Writes FOLDER/REPORT.statement and .errors next to it, and prints a line
+# for each report: its exit status and its name, in the order of the names.
+# Each report is one run, and runs share nothing, so on a cluster each report can be one task of a job array.
 # With GNU parallel: parallel -j RUNS 'dsr {}/*.tsv > {}.statement 2> {}.errors; echo $? {/}' ::: FOLDER/*/
 set -euo pipefail
 export DSR=$1

@@ -1,5 +1,5 @@
 #!/usr/bin/env bash
-# miller.sh STATEMENT: usages and amounts by territory and currency, with Miller. Amounts are added as whole units
+# miller.sh STATEMENT: sums usages and amounts by territory and currency with Miller. Amounts are added as whole units
 # of 0.0000000001, since Miller's integers are exact and its numbers with decimals are not.
 set -euo pipefail
 grep $'^LEDGER\t' "$1" | cut -f 2- | mlr --tsv --implicit-csv-header --headerless-csv-output \

@@ -1,8 +1,8 @@
 #!/usr/bin/env python3
-"""sums.py STATEMENT: what is owed by territory and currency, and to each party, as exact sums.
+"""sums.py STATEMENT: exact sums of the amounts for each territory and currency, and for each party and currency.
 
-Python's integers have no limit, so nothing is rounded. A spreadsheet adds in floating point: give it the
-sums of this script, or the amounts as whole units (the column without its point), and no amounts with decimals.
+Python's integers have no limit, so nothing is rounded. A spreadsheet adds in floating point: import the
+sums of this script, or the amounts as whole units (the column without its point), not amounts with decimals.
 """
 import sys
 from collections import defaultdict

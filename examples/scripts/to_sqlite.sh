@@ -1,8 +1,8 @@
 #!/usr/bin/env bash
-# to_sqlite.sh STATEMENT DATABASE: the lines of a statement as tables of an SQLite database (ledger, party,
-# unclaimed, reject), and what is owed by territory and currency on standard output. Amounts are whole numbers of
+# to_sqlite.sh STATEMENT DATABASE: writes the lines of a statement to tables of an SQLite database (ledger, party,
+# unclaimed, reject), and prints the sums by territory and currency on standard output. Amounts are whole numbers of
 # units of 0.0000000001, so sums are exact: SQLite's integers have 64 bits, enough for 922 million of a currency.
-# A larger amount is refused here, and a larger sum by SQLite.
+# This script refuses a larger amount, and SQLite a larger sum.
 set -euo pipefail
 statement=$1
 database=$2
