@@ -25,7 +25,7 @@ unclaimed-requires c =
     let seat : List ℕ → Option ℕ = place_by (party_in c.args.parties.now) c.args.numbers.now in
     let ps : List SeatPart = c.as_slice-parts.result.now in
     let place : List ℕ → Option ℕ = place_by seat (part_seats ps) in
-    let listed : ArePartsOf place c.as_slice.result.now = subst (ArePartsOf place) (sym c.as_slice.ensures.value) c.in_ok-names.ensures in
+    let listed : ArePartsOf place c.as_slice.result.now = subst (ArePartsOf place) (sym c.as_slice.ensures.value) c.in_ok-parts_by_name.ensures in
     let same : to_z w128 (of_z w128 line.sums.amount) ≡ line.sums.amount = search rules in
     let size : List PartyLine → ℕ = λ ls. sum_by (λ p. unsigned_abs p.amount) ls in
     ∥∥₁_elim c.requires.small (hlevel props) (λ o.
@@ -42,7 +42,7 @@ returns c = λ bs is.
     let seat : List ℕ → Option ℕ = place_by (party_in c.args.parties.now) c.args.numbers.now in
     let ps : List SeatPart = c.as_slice-parts.result.now in
     let place : List ℕ → Option ℕ = place_by seat (part_seats ps) in
-    let listed : ArePartsOf place c.as_slice.result.now = subst (ArePartsOf place) (sym c.as_slice.ensures.value) c.in_ok-names.ensures in
+    let listed : ArePartsOf place c.as_slice.result.now = subst (ArePartsOf place) (sym c.as_slice.ensures.value) c.in_ok-parts_by_name.ensures in
     let usages : to_z w128 (of_z w128 line.sums.usages) ≡ line.sums.usages = search rules in
     let amount : to_z w128 (of_z w128 line.sums.amount) ≡ line.sums.amount = search rules in
     let left : to_z w128 (of_z w128 c.unclaimed.result) ≡ c.unclaimed.result = search rules in
