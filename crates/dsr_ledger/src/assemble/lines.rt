@@ -86,16 +86,18 @@ pub fn ledger_line<'a>(
     ensures { (bs : List Booking) → line_tally (place_by (party_in parties.now) numbers.now) line.now ≡ tally_of bs
         → IfOk result (λ l. l ≡ line_of (key_under isrc key.now) bs) }
 {
-    let key = key.copy(alloc)?;
+    let territory = key.territory.copy(alloc)?;
+    let use_type = key.use_type.copy(alloc)?;
+    let currency = key.currency.copy(alloc)?;
     let parts = line.parts.as_slice();
     parts_by_name(parties, numbers, parts, names)?;
     let parties = party_lines(alloc, names.as_slice(), parts)?;
     let amount = line.sums.amount;
     Ok(LedgerLine {
         isrc,
-        territory: key.territory,
-        use_type: key.use_type,
-        currency: key.currency,
+        territory,
+        use_type,
+        currency,
         usages: line.sums.usages,
         amount,
         unclaimed: unclaimed(amount, parties.as_slice()),

@@ -49,12 +49,11 @@ returns c = λ bs is.
     let owed = λ (q : List ℕ). ap (λ (xs : List SeatPart). owed_in xs (seat q)) c.as_slice-parts.ensures.value ∙ ap (λ t. t.owed q) is in
     let lines : c.in_ok-parties.parties ≡ party_lines bs = c.in_ok-parties.ensures bs place listed owed in
     let total = amount ∙ ap (λ t. t.amount) is in
-    let own = c.in_ok-key.ensures in
     λ i. record {
       isrc = c.args.isrc;
-      territory = (own i).territory;
-      use_type = (own i).use_type;
-      currency = (own i).currency;
+      territory = c.in_ok-territory.ensures i;
+      use_type = c.in_ok-use_type.ensures i;
+      currency = c.in_ok-currency.ensures i;
       usages = (usages ∙ ap (λ t. t.usages) is) i;
       amount = total i;
       parties = lines i;
