@@ -21,14 +21,17 @@ use crate::report::LedgerLines;
 use dsr_cells::{Isrc, Items, NoMemory, Text};
 use std::alloc::Global;
 
-/// Adds the lines of a recording that have a booking, in the order of their summary keys.
-fn add_recording(
+/// Adds the lines of a recording that have a booking, in the order of their summary keys. `order` and
+/// `names` are filled anew for each recording and line, so that their memory is taken once.
+fn add_recording<'a>(
     report: &mut LedgerLines,
     alloc: Global,
-    parties: &[Text],
-    keys: &[SummaryKey],
+    parties: &'a [Text],
+    keys: &'a [SummaryKey],
     isrc: Isrc,
     recording: &Recording,
+    order: &mut Vec<(&'a SummaryKey, usize)>,
+    names: &mut Vec<(&'a Text, usize)>,
 ) -> Result<(), NoMemory>
     requires names { IsDistinct bytes_eq parties.now }
     requires keys { IsDistinct summary_key_eq keys.now }
@@ -38,11 +41,11 @@ fn add_recording(
     ensures { OnOk result (AddsLines parties.now keys.now isrc recording.now report.old report.new) }
 {
     let numbers = recording.seats.as_slice();
-    let order = lines_by_key(alloc, keys, recording.lines.as_slice())?;
+    lines_by_key(keys, recording.lines.as_slice(), order)?;
     for (key, place) in order.as_slice() {
         let line = &recording.lines[*place];
         if line.is_booked {
-            let line = ledger_line(alloc, isrc, key, line, parties, numbers)?;
+            let line = ledger_line(alloc, isrc, key, line, parties, numbers, names)?;
             report.push(line).map_err(|_line| NoMemory)?;
         }
     }
@@ -63,8 +66,19 @@ pub fn ledger_lines(alloc: Global, books: Ledger) -> Result<LedgerLines, NoMemor
     let names = parties.as_slice();
     let keys = summary_keys.as_slice();
     let mut report = Items::from(Vec::with_capacity(alloc, recordings.len())?);
+    let mut order = Vec::new(alloc);
+    let mut listed = Vec::new(alloc);
     for (isrc, recording) in recordings {
-        add_recording(&mut report, alloc, names, keys, isrc, &recording)?;
+        add_recording(
+            &mut report,
+            alloc,
+            names,
+            keys,
+            isrc,
+            &recording,
+            &mut order,
+            &mut listed,
+        )?;
     }
     Ok(report)
 }

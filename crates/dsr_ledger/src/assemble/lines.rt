@@ -68,14 +68,15 @@ fn unclaimed(amount: i128, parties: &[PartyLine]) -> i128
 }
 
 /// The line of a recording and a summary key, with its parties in the byte order of their names.
-/// `numbers` has the number of the party at each seat of the recording.
-pub fn ledger_line(
+/// `numbers` has the number of the party at each seat of the recording. `names` is filled anew.
+pub fn ledger_line<'a>(
     alloc: Global,
     isrc: Isrc,
     key: &SummaryKey,
     line: &Line,
-    parties: &[Text],
+    parties: &'a [Text],
     numbers: &[u32],
+    names: &mut Vec<(&'a Text, usize)>,
 ) -> Result<LedgerLine, NoMemory>
     requires names { IsDistinct bytes_eq parties.now }
     requires apart { AreApart numbers.now }
@@ -85,16 +86,18 @@ pub fn ledger_line(
     ensures { (bs : List Booking) → line_tally (place_by (party_in parties.now) numbers.now) line.now ≡ tally_of bs
         → IfOk result (λ l. l ≡ line_of (key_under isrc key.now) bs) }
 {
-    let key = key.copy(alloc)?;
+    let territory = key.territory.copy(alloc)?;
+    let use_type = key.use_type.copy(alloc)?;
+    let currency = key.currency.copy(alloc)?;
     let parts = line.parts.as_slice();
-    let names = parts_by_name(alloc, parties, numbers, parts)?;
+    parts_by_name(parties, numbers, parts, names)?;
     let parties = party_lines(alloc, names.as_slice(), parts)?;
     let amount = line.sums.amount;
     Ok(LedgerLine {
         isrc,
-        territory: key.territory,
-        use_type: key.use_type,
-        currency: key.currency,
+        territory,
+        use_type,
+        currency,
         usages: line.sums.usages,
         amount,
         unclaimed: unclaimed(amount, parties.as_slice()),

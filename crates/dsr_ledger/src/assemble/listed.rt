@@ -1,5 +1,5 @@
 //! The parts of a line in the order of their parties' names, and the lines of a recording in key order.
-ghost use Rattle.std.specs.Prelude.{◌≡◌, IfOk, length, map};
+ghost use Rattle.std.specs.Prelude.{◌≡◌, OnOk, length, map};
 ghost use Rattle.std.specs.List.{position, IsDistinct};
 ghost use Rattle.std.specs.Str.{bytes_eq};
 ghost use Rattle.dsr_ledger.specs.Keys.{text_cmp};
@@ -13,7 +13,6 @@ use crate::ledger::line::Line;
 use crate::ledger::parts::SeatPart;
 use crate::ledger::summary_key::SummaryKey;
 use dsr_cells::{NoMemory, Text};
-use std::alloc::Global;
 use std::cmp::Ordering;
 
 /// The order of two parties: the byte order of their names.
@@ -30,47 +29,47 @@ fn by_key(one: &(&SummaryKey, usize), other: &(&SummaryKey, usize)) -> Ordering
     one.0.cmp(other.0)
 }
 
-/// The names of the parties that have these parts, in byte order, with the places of the parts.
-/// `numbers` has the number of the party at each seat.
+/// Fills a list with the names of the parties that have these parts, in byte order, with the places
+/// of the parts. `numbers` has the number of the party at each seat.
 pub fn parts_by_name<'a>(
-    alloc: Global,
     parties: &'a [Text],
     numbers: &[u32],
     parts: &[SeatPart],
-) -> Result<Vec<(&'a Text, usize)>, NoMemory>
+    names: &mut Vec<(&'a Text, usize)>,
+) -> Result<(), NoMemory>
     requires names { IsDistinct bytes_eq parties.now }
     requires apart { AreApart numbers.now }
     requires below { AreBelow (length parties.now) numbers.now }
     requires seats_apart { AreApart (part_seats parts.now) }
     requires seats_below { AreBelow (length numbers.now) (part_seats parts.now) }
-    ensures { IfOk result (λ names. ArePartsOf
+    ensures { OnOk result (ArePartsOf
         (place_by (place_by (λ q. position (bytes_eq q) parties.now) numbers.now) (part_seats parts.now))
-        names.items) }
+        names.new.items) }
 {
-    let mut names = Vec::with_capacity(alloc, parts.len())?;
+    names.clear();
     for (place, part) in parts.iter().enumerate() {
         let number = numbers[part.seat as usize];
         names.push((&parties[number as usize], place))?;
     }
     names.sort_unstable_by(by_name);
-    Ok(names)
+    Ok(())
 }
 
-/// The summary keys of a recording's lines, sorted, with the places of the lines.
+/// Fills a list with the summary keys of a recording's lines, sorted, with the places of the lines.
 pub fn lines_by_key<'a>(
-    alloc: Global,
     keys: &'a [SummaryKey],
     lines: &[Line],
-) -> Result<Vec<(&'a SummaryKey, usize)>, NoMemory>
+    order: &mut Vec<(&'a SummaryKey, usize)>,
+) -> Result<(), NoMemory>
     requires keys { IsDistinct summary_key_eq keys.now }
     requires apart { AreApart (line_keys lines.now) }
     requires below { AreBelow (length keys.now) (line_keys lines.now) }
-    ensures { IfOk result (λ order. AreLinesOf (place_by (λ q. position (summary_key_eq q) keys.now) (line_keys lines.now)) order.items) }
+    ensures { OnOk result (AreLinesOf (place_by (λ q. position (summary_key_eq q) keys.now) (line_keys lines.now)) order.new.items) }
 {
-    let mut order = Vec::with_capacity(alloc, lines.len())?;
+    order.clear();
     for line in 0..lines.len() {
         order.push((&keys[lines[line].key as usize], line))?;
     }
     order.sort_unstable_by(by_key);
-    Ok(order)
+    Ok(())
 }

@@ -37,6 +37,7 @@ fn add_usage(ledger: &mut Ledger, summaries: &mut Summaries, plan: &Plan, i: usi
 }
 
 /// Adds the usages of a block to their summaries and to their lines, and to no others.
+#[inline(never)]
 pub fn add_usages(ledger: &mut Ledger, summaries: &mut Summaries, plan: &Plan, usages: &[Usage])
     requires planned { (isrc : List ℕ) × (works : List WorkParts) × IsPlanned ledger.old summaries.old isrc works usages.now plan.now × (share_total works ≤ 1000000) }
     requires ledger_fits { (q : Key) → TallyFits (length usages.now) (tally_at ledger.old q) }

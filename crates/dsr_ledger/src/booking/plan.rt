@@ -68,6 +68,7 @@ fn plan_work(
 }
 
 /// Plans the shares of works.
+#[inline(never)]
 fn plan_works(
     ledger: &mut Ledger,
     alloc: Global,
@@ -115,6 +116,7 @@ fn plan_line(
 
 /// Plans the lines of usages that name the summaries with these numbers, and the parts of these shares
 /// in them.
+#[inline(never)]
 fn plan_lines(
     ledger: &mut Ledger,
     alloc: Global,
@@ -171,7 +173,7 @@ impl Plan {
     {
         self.shares.clear();
         self.lines.clear();
-        let recording = ledger.recording(alloc, isrc)?;
+        let recording = ledger.recording(alloc, isrc, self.summaries.len())?;
         self.recording = recording;
         plan_works(ledger, alloc, recording, works, &mut self.shares)?;
         plan_lines(

@@ -129,7 +129,8 @@ impl Index {
         Ok(())
     }
 
-    /// The place of a number in a list.
+    /// The place of a number in a list. Callers mostly know the place, so the search stands out of line.
+    #[inline(never)]
     pub fn find<T: Numbered>(&self, items: &[T], number: u32) -> Option<usize>
         requires { AreIndexed (map T.number_of items.now) self.now }
         ensures { result ≡ place_in (map T.number_of items.now) number }

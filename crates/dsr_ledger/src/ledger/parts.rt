@@ -194,6 +194,7 @@ impl Parts {
     }
 
     /// Adds a part for a seat that has none. Nothing is owed of it yet.
+    #[inline(never)]
     fn push(&mut self, alloc: Global, seat: u32) -> Result<(), NoMemory>
         requires { part_in self.old.items.items seat ≡ None }
         ensures ok { OnOk result (PartsGrow self.old.items.items self.new.items.items) }

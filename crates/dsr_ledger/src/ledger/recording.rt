@@ -64,16 +64,16 @@ impl Recording {
     ghost use Rattle.dsr_ledger.specs.Seated.{HaveSeats, AreSeatsBelow};
     ghost use Rattle.dsr_ledger.specs.Tallies.{lines_tally, tally_with, LinesGrow, IsWide, TallyFits};
 
-    /// No parties, and no lines.
-    pub fn new(alloc: Global) -> Recording
-        ensures seats { seat_numbers result.seats ≡ [] }
-        ensures lines { result.lines.items ≡ [] }
+    /// No parties and no lines, with room for this many lines.
+    pub fn with_room(alloc: Global, lines: usize) -> Result<Recording, NoMemory>
+        ensures seats { IfOk result (λ r. seat_numbers r.seats ≡ []) }
+        ensures lines { IfOk result (λ r. r.lines.items ≡ []) }
     {
-        Recording {
+        Ok(Recording {
             seats: Seats::new(alloc),
-            lines: Vec::new(alloc),
+            lines: Vec::with_capacity(alloc, lines)?,
             index: Index::new(),
-        }
+        })
     }
 
     /// The seat of a party, which is given one if it has none. The lines are unchanged.
@@ -86,6 +86,8 @@ impl Recording {
     }
 
     /// Adds a line for a summary key that has none.
+    #[cold]
+    #[inline(never)]
     fn add_line(&mut self, alloc: Global, key: u32) -> Result<usize, NoMemory>
         requires { line_in self.old.lines.items key ≡ None }
         ensures seats { self.new.seats ≡ self.old.seats }

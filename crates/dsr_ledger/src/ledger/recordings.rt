@@ -50,8 +50,9 @@ impl Ledger {
         }
     }
 
-    /// The number of a recording, which is added if it is new. The sums of each key are unchanged.
-    pub fn recording(&mut self, alloc: Global, isrc: Isrc) -> Result<usize, NoMemory>
+    /// The number of a recording, which is added if it is new, with room for this many lines. The sums of each key are
+    /// unchanged.
+    pub fn recording(&mut self, alloc: Global, isrc: Isrc, lines: usize) -> Result<usize, NoMemory>
         ensures same { (q : Key) → tally_at self.new q ≡ tally_at self.old q }
         ensures there { IfOk result (λ number. recording_number self.new isrc ≡ Some number) }
     {
@@ -59,11 +60,13 @@ impl Ledger {
             return Ok(number);
         }
         let number = self.recordings.len();
-        self.recordings.insert(isrc, Recording::new(alloc))?;
+        let made = Recording::with_room(alloc, lines)?;
+        self.recordings.insert(isrc, made)?;
         Ok(number)
     }
 
     /// The number of a party, which is given one if it has none. A number past 32 bits is reported as `NoMemory`.
+    #[inline(never)]
     fn party(&mut self, alloc: Global, name: &Text) -> Result<u32, NoMemory>
         ensures seats { (isrc q : List ℕ) → seat_at self.new isrc q ≡ seat_at self.old isrc q }
         ensures same { (q : Key) → tally_at self.new q ≡ tally_at self.old q }

@@ -27,7 +27,7 @@ index-line-requires c =
     let at : slice_get items i ≡ Some item = slice_get-get_or items i item c.loop-key-test.true ∙ ap Some (sym c.loop-key-item.is) in
     let listed =
     subst (λ xs. AreLinesOf (place_by number (line_keys xs)) items) c.as_slice.ensures.value (
-    subst (AreLinesOf (place_by number (line_keys c.as_slice.result.now))) (sym c.as_slice-key-items.ensures.value) c.in_ok-order.ensures) in
+    subst (AreLinesOf (place_by number (line_keys c.as_slice.result.now))) (sym c.as_slice-key-items.ensures.value) c.in_ok-lines_by_key.ensures) in
     let long : length ls ≡ vec_len c.args.recording.now.lines = search rules in
     subst (λ n. item.1 < n) long (place_within number ls items listed i item at)
 
@@ -49,7 +49,7 @@ ledger_line-requires-clause-within c =
     let at : slice_get items i ≡ Some item = slice_get-get_or items i item c.loop-key-test.true ∙ ap Some (sym c.loop-key-item.is) in
     let listed =
     subst (λ xs. AreLinesOf (place_by number (line_keys xs)) items) c.as_slice.ensures.value (
-    subst (AreLinesOf (place_by number (line_keys c.as_slice.result.now))) (sym c.as_slice-key-items.ensures.value) c.in_ok-order.ensures) in
+    subst (AreLinesOf (place_by number (line_keys c.as_slice.result.now))) (sym c.as_slice-key-items.ensures.value) c.in_ok-lines_by_key.ensures) in
     let there : slice_get ls item.1 ≡ Some line = slice_get-get_or ls item.1 line (place_within number ls items listed i item at) ∙ ap Some (sym c.index-line.ensures) in
     subst (λ ns. AreBelow (length ns) (part_seats line.parts.items.items)) (sym c.as_slice-numbers.ensures.value) (r.within item.1 line there)
 
@@ -66,7 +66,7 @@ ledger_line-requires-clause-small c =
     let at : slice_get items i ≡ Some item = slice_get-get_or items i item c.loop-key-test.true ∙ ap Some (sym c.loop-key-item.is) in
     let listed =
     subst (λ xs. AreLinesOf (place_by number (line_keys xs)) items) c.as_slice.ensures.value (
-    subst (AreLinesOf (place_by number (line_keys c.as_slice.result.now))) (sym c.as_slice-key-items.ensures.value) c.in_ok-order.ensures) in
+    subst (AreLinesOf (place_by number (line_keys c.as_slice.result.now))) (sym c.as_slice-key-items.ensures.value) c.in_ok-lines_by_key.ensures) in
     let there : slice_get ls item.1 ≡ Some line = slice_get-get_or ls item.1 line (place_within number ls items listed i item at) ∙ ap Some (sym c.index-line.ensures) in
     let party = party_in c.args.parties.now in
     ∥∥₁_map c.requires.small (λ o.
@@ -89,7 +89,7 @@ loop-key-preserved c = λ bs has.
     let at : slice_get items i ≡ Some item = slice_get-get_or items i item c.loop-key-test.true ∙ ap Some (sym c.loop-key-item.is) in
     let listed =
     subst (λ xs. AreLinesOf (place_by number (line_keys xs)) items) c.as_slice.ensures.value (
-    subst (AreLinesOf (place_by number (line_keys c.as_slice.result.now))) (sym c.as_slice-key-items.ensures.value) c.in_ok-order.ensures) in
+    subst (AreLinesOf (place_by number (line_keys c.as_slice.result.now))) (sym c.as_slice-key-items.ensures.value) c.in_ok-lines_by_key.ensures) in
     let there : slice_get ls item.1 ≡ Some line = slice_get-get_or ls item.1 line (place_within number ls items listed i item at) ∙ ap Some (sym c.index-line.ensures) in
     let party = party_in c.args.parties.now in
     let tally = own_tally number ls items listed i item at (seat_of party r) line there ∙ has item.0.now in
@@ -113,7 +113,7 @@ returns c =
     let number = key_in c.args.keys.now in
     let listed =
     subst (λ xs. AreLinesOf (place_by number (line_keys xs)) items) c.as_slice.ensures.value (
-    subst (AreLinesOf (place_by number (line_keys c.as_slice.result.now))) (sym c.as_slice-key-items.ensures.value) c.in_ok-order.ensures) in
+    subst (AreLinesOf (place_by number (line_keys c.as_slice.result.now))) (sym c.as_slice-key-items.ensures.value) c.in_ok-lines_by_key.ensures) in
     record {
       entries = entries_under isrc items;
       order = under_sorted isrc items listed.order;
