@@ -1,5 +1,6 @@
 -- The report's parts made of the files' states are those of the files that they represent.
-use Rattle.std.proofs.Common.{◌≡◌, ℕ, zero, suc, ◌+◌, ◌^◌, ◌≤◌, length, arith, Bool, true, false, cond, not, ◌&&◌, ◌||◌, List, [], ◌∷◌, ◌++◌, append_assoc, refl, sym, ◌∙◌, ap}
+use Rattle.std.proofs.Common.{◌≡◌, ℕ, zero, suc, ◌+◌, ◌^◌, ◌≤◌, length, arith, Bool, true, false, cond, not, ◌&&◌, ◌||◌, List, [], ◌∷◌, ◌++◌, append_assoc}
+use Rattle.std.proofs.Common.{refl, sym, ◌∙◌, ap}
 use Rattle.std.specs.Prelude.{Option, None, Some, option_map, map, filter, find, if◌then◌else◌}
 use Rattle.std.specs.List.{flat_map, list_any, range_with_len, AllByRecursion}
 use Rattle.std.specs.Str.{bytes_eq}
@@ -17,7 +18,8 @@ use Rattle.dsr_ledger.specs.declared.report.Report.{Report}
 use Rattle.dsr_ledger.specs.declared.report.ReportKey.{ReportKey}
 use Rattle.dsr_ledger.specs.Sums.{int_sum_by}
 use Rattle.dsr_ledger.specs.Files.{File, Filed, filed, filed_after, standing, summaries_of, first_head}
-use Rattle.dsr_ledger.specs.Findings.{is_ours, ended_whole, usages_in, naming, difference, differs, differences_in, differences, has_number, is_there, missing_for, rejects_in, rejects}
+use Rattle.dsr_ledger.specs.Findings.{is_ours, ended_whole, usages_in, naming, difference, differs, differences_in, differences, has_number, is_there}
+use Rattle.dsr_ledger.specs.Findings.{missing_for, rejects_in, rejects}
 use Rattle.dsr_ledger.specs.Summaries.{shown_at, shown_with, nothing_found, found_in}
 use Rattle.dsr_ledger.specs.Openings.{openings_of, first_of}
 use Rattle.dsr_ledger.specs.Bookings.{Booking, bookings}
@@ -34,25 +36,32 @@ use Rattle.dsr_ledger.proofs.SmallBookings.{IsShort, bookings_small}
 
 -- lists that are made file by file
 module _ {W : Type 0} (g : FileBooks → W) (h : Filed → W) (agree : (f : FileBooks) (d : Filed) → FileStands f d → g f ≡ h d) where
-  pub map_stands : (n : ℕ) (e : List (Option OpeningParts)) (fs : List FileBooks) (files : List File) → FilesStand n e fs files → map g fs ≡ map h (filed_after n e files)
+  pub map_stands : (n : ℕ) (e : List (Option OpeningParts)) (fs : List FileBooks) (files : List File) → FilesStand n e fs files
+      → map g fs ≡ map h (filed_after n e files)
   map_stands n e [] [] s = refl
   map_stands n e [] (file ∷ files) s = absurd s
   map_stands n e (f ∷ fs) [] s = absurd s
-  map_stands n e (f ∷ fs) (file ∷ files) s = λ i. agree f (record { place = n; standing = standing e file.opening; file = file }) s.0 i ∷ map_stands (suc n) (e ++ file.opening ∷ []) fs files s.1 i
+  map_stands n e (f ∷ fs) (file ∷ files) s =
+      λ i. agree f (record { place = n; standing = standing e file.opening; file = file }) s.0 i ∷ map_stands (suc n) (e ++ file.opening ∷ []) fs files s.1 i
 
 module _ {W : Type 0} (g : FileBooks → List W) (h : Filed → List W) (agree : (f : FileBooks) (d : Filed) → FileStands f d → g f ≡ h d) where
-  pub flat_map_stands : (n : ℕ) (e : List (Option OpeningParts)) (fs : List FileBooks) (files : List File) → FilesStand n e fs files → flat_map g fs ≡ flat_map h (filed_after n e files)
+  pub flat_map_stands : (n : ℕ) (e : List (Option OpeningParts)) (fs : List FileBooks) (files : List File) → FilesStand n e fs files
+      → flat_map g fs ≡ flat_map h (filed_after n e files)
   flat_map_stands n e [] [] s = refl
   flat_map_stands n e [] (file ∷ files) s = absurd s
   flat_map_stands n e (f ∷ fs) [] s = absurd s
-  flat_map_stands n e (f ∷ fs) (file ∷ files) s = λ i. agree f (record { place = n; standing = standing e file.opening; file = file }) s.0 i ++ flat_map_stands (suc n) (e ++ file.opening ∷ []) fs files s.1 i
+  flat_map_stands n e (f ∷ fs) (file ∷ files) s =
+      λ i. agree f (record { place = n; standing = standing e file.opening; file = file }) s.0 i ++ flat_map_stands (suc n)
+      (e ++ file.opening ∷ []) fs files s.1 i
 
 module _ (g : FileBooks → Bool) (h : Filed → Bool) (agree : (f : FileBooks) (d : Filed) → FileStands f d → g f ≡ h d) where
-  pub any_stands : (n : ℕ) (e : List (Option OpeningParts)) (fs : List FileBooks) (files : List File) → FilesStand n e fs files → list_any g fs ≡ list_any h (filed_after n e files)
+  pub any_stands : (n : ℕ) (e : List (Option OpeningParts)) (fs : List FileBooks) (files : List File) → FilesStand n e fs files
+      → list_any g fs ≡ list_any h (filed_after n e files)
   any_stands n e [] [] s = refl
   any_stands n e [] (file ∷ files) s = absurd s
   any_stands n e (f ∷ fs) [] s = absurd s
-  any_stands n e (f ∷ fs) (file ∷ files) s = λ i. agree f (record { place = n; standing = standing e file.opening; file = file }) s.0 i || any_stands (suc n) (e ++ file.opening ∷ []) fs files s.1 i
+  any_stands n e (f ∷ fs) (file ∷ files) s =
+      λ i. agree f (record { place = n; standing = standing e file.opening; file = file }) s.0 i || any_stands (suc n) (e ++ file.opening ∷ []) fs files s.1 i
 
 pub line_stands : (f : FileBooks) (d : Filed) → FileStands f d → line_kept f ≡ file_line d
 line_stands f d s = λ i. record {
@@ -66,7 +75,8 @@ pub number_stands : (n : ℕ) (f : FileBooks) (d : Filed) → FileStands f d →
 number_stands n f d s = λ i. is_ours (s.standing i) && has_number n (s.opening i)
 
 -- the numbers that are not in a set of the numbers that are there
-pub not_in_is : (head : Option Head) (numbers : BTreeSet ℕ) (ds : List Filed) → ((n : ℕ) → contains nat_cmp numbers n ≡ is_there n ds) → not_in (option_map key_of head) numbers ≡ missing_for head ds
+pub not_in_is : (head : Option Head) (numbers : BTreeSet ℕ) (ds : List Filed) → ((n : ℕ) → contains nat_cmp numbers n ≡ is_there n ds)
+    → not_in (option_map key_of head) numbers ≡ missing_for head ds
 not_in_is None numbers ds is = refl
 not_in_is (Some head) numbers ds is = λ i. filter (λ n. not (is n i)) (range_with_len 1 head.number_of_files)
 
@@ -84,11 +94,18 @@ filter_range_more p n =
     ∙ filter-append p (range_with_len 1 n) ((n + 1) ∷ [])
 
 -- the state of a summary that is there has the sums of the usages that name it
-sums_found : (ss : List Summary) (us : List Usage) (id : List ℕ) → list_any (λ s. bytes_eq id s.id) ss ≡ true → sums_shown (found_in ss us id) ≡ record { usages = int_sum_by (λ u. u.usages) (naming id us); amount = int_sum_by (λ u. u.amount) (naming id us) }
+sums_found : (ss : List Summary) (us : List Usage) (id : List ℕ) → list_any (λ s. bytes_eq id s.id) ss ≡ true
+    → sums_shown (found_in ss us id) ≡ record { usages = int_sum_by (λ u. u.usages) (naming id us); amount = int_sum_by (λ u. u.amount) (naming id us) }
 sums_found [] us id h = absurd (cc)
 sums_found (s ∷ ss) us id h =
-    elim (bytes_eq id s.id) as (λ b. (b || list_any (λ t. bytes_eq id t.id) ss) ≡ true → sums_shown (option_map (λ t. shown_with id us (nothing_found t)) (cond b (Some s) (find (λ t. bytes_eq id t.id) ss))) ≡ record { usages = int_sum_by (λ u. u.usages) (naming id us); amount = int_sum_by (λ u. u.amount) (naming id us) }) [
-      | true ↦ λ _ i. record { usages = zero-add (int_sum_by (λ u. u.usages) (naming id us)) i; amount = zero-add (int_sum_by (λ u. u.amount) (naming id us)) i }
+    elim (bytes_eq id s.id) as (λ b. (b || list_any (λ t. bytes_eq id t.id) ss) ≡ true
+    → sums_shown (option_map (λ t. shown_with id us (nothing_found t)) (cond b (Some s) (find (λ t. bytes_eq id t.id) ss)))
+    ≡ record { usages = int_sum_by (λ u. u.usages) (naming id us); amount = int_sum_by (λ u. u.amount) (naming id us) }) [
+      | true ↦ λ _ i. record {
+        usages = zero-add (int_sum_by (λ u. u.usages) (naming id us)) i;
+        amount =
+            zero-add (int_sum_by (λ u. u.amount) (naming id us)) i;
+      }
       | false ↦ λ k. sums_found ss us id k
     ] h
 
@@ -97,7 +114,8 @@ here_too p [] s ss h = ap (λ b. b || list_any p ss) h
 here_too p (t ∷ done) s ss h = elim (p t) as (λ b. (b || list_any p (done ++ s ∷ ss)) ≡ true) [ true ↦ refl | false ↦ here_too p done s ss h ]
 
 -- each summary with its state
-differences_found : (place : ℕ) (m : Summaries) (us : List Usage) (done ss all : List Summary) → all ≡ done ++ ss → ((id : List ℕ) → shown_at m id ≡ found_in all us id) → map (λ s. difference_to place (sums_shown (shown_at m s.id)) s) ss ≡ map (difference place us) ss
+differences_found : (place : ℕ) (m : Summaries) (us : List Usage) (done ss all : List Summary) → all ≡ done ++ ss
+    → ((id : List ℕ) → shown_at m id ≡ found_in all us id) → map (λ s. difference_to place (sums_shown (shown_at m s.id)) s) ss ≡ map (difference place us) ss
 differences_found place m us done [] all split is = refl
 differences_found place m us done (s ∷ ss) all split is =
     let p : Summary → Bool = λ t. bytes_eq s.id t.id in
@@ -121,11 +139,13 @@ differences_stand f d s =
     let ss = summaries_of d.file.opening in
     let us = usages_in d.file.blocks in
     (λ i. if is_ours (s.standing i) && ended_whole (s.outcome i) then differences_to (s.place i) f.summaries (summaries_of (s.opening i)) else [])
-    ∙ ap (λ l. if is_ours d.standing && ended_whole d.file.outcome then filter differs l else []) (differences_found d.place f.summaries us [] ss ss refl s.summaries)
+    ∙ ap (λ l. if is_ours d.standing && ended_whole d.file.outcome then filter differs l else [])
+    (differences_found d.place f.summaries us [] ss ss refl s.summaries)
     ∙ both_or_none (is_ours d.standing) (ended_whole d.file.outcome) differs (map (difference d.place us) ss)
 
 -- the key, file after file
-pub key_step : (key : Option ReportKey) (o : Option OpeningParts) (os : List (Option OpeningParts)) → first_of (first_of key (option_map (λ x. key_of x.head) o)) (option_map key_of (first_head os)) ≡ first_of key (option_map key_of (first_head (o ∷ os)))
+pub key_step : (key : Option ReportKey) (o : Option OpeningParts) (os : List (Option OpeningParts))
+    → first_of (first_of key (option_map (λ x. key_of x.head) o)) (option_map key_of (first_head os)) ≡ first_of key (option_map key_of (first_head (o ∷ os)))
 key_step (Some k) o os = refl
 key_step None (Some o) os = refl
 key_step None None os = refl
@@ -163,7 +183,8 @@ unfolding report_of missing differences rejects
 report_is kept numbers r a files h =
     let fs = kept.files.items in
     let key = a.key ∙ ap (λ os. option_map key_of (first_head os)) (openings_are 1 [] fs files h.each) in
-    let there : (n : ℕ) → contains nat_cmp numbers n ≡ is_there n (filed files) = λ n. a.own n ∙ any_stands (is_number_kept n) (λ d. is_ours d.standing && has_number n d.file.opening) (number_stands n) 1 [] fs files h.each in
+    let there : (n : ℕ) → contains nat_cmp numbers n ≡ is_there n (filed files) =
+    λ n. a.own n ∙ any_stands (is_number_kept n) (λ d. is_ours d.standing && has_number n d.file.opening) (number_stands n) 1 [] fs files h.each in
     let missing = a.missing ∙ ap (λ k. not_in k numbers) key ∙ not_in_is (report_head files) numbers (filed files) there in
     let lines = a.lines ∙ map_stands line_kept file_line line_stands 1 [] fs files h.each in
     let differences = a.differences ∙ flat_map_stands differences_kept differences_in differences_stand 1 [] fs files h.each in

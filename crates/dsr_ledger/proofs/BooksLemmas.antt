@@ -1,5 +1,6 @@
 -- The books after a block, an opening or an outcome.
-use Rattle.std.proofs.Common.{◌≡◌, ℕ, ◌+◌, ◌^◌, ◌<◌, ◌≤◌, Bool, true, false, cond, List, [], ◌∷◌, ◌++◌, length, length-append, set, refl, sym, ◌∙◌, ap, subst, arith}
+use Rattle.std.proofs.Common.{◌≡◌, ℕ, ◌+◌, ◌^◌, ◌<◌, ◌≤◌, Bool, true, false, cond, List, [], ◌∷◌, ◌++◌, length, length-append, set, refl, sym, ◌∙◌, ap, subst}
+use Rattle.std.proofs.Common.{arith}
 use Rattle.std.specs.Prelude.{Option, Some, map, slice_get, Result, Ok, Err, MatchResult, IfOk, OnErr}
 use Rattle.std.specs.Option.{ForSome}
 use Rattle.std.proofs.Math.Logic.{∥∥₁_elim}
@@ -41,7 +42,8 @@ lines_fit_reached kept few r q =
     let long = length-stand 1 [] kept.files.items x.files x.stands.each in
     lines_fit x.files kept.ledger x.stands.ledger x.small (omega arith) q)
 
-pub summaries_fit_reached : (kept : Kept) (k : ℕ) (f : FileBooks) → ∥ IsReached kept ∥₁ → slice_get kept.files.items k ≡ Some f → (id : List ℕ) → ForSome (shown_at f.summaries id) (ShownFits 63)
+pub summaries_fit_reached : (kept : Kept) (k : ℕ) (f : FileBooks) → ∥ IsReached kept ∥₁ → slice_get kept.files.items k ≡ Some f → (id : List ℕ)
+    → ForSome (shown_at f.summaries id) (ShownFits 63)
 summaries_fit_reached kept k f r is id = λ x e.
     ∥∥₁_elim r (SumsFit-prop _ _) (λ y.
     let at = file_at 1 [] kept.files.items y.files k f y.stands.each is in
@@ -56,7 +58,8 @@ pub record Answered {A : Type 0} (f g : FileBooks) (b : BlockParts) (res : Resul
   pub err : OnErr res (IsSameFile f g)
   pub same_ledger : OnErr res ((q : Key) → tally_at new.ledger q ≡ tally_at old.ledger q)
 
-pub answered_stands : {A : Type 0} (f g : FileBooks) (b : BlockParts) (res : Result Verdict A) (old new : Kept) (k : ℕ) → Answered f g b res old new k → (files : List File) → Stands old files → MatchResult res (λ v. (v ≡ verdict_in files k b) × Stands new (with_block files k b)) (λ _. Stands new files)
+pub answered_stands : {A : Type 0} (f g : FileBooks) (b : BlockParts) (res : Result Verdict A) (old new : Kept) (k : ℕ) → Answered f g b res old new k
+    → (files : List File) → Stands old files → MatchResult res (λ v. (v ≡ verdict_in files k b) × Stands new (with_block files k b)) (λ _. Stands new files)
 answered_stands f g b (Ok v) old new k a files h =
     let at = file_at 1 [] old.files.items files k f h.each a.at in
     let t = a.ok at.filed at.stands in (
@@ -73,7 +76,8 @@ answered_stands f g b (Err x) old new k a files h =
       ledger = λ q. a.same_ledger q ∙ h.ledger q;
     }
 
-pub answered_reached : {A : Type 0} (f g : FileBooks) (b : BlockParts) (res : Result Verdict A) (old new : Kept) (k : ℕ) → Answered f g b res old new k → IsReached old → IsReached new
+pub answered_reached : {A : Type 0} (f g : FileBooks) (b : BlockParts) (res : Result Verdict A) (old new : Kept) (k : ℕ) → Answered f g b res old new k
+    → IsReached old → IsReached new
 answered_reached f g b (Ok v) old new k a r =
     let at = file_at 1 [] old.files.items r.files k f r.stands.each a.at in
     let t = a.ok at.filed at.stands in
@@ -83,14 +87,17 @@ answered_reached f g b (Ok v) old new k a r =
     record {
       files = with_block r.files k b;
       stands = (answered_stands f g b (Ok v) old new k a r.files r.stands).1;
-      small = at.small (λ x. x.blocks ++ b ∷ []) (λ x. x.outcome) r.small (record { few = omega arith; range = each_append IsBlockInRange at.filed.file.blocks (b ∷ []) (at.own_small r.small).range (t.range, tt) });
+      small =
+          at.small (λ x. x.blocks ++ b ∷ []) (λ x. x.outcome) r.small
+          (record { few = omega arith; range = each_append IsBlockInRange at.filed.file.blocks (b ∷ []) (at.own_small r.small).range (t.range, tt) });
     }
 answered_reached f g b (Err x) old new k a r = record { files = r.files; stands = answered_stands f g b (Err x) old new k a r.files r.stands; small = r.small }
 
 abbrev pub ended : FileBooks → Outcome → FileBooks
 ended f o = record f { outcome = Some o }
 
-pub stands_ended : (old new : Kept) (files : List File) (k : ℕ) (f : FileBooks) (o : Outcome) → slice_get old.files.items k ≡ Some f → new.files.items ≡ set old.files.items k (ended f o) → new.ledger ≡ old.ledger → Stands old files → Stands new (with_outcome files k o)
+pub stands_ended : (old new : Kept) (files : List File) (k : ℕ) (f : FileBooks) (o : Outcome) → slice_get old.files.items k ≡ Some f
+    → new.files.items ≡ set old.files.items k (ended f o) → new.ledger ≡ old.ledger → Stands old files → Stands new (with_outcome files k o)
 stands_ended old new files k f o is items ledger h =
     let at = file_at 1 [] old.files.items files k f h.each is in
     let s = at.stands in
@@ -109,7 +116,8 @@ stands_ended old new files k f o is items ledger h =
       ledger = λ q. ap (λ l. tally_at l q) ledger ∙ h.ledger q ∙ ap (λ bs. key_tally bs q) (sym (bookings-outcome 1 [] files k o));
     }
 
-pub reached_ended : (old new : Kept) (k : ℕ) (f : FileBooks) (o : Outcome) → slice_get old.files.items k ≡ Some f → new.files.items ≡ set old.files.items k (ended f o) → new.ledger ≡ old.ledger → IsReached old → IsReached new
+pub reached_ended : (old new : Kept) (k : ℕ) (f : FileBooks) (o : Outcome) → slice_get old.files.items k ≡ Some f
+    → new.files.items ≡ set old.files.items k (ended f o) → new.ledger ≡ old.ledger → IsReached old → IsReached new
 reached_ended old new k f o is items ledger r =
     let at = file_at 1 [] old.files.items r.files k f r.stands.each is in
     let own = at.own_small r.small in
@@ -123,7 +131,8 @@ reached_ended old new k f o is items ledger r =
 abbrev pub OpenedAfter : List FileBooks → Option OpeningParts → FileBooks → Type 0
 OpenedAfter fs o f = FileStands f (record { place = length fs + 1; standing = standing (openings_of fs) o; file = opened o })
 
-pub stands_opened : (old new : Kept) (files : List File) (f : FileBooks) (o : Option OpeningParts) → OpenedAfter old.files.items o f → new.files.items ≡ old.files.items ++ f ∷ [] → new.ledger ≡ old.ledger → Stands old files → Stands new (files ++ opened o ∷ [])
+pub stands_opened : (old new : Kept) (files : List File) (f : FileBooks) (o : Option OpeningParts) → OpenedAfter old.files.items o f
+    → new.files.items ≡ old.files.items ++ f ∷ [] → new.ledger ≡ old.ledger → Stands old files → Stands new (files ++ opened o ∷ [])
 stands_opened old new files f o one items ledger h =
     let same = openings_are 1 [] old.files.items files h.each in
     let place : length old.files.items + 1 ≡ 1 + length old.files.items = omega arith in
@@ -135,10 +144,12 @@ stands_opened old new files f o one items ledger h =
       ledger = λ q. ap (λ l. tally_at l q) ledger ∙ h.ledger q ∙ ap (λ bs. key_tally bs q) (sym (bookings-opened 1 [] files o));
     }
 
-pub reached_opened : (old new : Kept) (b : Bool) (f : FileBooks) (o : Option OpeningParts) → OpenedAfter old.files.items o f → new.files.items ≡ cond b (old.files.items ++ f ∷ []) old.files.items → new.ledger ≡ old.ledger → IsReached old → IsReached new
+pub reached_opened : (old new : Kept) (b : Bool) (f : FileBooks) (o : Option OpeningParts) → OpenedAfter old.files.items o f
+    → new.files.items ≡ cond b (old.files.items ++ f ∷ []) old.files.items → new.ledger ≡ old.ledger → IsReached old → IsReached new
 reached_opened old new false f o one items ledger r = record {
   files = r.files;
-  stands = record { each = subst (λ fs. FilesStand 1 [] fs r.files) (sym items) r.stands.each; ledger = λ q. ap (λ l. tally_at l q) ledger ∙ r.stands.ledger q };
+  stands =
+      record { each = subst (λ fs. FilesStand 1 [] fs r.files) (sym items) r.stands.each; ledger = λ q. ap (λ l. tally_at l q) ledger ∙ r.stands.ledger q };
   small = r.small;
 }
 reached_opened old new true f o one items ledger r = record {
@@ -147,7 +158,9 @@ reached_opened old new true f o one items ledger r = record {
   small = each_append IsSmallFile r.files (opened o ∷ []) r.small (record { few = omega arith; range = tt }, tt);
 }
 
-pub opened_next : (old new : Kept) (f : FileBooks) (o : Option OpeningParts) (files : List File) → OpenedAfter old.files.items o f → new.files.items ≡ old.files.items ++ f ∷ [] → new.ledger ≡ old.ledger → Stands old files → (f.standing ≡ standing (map (λ x. x.opening) files) o) × Stands new (files ++ opened o ∷ [])
+pub opened_next : (old new : Kept) (f : FileBooks) (o : Option OpeningParts) (files : List File) → OpenedAfter old.files.items o f
+    → new.files.items ≡ old.files.items ++ f ∷ [] → new.ledger ≡ old.ledger → Stands old files
+    → (f.standing ≡ standing (map (λ x. x.opening) files) o) × Stands new (files ++ opened o ∷ [])
 opened_next old new f o files one items ledger h =
     (one.standing ∙ ap (λ e. standing e o) (openings_are 1 [] old.files.items files h.each), stands_opened old new files f o one items ledger h)
 

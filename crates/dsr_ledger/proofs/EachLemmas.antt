@@ -10,7 +10,8 @@ module _ {X : Type 0} (P : X → Type 0) where
 
   pub each_filter : (p : X → Bool) (xs : List X) → AllByRecursion P xs → AllByRecursion P (filter p xs)
   each_filter p [] h = tt
-  each_filter p (x ∷ xs) h = elim (p x) as (λ b. AllByRecursion P (cond b (x ∷ filter p xs) (filter p xs))) [ true ↦ (h.0, each_filter p xs h.1) | false ↦ each_filter p xs h.1 ]
+  each_filter p (x ∷ xs) h =
+      elim (p x) as (λ b. AllByRecursion P (cond b (x ∷ filter p xs) (filter p xs))) [ true ↦ (h.0, each_filter p xs h.1) | false ↦ each_filter p xs h.1 ]
 
 pub each_weaker : {X : Type 0} (P Q : X → Type 0) → ((x : X) → P x → Q x) → (xs : List X) → AllByRecursion P xs → AllByRecursion Q xs
 each_weaker P Q f [] h = tt

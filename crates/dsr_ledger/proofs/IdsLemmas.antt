@@ -21,14 +21,16 @@ or_one_more false true c = refl
 or_one_more false false c = refl
 
 -- one more in the run
-pub one_more : (run : List (List ℕ)) (rest : BTreeSet (List ℕ)) (id q : List ℕ) → is_among (run ++ id ∷ []) rest q ≡ cond (bytes_eq id q) true (is_among run rest q)
+pub one_more : (run : List (List ℕ)) (rest : BTreeSet (List ℕ)) (id q : List ℕ)
+    → is_among (run ++ id ∷ []) rest q ≡ cond (bytes_eq id q) true (is_among run rest q)
 one_more run rest id q =
     ap (λ b. b || contains text_cmp rest q) (list_any-append (bytes_eq q) run (id ∷ []))
     ∙ or_one_more (list_any (bytes_eq q) run) (bytes_eq q id) (contains text_cmp rest q)
     ∙ ap (λ b. cond b true (is_among run rest q)) (nat_list_eq_equiv.symm q id)
 
 -- no rank is greater after one more
-pub below_with : (old new : List ℕ → Bool) (id : List ℕ) (top : ℕ) → ((q : List ℕ) → new q ≡ cond (bytes_eq id q) true (old q)) → ((q : List ℕ) → old q ≡ true → rank_of q ≤ top) → rank_of id ≤ top → (q : List ℕ) → new q ≡ true → rank_of q ≤ top
+pub below_with : (old new : List ℕ → Bool) (id : List ℕ) (top : ℕ) → ((q : List ℕ) → new q ≡ cond (bytes_eq id q) true (old q))
+    → ((q : List ℕ) → old q ≡ true → rank_of q ≤ top) → rank_of id ≤ top → (q : List ℕ) → new q ≡ true → rank_of q ≤ top
 below_with old new id top is below here q e =
     elim (bytes_eq id q) as (λ b. bytes_eq id q ≡ b → cond b true (old q) ≡ true → rank_of q ≤ top) [
       | true ↦ λ s _. subst (λ x. rank_of x ≤ top) (same_text id q s) here
@@ -67,12 +69,14 @@ noted_is InRun old new id h q =
 noted_is InRest old new id h q = ap (λ run. is_among run new.rest q) h.1 ∙ h.2 q
 
 -- what was moved to the rest from the first part of a run is in the run
-pub gathered : (q : List ℕ) (run : List (List ℕ)) (i : ℕ) (b : Bool) → (list_any (bytes_eq q) run || (list_any (bytes_eq q) (take i run) || b)) ≡ (list_any (bytes_eq q) run || b)
+pub gathered : (q : List ℕ) (run : List (List ℕ)) (i : ℕ) (b : Bool)
+    → (list_any (bytes_eq q) run || (list_any (bytes_eq q) (take i run) || b)) ≡ (list_any (bytes_eq q) run || b)
 gathered q [] zero b = refl
 gathered q [] (suc i) b = refl
 gathered q (x ∷ xs) zero b = refl
 gathered q (x ∷ xs) (suc i) b =
-    elim (bytes_eq q x) as (λ t. ((t || list_any (bytes_eq q) xs) || ((t || list_any (bytes_eq q) (take i xs)) || b)) ≡ ((t || list_any (bytes_eq q) xs) || b)) [
+    elim (bytes_eq q x) as (λ t. ((t || list_any (bytes_eq q) xs) || ((t || list_any (bytes_eq q) (take i xs)) || b))
+    ≡ ((t || list_any (bytes_eq q) xs) || b)) [
       | true ↦ refl
       | false ↦ gathered q xs i b
     ]

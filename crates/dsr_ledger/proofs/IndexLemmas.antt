@@ -1,5 +1,6 @@
 -- The index of a list of numbers: if they ascend, and with one more number.
-use Rattle.std.proofs.Common.{◌≡◌, ℕ, zero, suc, ◌+◌, ◌-◌, ◌<◌, ◌≤◌, Bool, true, false, true≢false, cond, List, [], ◌∷◌, ◌++◌, length, length-append, take, get_or, nat_eq, Result, Ok, Err, refl, sym, ap, subst, ◌∙◌, arith}
+use Rattle.std.proofs.Common.{◌≡◌, ℕ, zero, suc, ◌+◌, ◌-◌, ◌<◌, ◌≤◌, Bool, true, false, true≢false, cond, List, [], ◌∷◌, ◌++◌, length, length-append, take}
+use Rattle.std.proofs.Common.{get_or, nat_eq, Result, Ok, Err, refl, sym, ap, subst, ◌∙◌, arith}
 use Rattle.std.specs.Prelude.{Option, None, Some, map, slice_get, slice_index}
 use Rattle.std.specs.List.{position_from}
 use Rattle.std.specs.List.Sorted.{IsSearchInRange, IsBinarySearchResult, IsNonDecreasingBy}
@@ -17,7 +18,8 @@ use Rattle.dsr_ledger.proofs.NumberedLemmas.{same_Some, not_Some, place_more, pl
 use Rattle.dsr_ledger.proofs.PlaceByLemmas.{same_number}
 
 -- the first element that passes, and none
-position_from-at : {X : Type 0} (p : X → Bool) (xs : List X) (i n : ℕ) (d : X) → i < length xs → p (get_or xs i d) ≡ true → ((k : ℕ) → k < i → p (get_or xs k d) ≡ false) → position_from p n xs ≡ Some (n + i)
+position_from-at : {X : Type 0} (p : X → Bool) (xs : List X) (i n : ℕ) (d : X) → i < length xs → p (get_or xs i d) ≡ true
+    → ((k : ℕ) → k < i → p (get_or xs k d) ≡ false) → position_from p n xs ≡ Some (n + i)
 position_from-at p [] i n d below here before = absurd (omega arith)
 position_from-at p (x ∷ xs) zero n d below here before = ap (λ b. cond b (Some n) (position_from p (n + 1) xs)) here ∙ ap Some (omega arith)
 position_from-at p (x ∷ xs) (suc i) n d below here before =
@@ -25,7 +27,8 @@ position_from-at p (x ∷ xs) (suc i) n d below here before =
     ∙ position_from-at p xs i (n + 1) d (omega arith) here (λ k l. before (suc k) (omega arith))
     ∙ ap Some (omega arith)
 
-position_from-none : {X : Type 0} (p : X → Bool) (xs : List X) (n : ℕ) (d : X) → ((k : ℕ) → k < length xs → p (get_or xs k d) ≡ false) → position_from p n xs ≡ None
+position_from-none : {X : Type 0} (p : X → Bool) (xs : List X) (n : ℕ) (d : X) → ((k : ℕ) → k < length xs → p (get_or xs k d) ≡ false)
+    → position_from p n xs ≡ None
 position_from-none p [] n d all = refl
 position_from-none p (x ∷ xs) n d all =
     ap (λ b. cond b (Some n) (position_from p (n + 1) xs)) (all zero (omega arith))
@@ -72,7 +75,8 @@ rise_more ns n rise above i j less within =
     elim (nat_eq j (length ns)) as (λ b. nat_eq j (length ns) ≡ b → slice_index (ns ++ n ∷ []) i < slice_index (ns ++ n ∷ []) j) [
       | true ↦ λ e.
           let at : j ≡ length ns = (same_number j (length ns)).0 e in
-          let last : slice_index (ns ++ n ∷ []) j ≡ n = get_or-append_right ns (n ∷ []) (length ns) j 0 refl (omega arith) ∙ ap (λ k. get_or (n ∷ []) k 0) {x = j - length ns} {y = 0} (omega arith) in
+          let last : slice_index (ns ++ n ∷ []) j ≡ n =
+          get_or-append_right ns (n ∷ []) (length ns) j 0 refl (omega arith) ∙ ap (λ k. get_or (n ∷ []) k 0) {x = j - length ns} {y = 0} (omega arith) in
           let top = above (slice_index ns (length ns - 1)) (got_or ns (length ns - 1) 0 (omega arith)) in
           let before = up i (length ns - 1) (omega arith) (omega arith) in
           omega arith
@@ -105,7 +109,8 @@ module _ {X : Type 0} (number : X → ℕ) (n : ℕ) where
         let less : i < j → number (get_or xs i e) < number (get_or xs j e) = λ l. let h = rise i j l (omega arith) in omega arith in
         grind (arith, nat_tests, same, less)
 
-    search_is : (r : Result ℕ ℕ) → IsSearchInRange r (length xs) → IsBinarySearchResult (λ x. nat_cmp (number x) n) xs r → result_ok r ≡ place_in (map number xs) n
+    search_is : (r : Result ℕ ℕ) → IsSearchInRange r (length xs) → IsBinarySearchResult (λ x. nat_cmp (number x) n) xs r
+        → result_ok r ≡ place_in (map number xs) n
     search_is (Ok i) below equal =
         let here : get_or (map number xs) i 0 ≡ n = read i below ∙ ranked (number (get_or xs i d)) n _ (sym (equal d)) in
         let long = length-map xs number in
@@ -118,26 +123,31 @@ module _ {X : Type 0} (number : X → ℕ) (n : ℕ) where
         let back = λ (l : i ≤ k). ranked (number (get_or xs k d)) n _ (sym ((parted comparisons_rise).1 k d l (omega arith))) in
         grind (arith, front, back)))
 
-  pub searched : (xs : List X) → Rise (map number xs) → (r : Result ℕ ℕ) → IsSearchInRange r (length xs) → IsBinarySearchResult (λ x. nat_cmp (number x) n) xs r → result_ok r ≡ place_in (map number xs) n
+  pub searched : (xs : List X) → Rise (map number xs) → (r : Result ℕ ℕ) → IsSearchInRange r (length xs) → IsBinarySearchResult (λ x. nat_cmp (number x) n) xs r
+      → result_ok r ≡ place_in (map number xs) n
   searched [] rise (Ok i) bound h = absurd (omega (arith, bound))
   searched [] rise (Err i) bound h = refl
   searched (x ∷ xs) rise r bound h = search_is (x ∷ xs) x rise r bound h
 
 -- places of numbers, with one more number
-pub placed_more : (at new : ℕ → Option ℕ) (ns : List ℕ) (n : ℕ) → place_in ns n ≡ None → ((q : ℕ) → at q ≡ place_in ns q) → ((q : ℕ) → new q ≡ cond (nat_eq n q) (Some (length ns)) (at q)) → (q : ℕ) → new q ≡ place_in (ns ++ n ∷ []) q
+pub placed_more : (at new : ℕ → Option ℕ) (ns : List ℕ) (n : ℕ) → place_in ns n ≡ None → ((q : ℕ) → at q ≡ place_in ns q)
+    → ((q : ℕ) → new q ≡ cond (nat_eq n q) (Some (length ns)) (at q)) → (q : ℕ) → new q ≡ place_in (ns ++ n ∷ []) q
 placed_more at new ns n none all is q =
     is q ∙ ap (cond (nat_eq n q) (Some (length ns))) (all q) ∙ sym (place_more nat_eq same_number ns n q none)
 
 -- places of the first of some ascending numbers, with the next one
-pub place_next : (ns : List ℕ) (i n : ℕ) → Rise ns → slice_get ns i ≡ Some n → (at new : ℕ → Option ℕ) → ((q : ℕ) → at q ≡ place_in (take i ns) q) → ((q : ℕ) → new q ≡ cond (nat_eq n q) (Some i) (at q)) → (q : ℕ) → new q ≡ place_in (take (i + 1) ns) q
+pub place_next : (ns : List ℕ) (i n : ℕ) → Rise ns → slice_get ns i ≡ Some n → (at new : ℕ → Option ℕ) → ((q : ℕ) → at q ≡ place_in (take i ns) q)
+    → ((q : ℕ) → new q ≡ cond (nat_eq n q) (Some i) (at q)) → (q : ℕ) → new q ≡ place_in (take (i + 1) ns) q
 place_next ns i n rise here at new all is q =
     let below = within ns i n here in
     let long : length (take i ns) ≡ i = length-take-le i ns (omega arith) in
-    let more : take (i + 1) ns ≡ take i ns ++ n ∷ [] = take_more ns i 0 below ∙ ap (λ m. take i ns ++ m ∷ []) (same_Some (get_or ns i 0) n (sym (got_or ns i 0 below) ∙ here)) in
+    let more : take (i + 1) ns ≡ take i ns ++ n ∷ [] =
+    take_more ns i 0 below ∙ ap (λ m. take i ns ++ m ∷ []) (same_Some (get_or ns i 0) n (sym (got_or ns i 0 below) ∙ here)) in
     placed_more at new (take i ns) n (place_before nat_eq same_number ns i n (rising_apart ns rise) here) all
     (λ r. is r ∙ ap (λ k. cond (nat_eq n r) (Some k) (at r)) (sym long)) q
     ∙ ap (λ l. place_in l q) (sym more)
 
 -- the number of the item at a place
-pub at_place : {X : Type 0} (number : X → ℕ) (xs : List X) (i : ℕ) (x : X) (n : ℕ) → i < length xs → x ≡ get_or xs i x → n ≡ number x → slice_get (map number xs) i ≡ Some n
+pub at_place : {X : Type 0} (number : X → ℕ) (xs : List X) (i : ℕ) (x : X) (n : ℕ) → i < length xs → x ≡ get_or xs i x → n ≡ number x
+    → slice_get (map number xs) i ≡ Some n
 at_place number xs i x n below is same = slice_get-map number xs i ∙ ap (option_map number) (got_or xs i x below ∙ ap Some (sym is)) ∙ ap Some (sym same)

@@ -38,7 +38,8 @@ module _ {K : Type 0} (eq : K → K → Bool) (decides : (a b : K) → Decides (
   pub number_at : (ks : List K) (i : ℕ) (k : K) → IsDistinct eq ks → slice_get ks i ≡ Some k → position (eq k) ks ≡ Some i
   number_at ks i k distinct e = position_from-zero (eq k) ks ∙ first_from ks i 0 k distinct e ∙ ap Some (omega arith)
 
-  module _ (laws : IsEquivalence eq) {V S : Type 0} (m : IndexMap K V S) (i : ℕ) (k : K) (v : V) (unique : IsUnique eq m) (at : slice_get m.entries i ≡ Some (k, v)) where
+  module _ (laws : IsEquivalence eq) {V S : Type 0} (m : IndexMap K V S) (i : ℕ) (k : K) (v : V) (unique : IsUnique eq m)
+      (at : slice_get m.entries i ≡ Some (k, v)) where
     key_at : slice_get (keys m) i ≡ Some k
     key_at = slice_get-map (λ (e : K × V). e.0) m.entries i ∙ ap (option_map (λ (e : K × V). e.0)) at
 
@@ -74,10 +75,12 @@ module _ {K : Type 0} (eq : K → K → Bool) (decides : (a b : K) → Decides (
           ] refl
 
       -- a value that reads as f of the one it replaces: at its key f changes what is read, and nowhere else
-      pub changed : (f : W → W) → read w ≡ f (read v) → (q : K) → option_map read (get eq (with_value_at m i w) q) ≡ cond (eq k q) (option_map f (option_map read (get eq m q))) (option_map read (get eq m q))
+      pub changed : (f : W → W) → read w ≡ f (read v) → (q : K)
+          → option_map read (get eq (with_value_at m i w) q) ≡ cond (eq k q) (option_map f (option_map read (get eq m q))) (option_map read (get eq m q))
       changed f change q =
           ap (option_map read) (written w q)
-          ∙ elim (eq k q) as (λ b. eq k q ≡ b → option_map read (cond b (Some w) (get eq m q)) ≡ cond b (option_map f (option_map read (get eq m q))) (option_map read (get eq m q))) [
+          ∙ elim (eq k q) as (λ b. eq k q ≡ b → option_map read (cond b (Some w) (get eq m q))
+          ≡ cond b (option_map f (option_map read (get eq m q))) (option_map read (get eq m q))) [
             | true ↦ λ e. ap Some change ∙ ap (λ o. option_map f (option_map read o)) (sym (ap (get eq m) (sym ((decides k q).0 e)) ∙ own_value))
             | false ↦ λ _. refl
           ] refl

@@ -27,7 +27,8 @@ module _ {X : Type 0} (number : X → ℕ) where
   pub items_are_numbered : (xs : List X) → IsNumbered (item_in xs) (length xs)
   items_are_numbered xs = subst (IsNumbered (item_in xs)) (length-map xs number) (places_are_numbered nat_eq same_number (numbers xs))
 
-  pub item_more : (xs : List X) (x : X) (q : ℕ) → item_in xs (number x) ≡ None → item_in (xs ++ x ∷ []) q ≡ cond (nat_eq (number x) q) (Some (length xs)) (item_in xs q)
+  pub item_more : (xs : List X) (x : X) (q : ℕ) → item_in xs (number x) ≡ None
+      → item_in (xs ++ x ∷ []) q ≡ cond (nat_eq (number x) q) (Some (length xs)) (item_in xs q)
   item_more xs x q none =
       ap (λ ns. place_in ns q) (numbers_pushed xs x)
       ∙ place_more nat_eq same_number (numbers xs) (number x) q none
@@ -35,7 +36,8 @@ module _ {X : Type 0} (number : X → ℕ) where
 
   -- the item for a number that had none
   pub item_there : (xs : List X) (x : X) → item_in xs (number x) ≡ None → item_in (xs ++ x ∷ []) (number x) ≡ Some (length xs)
-  item_there xs x none = item_more xs x (number x) none ∙ ap (λ b. cond b (Some (length xs)) (item_in xs (number x))) ((same_number (number x) (number x)).1 refl)
+  item_there xs x none =
+      item_more xs x (number x) none ∙ ap (λ b. cond b (Some (length xs)) (item_in xs (number x))) ((same_number (number x) (number x)).1 refl)
 
   pub items_grow : (xs : List X) (x : X) → item_in xs (number x) ≡ None → Grows (item_in xs) (item_in (xs ++ x ∷ []))
   items_grow xs x none = grows_more nat_eq same_number (item_in xs) (item_in (xs ++ x ∷ [])) (number x) (length xs) none (λ q. item_more xs x q none)
@@ -49,13 +51,16 @@ module _ {X : Type 0} (number : X → ℕ) where
 
   module _ {W : Type 0} (read : X → W) (none : W) where
     -- one more item, of which nothing is read
-    pub items_pushed : (xs : List X) (x : X) → item_in xs (number x) ≡ None → read x ≡ none → (o : Option ℕ) → read_at read none (xs ++ x ∷ []) (option_and_then (item_in (xs ++ x ∷ [])) o) ≡ read_at read none xs (option_and_then (item_in xs) o)
+    pub items_pushed : (xs : List X) (x : X) → item_in xs (number x) ≡ None → read x ≡ none → (o : Option ℕ)
+        → read_at read none (xs ++ x ∷ []) (option_and_then (item_in (xs ++ x ∷ [])) o) ≡ read_at read none xs (option_and_then (item_in xs) o)
     items_pushed xs x absent nothing None = refl
     items_pushed xs x absent nothing (Some q) =
-        read_pushed nat_eq same_number read none (item_in xs) (item_in (xs ++ x ∷ [])) (number x) xs x (items_are_numbered xs) absent (λ r. item_more xs x r absent) nothing q
+        read_pushed nat_eq same_number read none (item_in xs) (item_in (xs ++ x ∷ [])) (number x) xs x (items_are_numbered xs) absent
+        (λ r. item_more xs x r absent) nothing q
 
     -- an item is replaced by one that reads the same
-    pub items_written : (xs : List X) (i : ℕ) (x w : X) → i < length xs → x ≡ get_or xs i x → number w ≡ number x → read w ≡ read x → (o : Option ℕ) → read_at read none (set xs i w) (option_and_then (item_in (set xs i w)) o) ≡ read_at read none xs (option_and_then (item_in xs) o)
+    pub items_written : (xs : List X) (i : ℕ) (x w : X) → i < length xs → x ≡ get_or xs i x → number w ≡ number x → read w ≡ read x → (o : Option ℕ)
+        → read_at read none (set xs i w) (option_and_then (item_in (set xs i w)) o) ≡ read_at read none xs (option_and_then (item_in xs) o)
     items_written xs i x w below is same alike None = refl
     items_written xs i x w below is same alike (Some q) =
         ap (λ ns. read_at read none (set xs i w) (place_in ns q)) (numbers_kept xs i x w is same)

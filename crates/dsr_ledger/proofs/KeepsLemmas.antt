@@ -50,14 +50,22 @@ pub same_places : (a b : Summaries) → ((id : List ℕ) → shown_at b id ≡ s
 same_places a b same = λ j id. option_map (λ s. s.place) (same id j)
 
 -- lines of usages are kept
-pub lined_grows : (a b : Ledger) (isrc : List ℕ) (ss : List SeatShare) (key : List ℕ → Option SummaryKey) → ((k : SummaryKey) (i : ℕ) → line_at a isrc k ≡ Some i → line_at b isrc k ≡ Some i) → ((i : ℕ) → IsWideAt a isrc ss i → IsWideAt b isrc ss i) → (us : List Usage) (is : List ℕ) → AreLined a key isrc ss us is → AreLined b key isrc ss us is
-lined_grows a b isrc ss key lines wide us is h = zip_weaker (λ (u : Usage) i. IsLined a isrc ss (key u.summary_id) i) (λ (u : Usage) i. IsLined b isrc ss (key u.summary_id) i) (λ u i l. record { summary_key = l.summary_key; key_is = l.key_is; line_is = lines l.summary_key i l.line_is; wide = wide i l.wide }) us is h
+pub lined_grows : (a b : Ledger) (isrc : List ℕ) (ss : List SeatShare) (key : List ℕ → Option SummaryKey)
+    → ((k : SummaryKey) (i : ℕ) → line_at a isrc k ≡ Some i → line_at b isrc k ≡ Some i) → ((i : ℕ) → IsWideAt a isrc ss i → IsWideAt b isrc ss i)
+    → (us : List Usage) (is : List ℕ) → AreLined a key isrc ss us is → AreLined b key isrc ss us is
+lined_grows a b isrc ss key lines wide us is h =
+    zip_weaker (λ (u : Usage) i. IsLined a isrc ss (key u.summary_id) i) (λ (u : Usage) i. IsLined b isrc ss (key u.summary_id) i)
+    (λ u i l. record { summary_key = l.summary_key; key_is = l.key_is; line_is = lines l.summary_key i l.line_is; wide = wide i l.wide }) us is h
 
 -- a plan is kept
-pub planned_stays : (a b : Ledger) (s t : Summaries) (isrc : List ℕ) (works : List WorkParts) (us : List Usage) (plan : Plan) → SameNumbers a b → ((id : List ℕ) → index_at t id ≡ index_at s id) → place_at t ≡ place_at s → IsPlanned a s isrc works us plan → IsPlanned b t isrc works us plan
+pub planned_stays : (a b : Ledger) (s t : Summaries) (isrc : List ℕ) (works : List WorkParts) (us : List Usage) (plan : Plan) → SameNumbers a b
+    → ((id : List ℕ) → index_at t id ≡ index_at s id) → place_at t ≡ place_at s → IsPlanned a s isrc works us plan → IsPlanned b t isrc works us plan
 planned_stays a b s t isrc works us plan same index places h = record {
   recording_is = same.recordings isrc ∙ h.recording_is;
   seated = seated_grows (seat_at a isrc) (seat_at b isrc) (λ q i e. same.seats isrc q ∙ e) plan.shares.items (shares_of works) h.seated;
   counted = (λ j. map (λ (u : Usage). index u.summary_id j) us) ∙ h.counted;
-  lined = subst (λ p. AreLined b p isrc plan.shares.items us plan.lines.items) (sym places) (lined_grows a b isrc plan.shares.items (place_at s) (λ k i e. same.lines isrc k ∙ e) (λ i e. same.wide isrc plan.shares.items i e) us plan.lines.items h.lined);
+  lined =
+      subst (λ p. AreLined b p isrc plan.shares.items us plan.lines.items) (sym places)
+      (lined_grows a b isrc plan.shares.items (place_at s) (λ k i e. same.lines isrc k ∙ e)
+      (λ i e. same.wide isrc plan.shares.items i e) us plan.lines.items h.lined);
 }

@@ -51,7 +51,8 @@ key_eq-is a b h =
 pub key_eq-itself : (a : Key) → key_eq a a ≡ true
 key_eq-itself a =
     and_from _ _ ((bytes_eq-Decides a.isrc a.isrc).1 refl)
-    (and_from _ _ ((bytes_eq-Decides a.territory a.territory).1 refl) (and_from _ _ ((bytes_eq-Decides a.use_type a.use_type).1 refl) ((bytes_eq-Decides a.currency a.currency).1 refl)))
+    (and_from _ _ ((bytes_eq-Decides a.territory a.territory).1 refl)
+    (and_from _ _ ((bytes_eq-Decides a.use_type a.use_type).1 refl) ((bytes_eq-Decides a.currency a.currency).1 refl)))
 
 -- keys are equal only if they are the same
 pub same_key : (a b : Key) → Decides (key_eq a b) (a ≡ b)

@@ -22,7 +22,8 @@ use Rattle.dsr_ledger.specs.Bookings.{Booking, bookings}
 use Rattle.dsr_ledger.specs.Parts.{Part, rounded, part_of, work_parts, parts_of, all_parts, is_for, party_amount, unclaimed}
 use Rattle.dsr_ledger.specs.Ledger.{at_key, is_at_key, party_lines, line_of, ledger}
 use Rattle.dsr_ledger.specs.Reports.{report_of}
-use Rattle.dsr_ledger.specs.Laws.{line_bookings, line_parts, exact_sum, AddsUp, IsNear, IsRoundedDown, NoneIsNegative, IsWithin, SharesAddUp, SharesAreNear, SharesAreWithin}
+use Rattle.dsr_ledger.specs.Laws.{line_bookings, line_parts, exact_sum, AddsUp, IsNear, IsRoundedDown, NoneIsNegative, IsWithin, SharesAddUp, SharesAreNear}
+use Rattle.dsr_ledger.specs.Laws.{SharesAreWithin}
 use Rattle.dsr_ledger.proofs.KeyLemmas.{key_total, key_exact}
 use Rattle.dsr_ledger.proofs.OrderLemmas.{values_in_order, keys_among}
 use Rattle.dsr_ledger.proofs.PartyLemmas.{names_of, lines_are, shares_conserved, some_for}
@@ -56,7 +57,8 @@ sum_below (q ∷ ps) h = let here = rounded_below q h.0 in let rest = sum_below 
 near : (ps : List Part) → 0 < length ps → unsigned_abs ((pos 1000000 *ℤ int_sum_by rounded ps) -ℤ exact_sum ps) < 1000000 * length ps
 near ps some = let h = sum_near ps in omega arith
 
-down : (ps : List Part) → 0 < length ps → AllByRecursion IsNotNegative ps → ((pos 1000000 *ℤ int_sum_by rounded ps) ≤ℤ exact_sum ps) × (exact_sum ps <ℤ (pos 1000000 *ℤ (int_sum_by rounded ps +ℤ pos (length ps))))
+down : (ps : List Part) → 0 < length ps → AllByRecursion IsNotNegative ps
+    → ((pos 1000000 *ℤ int_sum_by rounded ps) ≤ℤ exact_sum ps) × (exact_sum ps <ℤ (pos 1000000 *ℤ (int_sum_by rounded ps +ℤ pos (length ps))))
 down ps some h = let n = near ps some in let b = sum_below ps h in (b, omega (arith, ints))
 
 -- a share of an amount that is not below zero isn't
@@ -72,17 +74,23 @@ zip_positive a (p ∷ parties) (s ∷ shares) h = (scaled a s h, zip_positive a 
 parts_positive : (bs : List Booking) → AllByRecursion (λ b. pos 0 ≤ℤ b.usage.amount) bs → AllByRecursion IsNotNegative (all_parts bs)
 parts_positive bs h =
     all_flat IsNotNegative (λ b. pos 0 ≤ℤ b.usage.amount) parts_of (λ b k.
-    all_flat IsNotNegative (λ _. Unit {0}) (work_parts b.usage.amount) (λ w _. zip_positive b.usage.amount w.parties w.shares k) b.works (all_of (λ _. Unit {0}) (λ _. tt) b.works)) bs h
+    all_flat IsNotNegative (λ _. Unit {0}) (work_parts b.usage.amount) (λ w _. zip_positive b.usage.amount w.parties w.shares k) b.works
+    (all_of (λ _. Unit {0}) (λ _. tt) b.works)) bs h
 
 -- a party of a line has a part
-named_some : (bs : List Booking) (n : List ℕ) → list_any (eq_by_cmp text_cmp n) (map (λ q. q.party) (all_parts bs)) ≡ true → 0 < length (filter (is_for n) (all_parts bs))
+named_some : (bs : List Booking) (n : List ℕ) → list_any (eq_by_cmp text_cmp n) (map (λ q. q.party) (all_parts bs)) ≡ true
+    → 0 < length (filter (is_for n) (all_parts bs))
 named_some bs n h = ltb-true 0 (length (filter (is_for n) (all_parts bs))) (some_for n (all_parts bs) ∙ h)
 
 -- what holds of each party that has a part holds of the lines of the parties
-each_party : (P : PartyLine → Type 0) (bs : List Booking) → ((n : List ℕ) → 0 < length (filter (is_for n) (all_parts bs)) → P (record { party = n; amount = party_amount bs n })) → AllByRecursion P (party_lines bs)
-each_party P bs each = subst (AllByRecursion P) (sym (lines_are bs)) (over (names_of bs) (keys_among text_cmp nat_list_cmp_total exact_bytes (party_amount bs) (map (λ q. q.party) (all_parts bs))))
+each_party : (P : PartyLine → Type 0) (bs : List Booking) → ((n : List ℕ) → 0 < length (filter (is_for n) (all_parts bs))
+    → P (record { party = n; amount = party_amount bs n })) → AllByRecursion P (party_lines bs)
+each_party P bs each =
+    subst (AllByRecursion P) (sym (lines_are bs)) (over (names_of bs)
+    (keys_among text_cmp nat_list_cmp_total exact_bytes (party_amount bs) (map (λ q. q.party) (all_parts bs))))
   where
-    over : (names : List (List ℕ)) → AllByRecursion (λ n. list_any (eq_by_cmp text_cmp n) (map (λ q. q.party) (all_parts bs)) ≡ true) names → AllByRecursion P (map (λ n. record { party = n; amount = party_amount bs n }) names)
+    over : (names : List (List ℕ)) → AllByRecursion (λ n. list_any (eq_by_cmp text_cmp n) (map (λ q. q.party) (all_parts bs)) ≡ true) names
+        → AllByRecursion P (map (λ n. record { party = n; amount = party_amount bs n }) names)
     over [] h = tt
     over (n ∷ names) h = (each n (named_some bs n h.0), over names h.1)
 
@@ -93,7 +101,8 @@ each_line P bs each =
     let f : Key → LedgerLine = λ key. line_of key (at_key key bs) in
     let ks = map (λ b. b.key) bs in
     let keys = keys_of (in_order key_cmp f ks) in
-    let is : map (λ e. e.1) (in_order key_cmp f ks) ≡ map f keys = ap (map (λ e. e.1)) (values_in_order key_cmp key_total key_exact f ks) ∙ map-map (λ (e : Key × LedgerLine). e.1) (λ (k : Key). (k, f k)) keys in
+    let is : map (λ e. e.1) (in_order key_cmp f ks) ≡ map f keys =
+    ap (map (λ e. e.1)) (values_in_order key_cmp key_total key_exact f ks) ∙ map-map (λ (e : Key × LedgerLine). e.1) (λ (k : Key). (k, f k)) keys in
     subst (AllByRecursion P) (sym is) (over keys)
   where
     over : (keys : List Key) → AllByRecursion P (map (λ key. line_of key (at_key key bs)) keys)
@@ -104,7 +113,8 @@ pub add_up : (files : List File) → SharesAddUp files
 unfolding report_of line_of
 add_up files = All-from_recursion AddsUp _ (each_line AddsUp (bookings files) (λ key. shares_conserved (at_key key (bookings files))))
 
-line_near : (files : List File) (key : Key) → All (λ p. IsNear (filter (is_for p.party) (all_parts (at_key key (bookings files)))) p) (party_lines (at_key key (bookings files)))
+line_near : (files : List File) (key : Key) → All (λ p. IsNear (filter (is_for p.party) (all_parts (at_key key (bookings files)))) p)
+    (party_lines (at_key key (bookings files)))
 line_near files key =
     let bs = at_key key (bookings files) in
     let P : PartyLine → Type 0 = λ p. IsNear (filter (is_for p.party) (all_parts bs)) p in
@@ -117,17 +127,21 @@ are_near files =
     All-from_recursion P _ (each_line P (bookings files) (line_near files))
 
 -- the bookings of a key, where none is negative
-key_within : (files : List File) (key : Key) → NoneIsNegative (at_key key (bookings files)) → (pos 0 ≤ℤ unclaimed (at_key key (bookings files))) × All (λ p. IsRoundedDown (filter (is_for p.party) (all_parts (at_key key (bookings files)))) p) (party_lines (at_key key (bookings files)))
+key_within : (files : List File) (key : Key) → NoneIsNegative (at_key key (bookings files))
+    → (pos 0 ≤ℤ unclaimed (at_key key (bookings files))) × All (λ p. IsRoundedDown (filter (is_for p.party) (all_parts (at_key key (bookings files)))) p)
+    (party_lines (at_key key (bookings files)))
 key_within files key positive =
     let bs = at_key key (bookings files) in
     let up = recursion_from_All (λ (b : Booking). pos 0 ≤ℤ b.usage.amount) bs positive in
     let whole = each_filter IsWhole (is_at_key key) (bookings files) (bookings_whole files) in
     let P : PartyLine → Type 0 = λ p. IsRoundedDown (filter (is_for p.party) (all_parts bs)) p in (
       unclaimed_not_negative bs (both_of bs up whole),
-      All-from_recursion P (party_lines bs) (each_party P bs (λ n some. down (filter (is_for n) (all_parts bs)) some (each_filter IsNotNegative (is_for n) (all_parts bs) (parts_positive bs up)))),
+      All-from_recursion P (party_lines bs) (each_party P bs
+          (λ n some. down (filter (is_for n) (all_parts bs)) some (each_filter IsNotNegative (is_for n) (all_parts bs) (parts_positive bs up)))),
     )
   where
-    both_of : (bs : List Booking) → AllByRecursion (λ b. pos 0 ≤ℤ b.usage.amount) bs → AllByRecursion IsWhole bs → AllByRecursion (λ b. (pos 0 ≤ℤ b.usage.amount) × (share_total b.works ≤ 1000000)) bs
+    both_of : (bs : List Booking) → AllByRecursion (λ b. pos 0 ≤ℤ b.usage.amount) bs → AllByRecursion IsWhole bs
+        → AllByRecursion (λ b. (pos 0 ≤ℤ b.usage.amount) × (share_total b.works ≤ 1000000)) bs
     both_of [] h k = tt
     both_of (b ∷ bs) h k = ((h.0, k.0), both_of bs h.1 k.1)
 

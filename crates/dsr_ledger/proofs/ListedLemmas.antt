@@ -1,5 +1,6 @@
 -- Names with the places of their numbers, and in order.
-use Rattle.std.proofs.Common.{◌≡◌, ℕ, zero, suc, ◌+◌, ◌<◌, Bool, true, false, true≢false, cond, List, [], ◌∷◌, ◌++◌, length, take, get_or, nat_eq, refl, sym, ap, ◌∙◌, subst, arith}
+use Rattle.std.proofs.Common.{◌≡◌, ℕ, zero, suc, ◌+◌, ◌<◌, Bool, true, false, true≢false, cond, List, [], ◌∷◌, ◌++◌, length, take, get_or, nat_eq, refl, sym}
+use Rattle.std.proofs.Common.{ap, ◌∙◌, subst, arith}
 use Rattle.std.specs.Prelude.{Option, None, Some, is_some, slice_get, position, map, unwrap_or}
 use Rattle.std.specs.Option.{option_map_or, option_and_then}
 use Rattle.std.specs.List.{IsDistinct, position_from, AllByRecursion}
@@ -26,7 +27,8 @@ use Rattle.dsr_ledger.proofs.IndexMapLemmas.{number_at}
 use Rattle.dsr_ledger.proofs.OrderLemmas.{strictly_sorted}
 
 -- items none of which equals an earlier one
-distinct_from_apart : {X : Type 0} (alike : X → X → Bool) (xs : List X) → ((i j : ℕ) (x y : X) → i < j → slice_get xs i ≡ Some x → slice_get xs j ≡ Some y → alike x y ≡ false) → IsDistinct alike xs
+distinct_from_apart : {X : Type 0} (alike : X → X → Bool) (xs : List X)
+    → ((i j : ℕ) (x y : X) → i < j → slice_get xs i ≡ Some x → slice_get xs j ≡ Some y → alike x y ≡ false) → IsDistinct alike xs
 unfolding IsDistinct
 distinct_from_apart alike [] h = tt
 distinct_from_apart {X} alike (x ∷ xs) h =
@@ -58,7 +60,8 @@ module _ {K : Type 0} where
   AreNamedFrom ks k (n ∷ ns) (e ∷ es) = ((slice_get ks n ≡ Some e.0) × (e.1 ≡ k)) × AreNamedFrom ks (k + 1) ns es
 
   -- one more entry
-  pub named_push : (ks : List K) (k : ℕ) (ns : List ℕ) (es : List (K × ℕ)) (n : ℕ) (e : K × ℕ) → slice_get ks n ≡ Some e.0 → e.1 ≡ k + length ns → AreNamedFrom ks k ns es → AreNamedFrom ks k (ns ++ n ∷ []) (es ++ e ∷ [])
+  pub named_push : (ks : List K) (k : ℕ) (ns : List ℕ) (es : List (K × ℕ)) (n : ℕ) (e : K × ℕ) → slice_get ks n ≡ Some e.0 → e.1 ≡ k + length ns
+      → AreNamedFrom ks k ns es → AreNamedFrom ks k (ns ++ n ∷ []) (es ++ e ∷ [])
   named_push ks k [] [] n e at is h = ((at, is ∙ omega arith), tt)
   named_push ks k [] (x ∷ es) n e at is h = absurd h
   named_push ks k (m ∷ ns) [] n e at is h = absurd h
@@ -96,7 +99,8 @@ module _ {K : Type 0} where
     no_place k None = refl
     no_place k (Some m) = refl
 
-    next_place : (k n : ℕ) (ns : List ℕ) (o : Option ℕ) → cond (option_map_or (λ m. nat_eq m n) o false) (Some k) (place_from (k + 1) ns o) ≡ place_from k (n ∷ ns) o
+    next_place : (k n : ℕ) (ns : List ℕ) (o : Option ℕ) → cond (option_map_or (λ m. nat_eq m n) o false) (Some k) (place_from (k + 1) ns o)
+        ≡ place_from k (n ∷ ns) o
     next_place k n ns None = refl
     next_place k n ns (Some m) = refl
 
@@ -119,7 +123,8 @@ module _ {K : Type 0} where
     differ_from k (n ∷ ns) [] h d = absurd h
     differ_from k (n ∷ ns) (e ∷ es) h d = (each (k + 1) ns es h.1 d.0, differ_from (k + 1) ns es h.1 d.1)
       where
-        each : (j : ℕ) (ms : List ℕ) (fs : List (K × ℕ)) → AreNamedFrom ks j ms fs → AllByRecursion (λ m. nat_eq n m ≡ false) ms → AllByRecursion (λ y. eq e.0 y ≡ false) (keys_of fs)
+        each : (j : ℕ) (ms : List ℕ) (fs : List (K × ℕ)) → AreNamedFrom ks j ms fs → AllByRecursion (λ m. nat_eq n m ≡ false) ms
+            → AllByRecursion (λ y. eq e.0 y ≡ false) (keys_of fs)
         each j [] [] g a = tt
         each j [] (f ∷ fs) g a = absurd g
         each j (m ∷ ms) [] g a = absurd g
@@ -141,7 +146,8 @@ module _ {K : Type 0} where
       raw_distinct [] h = tt
       raw_distinct (x ∷ xs) h = (each xs h.0, raw_distinct xs h.1)
         where
-          each : (ys : List (Bor K × ℕ)) → AllByRecursion (λ y. eq (name x) y ≡ false) (keys_of (named_places ys)) → AllByRecursion (λ y. eq (name x) (name y) ≡ false) ys
+          each : (ys : List (Bor K × ℕ)) → AllByRecursion (λ y. eq (name x) y ≡ false) (keys_of (named_places ys))
+              → AllByRecursion (λ y. eq (name x) (name y) ≡ false) ys
           each [] a = tt
           each (y ∷ ys) a = (a.0, each ys a.1)
 
@@ -150,7 +156,8 @@ module _ {K : Type 0} where
       names_are (x ∷ xs) = ap (λ l. name x ∷ l) (names_are xs)
 
       -- names of numbers, put in order
-      pub listed : (ns : List ℕ) (xs ys : List (Bor K × ℕ)) → AreApart ns → AreNamedFrom ks 0 ns (named_places xs) → IsPermutation xs ys → IsSortedBy (λ a b. is_lt (R (name a) (name b))) ys → AreListed R (place_by number ns) (named_places ys)
+      pub listed : (ns : List ℕ) (xs ys : List (Bor K × ℕ)) → AreApart ns → AreNamedFrom ks 0 ns (named_places xs) → IsPermutation xs ys
+          → IsSortedBy (λ a b. is_lt (R (name a) (name b))) ys → AreListed R (place_by number ns) (named_places ys)
       listed ns xs ys apart named moved sorted =
           let was = named_places xs in
           let is = named_places ys in

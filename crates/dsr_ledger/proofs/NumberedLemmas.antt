@@ -1,5 +1,6 @@
 -- Numbered keys: one more key, and one more value.
-use Rattle.std.proofs.Common.{◌≡◌, ℕ, zero, suc, ◌+◌, ◌<◌, ◌≤◌, Bool, true, false, cond, true≢false, List, [], ◌∷◌, ◌++◌, length, take, set, get_or, ◌⊎◌, inl, inr, ⊎_elim, refl, sym, ap, ◌∙◌, arith}
+use Rattle.std.proofs.Common.{◌≡◌, ℕ, zero, suc, ◌+◌, ◌<◌, ◌≤◌, Bool, true, false, cond, true≢false, List, [], ◌∷◌, ◌++◌, length, take, set, get_or, ◌⊎◌, inl}
+use Rattle.std.proofs.Common.{inr, ⊎_elim, refl, sym, ap, ◌∙◌, arith}
 use Rattle.std.specs.Prelude.{Option, None, Some, is_some, map, slice_get, unwrap_or}
 use Rattle.std.specs.List.{position, position_from}
 use Rattle.std.specs.Option.{option_map, option_map_or}
@@ -20,13 +21,16 @@ either true x y o e = inl (refl, same_Some x y e)
 either false x y o e = inr (refl, e)
 
 module _ {K : Type 0} (same : K → K → Bool) (decides : (a b : K) → Decides (same a b) (a ≡ b)) where
-  pub numbered_more : (old new : K → Option ℕ) (k : K) (n : ℕ) → IsNumbered old n → ((q : K) → new q ≡ cond (same k q) (Some n) (old q)) → IsNumbered new (n + 1)
+  pub numbered_more : (old new : K → Option ℕ) (k : K) (n : ℕ) → IsNumbered old n → ((q : K) → new q ≡ cond (same k q) (Some n) (old q))
+      → IsNumbered new (n + 1)
   numbered_more old new k n h is = record {
     below = λ q i e. ⊎_elim (λ s. let m = s.1 in omega arith) (λ s. let b = h.below q i s.1 in omega arith) (either (same k q) n i (old q) (sym (is q) ∙ e));
     apart = λ q r i e f.
         ⊎_elim
-        (λ s. ⊎_elim (λ t. sym ((decides k q).0 s.0) ∙ (decides k r).0 t.0) (λ t. absurd (let b = h.below r i t.1 in let m = s.1 in omega arith)) (either (same k r) n i (old r) (sym (is r) ∙ f)))
-        (λ s. ⊎_elim (λ t. absurd (let b = h.below q i s.1 in let m = t.1 in omega arith)) (λ t. h.apart q r i s.1 t.1) (either (same k r) n i (old r) (sym (is r) ∙ f)))
+        (λ s. ⊎_elim (λ t. sym ((decides k q).0 s.0) ∙ (decides k r).0 t.0) (λ t. absurd (let b = h.below r i t.1 in let m = s.1 in omega arith))
+        (either (same k r) n i (old r) (sym (is r) ∙ f)))
+        (λ s. ⊎_elim (λ t. absurd (let b = h.below q i s.1 in let m = t.1 in omega arith)) (λ t. h.apart q r i s.1 t.1)
+        (either (same k r) n i (old r) (sym (is r) ∙ f)))
         (either (same k q) n i (old q) (sym (is q) ∙ e));
   }
 
@@ -39,7 +43,8 @@ module _ {K : Type 0} (same : K → K → Bool) (decides : (a b : K) → Decides
       ] refl
 
   -- one more key gets no number that another had
-  pub fresh_more : (old new : K → Option ℕ) (k : K) (n : ℕ) → ((q : K) → new q ≡ cond (same k q) (Some n) (old q)) → (q : K) (i : ℕ) → new q ≡ Some i → i < n → old q ≡ Some i
+  pub fresh_more : (old new : K → Option ℕ) (k : K) (n : ℕ) → ((q : K) → new q ≡ cond (same k q) (Some n) (old q)) → (q : K) (i : ℕ) → new q ≡ Some i → i < n
+      → old q ≡ Some i
   fresh_more old new k n is q i e below =
       ⊎_elim (λ s. absurd (let m = s.1 in omega arith)) (λ s. s.1) (either (same k q) n i (old q) (sym (is q) ∙ e))
 
@@ -51,14 +56,16 @@ module _ {K : Type 0} (same : K → K → Bool) (decides : (a b : K) → Decides
     value_pushed (x ∷ vs) v w (suc i) e = ⊎_elim (λ s. inl s) (λ s. inr (ap suc s.0, s.1)) (value_pushed vs v w i e)
 
     -- one more value, whose name has its number
-    pub named_more : (old new : K → Option ℕ) (k : K) (vs : List V) (v : V) → AreNamed old name vs → old k ≡ None → k ≡ name v → ((q : K) → new q ≡ cond (same k q) (Some (length vs)) (old q)) → AreNamed new name (vs ++ v ∷ [])
+    pub named_more : (old new : K → Option ℕ) (k : K) (vs : List V) (v : V) → AreNamed old name vs → old k ≡ None → k ≡ name v
+        → ((q : K) → new q ≡ cond (same k q) (Some (length vs)) (old q)) → AreNamed new name (vs ++ v ∷ [])
     named_more old new k vs v h none named is i w e =
         ⊎_elim
         (λ s. grows_more old new k (length vs) none is (name w) i (h i w s))
         (λ s. is (name w) ∙ ap (λ b. cond b (Some (length vs)) (old (name w))) ((decides k (name w)).1 (named ∙ ap name s.1)) ∙ ap Some (sym s.0))
         (value_pushed vs v w i e)
 
-    value_set : (vs : List V) (v w x : V) (i j : ℕ) → slice_get vs i ≡ Some v → slice_get (set vs i w) j ≡ Some x → (slice_get vs j ≡ Some x) ⊎ ((j ≡ i) × (w ≡ x))
+    value_set : (vs : List V) (v w x : V) (i j : ℕ) → slice_get vs i ≡ Some v → slice_get (set vs i w) j ≡ Some x
+        → (slice_get vs j ≡ Some x) ⊎ ((j ≡ i) × (w ≡ x))
     value_set [] v w x i j at e = inl e
     value_set (y ∷ vs) v w x zero zero at e = inr (refl, same_Some w x e)
     value_set (y ∷ vs) v w x zero (suc j) at e = inl e
@@ -66,7 +73,8 @@ module _ {K : Type 0} (same : K → K → Bool) (decides : (a b : K) → Decides
     value_set (y ∷ vs) v w x (suc i) (suc j) at e = ⊎_elim (λ s. inl s) (λ s. inr (ap suc s.0, s.1)) (value_set vs v w x i j at e)
 
     -- a value is replaced by one with the same name
-    pub named_set : (number : K → Option ℕ) (vs : List V) (i : ℕ) (v w : V) → AreNamed number name vs → slice_get vs i ≡ Some v → name w ≡ name v → AreNamed number name (set vs i w)
+    pub named_set : (number : K → Option ℕ) (vs : List V) (i : ℕ) (v w : V) → AreNamed number name vs → slice_get vs i ≡ Some v → name w ≡ name v
+        → AreNamed number name (set vs i w)
     named_set number vs i v w h at kept j x e =
         ⊎_elim (λ s. h j x s) (λ s. ap number (ap name (sym s.1) ∙ kept) ∙ h i v at ∙ ap Some (sym s.0)) (value_set vs v w x i j at e)
 
@@ -85,7 +93,9 @@ module _ {K : Type 0} (same : K → K → Bool) (decides : (a b : K) → Decides
     read_before vs v (Some i) h = ap (λ o. option_map_or read o none) (push_before vs v i (h i refl))
 
     -- a new key with a value: it is read there, and the other keys read as before
-    pub read_added : (old new : K → Option ℕ) (k : K) (vs : List V) (v : V) → IsNumbered old (length vs) → ((q : K) → new q ≡ cond (same k q) (Some (length vs)) (old q)) → (q : K) → read_at read none (vs ++ v ∷ []) (new q) ≡ cond (same k q) (read v) (read_at read none vs (old q))
+    pub read_added : (old new : K → Option ℕ) (k : K) (vs : List V) (v : V) → IsNumbered old (length vs)
+        → ((q : K) → new q ≡ cond (same k q) (Some (length vs)) (old q)) → (q : K)
+        → read_at read none (vs ++ v ∷ []) (new q) ≡ cond (same k q) (read v) (read_at read none vs (old q))
     read_added old new k vs v h is q =
         ap (read_at read none (vs ++ v ∷ [])) (is q)
         ∙ elim (same k q) as (λ b. read_at read none (vs ++ v ∷ []) (cond b (Some (length vs)) (old q)) ≡ cond b (read v) (read_at read none vs (old q))) [
@@ -94,7 +104,9 @@ module _ {K : Type 0} (same : K → K → Bool) (decides : (a b : K) → Decides
         ]
 
     -- a new key with a value of which nothing is read: nothing that is read changes
-    pub read_pushed : (old new : K → Option ℕ) (k : K) (vs : List V) (v : V) → IsNumbered old (length vs) → old k ≡ None → ((q : K) → new q ≡ cond (same k q) (Some (length vs)) (old q)) → read v ≡ none → (q : K) → read_at read none (vs ++ v ∷ []) (new q) ≡ read_at read none vs (old q)
+    pub read_pushed : (old new : K → Option ℕ) (k : K) (vs : List V) (v : V) → IsNumbered old (length vs) → old k ≡ None
+        → ((q : K) → new q ≡ cond (same k q) (Some (length vs)) (old q)) → read v ≡ none → (q : K)
+        → read_at read none (vs ++ v ∷ []) (new q) ≡ read_at read none vs (old q)
     read_pushed old new k vs v h absent is nothing q =
         ap (read_at read none (vs ++ v ∷ [])) (is q)
         ∙ elim (same k q) as (λ b. same k q ≡ b → read_at read none (vs ++ v ∷ []) (cond b (Some (length vs)) (old q)) ≡ read_at read none vs (old q)) [
@@ -114,13 +126,15 @@ module _ {K : Type 0} (same : K → K → Bool) (decides : (a b : K) → Decides
     set_other (x ∷ vs) (suc i) zero w h = refl
     set_other (x ∷ vs) (suc i) (suc j) w h = set_other vs i j w (λ e. h (ap suc e))
 
-    read_other : (number : K → Option ℕ) (k q : K) (vs : List V) (i : ℕ) (w : V) (o : Option ℕ) → o ≡ number q → IsNumbered number (length vs) → number k ≡ Some i → (k ≡ q → ⊥) → read_at read none (set vs i w) o ≡ read_at read none vs o
+    read_other : (number : K → Option ℕ) (k q : K) (vs : List V) (i : ℕ) (w : V) (o : Option ℕ) → o ≡ number q → IsNumbered number (length vs)
+        → number k ≡ Some i → (k ≡ q → ⊥) → read_at read none (set vs i w) o ≡ read_at read none vs o
     read_other number k q vs i w None e h at other = refl
     read_other number k q vs i w (Some j) e h at other =
         ap (λ o. option_map_or read o none) (set_other vs i j w (λ same_number. other (h.apart k q i at (sym e ∙ ap Some (sym same_number)))))
 
     -- a value that is written at a key: it is read there, and the other keys read as before
-    pub read_set : (number : K → Option ℕ) (k : K) (vs : List V) (i : ℕ) (w : V) → IsNumbered number (length vs) → number k ≡ Some i → (q : K) → read_at read none (set vs i w) (number q) ≡ cond (same k q) (read w) (read_at read none vs (number q))
+    pub read_set : (number : K → Option ℕ) (k : K) (vs : List V) (i : ℕ) (w : V) → IsNumbered number (length vs) → number k ≡ Some i → (q : K)
+        → read_at read none (set vs i w) (number q) ≡ cond (same k q) (read w) (read_at read none vs (number q))
     read_set number k vs i w h at q =
         elim (same k q) as (λ b. same k q ≡ b → read_at read none (set vs i w) (number q) ≡ cond b (read w) (read_at read none vs (number q))) [
           | true ↦ λ s. ap (read_at read none (set vs i w)) (ap number (sym ((decides k q).0 s)) ∙ at) ∙ set_here vs i w (h.below k i at)
@@ -133,20 +147,25 @@ module _ {K : Type 0} (same : K → K → Bool) (decides : (a b : K) → Decides
     item_read (x ∷ vs) (suc i) v below is = item_read vs i v (omega arith) is
 
     -- what is read of a value by its key
-    pub read_here : (number : K → Option ℕ) (k : K) (vs : List V) (i : ℕ) (v : V) → IsNumbered number (length vs) → number k ≡ Some i → v ≡ get_or vs i v → read_at read none vs (number k) ≡ read v
+    pub read_here : (number : K → Option ℕ) (k : K) (vs : List V) (i : ℕ) (v : V) → IsNumbered number (length vs) → number k ≡ Some i → v ≡ get_or vs i v
+        → read_at read none vs (number k) ≡ read v
     read_here number k vs i v h at is = ap (read_at read none vs) at ∙ item_read vs i v (h.below k i at) is
 
     -- a value that is changed at a key: what is read there changes so, and the other keys read as before
-    pub read_changed : (f : W → W) (number : K → Option ℕ) (k : K) (vs : List V) (i : ℕ) (v w : V) → IsNumbered number (length vs) → number k ≡ Some i → v ≡ get_or vs i v → read w ≡ f (read v) → (q : K) → read_at read none (set vs i w) (number q) ≡ cond (same k q) (f (read_at read none vs (number q))) (read_at read none vs (number q))
+    pub read_changed : (f : W → W) (number : K → Option ℕ) (k : K) (vs : List V) (i : ℕ) (v w : V) → IsNumbered number (length vs) → number k ≡ Some i
+        → v ≡ get_or vs i v → read w ≡ f (read v) → (q : K) → read_at read none (set vs i w) (number q)
+        ≡ cond (same k q) (f (read_at read none vs (number q))) (read_at read none vs (number q))
     read_changed f number k vs i v w h at is change q =
         read_set number k vs i w h at q
-        ∙ elim (same k q) as (λ b. same k q ≡ b → cond b (read w) (read_at read none vs (number q)) ≡ cond b (f (read_at read none vs (number q))) (read_at read none vs (number q))) [
+        ∙ elim (same k q) as (λ b. same k q ≡ b → cond b (read w) (read_at read none vs (number q))
+        ≡ cond b (f (read_at read none vs (number q))) (read_at read none vs (number q))) [
           | true ↦ λ s. change ∙ ap f (sym (item_read vs i v (h.below k i at) is) ∙ sym (ap (read_at read none vs) (ap number (sym ((decides k q).0 s)) ∙ at)))
           | false ↦ λ _. refl
         ] refl
 
     -- a value that reads the same as the one it replaces
-    pub read_set_same : (vs : List V) (i : ℕ) (v w : V) → slice_get vs i ≡ Some v → read w ≡ read v → (o : Option ℕ) → read_at read none (set vs i w) o ≡ read_at read none vs o
+    pub read_set_same : (vs : List V) (i : ℕ) (v w : V) → slice_get vs i ≡ Some v → read w ≡ read v → (o : Option ℕ)
+        → read_at read none (set vs i w) o ≡ read_at read none vs o
     read_set_same vs i v w at alike None = refl
     read_set_same vs i v w at alike (Some j) = by vs i j at
       where
@@ -182,10 +201,12 @@ position-cons p x xs =
     ∙ ap (cond (p x) (Some 0)) (position_from-later p xs 0 ∙ ap (option_map suc) (sym (position_from-zero p xs)))
 
 -- one more element
-position_from-push : {X : Type 0} (p : X → Bool) (xs : List X) (y : X) (n : ℕ) → (p y ≡ true → position_from p n xs ≡ None) → position_from p n (xs ++ y ∷ []) ≡ cond (p y) (Some (n + length xs)) (position_from p n xs)
+position_from-push : {X : Type 0} (p : X → Bool) (xs : List X) (y : X) (n : ℕ) → (p y ≡ true → position_from p n xs ≡ None)
+    → position_from p n (xs ++ y ∷ []) ≡ cond (p y) (Some (n + length xs)) (position_from p n xs)
 position_from-push p [] y n h = ap (λ m. cond (p y) (Some m) None) (omega arith)
 position_from-push p (x ∷ xs) y n h =
-    elim (p x) as (λ b. (p y ≡ true → cond b (Some n) (position_from p (n + 1) xs) ≡ None) → cond b (Some n) (position_from p (n + 1) (xs ++ y ∷ [])) ≡ cond (p y) (Some (n + suc (length xs))) (cond b (Some n) (position_from p (n + 1) xs))) [
+    elim (p x) as (λ b. (p y ≡ true → cond b (Some n) (position_from p (n + 1) xs) ≡ None)
+    → cond b (Some n) (position_from p (n + 1) (xs ++ y ∷ [])) ≡ cond (p y) (Some (n + suc (length xs))) (cond b (Some n) (position_from p (n + 1) xs))) [
       | true ↦ λ k. elim (p y) as (λ b. p y ≡ b → Some n ≡ cond b (Some (n + suc (length xs))) (Some n)) [
         | true ↦ λ e. absurd (not_Some n (sym (k e)))
         | false ↦ λ _. refl
@@ -193,7 +214,8 @@ position_from-push p (x ∷ xs) y n h =
       | false ↦ λ k. position_from-push p xs y (n + 1) k ∙ ap (λ m. cond (p y) (Some m) (position_from p (n + 1) xs)) (omega arith)
     ] h
 
-pub position-push : {X : Type 0} (p : X → Bool) (xs : List X) (y : X) → (p y ≡ true → position p xs ≡ None) → position p (xs ++ y ∷ []) ≡ cond (p y) (Some (length xs)) (position p xs)
+pub position-push : {X : Type 0} (p : X → Bool) (xs : List X) (y : X) → (p y ≡ true → position p xs ≡ None)
+    → position p (xs ++ y ∷ []) ≡ cond (p y) (Some (length xs)) (position p xs)
 position-push p xs y h =
     position_from-zero p (xs ++ y ∷ [])
     ∙ position_from-push p xs y 0 (λ e. sym (position_from-zero p xs) ∙ h e)
@@ -201,7 +223,8 @@ position-push p xs y h =
     ∙ ap (cond (p y) (Some (length xs))) (sym (position_from-zero p xs))
 
 -- if none of the first i elements passes
-position_from-taken : {X : Type 0} (p : X → Bool) (xs : List X) (i n : ℕ) (d : X) → i ≤ length xs → ((k : ℕ) → k < i → p (get_or xs k d) ≡ false) → position_from p n (take i xs) ≡ None
+position_from-taken : {X : Type 0} (p : X → Bool) (xs : List X) (i n : ℕ) (d : X) → i ≤ length xs → ((k : ℕ) → k < i → p (get_or xs k d) ≡ false)
+    → position_from p n (take i xs) ≡ None
 position_from-taken p xs zero n d le h = refl
 position_from-taken p [] (suc i) n d le h = absurd (omega arith)
 position_from-taken p (x ∷ xs) (suc i) n d le h =
@@ -228,7 +251,9 @@ module _ {K : Type 0} (same : K → K → Bool) (decides : (a b : K) → Decides
   pub places_are_numbered : (ks : List K) → IsNumbered (place ks) (length ks)
   places_are_numbered ks = record {
     below = λ k i e. (position-Some (same k) ks i k e).0;
-    apart = λ k l i e f. (decides k (get_or ks i k)).0 (position-Some (same k) ks i k e).1 ∙ sym ((decides l (get_or ks i k)).0 (position-Some (same l) ks i k f).1);
+    apart =
+        λ k l i e f. (decides k (get_or ks i k)).0 (position-Some (same k) ks i k e).1
+        ∙ sym ((decides l (get_or ks i k)).0 (position-Some (same l) ks i k f).1);
   }
 
   -- one more key, which was not among them

@@ -29,15 +29,19 @@ same_report-itself h =
     (and_from _ _ ((Decides-eqb h.number_of_files h.number_of_files).1 refl) (and_from _ _ (same_day-itself h.first_day) (same_day-itself h.last_day)))
 
 -- one more summary
-find-push : (id : List ℕ) (os : List Summary) (s : Summary) → find (λ x. bytes_eq id x.id) (os ++ s ∷ []) ≡ first_of (find (λ x. bytes_eq id x.id) os) (named id s)
+find-push : (id : List ℕ) (os : List Summary) (s : Summary) → find (λ x. bytes_eq id x.id) (os ++ s ∷ [])
+    ≡ first_of (find (λ x. bytes_eq id x.id) os) (named id s)
 find-push id [] s = refl
-find-push id (o ∷ os) s = elim (bytes_eq id o.id) as (λ b. cond b (Some o) (find (λ x. bytes_eq id x.id) (os ++ s ∷ [])) ≡ first_of (cond b (Some o) (find (λ x. bytes_eq id x.id) os)) (named id s)) [ true ↦ refl | false ↦ find-push id os s ]
+find-push id (o ∷ os) s =
+    elim (bytes_eq id o.id) as (λ b. cond b (Some o) (find (λ x. bytes_eq id x.id) (os ++ s ∷ []))
+    ≡ first_of (cond b (Some o) (find (λ x. bytes_eq id x.id) os)) (named id s)) [ true ↦ refl | false ↦ find-push id os s ]
 
 map-first_of : {A B : Type 0} (f : A → B) (o p : Option A) → option_map f (first_of o p) ≡ first_of (option_map f o) (option_map f p)
 map-first_of f None p = refl
 map-first_of f (Some x) p = refl
 
-pub found_in-push : (id : List ℕ) (os : List Summary) (s : Summary) → found_in (os ++ s ∷ []) [] id ≡ first_of (found_in os [] id) (option_map nothing_found (named id s))
+pub found_in-push : (id : List ℕ) (os : List Summary) (s : Summary)
+    → found_in (os ++ s ∷ []) [] id ≡ first_of (found_in os [] id) (option_map nothing_found (named id s))
 found_in-push id os s = ap (option_map nothing_found) (find-push id os s) ∙ map-first_of nothing_found (find (λ x. bytes_eq id x.id) os) (named id s)
 
 first_there : {X : Type 0} (o p : Option X) → is_some o ≡ true → o ≡ first_of o p
@@ -53,7 +57,8 @@ first_alone None = refl
 first_alone (Some x) = refl
 
 -- a name that is there already
-pub added_none : {X : Type 0} (at : List ℕ → Option X) (k : List ℕ) (x : X) → is_some (at k) ≡ true → (id : List ℕ) → at id ≡ first_of (at id) (cond (bytes_eq id k) (Some x) None)
+pub added_none : {X : Type 0} (at : List ℕ → Option X) (k : List ℕ) (x : X) → is_some (at k) ≡ true → (id : List ℕ)
+    → at id ≡ first_of (at id) (cond (bytes_eq id k) (Some x) None)
 added_none at k x there id =
     elim (bytes_eq id k) as (λ b. bytes_eq id k ≡ b → at id ≡ first_of (at id) (cond b (Some x) None)) [
       | true ↦ λ e. first_there (at id) (Some x) (ap (λ n. is_some (at n)) (same_text id k e) ∙ there)
@@ -61,7 +66,8 @@ added_none at k x there id =
     ] refl
 
 -- a new name
-pub added_one : {X : Type 0} (was is : List ℕ → Option X) (k : List ℕ) (x : X) → is_some (was k) ≡ false → ((q : List ℕ) → is q ≡ cond (bytes_eq q k) (Some x) (was q)) → (id : List ℕ) → is id ≡ first_of (was id) (cond (bytes_eq id k) (Some x) None)
+pub added_one : {X : Type 0} (was is : List ℕ → Option X) (k : List ℕ) (x : X) → is_some (was k) ≡ false
+    → ((q : List ℕ) → is q ≡ cond (bytes_eq q k) (Some x) (was q)) → (id : List ℕ) → is id ≡ first_of (was id) (cond (bytes_eq id k) (Some x) None)
 added_one was is k x absent put id =
     put id
     ∙ elim (bytes_eq id k) as (λ b. bytes_eq id k ≡ b → cond b (Some x) (was id) ≡ first_of (was id) (cond b (Some x) None)) [
@@ -70,17 +76,20 @@ added_one was is k x absent put id =
     ] refl
 
 -- the number of file i is taken
-pub taken_here : (h : Head) (fs : List FileBooks) (i : ℕ) (f : FileBooks) → i < length fs → f ≡ get_or fs i f → has_number_of h f.opening ≡ true → list_any (has_number_of h) (openings_of fs) ≡ true
+pub taken_here : (h : Head) (fs : List FileBooks) (i : ℕ) (f : FileBooks) → i < length fs → f ≡ get_or fs i f → has_number_of h f.opening ≡ true
+    → list_any (has_number_of h) (openings_of fs) ≡ true
 taken_here h [] i f below is t = absurd (omega arith)
 taken_here h (x ∷ fs) zero f below is t = ap (λ b. b || list_any (has_number_of h) (openings_of fs)) (ap (λ y. has_number_of h y.opening) (sym is) ∙ t)
-taken_here h (x ∷ fs) (suc i) f below is t = ap (λ b. has_number_of h x.opening || b) (taken_here h fs i f (omega arith) is t) ∙ or_true (has_number_of h x.opening)
+taken_here h (x ∷ fs) (suc i) f below is t =
+    ap (λ b. has_number_of h x.opening || b) (taken_here h fs i f (omega arith) is t) ∙ or_true (has_number_of h x.opening)
   where
     or_true : (b : Bool) → (b || true) ≡ true
     or_true true = refl
     or_true false = refl
 
 -- the key of the first opening, after one more
-pub key_step : (k : Option ReportKey) (o : Option OpeningParts) (os : List (Option OpeningParts)) → first_of (first_of k (option_map (λ x. key_of x.head) o)) (option_map key_of (first_head os)) ≡ first_of k (option_map key_of (first_head (o ∷ os)))
+pub key_step : (k : Option ReportKey) (o : Option OpeningParts) (os : List (Option OpeningParts))
+    → first_of (first_of k (option_map (λ x. key_of x.head) o)) (option_map key_of (first_head os)) ≡ first_of k (option_map key_of (first_head (o ∷ os)))
 key_step (Some x) o os = refl
 key_step None None os = refl
 key_step None (Some x) os = refl

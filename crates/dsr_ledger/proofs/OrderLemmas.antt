@@ -39,7 +39,8 @@ module _ {K : Type 0} (R : K → K → Ordering) (total : IsTotalOrder R) (exact
   find-made : {X : Type 0} (f : K → X) (ks : List K) (q : K) → find R q (map (λ k. (k, f k)) ks) ≡ cond (list_any (eq_by_cmp R q) ks) (Some (f q)) None
   find-made f [] q = refl
   find-made f (k ∷ ks) q =
-      elim (eq_by_cmp R q k) as (λ b. eq_by_cmp R q k ≡ b → cond b (Some (f k)) (find R q (map (λ k. (k, f k)) ks)) ≡ cond (b || list_any (eq_by_cmp R q) ks) (Some (f q)) None) [
+      elim (eq_by_cmp R q k) as (λ b. eq_by_cmp R q k ≡ b → cond b (Some (f k)) (find R q (map (λ k. (k, f k)) ks))
+      ≡ cond (b || list_any (eq_by_cmp R q) ks) (Some (f q)) None) [
         | true ↦ λ e. ap (λ x. Some (f x)) (sym (exact q k ((Equal-is (R q k)).0 e)))
         | false ↦ λ _. find-made f ks q
       ] refl
@@ -47,7 +48,9 @@ module _ {K : Type 0} (R : K → K → Ordering) (total : IsTotalOrder R) (exact
   abbrev kept : {V X : Type 0} → (f : K → X) → (p : K → Bool) → List (K × V) → List (K × X)
   kept f p es = map (λ e. (e.0, f e.0)) (filter (λ e. p e.0) es)
 
-  kept_here : {V X : Type 0} (f : K → X) (p : K → Bool) (e : K × V) (es : List (K × V)) (q : K) (b : Bool) → p q ≡ b → q ≡ e.0 → eq_by_cmp R q e.0 ≡ true → find R q (kept f p es) ≡ cond (is_some (find R q es) && b) (Some (f q)) None → find R q (map (λ e. (e.0, f e.0)) (cond b (e ∷ filter (λ e. p e.0) es) (filter (λ e. p e.0) es))) ≡ cond b (Some (f q)) None
+  kept_here : {V X : Type 0} (f : K → X) (p : K → Bool) (e : K × V) (es : List (K × V)) (q : K) (b : Bool) → p q ≡ b → q ≡ e.0 → eq_by_cmp R q e.0 ≡ true
+      → find R q (kept f p es) ≡ cond (is_some (find R q es) && b) (Some (f q)) None
+      → find R q (map (λ e. (e.0, f e.0)) (cond b (e ∷ filter (λ e. p e.0) es) (filter (λ e. p e.0) es))) ≡ cond b (Some (f q)) None
   kept_here f p e es q true at same tie rest = ap (λ t. cond t (Some (f e.0)) (find R q (kept f p es))) tie ∙ ap (λ x. Some (f x)) (sym same)
   kept_here f p e es q false at same tie rest = rest ∙ none (is_some (find R q es))
     where
@@ -55,15 +58,18 @@ module _ {K : Type 0} (R : K → K → Ordering) (total : IsTotalOrder R) (exact
       none true = refl
       none false = refl
 
-  kept_later : {V X : Type 0} (f : K → X) (p : K → Bool) (e : K × V) (es : List (K × V)) (q : K) (b : Bool) → eq_by_cmp R q e.0 ≡ false → find R q (map (λ e. (e.0, f e.0)) (cond b (e ∷ filter (λ e. p e.0) es) (filter (λ e. p e.0) es))) ≡ find R q (kept f p es)
+  kept_later : {V X : Type 0} (f : K → X) (p : K → Bool) (e : K × V) (es : List (K × V)) (q : K) (b : Bool) → eq_by_cmp R q e.0 ≡ false
+      → find R q (map (λ e. (e.0, f e.0)) (cond b (e ∷ filter (λ e. p e.0) es) (filter (λ e. p e.0) es))) ≡ find R q (kept f p es)
   kept_later f p e es q true apart = ap (λ t. cond t (Some (f e.0)) (find R q (kept f p es))) apart
   kept_later f p e es q false apart = refl
 
   -- what is found among the entries that pass a test
-  find-kept : {V X : Type 0} (f : K → X) (p : K → Bool) (es : List (K × V)) (q : K) → find R q (kept f p es) ≡ cond (is_some (find R q es) && p q) (Some (f q)) None
+  find-kept : {V X : Type 0} (f : K → X) (p : K → Bool) (es : List (K × V)) (q : K)
+      → find R q (kept f p es) ≡ cond (is_some (find R q es) && p q) (Some (f q)) None
   find-kept f p [] q = refl
   find-kept f p (e ∷ es) q =
-      elim (eq_by_cmp R q e.0) as (λ t. eq_by_cmp R q e.0 ≡ t → find R q (kept f p (e ∷ es)) ≡ cond (is_some (cond t (Some e.1) (find R q es)) && p q) (Some (f q)) None) [
+      elim (eq_by_cmp R q e.0) as (λ t. eq_by_cmp R q e.0 ≡ t
+      → find R q (kept f p (e ∷ es)) ≡ cond (is_some (cond t (Some e.1) (find R q es)) && p q) (Some (f q)) None) [
         | true ↦ λ t.
             let same = exact q e.0 ((Equal-is (R q e.0)).0 t) in
             ap (λ b. find R q (map (λ e. (e.0, f e.0)) (cond b (e ∷ filter (λ e. p e.0) es) (filter (λ e. p e.0) es)))) (ap p (sym same))
@@ -76,7 +82,8 @@ module _ {K : Type 0} (R : K → K → Ordering) (total : IsTotalOrder R) (exact
   found_or_not (Some v) b x h = refl
 
   -- the same for entries in order
-  ordered_is : {V X : Type 0} (f : K → X) (ks : List K) (p : K → Bool) (es : List (K × V)) → T (is_sorted R es) → ((q : K) → p q ≡ list_any (eq_by_cmp R q) ks) → ((q : K) → find R q es ≡ None → p q ≡ false) → kept f p es ≡ in_order R f ks
+  ordered_is : {V X : Type 0} (f : K → X) (ks : List K) (p : K → Bool) (es : List (K × V)) → T (is_sorted R es) → ((q : K) → p q ≡ list_any (eq_by_cmp R q) ks)
+      → ((q : K) → find R q es ≡ None → p q ≡ false) → kept f p es ≡ in_order R f ks
   ordered_is {X = X} f ks p es sorted is absent =
       let these = kept f p es in
       let made = map (λ k. (k, f k)) ks in
@@ -90,7 +97,8 @@ module _ {K : Type 0} (R : K → K → Ordering) (total : IsTotalOrder R) (exact
       sym (finite.entries-from_sorted R these up) ∙ ap finite.entries same
 
   -- entries in order, filtered by keys in a list: f maps them to what it gives for the list's keys, each once, in order
-  pub in_order_is : {V X : Type 0} (f : K → X) (ks : List K) (p : K → Bool) (es : List (K × V)) → IsStrictlySortedBy R (keys_of es) → ((q : K) → p q ≡ list_any (eq_by_cmp R q) ks) → ((q : K) → find R q es ≡ None → p q ≡ false) → kept f p es ≡ in_order R f ks
+  pub in_order_is : {V X : Type 0} (f : K → X) (ks : List K) (p : K → Bool) (es : List (K × V)) → IsStrictlySortedBy R (keys_of es)
+      → ((q : K) → p q ≡ list_any (eq_by_cmp R q) ks) → ((q : K) → find R q es ≡ None → p q ≡ false) → kept f p es ≡ in_order R f ks
   in_order_is f ks p es sorted is absent = ordered_is f ks p es (subst T (sym (sorted_true es sorted)) tt) is absent
 
   find-in_order : {X : Type 0} (f : K → X) (ks : List K) (q : K) → find R q (in_order R f ks) ≡ cond (list_any (eq_by_cmp R q) ks) (Some (f q)) None
@@ -116,7 +124,8 @@ module _ {K : Type 0} (R : K → K → Ordering) (total : IsTotalOrder R) (exact
       sym (some_when (passes ks q) (f q)) ∙ ap is_some (sym (find-in_order f ks q) ∙ none))
 
   kept_keys : {X : Type 0} (f : K → X) (ks : List K) → keys_of (in_order R f ks) ≡ map (λ e. e.0) (filter (λ e. passes ks e.0) (in_order R f ks))
-  kept_keys {X = X} f ks = sym (ap keys_of (all_pass f ks)) ∙ map-map (λ (e : K × X). e.0) (λ (e : K × X). (e.0, f e.0)) (filter (λ e. passes ks e.0) (in_order R f ks))
+  kept_keys {X = X} f ks =
+      sym (ap keys_of (all_pass f ks)) ∙ map-map (λ (e : K × X). e.0) (λ (e : K × X). (e.0, f e.0)) (filter (λ e. passes ks e.0) (in_order R f ks))
 
   -- each key in order has the value that f gives
   pub values_in_order : {X : Type 0} (f : K → X) (ks : List K) → in_order R f ks ≡ map (λ k. (k, f k)) (keys_of (in_order R f ks))
@@ -143,17 +152,22 @@ less_than Equal h k = absurd (cc)
 less_than Greater h k = absurd (cc)
 
 -- items sorted by distinct keys are in strict order
-module _ {X K : Type 0} (key : X → K) {R : K → K → Ordering} (total : IsTotalOrder R) (alike : X → X → Bool) (ties : (a b : X) → is_eq (R (key a) (key b)) ≡ alike a b) where
+module _ {X K : Type 0} (key : X → K) {R : K → K → Ordering} (total : IsTotalOrder R) (alike : X → X → Bool)
+    (ties : (a b : X) → is_eq (R (key a) (key b)) ≡ alike a b) where
   abbrev comes_before : X → X → Bool
   comes_before a b = is_lt (R (key a) (key b))
 
   strictly : (xs : List X) → AllPairs (λ a b. comes_before b a ≡ false) xs → IsDistinct alike xs → IsStrictlySortedBy R (map key xs)
   unfolding IsDistinct IsStrictlySortedBy
   strictly [] far apart = tt
-  strictly (x ∷ xs) far apart =
-      (above xs (λ k d within. far 0 (suc k) d (omega arith) (omega arith)) apart.0, strictly xs (λ i j d below within. far (suc i) (suc j) d (omega arith) (omega arith)) apart.1)
+  strictly (x ∷ xs) far apart = (
+    above xs (λ k d within. far 0 (suc k) d (omega arith) (omega arith)) apart.0,
+    strictly xs
+        (λ i j d below within. far (suc i) (suc j) d (omega arith) (omega arith)) apart.1,
+  )
     where
-      above : (ys : List X) → All (λ y. comes_before y x ≡ false) ys → AllByRecursion (λ y. alike x y ≡ false) ys → AllByRecursion (λ k. R (key x) k ≡ Less) (map key ys)
+      above : (ys : List X) → All (λ y. comes_before y x ≡ false) ys → AllByRecursion (λ y. alike x y ≡ false) ys
+          → AllByRecursion (λ k. R (key x) k ≡ Less) (map key ys)
       above [] h k = tt
       above (y ∷ ys) h k =
           let P : X → Type 0 = λ y. comes_before y x ≡ false in (

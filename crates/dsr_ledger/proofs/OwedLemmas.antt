@@ -1,5 +1,6 @@
 -- Parts added one by one.
-use Rattle.std.proofs.Common.{◌≡◌, ℕ, zero, suc, ◌+◌, ◌^◌, ◌<◌, ◌≤◌, List, [], ◌∷◌, ◌++◌, append-nil, length, length-append, take, get_or, Bool, true, false, cond, refl, sym, ◌∙◌, ap, subst, arith}
+use Rattle.std.proofs.Common.{◌≡◌, ℕ, zero, suc, ◌+◌, ◌^◌, ◌<◌, ◌≤◌, List, [], ◌∷◌, ◌++◌, append-nil, length, length-append, take, get_or, Bool, true, false}
+use Rattle.std.proofs.Common.{cond, refl, sym, ◌∙◌, ap, subst, arith}
 use Rattle.std.specs.Prelude.{sum_by, ℤ, ◌+ℤ◌, ◌||◌, nat_lt, filter, unsigned_abs, Option, Some}
 use Rattle.std.specs.Int.RustNames.{FitsSigned}
 use Rattle.std.specs.Int.{w128}
@@ -27,10 +28,12 @@ owed_of-push ps x = λ i. record {
 }
 
 -- what a party is owed after one more part
-pub owed_more : (o n old : Owed) (q : List ℕ) (ps : List Part) (x : Part) → o ≡ owed_plus old (owed_for q ps) → n ≡ cond (is_for q x) (owed_with (rounded x) o) o → n ≡ owed_plus old (owed_for q (ps ++ x ∷ []))
+pub owed_more : (o n old : Owed) (q : List ℕ) (ps : List Part) (x : Part) → o ≡ owed_plus old (owed_for q ps)
+    → n ≡ cond (is_for q x) (owed_with (rounded x) o) o → n ≡ owed_plus old (owed_for q (ps ++ x ∷ []))
 owed_more o n old q ps x was is =
     is ∙ ap (λ y. cond (is_for q x) (owed_with (rounded x) y) y) was
-    ∙ elim (is_for q x) as (λ b. cond b (owed_with (rounded x) (owed_plus old (owed_for q ps))) (owed_plus old (owed_for q ps)) ≡ owed_plus old (owed_of (filter (is_for q) ps ++ cond b (x ∷ []) []))) [
+    ∙ elim (is_for q x) as (λ b. cond b (owed_with (rounded x) (owed_plus old (owed_for q ps))) (owed_plus old (owed_for q ps))
+    ≡ owed_plus old (owed_of (filter (is_for q) ps ++ cond b (x ∷ []) []))) [
       | true ↦ with_one ∙ ap (owed_plus old) (sym (owed_of-push (filter (is_for q) ps) x))
       | false ↦ ap (λ l. owed_plus old (owed_of l)) (sym (append-nil (filter (is_for q) ps)))
     ]
@@ -69,10 +72,12 @@ size_of q (x ∷ ps) =
     let rest = size_of q ps in
     let cut = sum_by-cons (λ (p : Part). unsigned_abs (rounded p)) x ps in
     let add = abs-add (rounded x) (int_sum_by rounded (filter (is_for q) ps)) in
-    elim (is_for q x) as (λ b. unsigned_abs (int_sum_by rounded (cond b (x ∷ filter (is_for q) ps) (filter (is_for q) ps))) ≤ parts_size (x ∷ ps)) [ true ↦ omega arith | false ↦ omega arith ]
+    elim (is_for q x) as (λ b. unsigned_abs (int_sum_by rounded (cond b (x ∷ filter (is_for q) ps) (filter (is_for q) ps)))
+    ≤ parts_size (x ∷ ps)) [ true ↦ omega arith | false ↦ omega arith ]
 
 -- a part fits
-pub part_fits : (o old : Owed) (q : List ℕ) (ps : List Part) (a : ℤ) (n : ℕ) → o ≡ owed_plus old (owed_for q ps) → parts_size ps + unsigned_abs a ≤ n → unsigned_abs old.amount + n < 2 ^ 127 → FitsSigned w128 (o.amount +ℤ a)
+pub part_fits : (o old : Owed) (q : List ℕ) (ps : List Part) (a : ℤ) (n : ℕ) → o ≡ owed_plus old (owed_for q ps) → parts_size ps + unsigned_abs a ≤ n
+    → unsigned_abs old.amount + n < 2 ^ 127 → FitsSigned w128 (o.amount +ℤ a)
 part_fits o old q ps a n is within room =
     let size = size_of q ps in
     let one = abs-add old.amount (owed_for q ps).amount in

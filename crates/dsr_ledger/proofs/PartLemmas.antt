@@ -30,7 +30,8 @@ parts_more ps p none nothing = record {
 }
 
 -- parties with different seats have different places
-pub places_are_numbered_by : (seat : List ℕ → Option ℕ) (n : ℕ) (ps : List SeatPart) → IsNumbered seat n → IsNumbered (place_by seat (part_seats ps)) (length ps)
+pub places_are_numbered_by : (seat : List ℕ → Option ℕ) (n : ℕ) (ps : List SeatPart) → IsNumbered seat n
+    → IsNumbered (place_by seat (part_seats ps)) (length ps)
 places_are_numbered_by seat n ps h = subst (IsNumbered (place_by seat (part_seats ps))) (length-map ps seat_of_part) (by_numbered seat n (part_seats ps) h)
 
 pub part_kept : (old new : List SeatPart) (s : SeatShare) → Grows (part_in old) (part_in new) → HasPart old s → HasPart new s
@@ -42,7 +43,8 @@ parts_kept [] old new g h = tt
 parts_kept (s ∷ ss) old new g h = (part_kept old new s g h.0, parts_kept ss old new g h.1)
 
 -- the parts before one, and that one, are no more than all
-pub prefix_size : (a : ℤ) (es : List (List ℕ × ℕ)) (i : ℕ) (e : List ℕ × ℕ) → slice_get es i ≡ Some e → parts_size (map (part_of a) (take i es)) + unsigned_abs (rounded (part_of a e)) ≤ parts_size (map (part_of a) es)
+pub prefix_size : (a : ℤ) (es : List (List ℕ × ℕ)) (i : ℕ) (e : List ℕ × ℕ) → slice_get es i ≡ Some e
+    → parts_size (map (part_of a) (take i es)) + unsigned_abs (rounded (part_of a e)) ≤ parts_size (map (part_of a) es)
 prefix_size a [] i e at = absurd (not_Some e at)
 prefix_size a (x ∷ es) zero e at =
     let cut = sum_by-cons (λ (p : Part). unsigned_abs (rounded p)) (part_of a x) (map (part_of a) es) in

@@ -1,5 +1,6 @@
 -- The sums by party, and all parts.
-use Rattle.std.proofs.Common.{◌≡◌, ℕ, ◌+◌, ◌*◌, ◌^◌, ◌<◌, ◌≤◌, zero, suc, take, get_or, List, [], ◌∷◌, length, Bool, true, false, cond, T, true≢false, refl, subst, sym, ◌∙◌, ap, arith}
+use Rattle.std.proofs.Common.{◌≡◌, ℕ, ◌+◌, ◌*◌, ◌^◌, ◌<◌, ◌≤◌, zero, suc, take, get_or, List, [], ◌∷◌, length, Bool, true, false, cond, T, true≢false, refl}
+use Rattle.std.proofs.Common.{subst, sym, ◌∙◌, ap, arith}
 use Rattle.std.specs.Prelude.{ℤ, pos, nat_lt, ◌+ℤ◌, ◌-ℤ◌, ◌||◌, ◌&&◌, filter, map, sum_by, unsigned_abs}
 use Rattle.std.specs.List.{list_any, IsDistinct, AllByRecursion}
 use Rattle.std.specs.Map.{keys_of}
@@ -66,11 +67,13 @@ named_none party a (n ∷ names) h =
     omega (arith, ints)
 
 -- if it is one of them, and they are distinct
-named_once : (party : List ℕ) (a : ℤ) (names : List (List ℕ)) → IsDistinct bytes_eq names → list_any (bytes_eq party) names ≡ true → int_sum_by (named party a) names ≡ a
+named_once : (party : List ℕ) (a : ℤ) (names : List (List ℕ)) → IsDistinct bytes_eq names → list_any (bytes_eq party) names ≡ true
+    → int_sum_by (named party a) names ≡ a
 unfolding IsDistinct
 named_once party a [] distinct one = absurd (true≢false (sym one))
 named_once party a (n ∷ names) distinct one =
-    elim (bytes_eq party n) as (λ b. bytes_eq party n ≡ b → (b || list_any (bytes_eq party) names) ≡ true → (cond b a (pos 0) +ℤ int_sum_by (named party a) names) ≡ a) [
+    elim (bytes_eq party n) as (λ b. bytes_eq party n ≡ b → (b || list_any (bytes_eq party) names) ≡ true
+    → (cond b a (pos 0) +ℤ int_sum_by (named party a) names) ≡ a) [
       | true ↦ λ same _.
           let is : party ≡ n = (bytes_eq-Decides party n).0 same in
           let P : List ℕ → Type 0 = λ m. AllByRecursion (λ y. bytes_eq m y ≡ false) names in
@@ -81,15 +84,18 @@ named_once party a (n ∷ names) distinct one =
           omega (arith, ints)
     ] refl one
 
-filtered_step : (n : List ℕ) (q : Part) (ps : List Part) → int_sum_by rounded (filter (is_for n) (q ∷ ps)) ≡ named q.party (rounded q) n +ℤ int_sum_by rounded (filter (is_for n) ps)
+filtered_step : (n : List ℕ) (q : Part) (ps : List Part) → int_sum_by rounded (filter (is_for n) (q ∷ ps))
+    ≡ named q.party (rounded q) n +ℤ int_sum_by rounded (filter (is_for n) ps)
 filtered_step n q ps =
-    elim (bytes_eq q.party n) as (λ b. int_sum_by rounded (cond b (q ∷ filter (is_for n) ps) (filter (is_for n) ps)) ≡ (cond b (rounded q) (pos 0) +ℤ int_sum_by rounded (filter (is_for n) ps))) [
+    elim (bytes_eq q.party n) as (λ b. int_sum_by rounded (cond b (q ∷ filter (is_for n) ps) (filter (is_for n) ps))
+    ≡ (cond b (rounded q) (pos 0) +ℤ int_sum_by rounded (filter (is_for n) ps))) [
       | true ↦ refl
       | false ↦ sym (zero-add _)
     ]
 
 -- the sums by party, added up, are the sum of all parts
-by_party : (names : List (List ℕ)) → IsDistinct bytes_eq names → (ps : List Part) → AllByRecursion (λ q. list_any (bytes_eq q.party) names ≡ true) ps → int_sum_by (λ n. int_sum_by rounded (filter (is_for n) ps)) names ≡ int_sum_by rounded ps
+by_party : (names : List (List ℕ)) → IsDistinct bytes_eq names → (ps : List Part) → AllByRecursion (λ q. list_any (bytes_eq q.party) names ≡ true) ps
+    → int_sum_by (λ n. int_sum_by rounded (filter (is_for n) ps)) names ≡ int_sum_by rounded ps
 by_party names distinct [] among = sum_zero names
 by_party names distinct (q ∷ ps) among =
     sum_same _ _ (λ n. filtered_step n q ps) names
@@ -112,7 +118,8 @@ no_size : (names : List (List ℕ)) → sum_by (size_at []) names ≡ 0
 no_size [] = refl
 no_size (n ∷ names) = let rest = no_size names in let cut = sum_by-cons (size_at []) n names in omega arith
 
-size_none : (q : Part) (names : List (List ℕ)) → AllByRecursion (λ n. bytes_eq q.party n ≡ false) names → sum_by (λ n. unsigned_abs (named q.party (rounded q) n)) names ≡ 0
+size_none : (q : Part) (names : List (List ℕ)) → AllByRecursion (λ n. bytes_eq q.party n ≡ false) names
+    → sum_by (λ n. unsigned_abs (named q.party (rounded q) n)) names ≡ 0
 size_none q [] h = refl
 size_none q (n ∷ names) h =
     let here : unsigned_abs (named q.party (rounded q) n) ≡ 0 = ap (λ b. unsigned_abs (cond b (rounded q) (pos 0))) h.0 in
@@ -120,12 +127,14 @@ size_none q (n ∷ names) h =
     let cut = sum_by-cons (λ n. unsigned_abs (named q.party (rounded q) n)) n names in
     omega arith
 
-size_once : (q : Part) (names : List (List ℕ)) → IsDistinct bytes_eq names → sum_by (λ n. unsigned_abs (named q.party (rounded q) n)) names ≤ unsigned_abs (rounded q)
+size_once : (q : Part) (names : List (List ℕ)) → IsDistinct bytes_eq names
+    → sum_by (λ n. unsigned_abs (named q.party (rounded q) n)) names ≤ unsigned_abs (rounded q)
 unfolding IsDistinct
 size_once q [] distinct = omega arith
 size_once q (n ∷ names) distinct =
     let cut = sum_by-cons (λ n. unsigned_abs (named q.party (rounded q) n)) n names in
-    elim (bytes_eq q.party n) as (λ b. bytes_eq q.party n ≡ b → sum_by (λ n. unsigned_abs (named q.party (rounded q) n)) (n ∷ names) ≤ unsigned_abs (rounded q)) [
+    elim (bytes_eq q.party n) as (λ b. bytes_eq q.party n ≡ b
+    → sum_by (λ n. unsigned_abs (named q.party (rounded q) n)) (n ∷ names) ≤ unsigned_abs (rounded q)) [
       | true ↦ λ same.
           let is : q.party ≡ n = (bytes_eq-Decides q.party n).0 same in
           let P : List ℕ → Type 0 = λ m. AllByRecursion (λ y. bytes_eq m y ≡ false) names in
@@ -138,7 +147,8 @@ size_once q (n ∷ names) distinct =
           omega arith
     ] refl
 
-size_step : (q : Part) (ps : List Part) (names : List (List ℕ)) → sum_by (size_at (q ∷ ps)) names ≤ sum_by (λ n. unsigned_abs (named q.party (rounded q) n)) names + sum_by (size_at ps) names
+size_step : (q : Part) (ps : List Part) (names : List (List ℕ))
+    → sum_by (size_at (q ∷ ps)) names ≤ sum_by (λ n. unsigned_abs (named q.party (rounded q) n)) names + sum_by (size_at ps) names
 size_step q ps [] = omega arith
 size_step q ps (n ∷ names) =
     let rest = size_step q ps names in
@@ -188,7 +198,8 @@ distinct_from [] h = tt
 distinct_from (e ∷ es) h = (apart_all e.0 es (both_first _ _ h), distinct_from es (both_second _ _ h))
 
 names_distinct : (bs : List Booking) → IsDistinct bytes_eq (names_of bs)
-names_distinct bs = distinct_from _ (finite.entries_sorted (finite.from_entries {R = text_cmp} (map (λ k. (k, party_amount bs k)) (map (λ q. q.party) (all_parts bs)))))
+names_distinct bs =
+    distinct_from _ (finite.entries_sorted (finite.from_entries {R = text_cmp} (map (λ k. (k, party_amount bs k)) (map (λ q. q.party) (all_parts bs)))))
 
 any_same : (q : List ℕ) (names : List (List ℕ)) → list_any (bytes_eq q) names ≡ list_any (eq_by_cmp text_cmp q) names
 any_same q names = λ i. list_any (λ n. sym (text_ties q n) i) names
@@ -197,7 +208,8 @@ or_true : (b : Bool) → (b || true) ≡ true
 or_true true = refl
 or_true false = refl
 
-among_all : (names : List (List ℕ)) (front ps : List Part) → ((q : List ℕ) → list_any (bytes_eq q) (map (λ p. p.party) ps) ≡ true → list_any (bytes_eq q) names ≡ true) → AllByRecursion (λ q. list_any (bytes_eq q.party) names ≡ true) ps
+among_all : (names : List (List ℕ)) (front ps : List Part) → ((q : List ℕ) → list_any (bytes_eq q) (map (λ p. p.party) ps) ≡ true
+    → list_any (bytes_eq q) names ≡ true) → AllByRecursion (λ q. list_any (bytes_eq q.party) names ≡ true) ps
 among_all names front [] h = tt
 among_all names front (p ∷ ps) h = (
   h p.party (ap (λ b. b || list_any (bytes_eq p.party) (map (λ x. x.party) ps)) (text_itself p.party)),
@@ -215,7 +227,8 @@ names_cover bs =
 pub lines_are : (bs : List Booking) → party_lines bs ≡ map (λ n. record { party = n; amount = party_amount bs n }) (names_of bs)
 unfolding party_lines
 lines_are bs =
-    ap (map (λ e. record { party = e.0; amount = e.1 })) (values_in_order text_cmp nat_list_cmp_total exact_bytes (party_amount bs) (map (λ q. q.party) (all_parts bs)))
+    ap (map (λ e. record { party = e.0; amount = e.1 })) (values_in_order text_cmp nat_list_cmp_total exact_bytes (party_amount bs)
+    (map (λ q. q.party) (all_parts bs)))
     ∙ map-map _ _ (names_of bs)
 
 lines_sum : (bs : List Booking) → int_sum_by (λ p. p.amount) (party_lines bs) ≡ int_sum_by rounded (all_parts bs)
@@ -242,7 +255,8 @@ small_parts (b ∷ bs) h =
     let rest = small_parts bs h.1 in
     let within = parts_within b.usage.amount b.works h.0.whole in
     let small = h.0.amount in
-    let cut : parts_size (all_parts (b ∷ bs)) ≡ parts_size (parts_of b) + parts_size (all_parts bs) = ap parts_size (flat_map-cons parts_of b bs) ∙ sum_by-append (λ (x : Part). unsigned_abs (rounded x)) (parts_of b) (all_parts bs) in
+    let cut : parts_size (all_parts (b ∷ bs)) ≡ parts_size (parts_of b) + parts_size (all_parts bs) =
+    ap parts_size (flat_map-cons parts_of b bs) ∙ sum_by-append (λ (x : Part). unsigned_abs (rounded x)) (parts_of b) (all_parts bs) in
     omega arith
 
 small_amount : (bs : List Booking) → AllByRecursion IsSmall bs → unsigned_abs (amount_sum bs) ≤ length bs * 10 ^ 22
@@ -260,18 +274,23 @@ line_fits bs h =
     let amount = small_amount bs h.each in
     let parts = small_parts bs h.each in
     let within = sizes (names_of bs) (names_distinct bs) (all_parts bs) in
-    let is : sum_by (λ p. unsigned_abs p.amount) (party_lines bs) ≡ sum_by (size_at (all_parts bs)) (names_of bs) = ap (sum_by (λ p. unsigned_abs p.amount)) (lines_are bs) ∙ size-map (λ p. unsigned_abs p.amount) (λ n. record { party = n; amount = party_amount bs n }) (names_of bs) in
+    let is : sum_by (λ p. unsigned_abs p.amount) (party_lines bs) ≡ sum_by (size_at (all_parts bs)) (names_of bs) =
+    ap (sum_by (λ p. unsigned_abs p.amount)) (lines_are bs)
+    ∙ size-map (λ p. unsigned_abs p.amount) (λ n. record { party = n; amount = party_amount bs n }) (names_of bs) in
     omega arith
 
 -- the sum of the first lines and one more
-pub taken_more : (ps : List PartyLine) (i : ℕ) (p : PartyLine) → i < length ps → p ≡ get_or ps i p → int_sum_by (λ x. x.amount) (take (suc i) ps) ≡ int_sum_by (λ x. x.amount) (take i ps) +ℤ p.amount
+pub taken_more : (ps : List PartyLine) (i : ℕ) (p : PartyLine) → i < length ps → p ≡ get_or ps i p
+    → int_sum_by (λ x. x.amount) (take (suc i) ps) ≡ int_sum_by (λ x. x.amount) (take i ps) +ℤ p.amount
 taken_more [] i p below is = absurd (omega arith)
 taken_more (x ∷ ps) zero p below is = let e = ap (λ y. y.amount) is in omega (arith, ints)
 taken_more (x ∷ ps) (suc i) p below is = let rest = taken_more ps i p (omega arith) is in omega (arith, ints)
 
-taken_size : (ps : List PartyLine) (i : ℕ) (p : PartyLine) → i < length ps → p ≡ get_or ps i p → unsigned_abs (int_sum_by (λ x. x.amount) (take i ps)) + unsigned_abs p.amount ≤ sum_by (λ x. unsigned_abs x.amount) ps
+taken_size : (ps : List PartyLine) (i : ℕ) (p : PartyLine) → i < length ps → p ≡ get_or ps i p
+    → unsigned_abs (int_sum_by (λ x. x.amount) (take i ps)) + unsigned_abs p.amount ≤ sum_by (λ x. unsigned_abs x.amount) ps
 taken_size [] i p below is = absurd (omega arith)
-taken_size (x ∷ ps) zero p below is = let e = ap (λ y. unsigned_abs y.amount) is in let cut = sum_by-cons (λ (y : PartyLine). unsigned_abs y.amount) x ps in omega (arith, ints)
+taken_size (x ∷ ps) zero p below is = let e = ap (λ y. unsigned_abs y.amount) is in let cut = sum_by-cons (λ (y : PartyLine). unsigned_abs y.amount) x ps in
+    omega (arith, ints)
 taken_size (x ∷ ps) (suc i) p below is =
     let rest = taken_size ps i p (omega arith) is in
     let cut = sum_by-cons (λ (y : PartyLine). unsigned_abs y.amount) x ps in
@@ -279,13 +298,15 @@ taken_size (x ∷ ps) (suc i) p below is =
     omega arith
 
 -- an amount minus the parties' amounts
-pub left_fits : (a : ℤ) (ps : List PartyLine) (i : ℕ) (p : PartyLine) (left : ℤ) → left ≡ a -ℤ int_sum_by (λ x. x.amount) (take i ps) → i < length ps → p ≡ get_or ps i p → unsigned_abs a + sum_by (λ x. unsigned_abs x.amount) ps < 2 ^ 127 → FitsSigned w128 (left -ℤ p.amount)
+pub left_fits : (a : ℤ) (ps : List PartyLine) (i : ℕ) (p : PartyLine) (left : ℤ) → left ≡ a -ℤ int_sum_by (λ x. x.amount) (take i ps) → i < length ps
+    → p ≡ get_or ps i p → unsigned_abs a + sum_by (λ x. unsigned_abs x.amount) ps < 2 ^ 127 → FitsSigned w128 (left -ℤ p.amount)
 left_fits a ps i p left was below is room =
     let size = taken_size ps i p below is in
     let near : unsigned_abs (left -ℤ p.amount) < 2 ^ 127 = omega (arith, ints) in
     fits_signed_from_abs w128 _ near
 
-pub amount_fits : (ps : List PartyLine) (i : ℕ) (p : PartyLine) (a : ℤ) → i < length ps → p ≡ get_or ps i p → unsigned_abs a + sum_by (λ x. unsigned_abs x.amount) ps < 2 ^ 127 → FitsSigned w128 p.amount
+pub amount_fits : (ps : List PartyLine) (i : ℕ) (p : PartyLine) (a : ℤ) → i < length ps → p ≡ get_or ps i p
+    → unsigned_abs a + sum_by (λ x. unsigned_abs x.amount) ps < 2 ^ 127 → FitsSigned w128 p.amount
 amount_fits ps i p a below is room =
     let size = taken_size ps i p below is in
     let near : unsigned_abs p.amount < 2 ^ 127 = omega arith in
@@ -296,7 +317,8 @@ pub some_for : (q : List ℕ) (ps : List Part) → nat_lt 0 (length (filter (is_
 some_for q [] = refl
 some_for q (p ∷ ps) =
     let tie : is_for q p ≡ eq_by_cmp text_cmp q p.party = nat_list_eq_equiv.symm p.party q ∙ sym (text_ties q p.party) in
-    elim (is_for q p) as (λ b. nat_lt 0 (length (cond b (p ∷ filter (is_for q) ps) (filter (is_for q) ps))) ≡ (b || list_any (eq_by_cmp text_cmp q) (map (λ p. p.party) ps))) [
+    elim (is_for q p) as (λ b. nat_lt 0 (length (cond b (p ∷ filter (is_for q) ps) (filter (is_for q) ps)))
+    ≡ (b || list_any (eq_by_cmp text_cmp q) (map (λ p. p.party) ps))) [
       | true ↦ lt-ltb 0 (suc (length (filter (is_for q) ps))) (omega arith)
       | false ↦ some_for q ps
     ]

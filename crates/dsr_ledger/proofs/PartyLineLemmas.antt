@@ -35,12 +35,14 @@ abbrev pub seat_lines : List SeatPart → List (List ℕ × ℕ) → List PartyL
 seat_lines parts es = map (seat_line parts) (filter (has_part parts) es)
 
 -- the lines by the names alone
-lines_by_name : (parts : List SeatPart) (owed : List ℕ → Owed) (es : List (List ℕ × ℕ)) → AllByRecursion (λ e. owed_at_place parts (Some e.1) ≡ owed e.0) es → seat_lines parts es ≡ map (λ e. line e.0 (owed e.0)) (filter (λ e. (owed e.0).has_part) es)
+lines_by_name : (parts : List SeatPart) (owed : List ℕ → Owed) (es : List (List ℕ × ℕ)) → AllByRecursion (λ e. owed_at_place parts (Some e.1) ≡ owed e.0) es
+    → seat_lines parts es ≡ map (λ e. line e.0 (owed e.0)) (filter (λ e. (owed e.0).has_part) es)
 lines_by_name parts owed [] h = refl
 lines_by_name parts owed (e ∷ es) h =
     let rest = lines_by_name parts owed es h.1 in
     (λ i. map (seat_line parts) (cond ((h.0 i).has_part) (e ∷ filter (has_part parts) es) (filter (has_part parts) es)))
-    ∙ elim ((owed e.0).has_part) as (λ b. map (seat_line parts) (cond b (e ∷ filter (has_part parts) es) (filter (has_part parts) es)) ≡ map (λ x. line x.0 (owed x.0)) (cond b (e ∷ filter (λ x. (owed x.0).has_part) es) (filter (λ x. (owed x.0).has_part) es))) [
+    ∙ elim ((owed e.0).has_part) as (λ b. map (seat_line parts) (cond b (e ∷ filter (has_part parts) es) (filter (has_part parts) es))
+    ≡ map (λ x. line x.0 (owed x.0)) (cond b (e ∷ filter (λ x. (owed x.0).has_part) es) (filter (λ x. (owed x.0).has_part) es))) [
       | true ↦ λ i. line e.0 (h.0 i) ∷ rest i
       | false ↦ rest
     ]
@@ -50,19 +52,22 @@ some_for : (q : List ℕ) (ps : List Part) → nat_lt 0 (length (filter (is_for 
 some_for q [] = refl
 some_for q (p ∷ ps) =
     let tie : is_for q p ≡ eq_by_cmp text_cmp q p.party = nat_list_eq_equiv.symm p.party q ∙ sym (text_ties q p.party) in
-    elim (is_for q p) as (λ b. nat_lt 0 (length (cond b (p ∷ filter (is_for q) ps) (filter (is_for q) ps))) ≡ (b || list_any (eq_by_cmp text_cmp q) (map (λ p. p.party) ps))) [
+    elim (is_for q p) as (λ b. nat_lt 0 (length (cond b (p ∷ filter (is_for q) ps) (filter (is_for q) ps)))
+    ≡ (b || list_any (eq_by_cmp text_cmp q) (map (λ p. p.party) ps))) [
       | true ↦ lt-ltb 0 (suc (length (filter (is_for q) ps))) (omega arith)
       | false ↦ some_for q ps
     ]
     ∙ ap (λ b. b || list_any (eq_by_cmp text_cmp q) (map (λ p. p.party) ps)) tie
 
 -- the lines of all parts by name are those of the bookings that they represent
-pub party_lines_are : (parts : List SeatPart) (seat : List ℕ → Option ℕ) (es : List (List ℕ × ℕ)) (bs : List Booking) → AreListed text_cmp seat es → ((q : List ℕ) → owed_at_place parts (seat q) ≡ owed_for q (all_parts bs)) → seat_lines parts es ≡ party_lines bs
+pub party_lines_are : (parts : List SeatPart) (seat : List ℕ → Option ℕ) (es : List (List ℕ × ℕ)) (bs : List Booking) → AreListed text_cmp seat es
+    → ((q : List ℕ) → owed_at_place parts (seat q) ≡ owed_for q (all_parts bs)) → seat_lines parts es ≡ party_lines bs
 unfolding party_lines
 party_lines_are parts seat es bs listed is =
     let owed : List ℕ → Owed = λ q. owed_at_place parts (seat q) in
     let kept = filter (λ (e : List ℕ × ℕ). (owed e.0).has_part) es in
-    lines_by_name parts owed es (all_at (λ e. owed_at_place parts (Some e.1) ≡ owed e.0) es (λ i e at. ap (owed_at_place parts) (sym (own_found nat_list_cmp_total es i e listed.order at) ∙ listed.found e.0)))
+    lines_by_name parts owed es (all_at (λ e. owed_at_place parts (Some e.1) ≡ owed e.0) es
+    (λ i e at. ap (owed_at_place parts) (sym (own_found nat_list_cmp_total es i e listed.order at) ∙ listed.found e.0)))
     ∙ (λ i. map (λ (e : List ℕ × ℕ). record { party = e.0; amount = (is e.0 i).amount }) kept)
     ∙ sym (map-map (λ (e : List ℕ × _). record { party = e.0; amount = e.1 }) (λ (e : List ℕ × ℕ). (e.0, party_amount bs e.0)) kept)
     ∙ ap (map (λ e. record { party = e.0; amount = e.1 })) (

@@ -1,5 +1,6 @@
 -- The places of parties by their seats.
-use Rattle.std.proofs.Common.{◌≡◌, ℕ, zero, suc, ◌+◌, ◌<◌, Bool, true, false, true≢false, cond, List, [], ◌∷◌, length, get_or, nat_eq, refl, sym, ap, ◌∙◌, arith}
+use Rattle.std.proofs.Common.{◌≡◌, ℕ, zero, suc, ◌+◌, ◌<◌, Bool, true, false, true≢false, cond, List, [], ◌∷◌, length, get_or, nat_eq, refl, sym, ap, ◌∙◌}
+use Rattle.std.proofs.Common.{arith}
 use Rattle.std.specs.Prelude.{Option, None, Some, is_some, map, option_map, slice_get}
 use Rattle.std.specs.Option.{option_and_then}
 use Rattle.std.specs.List.{position_from, AllByRecursion}
@@ -24,7 +25,9 @@ module _ (ns : List ℕ) (apart : AreApart ns) where
   own_seat s below = apart s (get_or ns s 0) (got_or ns s 0 below)
 
   -- a number is that of a seat if it has the seat
-  alike : (m s : ℕ) → s < length ns → (o : Option ℕ) → place_in ns m ≡ o → (a : Bool) → nat_eq m (get_or ns s 0) ≡ a → (b : ℕ → Bool) → ((t : ℕ) → b t ≡ nat_eq t s) → (k : ℕ) (r : Option ℕ) (f : ℕ → Option ℕ) → r ≡ option_and_then f o → cond a (Some k) r ≡ option_and_then (λ t. cond (b t) (Some k) (f t)) o
+  alike : (m s : ℕ) → s < length ns → (o : Option ℕ) → place_in ns m ≡ o → (a : Bool) → nat_eq m (get_or ns s 0) ≡ a → (b : ℕ → Bool)
+      → ((t : ℕ) → b t ≡ nat_eq t s) → (k : ℕ) (r : Option ℕ) (f : ℕ → Option ℕ) → r ≡ option_and_then f o
+      → cond a (Some k) r ≡ option_and_then (λ t. cond (b t) (Some k) (f t)) o
   alike m s below None e true h b is k r f rest = absurd (not_Some s (sym e ∙ ap (place_in ns) ((same_number m (get_or ns s 0)).0 h) ∙ own_seat s below))
   alike m s below None e false h b is k r f rest = rest
   alike m s below (Some t) e true h b is k r f rest =
@@ -39,7 +42,8 @@ module _ (ns : List ℕ) (apart : AreApart ns) where
           let here = (position-Some (nat_eq m) ns t 0 e).1 in
           absurd (true≢false (sym here ∙ ap (λ x. nat_eq m (get_or ns x 0)) ((same_number t s).0 g) ∙ h))
 
-  by_seats_from : (k : ℕ) (ss : List ℕ) → AllByRecursion (λ s. s < length ns) ss → (m : ℕ) → position_from (nat_eq m) k (at_seats ns ss) ≡ option_and_then (λ t. position_from (nat_eq t) k ss) (place_in ns m)
+  by_seats_from : (k : ℕ) (ss : List ℕ) → AllByRecursion (λ s. s < length ns) ss → (m : ℕ)
+      → position_from (nat_eq m) k (at_seats ns ss) ≡ option_and_then (λ t. position_from (nat_eq t) k ss) (place_in ns m)
   by_seats_from k [] h m = by (place_in ns m)
     where
       nothing : Option ℕ
@@ -63,7 +67,8 @@ module _ (ns : List ℕ) (apart : AreApart ns) where
       by None = refl
       by (Some t) = sym (position_from-zero (nat_eq t) ss)
 
-  pub party_places : {K : Type 0} (number : K → Option ℕ) (ss : List ℕ) → AllByRecursion (λ s. s < length ns) ss → (q : K) → place_by number (at_seats ns ss) q ≡ place_by (place_by number ns) ss q
+  pub party_places : {K : Type 0} (number : K → Option ℕ) (ss : List ℕ) → AllByRecursion (λ s. s < length ns) ss → (q : K)
+      → place_by number (at_seats ns ss) q ≡ place_by (place_by number ns) ss q
   party_places number ss h q = by (number q)
     where
       by : (o : Option ℕ) → option_and_then (place_in (at_seats ns ss)) o ≡ option_and_then (place_in ss) (option_and_then (place_in ns) o)

@@ -30,7 +30,8 @@ module _ {K : Type 0} where
 
   module _ (same : K → K → Bool) (decides : (a b : K) → Decides (same a b) (a ≡ b)) where
     -- a key with a number past those that have a place has no place, and the others keep theirs
-    pub by_new_key : (old new : K → Option ℕ) (k : K) (m : ℕ) (ns : List ℕ) → old k ≡ None → ((q : K) → new q ≡ cond (same k q) (Some m) (old q)) → AreBelow m ns → (q : K) → place_by new ns q ≡ place_by old ns q
+    pub by_new_key : (old new : K → Option ℕ) (k : K) (m : ℕ) (ns : List ℕ) → old k ≡ None → ((q : K) → new q ≡ cond (same k q) (Some m) (old q))
+        → AreBelow m ns → (q : K) → place_by new ns q ≡ place_by old ns q
     by_new_key old new k m ns none is below q =
         ap (option_and_then (place_in ns)) (is q)
         ∙ elim (same k q) as (λ b. same k q ≡ b → option_and_then (place_in ns) (cond b (Some m) (old q)) ≡ place_by old ns q) [
@@ -43,10 +44,12 @@ module _ {K : Type 0} where
         nowhere (Some i) e = absurd (let less = below m i e in omega arith)
 
     -- a number is appended: its key has the last place, and the others keep theirs
-    pub by_new_number : (number : K → Option ℕ) (k : K) (n m : ℕ) (ns : List ℕ) → IsNumbered number m → number k ≡ Some n → place_in ns n ≡ None → (q : K) → place_by number (ns ++ n ∷ []) q ≡ cond (same k q) (Some (length ns)) (place_by number ns q)
+    pub by_new_number : (number : K → Option ℕ) (k : K) (n m : ℕ) (ns : List ℕ) → IsNumbered number m → number k ≡ Some n → place_in ns n ≡ None → (q : K)
+        → place_by number (ns ++ n ∷ []) q ≡ cond (same k q) (Some (length ns)) (place_by number ns q)
     by_new_number number k n m ns h has none q = by (number q) refl
       where
-        here : (x : ℕ) → number q ≡ Some x → (b : Bool) → nat_eq n x ≡ b → (c : Bool) → same k q ≡ c → cond b (Some (length ns)) (place_in ns x) ≡ cond c (Some (length ns)) (place_in ns x)
+        here : (x : ℕ) → number q ≡ Some x → (b : Bool) → nat_eq n x ≡ b → (c : Bool) → same k q ≡ c
+            → cond b (Some (length ns)) (place_in ns x) ≡ cond c (Some (length ns)) (place_in ns x)
         here x e true s true t = refl
         here x e false s false t = refl
         here x e true s false t = absurd (true≢false (sym ((decides k q).1 (h.apart k q n has (e ∙ ap Some (sym ((same_number n x).0 s))))) ∙ t))

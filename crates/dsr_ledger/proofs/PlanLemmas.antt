@@ -41,9 +41,11 @@ pub record StepOf (ledger : Ledger) (summaries : Summaries) (isrc : List ℕ) (w
   pub key : SummaryKey
   pub key_is : place_at summaries u.summary_id ≡ Some key
   pub line_of : (n : ℕ) → n ≡ line → (shares : List SeatShare) → shares ≡ plan.shares.items → IsLineOf ledger isrc key (shares_of works) plan.recording n shares
-  pub with_parts : (t : Tally) (q : Key) → cond (key_eq (key_under isrc key) q) (tally_with u (map (part_of u.amount) (shares_of works)) t) t ≡ cond (key_eq (key_under isrc key) q) (tally_with u (flat_map (work_parts u.amount) works) t) t
+  pub with_parts : (t : Tally) (q : Key) → cond (key_eq (key_under isrc key) q) (tally_with u (map (part_of u.amount) (shares_of works)) t) t
+      ≡ cond (key_eq (key_under isrc key) q) (tally_with u (flat_map (work_parts u.amount) works) t) t
 
-pub step_of : (ledger : Ledger) (summaries : Summaries) (isrc : List ℕ) (works : List WorkParts) (us : List Usage) (i : ℕ) (u : Usage) (plan : Plan) → IsPlanned ledger summaries isrc works us plan → slice_get us i ≡ Some u → StepOf ledger summaries isrc works i u plan
+pub step_of : (ledger : Ledger) (summaries : Summaries) (isrc : List ℕ) (works : List WorkParts) (us : List Usage) (i : ℕ) (u : Usage) (plan : Plan)
+    → IsPlanned ledger summaries isrc works us plan → slice_get us i ≡ Some u → StepOf ledger summaries isrc works i u plan
 step_of ledger summaries isrc works us i u plan h at =
     let v = value_at (λ (x : Usage). index_at summaries x.summary_id) us plan.summaries.items i u h.counted at in
     let z = zip_step (λ (x : Usage) n. IsLined ledger isrc plan.shares.items (place_at summaries x.summary_id) n) us plan.lines.items i u h.lined at in
@@ -69,4 +71,5 @@ step_of ledger summaries isrc works us i u plan h at =
 -- the state of a summary, with no more usages
 pub shown_none : (id : List ℕ) (o : Option Shown) → o ≡ option_map (shown_with id []) o
 shown_none id None = refl
-shown_none id (Some s) = λ j. Some (record { place = s.place; sums = record { usages = sym (add-zero s.sums.usages) j; amount = sym (add-zero s.sums.amount) j } })
+shown_none id (Some s) =
+    λ j. Some (record { place = s.place; sums = record { usages = sym (add-zero s.sums.usages) j; amount = sym (add-zero s.sums.amount) j } })

@@ -33,7 +33,8 @@ abbrev pub bookings_after : ℕ → List (Option OpeningParts) → List File →
 bookings_after place earlier files = flat_map filed_bookings (filed_after place earlier files)
 
 -- the bookings of a file with one more block
-filed_bookings-push : (d : Filed) (b : BlockParts) → filed_bookings (with_one d b) ≡ filed_bookings d ++ verdict_bookings (summaries_of d.file.opening) (b, verdict_of d b)
+filed_bookings-push : (d : Filed) (b : BlockParts) → filed_bookings (with_one d b)
+    ≡ filed_bookings d ++ verdict_bookings (summaries_of d.file.opening) (b, verdict_of d b)
 filed_bookings-push d b =
     let f = verdict_bookings (summaries_of d.file.opening) in
     ap (flat_map f) (judged_more d b) ∙ flat_map-append f (judged_in d) ((b, verdict_of d b) ∷ [])
@@ -43,7 +44,8 @@ same_Some : {X : Type 0} (x y : X) → Some x ≡ Some y → x ≡ y
 same_Some x y e = ap (λ o. unwrap_or o x) e
 
 -- one more block inserts its bookings, and no others
-pub puts_in : (n : ℕ) (e : List (Option OpeningParts)) (files : List File) (k : ℕ) (b : BlockParts) (d : Filed) → slice_get (filed_after n e files) k ≡ Some d → PutsIn (bookings_after n e files) (verdict_bookings (summaries_of d.file.opening) (b, verdict_of d b)) (bookings_after n e (with_block files k b))
+pub puts_in : (n : ℕ) (e : List (Option OpeningParts)) (files : List File) (k : ℕ) (b : BlockParts) (d : Filed) → slice_get (filed_after n e files) k ≡ Some d
+    → PutsIn (bookings_after n e files) (verdict_bookings (summaries_of d.file.opening) (b, verdict_of d b)) (bookings_after n e (with_block files k b))
 puts_in n e [] k b d at = absurd (cc)
 puts_in n e (f ∷ fs) zero b d at =
     let own : Filed = record { place = n; standing = standing e f.opening; file = f } in
@@ -66,8 +68,12 @@ puts_in n e (f ∷ fs) (suc k) b d at =
     record {
       front = mine ++ rest.front;
       back = rest.back;
-      was = flat_map-cons filed_bookings own (filed_after (suc n) (e ++ f.opening ∷ []) fs) ∙ ap (λ l. mine ++ l) rest.was ∙ sym (append_assoc mine rest.front rest.back);
-      is = flat_map-cons filed_bookings own (filed_after (suc n) (e ++ f.opening ∷ []) (with_block fs k b)) ∙ ap (λ l. mine ++ l) rest.is ∙ sym (append_assoc mine rest.front _);
+      was =
+          flat_map-cons filed_bookings own (filed_after (suc n) (e ++ f.opening ∷ []) fs) ∙ ap (λ l. mine ++ l) rest.was
+          ∙ sym (append_assoc mine rest.front rest.back);
+      is =
+          flat_map-cons filed_bookings own (filed_after (suc n) (e ++ f.opening ∷ []) (with_block fs k b)) ∙ ap (λ l. mine ++ l) rest.is
+          ∙ sym (append_assoc mine rest.front _);
     }
 
 or-swap : (a b c : Bool) → (a || (b || c)) ≡ ((a || c) || b)
@@ -101,7 +107,9 @@ put_tally old more new q h =
     ∙ ap (λ s. tally_plus s (key_tally more q)) (sym (ap (λ l. key_tally l q) h.was ∙ key_tally-append h.front h.back q))
 
 -- so the lines represent the bookings with those of the block
-pub lines_took : (files : List File) (k : ℕ) (b : BlockParts) (v : Verdict) (d : Filed) (old new : Ledger) → slice_get (filed_after 1 [] files) k ≡ Some d → v ≡ verdict_of d b → ((q : Key) → tally_at new q ≡ tally_plus (tally_at old q) (key_tally (verdict_bookings (summaries_of d.file.opening) (b, v)) q)) → LedgerStands old (bookings files) → LedgerStands new (bookings (with_block files k b))
+pub lines_took : (files : List File) (k : ℕ) (b : BlockParts) (v : Verdict) (d : Filed) (old new : Ledger) → slice_get (filed_after 1 [] files) k ≡ Some d
+    → v ≡ verdict_of d b → ((q : Key) → tally_at new q ≡ tally_plus (tally_at old q) (key_tally (verdict_bookings (summaries_of d.file.opening) (b, v)) q))
+    → LedgerStands old (bookings files) → LedgerStands new (bookings (with_block files k b))
 lines_took files k b v d old new at is tallies h q =
     let m = verdict_bookings (summaries_of d.file.opening) (b, verdict_of d b) in
     tallies q
@@ -109,7 +117,8 @@ lines_took files k b v d old new at is tallies h q =
     ∙ sym (put_tally (bookings files) m (bookings (with_block files k b)) q (puts_in 1 [] files k b d at))
 
 -- a file that was opened has no bookings
-pub bookings-opened : (n : ℕ) (e : List (Option OpeningParts)) (files : List File) (o : Option OpeningParts) → bookings_after n e (files ++ opened o ∷ []) ≡ bookings_after n e files
+pub bookings-opened : (n : ℕ) (e : List (Option OpeningParts)) (files : List File) (o : Option OpeningParts)
+    → bookings_after n e (files ++ opened o ∷ []) ≡ bookings_after n e files
 bookings-opened n e [] o = refl
 bookings-opened n e (x ∷ files) o =
     let own : Filed = record { place = n; standing = standing e x.opening; file = x } in
@@ -118,12 +127,14 @@ bookings-opened n e (x ∷ files) o =
     ∙ sym (flat_map-cons filed_bookings own (filed_after (suc n) (e ++ x.opening ∷ []) files))
 
 -- an outcome changes no booking
-pub bookings-outcome : (n : ℕ) (e : List (Option OpeningParts)) (files : List File) (k : ℕ) (o : Outcome) → bookings_after n e (with_outcome files k o) ≡ bookings_after n e files
+pub bookings-outcome : (n : ℕ) (e : List (Option OpeningParts)) (files : List File) (k : ℕ) (o : Outcome)
+    → bookings_after n e (with_outcome files k o) ≡ bookings_after n e files
 bookings-outcome n e [] k o = refl
 bookings-outcome n e (x ∷ files) zero o =
     let own : Filed = record { place = n; standing = standing e x.opening; file = x } in
     let ended : Filed = record { place = n; standing = standing e x.opening; file = record x { outcome = Some o } } in
-    flat_map-cons filed_bookings ended (filed_after (suc n) (e ++ x.opening ∷ []) files) ∙ sym (flat_map-cons filed_bookings own (filed_after (suc n) (e ++ x.opening ∷ []) files))
+    flat_map-cons filed_bookings ended (filed_after (suc n) (e ++ x.opening ∷ []) files)
+    ∙ sym (flat_map-cons filed_bookings own (filed_after (suc n) (e ++ x.opening ∷ []) files))
 bookings-outcome n e (x ∷ files) (suc k) o =
     let own : Filed = record { place = n; standing = standing e x.opening; file = x } in
     flat_map-cons filed_bookings own (filed_after (suc n) (e ++ x.opening ∷ []) (with_outcome files k o))

@@ -1,5 +1,6 @@
 -- The tallies of lines when a line is added, widened or changed, and when a seat is given.
-use Rattle.std.proofs.Common.{◌≡◌, ℕ, zero, suc, ◌<◌, ◌≤◌, Bool, true, false, cond, List, [], ◌∷◌, ◌++◌, length, length-append, set, get_or, nat_eq, ⊎_elim, refl, sym, ap, subst, ◌∙◌, arith}
+use Rattle.std.proofs.Common.{◌≡◌, ℕ, zero, suc, ◌<◌, ◌≤◌, Bool, true, false, cond, List, [], ◌∷◌, ◌++◌, length, length-append, set, get_or, nat_eq, ⊎_elim}
+use Rattle.std.proofs.Common.{refl, sym, ap, subst, ◌∙◌, arith}
 use Rattle.std.specs.Prelude.{Option, None, Some, Result, Ok, Err, IfOk, slice_get}
 use Rattle.std.specs.Option.{option_and_then, option_map, option_map_or}
 use Rattle.std.specs.Str.{bytes_eq}
@@ -32,7 +33,8 @@ still_there (z ∷ xs) y x (suc i) e = still_there xs y x i e
 pub lines_stay : (ls : List Line) → LinesGrow ls ls
 lines_stay ls = record { tallies = λ seat number. refl; numbers = λ q i e. e; wide = λ ss i h. h }
 
-pub grow_pushed : (ls : List Line) (l : Line) → line_in ls l.key ≡ None → ((seat : List ℕ → Option ℕ) → line_tally seat l ≡ no_tally) → LinesGrow ls (ls ++ l ∷ [])
+pub grow_pushed : (ls : List Line) (l : Line) → line_in ls l.key ≡ None → ((seat : List ℕ → Option ℕ) → line_tally seat l ≡ no_tally)
+    → LinesGrow ls (ls ++ l ∷ [])
 grow_pushed ls l none nothing = record {
   tallies = λ seat number. items_pushed key_of (line_tally seat) no_tally ls l none (nothing seat) number;
   numbers = items_grow key_of ls l none;
@@ -43,7 +45,8 @@ grow_pushed ls l none nothing = record {
 abbrev pub KeepsParts : Line → Line → Type 0
 KeepsParts l w = (ss : List SeatShare) → HaveParts ss l.parts.items.items → HaveParts ss w.parts.items.items
 
-wide_set : (ls : List Line) (i : ℕ) (l w : Line) → slice_get ls i ≡ Some l → KeepsParts l w → (ss : List SeatShare) (j : ℕ) → IsWide ss ls j → IsWide ss (set ls i w) j
+wide_set : (ls : List Line) (i : ℕ) (l w : Line) → slice_get ls i ≡ Some l → KeepsParts l w → (ss : List SeatShare) (j : ℕ) → IsWide ss ls j
+    → IsWide ss (set ls i w) j
 wide_set [] i l w at f ss j h = absurd (not_Some l at)
 wide_set (x ∷ ls) zero l w at f ss zero h =
     record { line = w; there = refl; wide = f ss (subst (λ (y : Line). HaveParts ss y.parts.items.items) (same_Some h.line l (sym h.there ∙ at)) h.wide) }
@@ -54,7 +57,8 @@ wide_set (x ∷ ls) (suc i) l w at f ss (suc j) h =
     let r = wide_set ls i l w at f ss j k in
     record { line = r.line; there = r.there; wide = r.wide }
 
-pub wide_written : (ls : List Line) (i : ℕ) (l w : Line) → i < length ls → l ≡ get_or ls i l → KeepsParts l w → (ss : List SeatShare) (j : ℕ) → IsWide ss ls j → IsWide ss (set ls i w) j
+pub wide_written : (ls : List Line) (i : ℕ) (l w : Line) → i < length ls → l ≡ get_or ls i l → KeepsParts l w → (ss : List SeatShare) (j : ℕ) → IsWide ss ls j
+    → IsWide ss (set ls i w) j
 wide_written ls i l w below is f ss j h = wide_set ls i l w (slice_get_read ls (length ls) i l refl below is) f ss j h
 
 pub written_there : {X : Type 0} (ls : List X) (i : ℕ) (w : X) → i < length ls → slice_get (set ls i w) i ≡ Some w
@@ -63,7 +67,8 @@ written_there (x ∷ ls) zero w below = refl
 written_there (x ∷ ls) (suc i) w below = written_there ls i w (omega arith)
 
 -- a line is replaced by one with the same tally
-pub grow_written : (ls : List Line) (i : ℕ) (l w : Line) → i < length ls → l ≡ get_or ls i l → w.key ≡ l.key → ((seat : List ℕ → Option ℕ) → line_tally seat w ≡ line_tally seat l) → KeepsParts l w → LinesGrow ls (set ls i w)
+pub grow_written : (ls : List Line) (i : ℕ) (l w : Line) → i < length ls → l ≡ get_or ls i l → w.key ≡ l.key
+    → ((seat : List ℕ → Option ℕ) → line_tally seat w ≡ line_tally seat l) → KeepsParts l w → LinesGrow ls (set ls i w)
 grow_written ls i l w below is same alike f = record {
   tallies = λ seat number. items_written key_of (line_tally seat) no_tally ls i l w below is same (alike seat) number;
   numbers = λ q n e. ap (λ ks. place_in ks q) (numbers_kept key_of ls i l w is same) ∙ e;
@@ -71,7 +76,8 @@ grow_written ls i l w below is same alike f = record {
 }
 
 -- a line is replaced by one with a greater tally
-pub tally_changed : (seat : List ℕ → Option ℕ) (f : Tally → Tally) (ls : List Line) (i : ℕ) (l w : Line) (key : ℕ) → l ≡ get_or ls i l → w.key ≡ l.key → line_tally seat w ≡ f (line_tally seat l) → line_in ls key ≡ Some i
+pub tally_changed : (seat : List ℕ → Option ℕ) (f : Tally → Tally) (ls : List Line) (i : ℕ) (l w : Line) (key : ℕ) → l ≡ get_or ls i l → w.key ≡ l.key
+    → line_tally seat w ≡ f (line_tally seat l) → line_in ls key ≡ Some i
     → (q : ℕ) → lines_tally seat (set ls i w) (Some q) ≡ cond (nat_eq key q) (f (lines_tally seat ls (Some q))) (lines_tally seat ls (Some q))
 tally_changed seat f ls i l w key is same change at q =
     ap (λ ks. read_at (line_tally seat) no_tally (set ls i w) (place_in ks q)) (numbers_kept key_of ls i l w is same)
@@ -113,7 +119,8 @@ no_fewer old new n h =
     ⊎_elim (λ same. let e = ap length same in omega arith) (λ more. let e = ap length more.1 in let long = length-append old (n ∷ []) in omega arith) h
 
 -- a party is given the seat after the last one
-pub lines_seated : (old new : List ℕ → Option ℕ) (name : List ℕ) (seats : ℕ) (ls : List Line) → AreWithin seats ls → old name ≡ None → ((q : List ℕ) → new q ≡ cond (bytes_eq name q) (Some seats) (old q)) → (number : Option ℕ) → lines_tally new ls number ≡ lines_tally old ls number
+pub lines_seated : (old new : List ℕ → Option ℕ) (name : List ℕ) (seats : ℕ) (ls : List Line) → AreWithin seats ls → old name ≡ None
+    → ((q : List ℕ) → new q ≡ cond (bytes_eq name q) (Some seats) (old q)) → (number : Option ℕ) → lines_tally new ls number ≡ lines_tally old ls number
 lines_seated old new name seats ls within none is number = by (option_and_then (line_in ls) number)
   where
     line : (l : Line) → IsWithin seats l → line_tally new l ≡ line_tally old l
@@ -121,10 +128,12 @@ lines_seated old new name seats ls within none is number = by (option_and_then (
       is_booked = l.is_booked;
       usages = l.sums.usages;
       amount = l.sums.amount;
-      owed = λ q. owed_at_place l.parts.items.items (by_new_key bytes_eq bytes_eq-Decides old new name seats (part_seats l.parts.items.items) none is below q j);
+      owed =
+          λ q. owed_at_place l.parts.items.items (by_new_key bytes_eq bytes_eq-Decides old new name seats (part_seats l.parts.items.items) none is below q j);
     }
 
-    at : (o : Option Line) → ((l : Line) → o ≡ Some l → IsWithin seats l) → option_map_or (line_tally new) o no_tally ≡ option_map_or (line_tally old) o no_tally
+    at : (o : Option Line) → ((l : Line) → o ≡ Some l → IsWithin seats l)
+        → option_map_or (line_tally new) o no_tally ≡ option_map_or (line_tally old) o no_tally
     at None h = refl
     at (Some l) h = line l (h l refl)
 

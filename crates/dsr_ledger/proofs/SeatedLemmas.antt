@@ -1,5 +1,6 @@
 -- Shares at the seats of their parties, and lines of usages.
-use Rattle.std.proofs.Common.{◌≡◌, ℕ, zero, suc, ◌+◌, ◌<◌, ◌≤◌, List, [], ◌∷◌, ◌++◌, length, take, drop, get_or, refl, sym, ap, subst, ◌∙◌, arith, append_assoc, append-nil}
+use Rattle.std.proofs.Common.{◌≡◌, ℕ, zero, suc, ◌+◌, ◌<◌, ◌≤◌, List, [], ◌∷◌, ◌++◌, length, take, drop, get_or, refl, sym, ap, subst, ◌∙◌, arith, append_assoc}
+use Rattle.std.proofs.Common.{append-nil}
 use Rattle.std.specs.Prelude.{ℤ, Option, Some, None, map, slice_get}
 use Rattle.std.specs.List.{zip, flat_map, AllZip}
 use Rattle.std.proofs.lemmas.List.{map-append}
@@ -52,13 +53,15 @@ pub seated_grows : (old new : List ℕ → Option ℕ) → Grows old new → (ss
 seated_grows old new g ss es h = zip_weaker (IsSeated old) (IsSeated new) (λ s e k. (g e.0 s.seat k.0, k.1)) ss es h
 
 -- shares at seats below n
-pub seats_below : (seat : List ℕ → Option ℕ) (n : ℕ) → ((q : List ℕ) (i : ℕ) → seat q ≡ Some i → i < n) → (ss : List SeatShare) (es : List (List ℕ × ℕ)) → AreSeated seat ss es → AreSeatsBelow n ss
+pub seats_below : (seat : List ℕ → Option ℕ) (n : ℕ) → ((q : List ℕ) (i : ℕ) → seat q ≡ Some i → i < n) → (ss : List SeatShare) (es : List (List ℕ × ℕ))
+    → AreSeated seat ss es → AreSeatsBelow n ss
 seats_below seat n below [] es h = tt
 seats_below seat n below (s ∷ ss) [] h = absurd h
 seats_below seat n below (s ∷ ss) (e ∷ es) h = (below e.0 s.seat h.0.0, seats_below seat n below ss es h.1)
 
 -- more shares appended
-pub seated_more : (was is : List ℕ → Option ℕ) (old mid new : List SeatShare) (es fs : List (List ℕ × ℕ)) → Grows was is → SeatedMore was old mid es → SeatedMore is mid new fs → SeatedMore is old new (es ++ fs)
+pub seated_more : (was is : List ℕ → Option ℕ) (old mid new : List SeatShare) (es fs : List (List ℕ × ℕ)) → Grows was is → SeatedMore was old mid es
+    → SeatedMore is mid new fs → SeatedMore is old new (es ++ fs)
 seated_more was is old mid new es fs g h k = record {
   more = h.more ++ k.more;
   items = k.items ∙ ap (λ l. l ++ k.more) h.items ∙ append_assoc old h.more k.more;
@@ -66,7 +69,8 @@ seated_more was is old mid new es fs g h k = record {
 }
 
 -- the next party of a work with its share
-pub next_share : (parties : List (List ℕ)) (shares : List ℕ) (i : ℕ) (p : List ℕ) (s : ℕ) → i < length parties → length parties ≡ length shares → p ≡ get_or parties i p → s ≡ get_or shares i s → take (suc i) (zip parties shares) ≡ take i (zip parties shares) ++ (p, s) ∷ []
+pub next_share : (parties : List (List ℕ)) (shares : List ℕ) (i : ℕ) (p : List ℕ) (s : ℕ) → i < length parties → length parties ≡ length shares
+    → p ≡ get_or parties i p → s ≡ get_or shares i s → take (suc i) (zip parties shares) ≡ take i (zip parties shares) ++ (p, s) ∷ []
 next_share [] shares i p s below even at with_share = absurd (omega arith)
 next_share (q ∷ parties) [] i p s below even at with_share = absurd (omega arith)
 next_share (q ∷ parties) (t ∷ shares) zero p s below even at with_share = λ j. (sym at j, sym with_share j) ∷ []
@@ -100,7 +104,8 @@ module _ {X : Type 0} (f : X → Option ℕ) where
   pub value_at : (xs : List X) (ns : List ℕ) (i : ℕ) (x : X) → map f xs ≡ map Some ns → slice_get xs i ≡ Some x → (n : ℕ) × ValueAt f xs ns i n x
   value_at [] ns i x h at = absurd (not_Some x at)
   value_at (y ∷ xs) [] i x h at = absurd (cc)
-  value_at (y ∷ xs) (n ∷ ns) zero x h at = (n, record { item = at; value = refl; is = ap f (sym (same_Some y x at)) ∙ ap (λ l. get_or l 0 (f y)) h; more = ap (λ z. z ∷ []) (same_Some y x at) })
+  value_at (y ∷ xs) (n ∷ ns) zero x h at =
+      (n, record { item = at; value = refl; is = ap f (sym (same_Some y x at)) ∙ ap (λ l. get_or l 0 (f y)) h; more = ap (λ z. z ∷ []) (same_Some y x at) })
   value_at (y ∷ xs) (n ∷ ns) (suc i) x h at =
       let r = value_at xs ns i x (ap (drop 1) h) at in
       (r.0, record { item = r.1.item; value = r.1.value; is = r.1.is; more = ap (λ l. y ∷ l) r.1.more })

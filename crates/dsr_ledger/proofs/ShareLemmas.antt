@@ -35,8 +35,11 @@ zip_size a (p ∷ parties) [] = omega arith
 zip_size a (p ∷ parties) (s ∷ shares) =
     let here = part_size a p s in
     let rest = zip_size a parties shares in
-    let cut : parts_size (map (part_of a) (zip (p ∷ parties) (s ∷ shares))) ≡ unsigned_abs (rounded (part_of a (p, s))) + parts_size (map (part_of a) (zip parties shares)) = sum_by-cons (λ (x : Part). unsigned_abs (rounded x)) (part_of a (p, s)) (map (part_of a) (zip parties shares)) in
-    let total : unsigned_abs a * sum (s ∷ shares) ≡ unsigned_abs a * s + unsigned_abs a * sum shares = ap (λ n. unsigned_abs a * n) (sum_by-cons (λ x. x) s shares) ∙ spread (unsigned_abs a) s (sum shares) in
+    let cut : parts_size (map (part_of a) (zip (p ∷ parties) (s ∷ shares)))
+    ≡ unsigned_abs (rounded (part_of a (p, s))) + parts_size (map (part_of a) (zip parties shares)) =
+    sum_by-cons (λ (x : Part). unsigned_abs (rounded x)) (part_of a (p, s)) (map (part_of a) (zip parties shares)) in
+    let total : unsigned_abs a * sum (s ∷ shares) ≡ unsigned_abs a * s + unsigned_abs a * sum shares =
+    ap (λ n. unsigned_abs a * n) (sum_by-cons (λ x. x) s shares) ∙ spread (unsigned_abs a) s (sum shares) in
     omega arith
 
 pub works_size : (a : ℤ) (works : List WorkParts) → parts_size (flat_map (work_parts a) works) * 1000000 ≤ unsigned_abs a * share_total works
@@ -45,8 +48,10 @@ works_size a (w ∷ works) =
     let size = λ (x : Part). unsigned_abs (rounded x) in
     let here = zip_size a w.parties w.shares in
     let rest = works_size a works in
-    let cut : parts_size (flat_map (work_parts a) (w ∷ works)) ≡ parts_size (work_parts a w) + parts_size (flat_map (work_parts a) works) = ap (sum_by size) (flat_map-cons (work_parts a) w works) ∙ sum_by-append size (work_parts a w) (flat_map (work_parts a) works) in
-    let total : unsigned_abs a * share_total (w ∷ works) ≡ unsigned_abs a * sum w.shares + unsigned_abs a * share_total works = ap (λ n. unsigned_abs a * n) (sum_by-cons (λ (x : WorkParts). sum x.shares) w works) ∙ spread (unsigned_abs a) (sum w.shares) (share_total works) in
+    let cut : parts_size (flat_map (work_parts a) (w ∷ works)) ≡ parts_size (work_parts a w) + parts_size (flat_map (work_parts a) works) =
+    ap (sum_by size) (flat_map-cons (work_parts a) w works) ∙ sum_by-append size (work_parts a w) (flat_map (work_parts a) works) in
+    let total : unsigned_abs a * share_total (w ∷ works) ≡ unsigned_abs a * sum w.shares + unsigned_abs a * share_total works =
+    ap (λ n. unsigned_abs a * n) (sum_by-cons (λ (x : WorkParts). sum x.shares) w works) ∙ spread (unsigned_abs a) (sum w.shares) (share_total works) in
     omega arith
 
 -- so if the shares are at most 100 percent, the parts are no more than the amount

@@ -20,13 +20,18 @@ shown_with-append id us vs s =
     λ i. record {
       place = s.place;
       sums = record {
-        usages = (add-assoc s.sums.usages (int_sum_by (λ x. x.usages) (naming id us)) (int_sum_by (λ x. x.usages) (naming id vs)) ∙ ap (λ z. s.sums.usages +ℤ z) (sym (ap (int_sum_by (λ x. x.usages)) split ∙ int_sum_by-append (λ x. x.usages) (naming id us) (naming id vs)))) i;
-        amount = (add-assoc s.sums.amount (int_sum_by (λ x. x.amount) (naming id us)) (int_sum_by (λ x. x.amount) (naming id vs)) ∙ ap (λ z. s.sums.amount +ℤ z) (sym (ap (int_sum_by (λ x. x.amount)) split ∙ int_sum_by-append (λ x. x.amount) (naming id us) (naming id vs)))) i;
+        usages =
+            (add-assoc s.sums.usages (int_sum_by (λ x. x.usages) (naming id us)) (int_sum_by (λ x. x.usages) (naming id vs))
+            ∙ ap (λ z. s.sums.usages +ℤ z) (sym (ap (int_sum_by (λ x. x.usages)) split ∙ int_sum_by-append (λ x. x.usages) (naming id us) (naming id vs)))) i;
+        amount =
+            (add-assoc s.sums.amount (int_sum_by (λ x. x.amount) (naming id us)) (int_sum_by (λ x. x.amount) (naming id vs))
+            ∙ ap (λ z. s.sums.amount +ℤ z) (sym (ap (int_sum_by (λ x. x.amount)) split ∙ int_sum_by-append (λ x. x.amount) (naming id us) (naming id vs)))) i;
       };
     }
 
 -- after one more usage
-pub shown_more : (id : List ℕ) (us : List Usage) (u : Usage) (o p q : Option Shown) → p ≡ option_map (shown_with id us) o → q ≡ option_map (shown_with id (u ∷ [])) p → q ≡ option_map (shown_with id (us ++ u ∷ [])) o
+pub shown_more : (id : List ℕ) (us : List Usage) (u : Usage) (o p q : Option Shown) → p ≡ option_map (shown_with id us) o
+    → q ≡ option_map (shown_with id (u ∷ [])) p → q ≡ option_map (shown_with id (us ++ u ∷ [])) o
 shown_more id us u o p q was is = is ∙ ap (option_map (shown_with id (u ∷ []))) was ∙ both o
   where
     both : (o : Option Shown) → option_map (shown_with id (u ∷ [])) (option_map (shown_with id us) o) ≡ option_map (shown_with id (us ++ u ∷ [])) o
@@ -36,7 +41,8 @@ shown_more id us u o p q was is = is ∙ ap (option_map (shown_with id (u ∷ []
 length-filter-le : {X : Type 0} (p : X → Bool) (xs : List X) → length (filter p xs) ≤ length xs
 length-filter-le p xs = omega (arith, length-filter p xs, count_by-le-length p xs)
 
-pub shown_fits_after : (id : List ℕ) (us : List Usage) (s : Shown) (i n m : ℕ) → length us ≤ i → i + m ≤ n → AllByRecursion IsInRange us → SumsFit n s.sums → SumsFit m (shown_with id us s).sums
+pub shown_fits_after : (id : List ℕ) (us : List Usage) (s : Shown) (i n m : ℕ) → length us ≤ i → i + m ≤ n → AllByRecursion IsInRange us → SumsFit n s.sums
+    → SumsFit m (shown_with id us s).sums
 shown_fits_after id us s i n m few room small h =
     let own = naming id us in
     let less = length-filter-le (λ (x : Usage). bytes_eq id x.summary_id) us in
@@ -48,7 +54,8 @@ shown_fits_after id us s i n m few room small h =
     let hu = h.usages in let ha = h.amount in
     record { usages = omega arith; amount = omega arith }
 
-pub shown_fits_at : (o : Option Shown) (id : List ℕ) (us : List Usage) (i n m : ℕ) → length us ≤ i → i + m ≤ n → AllByRecursion IsInRange us → ForSome o (ShownFits n) → ForSome (option_map (shown_with id us) o) (ShownFits m)
+pub shown_fits_at : (o : Option Shown) (id : List ℕ) (us : List Usage) (i n m : ℕ) → length us ≤ i → i + m ≤ n → AllByRecursion IsInRange us
+    → ForSome o (ShownFits n) → ForSome (option_map (shown_with id us) o) (ShownFits m)
 shown_fits_at None id us i n m few room small h = λ x e. absurd (cc)
 shown_fits_at (Some s) id us i n m few room small h = λ x e.
     let is : shown_with id us s ≡ x = cc in

@@ -33,7 +33,8 @@ few_under : (isrc : List ℕ) (works : List WorkParts) (u : Usage) (place : Opti
 few_under isrc works u None = omega arith
 few_under isrc works u (Some place) = omega arith
 
-few_usages : (place : List ℕ → Option SummaryKey) (isrc : List ℕ) (works : List WorkParts) (us : List Usage) → length (usage_bookings place isrc works us) ≤ length us
+few_usages : (place : List ℕ → Option SummaryKey) (isrc : List ℕ) (works : List WorkParts) (us : List Usage)
+    → length (usage_bookings place isrc works us) ≤ length us
 few_usages place isrc works [] = omega arith
 few_usages place isrc works (u ∷ us) =
     let f : Usage → List Booking = λ x. booked_under isrc works x (place x.summary_id) in
@@ -50,7 +51,8 @@ few_verdict : (summaries : List Summary) (b : BlockParts) (v : Verdict) → leng
 few_verdict summaries b Booked = few_booked summaries b
 few_verdict summaries b (Rejected reason) = omega arith
 
-few_judged : (stands : Standing) (summaries : List Summary) (earlier blocks : List BlockParts) → AllByRecursion IsBlockInRange blocks → length (flat_map (verdict_bookings summaries) (judged stands summaries earlier blocks)) ≤ length blocks * 63
+few_judged : (stands : Standing) (summaries : List Summary) (earlier blocks : List BlockParts) → AllByRecursion IsBlockInRange blocks
+    → length (flat_map (verdict_bookings summaries) (judged stands summaries earlier blocks)) ≤ length blocks * 63
 few_judged stands summaries earlier [] h = omega arith
 few_judged stands summaries earlier (b ∷ blocks) h =
     let v = verdict stands summaries earlier b in
@@ -58,10 +60,13 @@ few_judged stands summaries earlier (b ∷ blocks) h =
     let here = few_verdict summaries b v in
     let small = h.0.few in
     let rest = few_judged stands summaries (earlier ++ b ∷ []) blocks h.1 in
-    let cut = ap length (flat_map-cons (verdict_bookings summaries) (b, v) later) ∙ length-append (verdict_bookings summaries (b, v)) (flat_map (verdict_bookings summaries) later) in
+    let cut =
+    ap length (flat_map-cons (verdict_bookings summaries) (b, v) later)
+    ∙ length-append (verdict_bookings summaries (b, v)) (flat_map (verdict_bookings summaries) later) in
     omega arith
 
-few_filed : (n place : ℕ) (earlier : List (Option OpeningParts)) (files : List File) → AllByRecursion (IsShort n) files → length (flat_map filed_bookings (filed_after place earlier files)) ≤ length files * (n * 63)
+few_filed : (n place : ℕ) (earlier : List (Option OpeningParts)) (files : List File) → AllByRecursion (IsShort n) files
+    → length (flat_map filed_bookings (filed_after place earlier files)) ≤ length files * (n * 63)
 few_filed n place earlier [] h = omega arith
 few_filed n place earlier (f ∷ files) h =
     let d : Filed = record { place = place; standing = standing earlier f.opening; file = f } in
@@ -70,7 +75,8 @@ few_filed n place earlier (f ∷ files) h =
     let short : length f.blocks * 63 ≤ n * 63 = let few = h.0.few in omega arith in
     let rest = few_filed n (suc place) (earlier ++ f.opening ∷ []) files h.1 in
     let cut = ap length (flat_map-cons filed_bookings d later) ∙ length-append (filed_bookings d) (flat_map filed_bookings later) in
-    summed (length (flat_map filed_bookings (d ∷ later))) (length (filed_bookings d)) (length (flat_map filed_bookings later)) (length files) (n * 63) cut (through _ _ _ here short) rest
+    summed (length (flat_map filed_bookings (d ∷ later))) (length (filed_bookings d)) (length (flat_map filed_bookings later)) (length files) (n * 63) cut
+    (through _ _ _ here short) rest
   where
     through : (a b c : ℕ) → a ≤ b → b ≤ c → a ≤ c
     through a b c h k = omega arith
@@ -79,31 +85,37 @@ few_filed n place earlier (f ∷ files) h =
     summed all one more m k e h g = omega arith
 
 -- the amounts are those of usages
-small_under : (isrc : List ℕ) (works : List WorkParts) (u : Usage) (place : Option SummaryKey) → IsInRange u → AllByRecursion HasSmallAmount (booked_under isrc works u place)
+small_under : (isrc : List ℕ) (works : List WorkParts) (u : Usage) (place : Option SummaryKey) → IsInRange u
+    → AllByRecursion HasSmallAmount (booked_under isrc works u place)
 small_under isrc works u None h = tt
 small_under isrc works u (Some place) h = (h.amount, tt)
 
 small_block : (summaries : List Summary) (b : BlockParts) → IsBlockInRange b → AllByRecursion HasSmallAmount (block_bookings summaries b)
 unfolding block_bookings
 small_block summaries b h =
-    all_flat HasSmallAmount IsInRange (λ u. booked_under b.resource.isrc b.works u (place_named summaries u.summary_id)) (λ u k. small_under b.resource.isrc b.works u (place_named summaries u.summary_id) k) b.usages h.range
+    all_flat HasSmallAmount IsInRange (λ u. booked_under b.resource.isrc b.works u (place_named summaries u.summary_id))
+    (λ u k. small_under b.resource.isrc b.works u (place_named summaries u.summary_id) k) b.usages h.range
 
 small_verdict : (summaries : List Summary) (b : BlockParts) (v : Verdict) → IsBlockInRange b → AllByRecursion HasSmallAmount (verdict_bookings summaries (b, v))
 small_verdict summaries b Booked h = small_block summaries b h
 small_verdict summaries b (Rejected reason) h = tt
 
-judged_range : (stands : Standing) (summaries : List Summary) (earlier blocks : List BlockParts) → AllByRecursion IsBlockInRange blocks → AllByRecursion (λ e. IsBlockInRange e.0) (judged stands summaries earlier blocks)
+judged_range : (stands : Standing) (summaries : List Summary) (earlier blocks : List BlockParts) → AllByRecursion IsBlockInRange blocks
+    → AllByRecursion (λ e. IsBlockInRange e.0) (judged stands summaries earlier blocks)
 judged_range stands summaries earlier [] h = tt
 judged_range stands summaries earlier (b ∷ blocks) h = (h.0, judged_range stands summaries (earlier ++ b ∷ []) blocks h.1)
 
-filed_range : (n place : ℕ) (earlier : List (Option OpeningParts)) (files : List File) → AllByRecursion (IsShort n) files → AllByRecursion (λ d. IsShort n d.file) (filed_after place earlier files)
+filed_range : (n place : ℕ) (earlier : List (Option OpeningParts)) (files : List File) → AllByRecursion (IsShort n) files
+    → AllByRecursion (λ d. IsShort n d.file) (filed_after place earlier files)
 filed_range n place earlier [] h = tt
 filed_range n place earlier (f ∷ files) h = (h.0, filed_range n (suc place) (earlier ++ f.opening ∷ []) files h.1)
 
 small_amounts : (n : ℕ) (files : List File) → AllByRecursion (IsShort n) files → AllByRecursion HasSmallAmount (bookings files)
 small_amounts n files h =
     all_flat HasSmallAmount (λ d. IsShort n d.file) filed_bookings (λ d k.
-    all_flat HasSmallAmount (λ e. IsBlockInRange e.0) (verdict_bookings (summaries_of d.file.opening)) (λ e r. small_verdict (summaries_of d.file.opening) e.0 e.1 r) (judged_in d) (judged_range d.standing (summaries_of d.file.opening) [] d.file.blocks k.range))
+    all_flat HasSmallAmount (λ e. IsBlockInRange e.0) (verdict_bookings (summaries_of d.file.opening))
+    (λ e r. small_verdict (summaries_of d.file.opening) e.0 e.1 r) (judged_in d)
+    (judged_range d.standing (summaries_of d.file.opening) [] d.file.blocks k.range))
     (filed files) (filed_range n 1 [] files h)
 
 both : (bs : List Booking) → AllByRecursion HasSmallAmount bs → AllByRecursion IsWhole bs → AllByRecursion IsSmall bs

@@ -1,5 +1,6 @@
 -- The greatest number of bookings, and the range of their numbers.
-use Rattle.std.proofs.Common.{◌≡◌, ℕ, suc, ◌+◌, ◌*◌, ◌^◌, ◌<◌, ◌≤◌, Bool, true, false, List, [], ◌∷◌, ◌++◌, length, length-append, refl, sym, ◌∙◌, ap, subst, arith}
+use Rattle.std.proofs.Common.{◌≡◌, ℕ, suc, ◌+◌, ◌*◌, ◌^◌, ◌<◌, ◌≤◌, Bool, true, false, List, [], ◌∷◌, ◌++◌, length, length-append, refl, sym, ◌∙◌, ap, subst}
+use Rattle.std.proofs.Common.{arith}
 use Rattle.std.specs.Prelude.{not, nat_lt, ◌==◌, Option, None, Some, option_map, find}
 use Rattle.std.specs.Option.{ForSome}
 use Rattle.std.specs.List.{flat_map, list_any, AllByRecursion}
@@ -58,54 +59,68 @@ unfolding block_bookings
 length-verdict_bookings os b Booked h = let l = length-usage_bookings (place_named os) b.resource.isrc b.works b.usages in let few = h.few in omega arith
 length-verdict_bookings os b (Rejected r) h = omega arith
 
-small_verdict_bookings : (os : List Summary) (b : BlockParts) (v : Verdict) → IsBlockInRange b → (v ≡ Booked → share_total b.works ≤ 1000000) → AllByRecursion IsSmall (verdict_bookings os (b, v))
+small_verdict_bookings : (os : List Summary) (b : BlockParts) (v : Verdict) → IsBlockInRange b → (v ≡ Booked → share_total b.works ≤ 1000000)
+    → AllByRecursion IsSmall (verdict_bookings os (b, v))
 unfolding block_bookings
 small_verdict_bookings os b Booked h s = small_usage_bookings (place_named os) b.resource.isrc b.works b.usages (s refl) h.range
 small_verdict_bookings os b (Rejected r) h s = tt
 
-length-judged_bookings : (s : Standing) (os : List Summary) (e bs : List BlockParts) → AllByRecursion IsBlockInRange bs → length (flat_map (verdict_bookings os) (judged s os e bs)) ≤ length bs * 63
+length-judged_bookings : (s : Standing) (os : List Summary) (e bs : List BlockParts) → AllByRecursion IsBlockInRange bs
+    → length (flat_map (verdict_bookings os) (judged s os e bs)) ≤ length bs * 63
 length-judged_bookings s os e [] h = omega arith
 length-judged_bookings s os e (b ∷ bs) h =
     let v = verdict s os e b in
     let rest = length-judged_bookings s os (e ++ b ∷ []) bs h.1 in
     let one = length-verdict_bookings os b v h.0 in
-    let cut = ap length (flat_map-cons (verdict_bookings os) (b, v) (judged s os (e ++ b ∷ []) bs)) ∙ length-append (verdict_bookings os (b, v)) (flat_map (verdict_bookings os) (judged s os (e ++ b ∷ []) bs)) in
+    let cut =
+    ap length (flat_map-cons (verdict_bookings os) (b, v) (judged s os (e ++ b ∷ []) bs))
+    ∙ length-append (verdict_bookings os (b, v)) (flat_map (verdict_bookings os) (judged s os (e ++ b ∷ []) bs)) in
     omega arith
 
-small_judged_bookings : (s : Standing) (os : List Summary) (e bs : List BlockParts) → AllByRecursion IsBlockInRange bs → AllByRecursion IsSmall (flat_map (verdict_bookings os) (judged s os e bs))
+small_judged_bookings : (s : Standing) (os : List Summary) (e bs : List BlockParts) → AllByRecursion IsBlockInRange bs
+    → AllByRecursion IsSmall (flat_map (verdict_bookings os) (judged s os e bs))
 small_judged_bookings s os e [] h = tt
 small_judged_bookings s os e (b ∷ bs) h =
     let v = verdict s os e b in
     let js = judged s os (e ++ b ∷ []) bs in
     subst (AllByRecursion IsSmall) (sym (flat_map-cons (verdict_bookings os) (b, v) js)) (
-    each_append IsSmall (verdict_bookings os (b, v)) (flat_map (verdict_bookings os) js) (small_verdict_bookings os b v h.0 (booked_shares s _ _ b)) (small_judged_bookings s os (e ++ b ∷ []) bs h.1))
+    each_append IsSmall (verdict_bookings os (b, v)) (flat_map (verdict_bookings os) js) (small_verdict_bookings os b v h.0 (booked_shares s _ _ b))
+    (small_judged_bookings s os (e ++ b ∷ []) bs h.1))
 
-length-bookings_after : (n : ℕ) (e : List (Option OpeningParts)) (files : List File) → AllByRecursion IsSmallFile files → length (bookings_after n e files) ≤ length files * (2 ^ 37 * 63)
+length-bookings_after : (n : ℕ) (e : List (Option OpeningParts)) (files : List File) → AllByRecursion IsSmallFile files
+    → length (bookings_after n e files) ≤ length files * (2 ^ 37 * 63)
 length-bookings_after n e [] h = omega arith
 length-bookings_after n e (f ∷ files) h =
     let own : Filed = record { place = n; standing = standing e f.opening; file = f } in
     let here = length-judged_bookings (standing e f.opening) (summaries_of f.opening) [] f.blocks h.0.range in
     let few = h.0.few in
     let rest = length-bookings_after (suc n) (e ++ f.opening ∷ []) files h.1 in
-    let cut = ap length (flat_map-cons filed_bookings own (filed_after (suc n) (e ++ f.opening ∷ []) files)) ∙ length-append (filed_bookings own) (bookings_after (suc n) (e ++ f.opening ∷ []) files) in
+    let cut =
+    ap length (flat_map-cons filed_bookings own (filed_after (suc n) (e ++ f.opening ∷ []) files))
+    ∙ length-append (filed_bookings own) (bookings_after (suc n) (e ++ f.opening ∷ []) files) in
     omega arith
 
-pub small_bookings_after : (n : ℕ) (e : List (Option OpeningParts)) (files : List File) → AllByRecursion IsSmallFile files → AllByRecursion IsSmall (bookings_after n e files)
+pub small_bookings_after : (n : ℕ) (e : List (Option OpeningParts)) (files : List File) → AllByRecursion IsSmallFile files
+    → AllByRecursion IsSmall (bookings_after n e files)
 small_bookings_after n e [] h = tt
 small_bookings_after n e (f ∷ files) h =
     let own : Filed = record { place = n; standing = standing e f.opening; file = f } in
     let ds = filed_after (suc n) (e ++ f.opening ∷ []) files in
     subst (AllByRecursion IsSmall) (sym (flat_map-cons filed_bookings own ds)) (
-    each_append IsSmall (filed_bookings own) (flat_map filed_bookings ds) (small_judged_bookings (standing e f.opening) (summaries_of f.opening) [] f.blocks h.0.range) (small_bookings_after (suc n) (e ++ f.opening ∷ []) files h.1))
+    each_append IsSmall (filed_bookings own) (flat_map filed_bookings ds)
+    (small_judged_bookings (standing e f.opening) (summaries_of f.opening) [] f.blocks h.0.range)
+    (small_bookings_after (suc n) (e ++ f.opening ∷ []) files h.1))
 
 -- so 63 more usages fit
-pub lines_fit : (files : List File) (lines : Ledger) → LedgerStands lines (bookings files) → AllByRecursion IsSmallFile files → length files ≤ 64 → (q : Key) → TallyFits 63 (tally_at lines q)
+pub lines_fit : (files : List File) (lines : Ledger) → LedgerStands lines (bookings files) → AllByRecursion IsSmallFile files → length files ≤ 64 → (q : Key)
+    → TallyFits 63 (tally_at lines q)
 lines_fit files lines h small few q =
     let bs = bookings files in
     let many = length-bookings_after 1 [] files small in
     let nothing : TallyFits (64 * (2 ^ 37 * 63) + 63) (tally_of []) = record { usages = omega arith; amount = omega arith; owed = λ p. omega arith } in
     subst (TallyFits 63) (tally_plus-none_left (key_tally bs q) ∙ sym (h q)) (
-    tally_fits_after (tally_of []) bs q (64 * (2 ^ 37 * 63)) (64 * (2 ^ 37 * 63) + 63) 63 (omega arith) (omega arith) (small_bookings_after 1 [] files small) nothing)
+    tally_fits_after (tally_of []) bs q (64 * (2 ^ 37 * 63)) (64 * (2 ^ 37 * 63) + 63) 63 (omega arith) (omega arith)
+    (small_bookings_after 1 [] files small) nothing)
 
 length-usages_in : (bs : List BlockParts) → AllByRecursion IsBlockInRange bs → length (usages_in bs) ≤ length bs * 63
 length-usages_in [] h = omega arith
@@ -122,7 +137,8 @@ small_usages_in (b ∷ bs) h =
     let f = λ (x : BlockParts). x.usages in
     subst (AllByRecursion IsInRange) (sym (flat_map-cons f b bs)) (each_append IsInRange b.usages (flat_map f bs) h.0.range (small_usages_in bs h.1))
 
-found_fits : (o : Option Summary) (id : List ℕ) (us : List Usage) (i n m : ℕ) → length us ≤ i → i + m ≤ n → AllByRecursion IsInRange us → n * 2 ^ 63 < 2 ^ 127 → n * 10 ^ 22 < 2 ^ 127 → ForSome (option_map (λ s. shown_with id us (nothing_found s)) o) (ShownFits m)
+found_fits : (o : Option Summary) (id : List ℕ) (us : List Usage) (i n m : ℕ) → length us ≤ i → i + m ≤ n → AllByRecursion IsInRange us → n * 2 ^ 63 < 2 ^ 127
+    → n * 10 ^ 22 < 2 ^ 127 → ForSome (option_map (λ s. shown_with id us (nothing_found s)) o) (ShownFits m)
 found_fits None id us i n m few room small u a = λ x e. absurd (cc)
 found_fits (Some s) id us i n m few room small u a = λ x e.
     let is : shown_with id us (nothing_found s) ≡ x = cc in
@@ -135,4 +151,5 @@ summaries_fit f d h small id =
     let many = length-usages_in d.file.blocks small.range in
     let few = small.few in
     subst P (sym (h.summaries id)) (
-    found_fits (find (λ s. bytes_eq id s.id) (summaries_of d.file.opening)) id (usages_in d.file.blocks) (2 ^ 37 * 63) (2 ^ 37 * 63 + 63) 63 (omega arith) (omega arith) (small_usages_in d.file.blocks small.range) (omega arith) (omega arith))
+    found_fits (find (λ s. bytes_eq id s.id) (summaries_of d.file.opening)) id (usages_in d.file.blocks) (2 ^ 37 * 63) (2 ^ 37 * 63 + 63) 63 (omega arith)
+    (omega arith) (small_usages_in d.file.blocks small.range) (omega arith) (omega arith))

@@ -35,18 +35,22 @@ known_is f d h id =
 verdict_is : (f : FileBooks) (d : Filed) (b : BlockParts) → FileStands f d → verdict_by f.standing (is_in f.ids b.id) (is_known f.summaries) b ≡ verdict_of d b
 verdict_is f d b h = λ i. verdict_by (h.standing i) (h.ids b.id i) (λ id. known_is f d h id i) b
 
-place-found : (id : List ℕ) (us : List Usage) (o : Option Summary) → option_map (λ s. s.place) (option_map (λ s. shown_with id us (nothing_found s)) o) ≡ option_map place_of o
+place-found : (id : List ℕ) (us : List Usage) (o : Option Summary)
+    → option_map (λ s. s.place) (option_map (λ s. shown_with id us (nothing_found s)) o) ≡ option_map place_of o
 place-found id us None = refl
 place-found id us (Some s) = refl
 
 places_are : (f : FileBooks) (d : Filed) → FileStands f d → place_at f.summaries ≡ place_named (summaries_of d.file.opening)
-places_are f d h = λ i id. (ap (option_map (λ s. s.place)) (h.summaries id) ∙ place-found id (usages_in d.file.blocks) (find (λ s. bytes_eq id s.id) (summaries_of d.file.opening))) i
+places_are f d h =
+    λ i id. (ap (option_map (λ s. s.place)) (h.summaries id)
+    ∙ place-found id (usages_in d.file.blocks) (find (λ s. bytes_eq id s.id) (summaries_of d.file.opening))) i
 
 -- one more usage is counted
 found_more : (os : List Summary) (us vs : List Usage) (id : List ℕ) → option_map (shown_with id vs) (found_in os us id) ≡ found_in os (us ++ vs) id
 found_more os us vs id = both (find (λ s. bytes_eq id s.id) os)
   where
-    both : (o : Option Summary) → option_map (shown_with id vs) (option_map (λ s. shown_with id us (nothing_found s)) o) ≡ option_map (λ s. shown_with id (us ++ vs) (nothing_found s)) o
+    both : (o : Option Summary) → option_map (shown_with id vs) (option_map (λ s. shown_with id us (nothing_found s)) o)
+        ≡ option_map (λ s. shown_with id (us ++ vs) (nothing_found s)) o
     both None = refl
     both (Some s) = ap Some (shown_with-append id us vs (nothing_found s))
 
@@ -67,7 +71,9 @@ same_bookings os b Booked = refl
 same_bookings os b (Rejected r) = refl
 
 -- a block was taken, and its identifier noted
-pub took : (d : Filed) (f g : FileBooks) (b : BlockParts) (v : Verdict) (seen : Bool) (old new : Ledger) → FileStands f d → verdict_by f.standing seen (is_known f.summaries) b ≡ v → seen ≡ is_in f.ids b.id → TakesBlock f g old new b v → ((id : List ℕ) → is_in g.ids id ≡ cond (bytes_eq b.id id) true (is_in f.ids id)) → Took d b v g old new
+pub took : (d : Filed) (f g : FileBooks) (b : BlockParts) (v : Verdict) (seen : Bool) (old new : Ledger) → FileStands f d
+    → verdict_by f.standing seen (is_known f.summaries) b ≡ v → seen ≡ is_in f.ids b.id → TakesBlock f g old new b v
+    → ((id : List ℕ) → is_in g.ids id ≡ cond (bytes_eq b.id id) true (is_in f.ids id)) → Took d b v g old new
 took d f g b v seen old new h judged_so same t ids =
     let is = sym judged_so ∙ ap (λ s. verdict_by f.standing s (is_known f.summaries) b) same ∙ verdict_is f d b h in
     let os = summaries_of d.file.opening in
@@ -88,7 +94,9 @@ took d f g b v seen old new h judged_so same t ids =
         rejects = t.rejects ∙ (λ i. h.rejects i ++ rejects_from (h.place i) (position i) ((b, is i) ∷ [])) ∙ sym (rejects_more d b);
         outcome = t.outcome ∙ h.outcome;
       };
-      tallies = λ q. t.tallies q ∙ (λ i. tally_plus (tally_at old q) (key_tally (bookings_by (places_are f d h i) b v) q)) ∙ ap (λ l. tally_plus (tally_at old q) (key_tally l q)) (same_bookings os b v);
+      tallies =
+          λ q. t.tallies q ∙ (λ i. tally_plus (tally_at old q) (key_tally (bookings_by (places_are f d h i) b v) q))
+          ∙ ap (λ l. tally_plus (tally_at old q) (key_tally l q)) (same_bookings os b v);
       range = t.range;
     }
 

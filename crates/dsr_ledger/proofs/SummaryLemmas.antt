@@ -45,7 +45,8 @@ alike true x = refl
 alike false x = refl
 
 -- after a usage was added to the summary that it names, and to no other
-pub counted : (id : List ℕ) (u : Usage) (s : Option Shown) → cond (bytes_eq u.summary_id id) (option_map (shown_plus u) s) s ≡ option_map (shown_with id (u ∷ [])) s
+pub counted : (id : List ℕ) (u : Usage) (s : Option Shown) → cond (bytes_eq u.summary_id id) (option_map (shown_plus u) s) s
+    ≡ option_map (shown_with id (u ∷ [])) s
 counted id u None = alike (bytes_eq u.summary_id id) None
 counted id u (Some s) =
     elim (bytes_eq u.summary_id id) as (λ b. bytes_eq u.summary_id id ≡ b → cond b (Some (shown_plus u s)) (Some s) ≡ Some (shown_with id (u ∷ []) s)) [
@@ -58,9 +59,11 @@ not_there None e = refl
 not_there (Some x) e = absurd (true≢false e)
 
 -- a usage that names no summary adds nothing
-pub uncounted : (summaries : Summaries) (u : Usage) → index_at summaries u.summary_id ≡ None → (id : List ℕ) → shown_at summaries id ≡ option_map (shown_with id (u ∷ [])) (shown_at summaries id)
+pub uncounted : (summaries : Summaries) (u : Usage) → index_at summaries u.summary_id ≡ None → (id : List ℕ)
+    → shown_at summaries id ≡ option_map (shown_with id (u ∷ [])) (shown_at summaries id)
 uncounted summaries u absent id =
-    elim (bytes_eq u.summary_id id) as (λ b. bytes_eq u.summary_id id ≡ b → shown_at summaries id ≡ cond b (option_map (shown_plus u) (shown_at summaries id)) (shown_at summaries id)) [
+    elim (bytes_eq u.summary_id id) as (λ b. bytes_eq u.summary_id id ≡ b
+    → shown_at summaries id ≡ cond b (option_map (shown_plus u) (shown_at summaries id)) (shown_at summaries id)) [
       | true ↦ λ e.
           let none = ap (shown_at summaries) (sym (same_text u.summary_id id e)) ∙ not_there _ (known_shown summaries u.summary_id ∙ ap is_some absent) in
           none ∙ sym (ap (option_map (shown_plus u)) none)

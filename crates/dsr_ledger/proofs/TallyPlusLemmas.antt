@@ -1,5 +1,6 @@
 -- Tallies of concatenated bookings.
-use Rattle.std.proofs.Common.{◌≡◌, ℕ, ◌+◌, ◌*◌, ◌^◌, ◌≤◌, List, [], ◌∷◌, ◌++◌, length, Bool, true, false, cond, append-nil, sym, ◌∙◌, ap, subst, arith, length-append}
+use Rattle.std.proofs.Common.{◌≡◌, ℕ, ◌+◌, ◌*◌, ◌^◌, ◌≤◌, List, [], ◌∷◌, ◌++◌, length, Bool, true, false, cond, append-nil, sym, ◌∙◌, ap, subst, arith}
+use Rattle.std.proofs.Common.{length-append}
 use Rattle.std.specs.Prelude.{◌+ℤ◌, Option, None, Some, filter, unsigned_abs, sum_by}
 use Rattle.std.specs.List.{flat_map, AllByRecursion}
 use Rattle.std.proofs.lemmas.List.Concat.{flat_map-append, flat_map-cons}
@@ -49,21 +50,27 @@ tally_of-append xs ys = λ i. record {
 pub key_tally-append : (xs ys : List Booking) (q : Key) → key_tally (xs ++ ys) q ≡ tally_plus (key_tally xs q) (key_tally ys q)
 key_tally-append xs ys q = ap tally_of (filter-append (is_at_key q) xs ys) ∙ tally_of-append (at_key q xs) (at_key q ys)
 
-usage_bookings-push : (place : List ℕ → Option SummaryKey) (isrc : List ℕ) (works : List WorkParts) (us : List Usage) (u : Usage) → usage_bookings place isrc works (us ++ u ∷ []) ≡ usage_bookings place isrc works us ++ booked_under isrc works u (place u.summary_id)
+usage_bookings-push : (place : List ℕ → Option SummaryKey) (isrc : List ℕ) (works : List WorkParts) (us : List Usage) (u : Usage)
+    → usage_bookings place isrc works (us ++ u ∷ []) ≡ usage_bookings place isrc works us ++ booked_under isrc works u (place u.summary_id)
 usage_bookings-push place isrc works us u =
     let f = λ (x : Usage). booked_under isrc works x (place x.summary_id) in
     flat_map-append f us (u ∷ []) ∙ ap (λ l. flat_map f us ++ l) (append-nil (f u))
 
 -- the tally after one more usage
-pub tally_more : (s t n : Tally) (place : List ℕ → Option SummaryKey) (isrc : List ℕ) (works : List WorkParts) (us : List Usage) (u : Usage) (q : Key) → t ≡ tally_plus s (key_tally (usage_bookings place isrc works us) q) → n ≡ tally_plus t (key_tally (booked_under isrc works u (place u.summary_id)) q) → n ≡ tally_plus s (key_tally (usage_bookings place isrc works (us ++ u ∷ [])) q)
+pub tally_more : (s t n : Tally) (place : List ℕ → Option SummaryKey) (isrc : List ℕ) (works : List WorkParts) (us : List Usage) (u : Usage) (q : Key)
+    → t ≡ tally_plus s (key_tally (usage_bookings place isrc works us) q) → n ≡ tally_plus t (key_tally (booked_under isrc works u (place u.summary_id)) q)
+    → n ≡ tally_plus s (key_tally (usage_bookings place isrc works (us ++ u ∷ [])) q)
 tally_more s t n place isrc works us u q was is =
     let old = key_tally (usage_bookings place isrc works us) q in
     let one = key_tally (booked_under isrc works u (place u.summary_id)) q in
     is ∙ ap (λ x. tally_plus x one) was ∙ tally_plus-assoc s old one
-    ∙ ap (tally_plus s) (sym (ap (λ l. key_tally l q) (usage_bookings-push place isrc works us u) ∙ key_tally-append (usage_bookings place isrc works us) (booked_under isrc works u (place u.summary_id)) q))
+    ∙ ap (tally_plus s) (sym (ap (λ l. key_tally l q) (usage_bookings-push place isrc works us u)
+    ∙ key_tally-append (usage_bookings place isrc works us) (booked_under isrc works u (place u.summary_id)) q))
 
 -- one usage adds to the tally of its key
-pub tally_with-key : (t : Tally) (isrc : List ℕ) (works : List WorkParts) (u : Usage) (p : SummaryKey) (q : Key) → cond (key_eq (key_under isrc p) q) (tally_with u (flat_map (work_parts u.amount) works) t) t ≡ tally_plus t (key_tally (booked_under isrc works u (Some p)) q)
+pub tally_with-key : (t : Tally) (isrc : List ℕ) (works : List WorkParts) (u : Usage) (p : SummaryKey) (q : Key)
+    → cond (key_eq (key_under isrc p) q) (tally_with u (flat_map (work_parts u.amount) works) t) t
+    ≡ tally_plus t (key_tally (booked_under isrc works u (Some p)) q)
 tally_with-key t isrc works u p q =
     let b : Booking = record { key = key_under isrc p; usage = u; works = works } in
     let parts = flat_map (work_parts u.amount) works in
@@ -86,7 +93,8 @@ length-booked : (isrc : List ℕ) (works : List WorkParts) (u : Usage) (o : Opti
 length-booked isrc works u None = omega arith
 length-booked isrc works u (Some p) = omega arith
 
-pub length-usage_bookings : (place : List ℕ → Option SummaryKey) (isrc : List ℕ) (works : List WorkParts) (us : List Usage) → length (usage_bookings place isrc works us) ≤ length us
+pub length-usage_bookings : (place : List ℕ → Option SummaryKey) (isrc : List ℕ) (works : List WorkParts) (us : List Usage)
+    → length (usage_bookings place isrc works us) ≤ length us
 length-usage_bookings place isrc works [] = omega arith
 length-usage_bookings place isrc works (u ∷ us) =
     let f = λ (x : Usage). booked_under isrc works x (place x.summary_id) in
@@ -95,15 +103,18 @@ length-usage_bookings place isrc works (u ∷ us) =
     let cut = ap length (flat_map-cons f u us) ∙ length-append (f u) (flat_map f us) in
     omega arith
 
-small_booked : (isrc : List ℕ) (works : List WorkParts) (u : Usage) (o : Option SummaryKey) → share_total works ≤ 1000000 → IsInRange u → AllByRecursion IsSmall (booked_under isrc works u o)
+small_booked : (isrc : List ℕ) (works : List WorkParts) (u : Usage) (o : Option SummaryKey) → share_total works ≤ 1000000 → IsInRange u
+    → AllByRecursion IsSmall (booked_under isrc works u o)
 small_booked isrc works u None h k = tt
 small_booked isrc works u (Some p) h k = (record { range = k; shares = h }, tt)
 
-pub small_usage_bookings : (place : List ℕ → Option SummaryKey) (isrc : List ℕ) (works : List WorkParts) (us : List Usage) → share_total works ≤ 1000000 → AllByRecursion IsInRange us → AllByRecursion IsSmall (usage_bookings place isrc works us)
+pub small_usage_bookings : (place : List ℕ → Option SummaryKey) (isrc : List ℕ) (works : List WorkParts) (us : List Usage) → share_total works ≤ 1000000
+    → AllByRecursion IsInRange us → AllByRecursion IsSmall (usage_bookings place isrc works us)
 small_usage_bookings place isrc works [] h k = tt
 small_usage_bookings place isrc works (u ∷ us) h k =
     let f = λ (x : Usage). booked_under isrc works x (place x.summary_id) in
-    subst (AllByRecursion IsSmall) (sym (flat_map-cons f u us)) (each_append IsSmall (f u) (flat_map f us) (small_booked isrc works u (place u.summary_id) h k.0) (small_usage_bookings place isrc works us h k.1))
+    subst (AllByRecursion IsSmall) (sym (flat_map-cons f u us))
+    (each_append IsSmall (f u) (flat_map f us) (small_booked isrc works u (place u.summary_id) h k.0) (small_usage_bookings place isrc works us h k.1))
 
 length-filter-le : {X : Type 0} (p : X → Bool) (xs : List X) → length (filter p xs) ≤ length xs
 length-filter-le p xs = omega (arith, length-filter p xs, count_by-le-length p xs)
@@ -119,7 +130,8 @@ small_parts (b ∷ bs) h =
     omega arith
 
 -- n more usages fit if m more do, after some of them
-pub tally_fits_after : (t : Tally) (bs : List Booking) (q : Key) (i n m : ℕ) → length bs ≤ i → i + m ≤ n → AllByRecursion IsSmall bs → TallyFits n t → TallyFits m (tally_plus t (key_tally bs q))
+pub tally_fits_after : (t : Tally) (bs : List Booking) (q : Key) (i n m : ℕ) → length bs ≤ i → i + m ≤ n → AllByRecursion IsSmall bs → TallyFits n t
+    → TallyFits m (tally_plus t (key_tally bs q))
 tally_fits_after t bs q i n m few room small h =
     let own = at_key q bs in
     let less = length-filter-le (is_at_key q) bs in

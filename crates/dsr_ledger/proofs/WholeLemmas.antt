@@ -31,7 +31,8 @@ no_reason [] h = tt
 no_reason ((true, reason) ∷ rest) h = absurd (rejected reason h)
 no_reason ((false, reason) ∷ rest) h = (refl, no_reason rest h)
 
-booked_whole : (stands : Standing) (seen : Bool) (known : List ℕ → Bool) (b : BlockParts) → verdict_by stands seen known b ≡ Booked → share_total b.works ≤ 1000000
+booked_whole : (stands : Standing) (seen : Bool) (known : List ℕ → Bool) (b : BlockParts) → verdict_by stands seen known b ≡ Booked
+    → share_total b.works ≤ 1000000
 unfolding verdict_by
 booked_whole stands seen known b h =
     let none = no_reason (
@@ -49,15 +50,18 @@ pub all_append : {X : Type 0} (P : X → Type 0) (xs ys : List X) → AllByRecur
 all_append P [] ys h k = k
 all_append P (x ∷ xs) ys h k = (h.0, all_append P xs ys h.1 k)
 
-pub all_flat : {X Y : Type 0} (P : Y → Type 0) (Q : X → Type 0) (f : X → List Y) → ((x : X) → Q x → AllByRecursion P (f x)) → (xs : List X) → AllByRecursion Q xs → AllByRecursion P (flat_map f xs)
+pub all_flat : {X Y : Type 0} (P : Y → Type 0) (Q : X → Type 0) (f : X → List Y) → ((x : X) → Q x → AllByRecursion P (f x)) → (xs : List X)
+    → AllByRecursion Q xs → AllByRecursion P (flat_map f xs)
 all_flat P Q f each [] h = tt
-all_flat P Q f each (x ∷ xs) h = subst (AllByRecursion P) (sym (flat_map-cons f x xs)) (all_append P (f x) (flat_map f xs) (each x h.0) (all_flat P Q f each xs h.1))
+all_flat P Q f each (x ∷ xs) h =
+    subst (AllByRecursion P) (sym (flat_map-cons f x xs)) (all_append P (f x) (flat_map f xs) (each x h.0) (all_flat P Q f each xs h.1))
 
 pub all_of : {X : Type 0} (P : X → Type 0) → ((x : X) → P x) → (xs : List X) → AllByRecursion P xs
 all_of P each [] = tt
 all_of P each (x ∷ xs) = (each x, all_of P each xs)
 
-under_whole : (isrc : List ℕ) (works : List WorkParts) (u : Usage) (place : Option SummaryKey) → share_total works ≤ 1000000 → AllByRecursion IsWhole (booked_under isrc works u place)
+under_whole : (isrc : List ℕ) (works : List WorkParts) (u : Usage) (place : Option SummaryKey) → share_total works ≤ 1000000
+    → AllByRecursion IsWhole (booked_under isrc works u place)
 under_whole isrc works u None h = tt
 under_whole isrc works u (Some place) h = (h, tt)
 
@@ -65,23 +69,27 @@ under_whole isrc works u (Some place) h = (h, tt)
 abbrev IsJudged : BlockParts × Verdict → Type 0
 IsJudged e = e.1 ≡ Booked → share_total e.0.works ≤ 1000000
 
-all_judged : (stands : Standing) (summaries : List Summary) (earlier blocks : List BlockParts) → AllByRecursion IsJudged (judged stands summaries earlier blocks)
+all_judged : (stands : Standing) (summaries : List Summary) (earlier blocks : List BlockParts)
+    → AllByRecursion IsJudged (judged stands summaries earlier blocks)
 all_judged stands summaries earlier [] = tt
 all_judged stands summaries earlier (b ∷ blocks) = (booked_whole stands _ _ b, all_judged stands summaries (earlier ++ b ∷ []) blocks)
 
 block_whole : (summaries : List Summary) (b : BlockParts) → share_total b.works ≤ 1000000 → AllByRecursion IsWhole (block_bookings summaries b)
 unfolding block_bookings
 block_whole summaries b h =
-    all_flat IsWhole (λ _. Unit {0}) (λ u. booked_under b.resource.isrc b.works u (place_named summaries u.summary_id)) (λ u _. under_whole b.resource.isrc b.works u (place_named summaries u.summary_id) h) b.usages (all_of (λ _. Unit {0}) (λ _. tt) b.usages)
+    all_flat IsWhole (λ _. Unit {0}) (λ u. booked_under b.resource.isrc b.works u (place_named summaries u.summary_id))
+    (λ u _. under_whole b.resource.isrc b.works u (place_named summaries u.summary_id) h) b.usages (all_of (λ _. Unit {0}) (λ _. tt) b.usages)
 
-verdict_whole : (summaries : List Summary) (b : BlockParts) (v : Verdict) → (v ≡ Booked → share_total b.works ≤ 1000000) → AllByRecursion IsWhole (verdict_bookings summaries (b, v))
+verdict_whole : (summaries : List Summary) (b : BlockParts) (v : Verdict) → (v ≡ Booked → share_total b.works ≤ 1000000)
+    → AllByRecursion IsWhole (verdict_bookings summaries (b, v))
 verdict_whole summaries b Booked h = block_whole summaries b (h refl)
 verdict_whole summaries b (Rejected reason) h = tt
 
 filed_whole : (d : Filed) → AllByRecursion IsWhole (filed_bookings d)
 filed_whole d =
     let summaries = summaries_of d.file.opening in
-    all_flat IsWhole IsJudged (verdict_bookings summaries) (λ e h. verdict_whole summaries e.0 e.1 h) (judged_in d) (all_judged d.standing summaries [] d.file.blocks)
+    all_flat IsWhole IsJudged (verdict_bookings summaries) (λ e h. verdict_whole summaries e.0 e.1 h) (judged_in d)
+    (all_judged d.standing summaries [] d.file.blocks)
 
 -- each booking of files is of a block whose shares add up to at most 100 percent
 pub bookings_whole : (files : List File) → AllByRecursion IsWhole (bookings files)

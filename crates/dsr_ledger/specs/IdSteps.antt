@@ -25,5 +25,7 @@ was_before InRest = false
 -- the set after an identifier was noted
 abbrev pub IsNoted : Noted → Ids → Ids → List ℕ → Type 0
 IsNoted Before old new id = (is_in old id ≡ true) × HaveSame old new
-IsNoted InRun old new id = (is_in old id ≡ false) × (new.run.items ≡ old.run.items ++ id ∷ []) × ((q : List ℕ) → contains text_cmp new.rest q ≡ contains text_cmp old.rest q)
-IsNoted InRest old new id = (is_in old id ≡ false) × (new.run.items ≡ []) × ((q : List ℕ) → contains text_cmp new.rest q ≡ (if bytes_eq id q then true else is_in old q))
+IsNoted InRun old new id =
+    (is_in old id ≡ false) × (new.run.items ≡ old.run.items ++ id ∷ []) × ((q : List ℕ) → contains text_cmp new.rest q ≡ contains text_cmp old.rest q)
+IsNoted InRest old new id =
+    (is_in old id ≡ false) × (new.run.items ≡ []) × ((q : List ℕ) → contains text_cmp new.rest q ≡ (if bytes_eq id q then true else is_in old q))

@@ -26,7 +26,8 @@ abbrev pub AreLined : Ledger → (List ℕ → Option SummaryKey) → List ℕ �
 AreLined ledger key isrc shares us is = AllZip (λ u i. IsLined ledger isrc shares (key u.summary_id) i) us is
 
 -- the line of one more usage is appended
-pub record LinedMore (ledger : Ledger) (key : List ℕ → Option SummaryKey) (isrc : List ℕ) (shares : List SeatShare) (u : Usage) (old new : List ℕ) : Type 0 where
+pub record LinedMore (ledger : Ledger) (key : List ℕ → Option SummaryKey) (isrc : List ℕ) (shares : List SeatShare) (u : Usage)
+    (old new : List ℕ) : Type 0 where
   pub line : ℕ
   pub items : new ≡ old ++ line ∷ []
   pub lined : IsLined ledger isrc shares (key u.summary_id) line

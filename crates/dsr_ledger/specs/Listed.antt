@@ -54,7 +54,8 @@ key_in keys k = position (summary_key_eq k) keys
 
 -- each summary key has in a recording the tally of these bookings
 abbrev pub HasBookings : List (List ℕ) → List SummaryKey → List ℕ → Recording → List Booking → Type 0
-HasBookings parties keys isrc r bs = (k : SummaryKey) → lines_tally (seat_of (party_in parties) r) r.lines.items (key_in keys k) ≡ key_tally bs (key_under isrc k)
+HasBookings parties keys isrc r bs =
+    (k : SummaryKey) → lines_tally (seat_of (party_in parties) r) r.lines.items (key_in keys k) ≡ key_tally bs (key_under isrc k)
 
 -- a recording has the tallies of some bookings whose sums fit
 pub record IsOfSmallAt (parties : List (List ℕ)) (keys : List SummaryKey) (isrc : List ℕ) (r : Recording) : Type 0 where

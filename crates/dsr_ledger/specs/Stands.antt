@@ -34,7 +34,8 @@ FilesStand place earlier [] [] = ⊤
 FilesStand place earlier [] (file ∷ files) = ⊥
 FilesStand place earlier (f ∷ fs) [] = ⊥
 FilesStand place earlier (f ∷ fs) (file ∷ files) =
-    FileStands f (record { place = place; standing = standing earlier file.opening; file = file }) × FilesStand (suc place) (earlier ++ file.opening ∷ []) fs files
+    FileStands f (record { place = place; standing = standing earlier file.opening; file = file })
+    × FilesStand (suc place) (earlier ++ file.opening ∷ []) fs files
 
 -- the ledger has for each key the tally of these bookings
 abbrev pub LedgerStands : Ledger → List Booking → Type 0

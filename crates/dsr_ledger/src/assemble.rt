@@ -34,8 +34,10 @@ struct Told {
 
 fn told_of(alloc: Global, files: &[FileBooks]) -> Result<Told, NoMemory>
     ensures lines { IfOk result (λ told. told.lines ≡ map line_kept files.now) }
-    ensures own { IfOk result (λ told. (n : ℕ) → contains nat_cmp told.numbers n ≡ list_any (is_number_kept n) files.now) }
-    ensures differences { IfOk result (λ told. told.differences ≡ flat_map differences_kept files.now) }
+    ensures own { IfOk result (λ told. (n : ℕ)
+        → contains nat_cmp told.numbers n ≡ list_any (is_number_kept n) files.now) }
+    ensures differences { IfOk result (λ told. told.differences
+        ≡ flat_map differences_kept files.now) }
 {
     Ok(Told {
         lines: file_lines(alloc, files)?,

@@ -117,7 +117,8 @@ impl Books {
     /// Whether file k is opened and has an opening.
     pub fn has_opening(&self, k: u32) -> bool
         ensures value { result ≡ has_opening_at self.now k }
-        ensures stands { (files : List File) → Stands self.now files → result ≡ has_opening_in files k }
+        ensures stands { (files : List File) → Stands self.now files
+            → result ≡ has_opening_in files k }
     {
         match self.kept.file(k) {
             Some(file) => file.opening.is_some(),
@@ -168,7 +169,8 @@ impl Books {
         requires { CanEnd self.old k }
         ensures ends { IsOk result }
         ensures count { files_count self.new ≡ files_count self.old }
-        ensures stands { (files : List File) → Stands self.old files → Stands self.new (with_outcome files k outcome) }
+        ensures stands { (files : List File) → Stands self.old files
+            → Stands self.new (with_outcome files k outcome) }
     {
         let file = &mut self.kept.files[k as usize];
         file.outcome = Some(outcome);

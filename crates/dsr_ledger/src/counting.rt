@@ -13,7 +13,8 @@ use dsr_records::Usage;
 fn count_one(summaries: &mut Summaries, usage: &Usage)
     requires { (id : List ℕ) → ForSome (shown_at summaries.old id) (ShownFits 1) }
     ensures range { IsInRange usage.now }
-    ensures summaries { (id : List ℕ) → shown_at summaries.new id ≡ option_map (shown_with id (usage.now ∷ [])) (shown_at summaries.old id) }
+    ensures summaries { (id : List ℕ) → shown_at summaries.new id ≡ option_map
+        (shown_with id (usage.now ∷ [])) (shown_at summaries.old id) }
 {
     check_range(usage);
     if let Some(number) = summaries.index(&usage.summary_id) {
@@ -25,7 +26,8 @@ fn count_one(summaries: &mut Summaries, usage: &Usage)
 pub fn count_usages(summaries: &mut Summaries, usages: &[Usage])
     requires { (id : List ℕ) → ForSome (shown_at summaries.old id) (ShownFits (length usages.now)) }
     ensures range { AllByRecursion IsInRange usages.now }
-    ensures summaries { (id : List ℕ) → shown_at summaries.new id ≡ option_map (shown_with id usages.now) (shown_at summaries.old id) }
+    ensures summaries { (id : List ℕ) → shown_at summaries.new id ≡ option_map
+        (shown_with id usages.now) (shown_at summaries.old id) }
 {
     for usage in usages {
         count_one(summaries, usage);

@@ -31,7 +31,8 @@ fn found_for(summaries: &Summaries, summary: &Summary) -> Sums
 
 /// Whether a summary states the sums that were found for it.
 fn states(summary: &Summary, found: Sums) -> bool
-    ensures { result ≡ (int_eq summary.now.usages found.usages && int_eq summary.now.amount found.amount) }
+    ensures { result ≡ (int_eq summary.now.usages found.usages && int_eq summary.now.amount
+        found.amount) }
 {
     i128::from(summary.usages) == found.usages && summary.amount.units() == found.amount
 }
@@ -44,7 +45,8 @@ fn add_difference(
     summary: &Summary,
     found: Sums,
 ) -> Result<(), NoMemory>
-    ensures { OnOk result (differences.new ≡ differences.old ++ filter differs (difference_to place found summary.now ∷ [])) }
+    ensures { OnOk result (differences.new ≡ differences.old ++ filter differs
+        (difference_to place found summary.now ∷ [])) }
 {
     if states(summary, found) {
         return Ok(());
@@ -68,7 +70,8 @@ fn add_differences(
     stated: &[Summary],
     summaries: &Summaries,
 ) -> Result<(), NoMemory>
-    ensures { OnOk result (differences.new ≡ differences.old ++ differences_to place summaries.now stated.now) }
+    ensures { OnOk result (differences.new
+        ≡ differences.old ++ differences_to place summaries.now stated.now) }
 {
     for summary in stated {
         add_difference(

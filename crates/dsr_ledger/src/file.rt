@@ -54,13 +54,17 @@ impl FileBooks {
         requires blocks { self.old.blocks + 1 < 2 ^ 64 }
         requires recording { isrc ≡ block.now.resource.isrc }
         requires shares { share_total block.now.works ≤ 1000000 }
-        requires found { map (λ u. index_at self.old.summaries u.summary_id) block.now.usages ≡ map Some plan.old.summaries.items }
+        requires found { map (λ u. index_at self.old.summaries u.summary_id) block.now.usages
+            ≡ map Some plan.old.summaries.items }
         requires ledger_fits { (q : _) → TallyFits 63 (tally_at ledger.old q) }
-        requires summaries_fit { (id : List ℕ) → ForSome (shown_at self.old.summaries id) (ShownFits 63) }
+        requires summaries_fit { (id : List ℕ)
+            → ForSome (shown_at self.old.summaries id) (ShownFits 63) }
         ensures ids { self.new.ids ≡ self.old.ids }
         ensures err { OnErr result (IsSameFile self.old self.new) }
-        ensures same_ledger { OnErr result ((q : _) → tally_at ledger.new q ≡ tally_at ledger.old q) }
-        ensures ok { OnOk result (TakesBlock self.old self.new ledger.old ledger.new block.now Verdict.Booked) }
+        ensures same_ledger { OnErr result
+            ((q : _) → tally_at ledger.new q ≡ tally_at ledger.old q) }
+        ensures ok { OnOk result (TakesBlock self.old self.new ledger.old ledger.new block.now
+            Verdict.Booked) }
     {
         let works = block.works.as_slice();
         plan.fill(ledger, alloc, &mut self.summaries, isrc, works)?;
@@ -78,10 +82,12 @@ impl FileBooks {
         reason: Reason,
     ) -> Result<(), NoMemory>
         requires blocks { self.old.blocks + 1 < 2 ^ 64 }
-        requires summaries_fit { (id : List ℕ) → ForSome (shown_at self.old.summaries id) (ShownFits 63) }
+        requires summaries_fit { (id : List ℕ)
+            → ForSome (shown_at self.old.summaries id) (ShownFits 63) }
         ensures ids { self.new.ids ≡ self.old.ids }
         ensures err { OnErr result (IsSameFile self.old self.new) }
-        ensures ok { OnOk result (TakesBlock self.old self.new ledger.now ledger.now block.now (Verdict.Rejected reason)) }
+        ensures ok { OnOk result (TakesBlock self.old self.new ledger.now ledger.now block.now
+            (Verdict.Rejected reason)) }
     {
         let reject = Reject {
             file: self.place,
@@ -106,12 +112,16 @@ impl FileBooks {
     ) -> Result<Verdict, NoMemory>
         requires blocks { self.old.blocks + 1 < 2 ^ 64 }
         requires ledger_fits { (q : _) → TallyFits 63 (tally_at ledger.old q) }
-        requires summaries_fit { (id : List ℕ) → ForSome (shown_at self.old.summaries id) (ShownFits 63) }
+        requires summaries_fit { (id : List ℕ)
+            → ForSome (shown_at self.old.summaries id) (ShownFits 63) }
         ensures ids { self.new.ids ≡ self.old.ids }
         ensures err { OnErr result (IsSameFile self.old self.new) }
-        ensures same_ledger { OnErr result ((q : _) → tally_at ledger.new q ≡ tally_at ledger.old q) }
-        ensures verdict { IfOk result (λ v. verdict_by self.old.standing seen (is_known self.old.summaries) block.now ≡ v) }
-        ensures ok { IfOk result (λ v. TakesBlock self.old self.new ledger.old ledger.new block.now v) }
+        ensures same_ledger { OnErr result
+            ((q : _) → tally_at ledger.new q ≡ tally_at ledger.old q) }
+        ensures verdict { IfOk result (λ v. verdict_by self.old.standing seen
+            (is_known self.old.summaries) block.now ≡ v) }
+        ensures ok { IfOk result (λ v. TakesBlock self.old self.new ledger.old ledger.new block.now
+            v) }
     {
         match judge(
             self.standing,
@@ -142,11 +152,14 @@ impl FileBooks {
     ) -> Result<Verdict, NoMemory>
         requires blocks { self.old.blocks + 1 < 2 ^ 64 }
         requires ledger_fits { (q : _) → TallyFits 63 (tally_at ledger.old q) }
-        requires summaries_fit { (id : List ℕ) → ForSome (shown_at self.old.summaries id) (ShownFits 63) }
-        ensures ok { (d : Filed) → FileStands self.old d → IfOk result (λ v. Took d block.now v self.new ledger.old ledger.new) }
+        requires summaries_fit { (id : List ℕ)
+            → ForSome (shown_at self.old.summaries id) (ShownFits 63) }
+        ensures ok { (d : Filed) → FileStands self.old d
+            → IfOk result (λ v. Took d block.now v self.new ledger.old ledger.new) }
         ensures count { OnOk result (self.new.blocks ≡ self.old.blocks + 1) }
         ensures err { OnErr result (IsSameFile self.old self.new) }
-        ensures same_ledger { OnErr result ((q : _) → tally_at ledger.new q ≡ tally_at ledger.old q) }
+        ensures same_ledger { OnErr result
+            ((q : _) → tally_at ledger.new q ≡ tally_at ledger.old q) }
     {
         let noted = self.ids.note(alloc, &block.id)?;
         let answer = self.take(ledger, plan, alloc, block, noted.was_before());

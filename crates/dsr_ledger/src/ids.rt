@@ -57,8 +57,10 @@ fn rank(id: &Text) -> u128
 
 /// Adds the identifiers of a run to the rest.
 fn gather(rest: &mut BTreeSet<Text>, alloc: Global, run: &[Text]) -> Result<(), NoMemory>
-    ensures same { OnErr result ((q : List ℕ) → is_among run.now rest.new q ≡ is_among run.now rest.old q) }
-    ensures all { OnOk result ((q : List ℕ) → contains text_cmp rest.new q ≡ is_among run.now rest.old q) }
+    ensures same { OnErr result ((q : List ℕ)
+        → is_among run.now rest.new q ≡ is_among run.now rest.old q) }
+    ensures all { OnOk result ((q : List ℕ)
+        → contains text_cmp rest.new q ≡ is_among run.now rest.old q) }
 {
     for id in run {
         rest.insert(id.copy(alloc)?)?;

@@ -18,8 +18,10 @@ fn find_summaries(
     usages: &[Usage],
     numbers: &mut Vec<usize>,
 ) -> Result<bool, NoMemory>
-    ensures known { IfOk result (λ known. known ≡ not (list_any (names_unknown (is_known summaries.now)) usages.now)) }
-    ensures found { IfOk result (λ known. known ≡ true → map (λ u. index_at summaries.now u.summary_id) usages.now ≡ map Some numbers.new.items) }
+    ensures known { IfOk result (λ known. known ≡ not
+        (list_any (names_unknown (is_known summaries.now)) usages.now)) }
+    ensures found { IfOk result (λ known. known ≡ true
+        → map (λ u. index_at summaries.now u.summary_id) usages.now ≡ map Some numbers.new.items) }
 {
     let mut hint = match numbers.as_slice().last() {
         Some(last) => summaries.next(*last),
@@ -66,7 +68,9 @@ pub fn judge(
     ensures verdict { IfOk result (λ r. MatchResult r
         (λ isrc. (verdict_by standing seen (is_known summaries.now) block.now ≡ Verdict.Booked) × (isrc ≡ block.now.resource.isrc) × (share_total block.now.works ≤ 1000000))
         (λ reason. verdict_by standing seen (is_known summaries.now) block.now ≡ Verdict.Rejected reason)) }
-    ensures found { IfOk result (λ r. OnOk r (map (λ u. index_at summaries.now u.summary_id) block.now.usages ≡ map Some numbers.new.items)) }
+    ensures found { IfOk result (λ r. OnOk r
+        (map (λ u. index_at summaries.now u.summary_id) block.now.usages
+        ≡ map Some numbers.new.items)) }
 {
     match standing {
         Standing::Foreign => return Ok(Err(Reason::ForeignFile)),

@@ -14,7 +14,8 @@ use std::collections::BTreeSet;
 
 /// Adds the number of a file if its standing is Ours.
 fn add_number(numbers: &mut BTreeSet<u32>, file: &FileBooks) -> Result<(), NoMemory>
-    ensures { OnOk result ((n : ℕ) → contains nat_cmp numbers.new n ≡ (contains nat_cmp numbers.old n || is_number_kept n file.now)) }
+    ensures { OnOk result ((n : ℕ) → contains nat_cmp numbers.new n
+        ≡ (contains nat_cmp numbers.old n || is_number_kept n file.now)) }
 {
     if let (Standing::Ours, Some(opening)) = (file.standing, &file.opening) {
         numbers.insert(opening.head.file_number)?;
@@ -24,7 +25,8 @@ fn add_number(numbers: &mut BTreeSet<u32>, file: &FileBooks) -> Result<(), NoMem
 
 /// The numbers of the files whose standing is Ours.
 pub fn own_numbers(alloc: Global, files: &[FileBooks]) -> Result<BTreeSet<u32>, NoMemory>
-    ensures { IfOk result (λ s. (n : ℕ) → contains nat_cmp s n ≡ list_any (is_number_kept n) files.now) }
+    ensures { IfOk result (λ s. (n : ℕ) → contains nat_cmp s n ≡ list_any
+        (is_number_kept n) files.now) }
 {
     let mut numbers = BTreeSet::new(alloc);
     for file in files {
@@ -35,7 +37,8 @@ pub fn own_numbers(alloc: Global, files: &[FileBooks]) -> Result<BTreeSet<u32>, 
 
 /// Adds a number to `absent`, unless it is in the set.
 fn add_absent(absent: &mut Numbers, number: u32, numbers: &BTreeSet<u32>) -> Result<(), NoMemory>
-    ensures { OnOk result (absent.new ≡ absent.old ++ filter (λ n. not (contains nat_cmp numbers.now n)) (number ∷ [])) }
+    ensures { OnOk result (absent.new ≡ absent.old ++ filter
+        (λ n. not (contains nat_cmp numbers.now n)) (number ∷ [])) }
 {
     if numbers.contains(&number) {
         return Ok(());
@@ -45,7 +48,8 @@ fn add_absent(absent: &mut Numbers, number: u32, numbers: &BTreeSet<u32>) -> Res
 
 /// The numbers from 1 to `last`, inclusive, that are not in the set, ascending.
 fn absent_numbers(alloc: Global, last: u32, numbers: &BTreeSet<u32>) -> Result<Numbers, NoMemory>
-    ensures { IfOk result (λ l. l ≡ filter (λ n. not (contains nat_cmp numbers.now n)) (range_with_len 1 last)) }
+    ensures { IfOk result (λ l. l ≡ filter (λ n. not (contains nat_cmp numbers.now n))
+        (range_with_len 1 last)) }
 {
     let mut absent = Items::new(alloc);
     for before in 0..last {

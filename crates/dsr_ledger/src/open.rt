@@ -28,7 +28,8 @@ fn same_report(a: &Head, b: &Head) -> bool
 
 /// Whether the opening has the key of the report of these files and itself.
 fn is_of_their_report(files: &[FileBooks], opening: &Opening) -> bool
-    ensures { result ≡ is_of_report (first_head (openings_of files.now ++ Some opening.now ∷ [])) opening.now.head }
+    ensures { result ≡ is_of_report (first_head (openings_of files.now ++ Some opening.now ∷ []))
+        opening.now.head }
 {
     for file in files {
         if let Some(first) = &file.opening {
@@ -98,7 +99,8 @@ fn summaries_for(
     seeded: Seeded,
     opening: &Option<Opening>,
 ) -> Result<Summaries, NoMemory>
-    ensures { IfOk result (λ m. (id : List ℕ) → shown_at m id ≡ found_in (summaries_of opening.now) [] id) }
+    ensures { IfOk result (λ m. (id : List ℕ)
+        → shown_at m id ≡ found_in (summaries_of opening.now) [] id) }
 {
     match opening {
         Some(opening) => summaries_of(alloc, seeded, opening.summaries.as_slice()),
@@ -114,7 +116,13 @@ pub fn open_after(
     opening: Option<Opening>,
 ) -> Result<FileBooks, NoMemory>
     requires { length files.now < 64 }
-    ensures { IfOk result (λ f. FileStands f (record { place = length files.now + 1; standing = standing (openings_of files.now) opening; file = opened opening })) }
+    ensures { IfOk result (λ f. FileStands f
+        (record {
+          place = length files.now + 1;
+          standing = standing
+              (openings_of files.now) opening;
+          file = opened opening;
+        })) }
 {
     let standing = standing_after(files, &opening);
     let summaries = summaries_for(alloc, seeded, &opening)?;

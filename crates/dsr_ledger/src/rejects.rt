@@ -50,7 +50,8 @@ pub fn key_and_rejects(
     alloc: Global,
     files: Vec<FileBooks>,
 ) -> Result<(Option<ReportKey>, Rejects), NoMemory>
-    ensures key { IfOk result (λ p. p.0 ≡ option_map key_of (first_head (openings_of files.items))) }
+    ensures key { IfOk result (λ p. p.0 ≡ option_map key_of
+        (first_head (openings_of files.items))) }
     ensures rejects { IfOk result (λ p. p.1 ≡ flat_map (λ f. f.rejects.items) files.items) }
 {
     let mut key = None;

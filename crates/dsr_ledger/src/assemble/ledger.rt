@@ -38,7 +38,8 @@ fn add_recording<'a>(
     requires seated { AreBelow (length parties.now) (seat_numbers recording.now.seats) }
     requires keyed { AreBelow (length keys.now) (line_keys recording.now.lines.items) }
     requires small { ∥ IsOfSmallAt parties.now keys.now isrc recording.now ∥₁ }
-    ensures { OnOk result (AddsLines parties.now keys.now isrc recording.now report.old report.new) }
+    ensures { OnOk result (AddsLines parties.now keys.now isrc recording.now report.old
+        report.new) }
 {
     let numbers = recording.seats.as_slice();
     lines_by_key(keys, recording.lines.as_slice(), order)?;

@@ -83,7 +83,8 @@ pub fn ledger_line<'a>(
     requires below { AreBelow (length parties.now) numbers.now }
     requires within { AreBelow (length numbers.now) (part_seats line.now.parts.items.items) }
     requires small { ∥ IsOfSmall (place_by (party_in parties.now) numbers.now) line.now ∥₁ }
-    ensures { (bs : List Booking) → line_tally (place_by (party_in parties.now) numbers.now) line.now ≡ tally_of bs
+    ensures { (bs : List Booking) → line_tally
+        (place_by (party_in parties.now) numbers.now) line.now ≡ tally_of bs
         → IfOk result (λ l. l ≡ line_of (key_under isrc key.now) bs) }
 {
     let territory = key.territory.copy(alloc)?;

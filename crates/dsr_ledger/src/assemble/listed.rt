@@ -64,7 +64,8 @@ pub fn lines_by_key<'a>(
     requires keys { IsDistinct summary_key_eq keys.now }
     requires apart { AreApart (line_keys lines.now) }
     requires below { AreBelow (length keys.now) (line_keys lines.now) }
-    ensures { OnOk result (AreLinesOf (place_by (λ q. position (summary_key_eq q) keys.now) (line_keys lines.now)) order.new.items) }
+    ensures { OnOk result (AreLinesOf (place_by (λ q. position (summary_key_eq q) keys.now)
+        (line_keys lines.now)) order.new.items) }
 {
     order.clear();
     for line in 0..lines.len() {

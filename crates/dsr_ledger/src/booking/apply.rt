@@ -20,14 +20,19 @@ use dsr_records::Usage;
 
 /// Adds usage i of a block to its summary and to its line, and to no other.
 fn add_usage(ledger: &mut Ledger, summaries: &mut Summaries, plan: &Plan, i: usize, usage: &Usage)
-    requires planned { (isrc : List ℕ) × (works : List WorkParts) × (us : List Usage) × IsPlanned ledger.old summaries.old isrc works us plan.now × (slice_get us i ≡ Some usage.now) × (share_total works ≤ 1000000) }
+    requires planned { (isrc : List ℕ) × (works : List WorkParts) × (us : List Usage)
+        × IsPlanned ledger.old summaries.old isrc works us plan.now
+        × (slice_get us i ≡ Some usage.now) × (share_total works ≤ 1000000) }
     requires ledger_fits { (q : Key) → TallyFits 1 (tally_at ledger.old q) }
     requires summaries_fit { (id : List ℕ) → ForSome (shown_at summaries.old id) (ShownFits 1) }
     ensures range { IsInRange usage.now }
     ensures numbers { SameNumbers ledger.old ledger.new }
     ensures index { (id : List ℕ) → index_at summaries.new id ≡ index_at summaries.old id }
-    ensures shown { (id : List ℕ) → shown_at summaries.new id ≡ option_map (shown_with id (usage.now ∷ [])) (shown_at summaries.old id) }
-    ensures tallies { (isrc : List ℕ) (works : List WorkParts) (us : List Usage) → IsPlanned ledger.old summaries.old isrc works us plan.now → slice_get us i ≡ Some usage.now
+    ensures shown { (id : List ℕ) → shown_at summaries.new id ≡ option_map
+        (shown_with id (usage.now ∷ [])) (shown_at summaries.old id) }
+    ensures tallies { (isrc : List ℕ) (works : List WorkParts) (us : List Usage)
+        → IsPlanned ledger.old summaries.old isrc works us plan.now
+        → slice_get us i ≡ Some usage.now
         → (q : Key) → tally_at ledger.new q ≡ tally_plus (tally_at ledger.old q) (key_tally (booked_under isrc works usage.now (place_at summaries.old usage.now.summary_id)) q) }
 {
     let summary = plan.summaries[i];
@@ -39,12 +44,17 @@ fn add_usage(ledger: &mut Ledger, summaries: &mut Summaries, plan: &Plan, i: usi
 /// Adds the usages of a block to their summaries and to their lines, and to no others.
 #[inline(never)]
 pub fn add_usages(ledger: &mut Ledger, summaries: &mut Summaries, plan: &Plan, usages: &[Usage])
-    requires planned { (isrc : List ℕ) × (works : List WorkParts) × IsPlanned ledger.old summaries.old isrc works usages.now plan.now × (share_total works ≤ 1000000) }
+    requires planned { (isrc : List ℕ) × (works : List WorkParts)
+        × IsPlanned ledger.old summaries.old isrc works usages.now plan.now
+        × (share_total works ≤ 1000000) }
     requires ledger_fits { (q : Key) → TallyFits (length usages.now) (tally_at ledger.old q) }
-    requires summaries_fit { (id : List ℕ) → ForSome (shown_at summaries.old id) (ShownFits (length usages.now)) }
+    requires summaries_fit { (id : List ℕ)
+        → ForSome (shown_at summaries.old id) (ShownFits (length usages.now)) }
     ensures range { AllByRecursion IsInRange usages.now }
-    ensures shown { (id : List ℕ) → shown_at summaries.new id ≡ option_map (shown_with id usages.now) (shown_at summaries.old id) }
-    ensures tallies { (isrc : List ℕ) (works : List WorkParts) → IsPlanned ledger.old summaries.old isrc works usages.now plan.now
+    ensures shown { (id : List ℕ) → shown_at summaries.new id ≡ option_map
+        (shown_with id usages.now) (shown_at summaries.old id) }
+    ensures tallies { (isrc : List ℕ) (works : List WorkParts)
+        → IsPlanned ledger.old summaries.old isrc works usages.now plan.now
         → (q : Key) → tally_at ledger.new q ≡ tally_plus (tally_at ledger.old q) (key_tally (usage_bookings (place_at summaries.old) isrc works usages.now) q) }
 {
     for (i, usage) in usages.iter().enumerate() {

@@ -53,7 +53,9 @@ fn plan_work(
 ) -> Result<(), NoMemory>
     requires { (isrc : List ℕ) × (recording_number ledger.old isrc ≡ Some recording) }
     ensures keeps { KeepsSeats ledger.old ledger.new }
-    ensures seated { (isrc : List ℕ) → recording_number ledger.old isrc ≡ Some recording → OnOk result (SeatedMore (seat_at ledger.new isrc) plan.old.items plan.new.items (zip work.now.parties work.now.shares)) }
+    ensures seated { (isrc : List ℕ) → recording_number ledger.old isrc ≡ Some recording
+        → OnOk result (SeatedMore (seat_at ledger.new isrc) plan.old.items plan.new.items
+        (zip work.now.parties work.now.shares)) }
 {
     let shares = work.shares.as_slice();
     for (i, party) in work.parties.as_slice().iter().enumerate() {
@@ -78,7 +80,9 @@ fn plan_works(
 ) -> Result<(), NoMemory>
     requires { (isrc : List ℕ) × (recording_number ledger.old isrc ≡ Some recording) }
     ensures keeps { KeepsSeats ledger.old ledger.new }
-    ensures seated { (isrc : List ℕ) → recording_number ledger.old isrc ≡ Some recording → OnOk result (SeatedMore (seat_at ledger.new isrc) plan.old.items plan.new.items (shares_of works.now)) }
+    ensures seated { (isrc : List ℕ) → recording_number ledger.old isrc ≡ Some recording
+        → OnOk result (SeatedMore (seat_at ledger.new isrc) plan.old.items plan.new.items
+        (shares_of works.now)) }
 {
     for work in works {
         plan_work(ledger, alloc, recording, work, plan)?;
@@ -97,12 +101,14 @@ fn plan_line(
     summary: usize,
     plan: &mut Vec<usize>,
 ) -> Result<(), NoMemory>
-    requires there { (isrc : List ℕ) × (es : List (List ℕ × ℕ)) × (recording_number ledger.old isrc ≡ Some recording)
+    requires there { (isrc : List ℕ) × (es : List (List ℕ × ℕ))
+        × (recording_number ledger.old isrc ≡ Some recording)
         × AreSeated (seat_at ledger.old isrc) shares.now es }
     requires named { (id : List ℕ) × (index_at summaries.old id ≡ Some summary) }
     ensures keeps { KeepsLines ledger.old ledger.new }
     ensures same { SameSummaries summaries.old summaries.new }
-    ensures lined { (isrc : List ℕ) (u : Usage) → recording_number ledger.old isrc ≡ Some recording → index_at summaries.old u.summary_id ≡ Some summary
+    ensures lined { (isrc : List ℕ) (u : Usage) → recording_number ledger.old isrc ≡ Some recording
+        → index_at summaries.old u.summary_id ≡ Some summary
         → OnOk result (LinedMore ledger.new (place_at summaries.new) isrc shares.now u plan.old.items plan.new.items) }
 {
     let state = summaries.state(summary);
@@ -127,12 +133,16 @@ fn plan_lines(
     plan: &mut Vec<usize>,
 ) -> Result<(), NoMemory>
     requires empty { plan.old.items ≡ [] }
-    requires there { (isrc : List ℕ) × (es : List (List ℕ × ℕ)) × (recording_number ledger.old isrc ≡ Some recording)
+    requires there { (isrc : List ℕ) × (es : List (List ℕ × ℕ))
+        × (recording_number ledger.old isrc ≡ Some recording)
         × AreSeated (seat_at ledger.old isrc) shares.now es }
-    requires named { (us : List Usage) × (map (λ u. index_at summaries.old u.summary_id) us ≡ map Some numbers.now) }
+    requires named { (us : List Usage) × (map
+        (λ u. index_at summaries.old u.summary_id) us ≡ map Some numbers.now) }
     ensures keeps { KeepsLines ledger.old ledger.new }
     ensures same { SameSummaries summaries.old summaries.new }
-    ensures lined { (isrc : List ℕ) (us : List Usage) → recording_number ledger.old isrc ≡ Some recording → map (λ u. index_at summaries.old u.summary_id) us ≡ map Some numbers.now
+    ensures lined { (isrc : List ℕ) (us : List Usage)
+        → recording_number ledger.old isrc ≡ Some recording
+        → map (λ u. index_at summaries.old u.summary_id) us ≡ map Some numbers.now
         → OnOk result (AreLined ledger.new (place_at summaries.new) isrc shares.now us plan.new.items) }
 {
     for number in numbers {
@@ -165,10 +175,12 @@ impl Plan {
         isrc: Isrc,
         works: &[Work],
     ) -> Result<(), NoMemory>
-        requires { (us : List Usage) × (map (λ u. index_at summaries.old u.summary_id) us ≡ map Some self.old.summaries.items) }
+        requires { (us : List Usage) × (map
+            (λ u. index_at summaries.old u.summary_id) us ≡ map Some self.old.summaries.items) }
         ensures tallies { (q : Key) → tally_at ledger.new q ≡ tally_at ledger.old q }
         ensures same { SameSummaries summaries.old summaries.new }
-        ensures planned { (us : List Usage) → map (λ u. index_at summaries.old u.summary_id) us ≡ map Some self.old.summaries.items
+        ensures planned { (us : List Usage)
+            → map (λ u. index_at summaries.old u.summary_id) us ≡ map Some self.old.summaries.items
             → OnOk result (IsPlanned ledger.new summaries.new isrc works.now us self.new) }
     {
         self.shares.clear();

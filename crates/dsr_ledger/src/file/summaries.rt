@@ -127,7 +127,8 @@ impl Summaries {
     /// The state of the summary with this number.
     pub fn state(&self, number: usize) -> &SummaryState
         requires { number < index_map_len self.now.states }
-        ensures { (id : List ℕ) → index_at self.now id ≡ Some number → shown_at self.now id ≡ Some (shown result.now) }
+        ensures { (id : List ℕ) → index_at self.now id ≡ Some number
+            → shown_at self.now id ≡ Some (shown result.now) }
     {
         &self.states[number]
     }
@@ -144,7 +145,9 @@ impl Summaries {
 
     /// Adds a summary before any usage, unless its identifier is there. The states of the others are unchanged.
     pub fn add(&mut self, alloc: Global, summary: &Summary) -> Result<(), NoMemory>
-        ensures { OnOk result ((q : List ℕ) → shown_at self.new q ≡ first_of (shown_at self.old q) (option_map nothing_found (named q summary.now))) }
+        ensures { OnOk result ((q : List ℕ)
+            → shown_at self.new q ≡ first_of (shown_at self.old q)
+            (option_map nothing_found (named q summary.now))) }
     {
         if self.states.contains_key(&summary.id) {
             return Ok(());
@@ -160,7 +163,8 @@ impl Summaries {
         requires fits { ForSome (shown_at self.old usage.now.summary_id) (ShownFits 1) }
         ensures range { IsInRange usage.now }
         ensures index { (q : List ℕ) → index_at self.new q ≡ index_at self.old q }
-        ensures shown { (q : List ℕ) → shown_at self.new q ≡ option_map (shown_with q (usage.now ∷ [])) (shown_at self.old q) }
+        ensures shown { (q : List ℕ) → shown_at self.new q ≡ option_map
+            (shown_with q (usage.now ∷ [])) (shown_at self.old q) }
     {
         let (_, state) = self.states.pair_mut(number);
         state.count(usage);

@@ -56,7 +56,8 @@ impl Line {
             × (parts_size (map (part_of usage.now.amount) es) ≤ 10 ^ 22) }
         ensures range { IsInRange usage.now }
         ensures key { self.new.key ≡ self.old.key }
-        ensures seats { part_seats self.new.parts.items.items ≡ part_seats self.old.parts.items.items }
+        ensures seats { part_seats self.new.parts.items.items
+            ≡ part_seats self.old.parts.items.items }
         ensures tally { (n : ℕ) (seat : List ℕ → Option ℕ) (es : List (List ℕ × ℕ))
             → HaveSeats seat n shares.now es → line_tally seat self.new
             ≡ tally_with usage.now (map (part_of usage.now.amount) es) (line_tally seat self.old) }

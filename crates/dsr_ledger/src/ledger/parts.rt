@@ -116,7 +116,8 @@ fn rising_seats(shares: &[SeatShare]) -> usize {
 /// Adds an amount to the part at a place.
 fn add_part(parts: &mut Vec<SeatPart>, place: usize, amount: i128)
     requires below { place < length parts.old.items }
-    requires fits { FitsSigned w128 ((owed_at_place parts.old.items (Some place)).amount +ℤ amount) }
+    requires fits { FitsSigned w128 ((owed_at_place parts.old.items (Some place)).amount +ℤ
+        amount) }
     ensures seats { part_seats parts.new.items ≡ part_seats parts.old.items }
     ensures part { (place_of : List ℕ → Option ℕ) (party : List ℕ)
         → IsNumbered place_of (length parts.old.items) → place_of party ≡ Some place

@@ -79,8 +79,10 @@ impl Recording {
     /// The seat of a party, which is given one if it has none. The lines are unchanged.
     pub fn seat(&mut self, alloc: Global, party: u32) -> Result<usize, NoMemory>
         ensures lines { self.new.lines ≡ self.old.lines }
-        ensures more { IsWithNumber (seat_numbers self.old.seats) (seat_numbers self.new.seats) party }
-        ensures there { IfOk result (λ seat. place_in (seat_numbers self.new.seats) party ≡ Some seat) }
+        ensures more { IsWithNumber (seat_numbers self.old.seats)
+            (seat_numbers self.new.seats) party }
+        ensures there { IfOk result (λ seat. place_in
+            (seat_numbers self.new.seats) party ≡ Some seat) }
     {
         self.seats.seat(alloc, party)
     }
@@ -92,7 +94,8 @@ impl Recording {
         requires { line_in self.old.lines.items key ≡ None }
         ensures seats { self.new.seats ≡ self.old.seats }
         ensures grows { LinesGrow self.old.lines.items self.new.lines.items }
-        ensures keys { IsWithNumber (line_keys self.old.lines.items) (line_keys self.new.lines.items) key }
+        ensures keys { IsWithNumber (line_keys self.old.lines.items)
+            (line_keys self.new.lines.items) key }
         ensures there { IfOk result (λ i. line_in self.new.lines.items key ≡ Some i) }
     {
         reserve_line(&mut self.lines)?;
@@ -119,7 +122,8 @@ impl Recording {
     fn line_of(&mut self, alloc: Global, key: u32, hint: usize) -> Result<usize, NoMemory>
         ensures seats { self.new.seats ≡ self.old.seats }
         ensures grows { LinesGrow self.old.lines.items self.new.lines.items }
-        ensures keys { IsWithNumber (line_keys self.old.lines.items) (line_keys self.new.lines.items) key }
+        ensures keys { IsWithNumber (line_keys self.old.lines.items)
+            (line_keys self.new.lines.items) key }
         ensures there { IfOk result (λ i. line_in self.new.lines.items key ≡ Some i) }
     {
         if let Some(number) = find_line(self.lines.as_slice(), &self.index, key, hint) {
@@ -139,7 +143,8 @@ impl Recording {
         requires { AreSeatsBelow (length (seat_numbers self.old.seats)) shares.now }
         ensures seats { self.new.seats ≡ self.old.seats }
         ensures grows { LinesGrow self.old.lines.items self.new.lines.items }
-        ensures keys { IsWithNumber (line_keys self.old.lines.items) (line_keys self.new.lines.items) key }
+        ensures keys { IsWithNumber (line_keys self.old.lines.items)
+            (line_keys self.new.lines.items) key }
         ensures there { IfOk result (λ i. (line_in self.new.lines.items key ≡ Some i)
             × IsWide shares.now self.new.lines.items i) }
     {

@@ -23,8 +23,10 @@ pub struct Ledger {
     pub parties: IndexSet<Text, Seeded>,
     pub summary_keys: IndexSet<SummaryKey, Seeded>,
     pub recordings: IndexMap<Isrc, Recording, Seeded>,
-    ghost seated: { (isrc : List ℕ) (r : Recording) → get bytes_eq recordings isrc ≡ Some r → AreBelow (length parties.keys) (seat_numbers r.seats) },
-    ghost keyed: { (isrc : List ℕ) (r : Recording) → get bytes_eq recordings isrc ≡ Some r → AreBelow (length summary_keys.keys) (line_keys r.lines.items) },
+    ghost seated: { (isrc : List ℕ) (r : Recording) → get bytes_eq recordings isrc ≡ Some r
+        → AreBelow (length parties.keys) (seat_numbers r.seats) },
+    ghost keyed: { (isrc : List ℕ) (r : Recording) → get bytes_eq recordings isrc ≡ Some r
+        → AreBelow (length summary_keys.keys) (line_keys r.lines.items) },
 }
 
 impl Ledger {
@@ -85,7 +87,8 @@ impl Ledger {
 
     /// The seat `hint` of a recording, if it is this party's.
     fn hinted_seat(&self, recording: usize, name: &Text, hint: usize) -> Option<usize>
-        ensures { (isrc : List ℕ) → recording_number self.now isrc ≡ Some recording → IfSome result (λ seat. seat_at self.now isrc name.now ≡ Some seat) }
+        ensures { (isrc : List ℕ) → recording_number self.now isrc ≡ Some recording
+            → IfSome result (λ seat. seat_at self.now isrc name.now ≡ Some seat) }
     {
         let (_, found) = self.recordings.as_slice().get_index(recording)?;
         let party = found.seats.as_slice().get(hint)?;
@@ -107,7 +110,8 @@ impl Ledger {
     ) -> Result<usize, NoMemory>
         requires { (isrc : List ℕ) × (recording_number self.old isrc ≡ Some recording) }
         ensures keeps { KeepsSeats self.old self.new }
-        ensures there { (isrc : List ℕ) → recording_number self.old isrc ≡ Some recording → IfOk result (λ seat. seat_at self.new isrc name.now ≡ Some seat) }
+        ensures there { (isrc : List ℕ) → recording_number self.old isrc ≡ Some recording
+            → IfOk result (λ seat. seat_at self.new isrc name.now ≡ Some seat) }
     {
         if let Some(seat) = self.hinted_seat(recording, name, hint) {
             return Ok(seat);
@@ -163,11 +167,14 @@ impl Ledger {
         hint: usize,
         shares: &[SeatShare],
     ) -> Result<usize, NoMemory>
-        requires there { (isrc : List ℕ) × (es : List (List ℕ × ℕ)) × (recording_number self.old isrc ≡ Some recording)
+        requires there { (isrc : List ℕ) × (es : List (List ℕ × ℕ))
+            × (recording_number self.old isrc ≡ Some recording)
             × AreSeated (seat_at self.old isrc) shares.now es }
         requires known { (key : SummaryKey) × (key_number self.old key ≡ Some number) }
         ensures keeps { KeepsLines self.old self.new }
-        ensures there { (isrc : List ℕ) (key : SummaryKey) → recording_number self.old isrc ≡ Some recording → key_number self.old key ≡ Some number
+        ensures there { (isrc : List ℕ) (key : SummaryKey)
+            → recording_number self.old isrc ≡ Some recording
+            → key_number self.old key ≡ Some number
             → IfOk result (λ i. (line_at self.new isrc key ≡ Some i) × IsWideAt self.new isrc shares.now i) }
     {
         let (_, found) = self.recordings.pair_mut(recording);
@@ -176,11 +183,13 @@ impl Ledger {
 
     /// Adds a usage and its parts to a line, and to no other. This allocates nothing.
     pub fn add(&mut self, recording: usize, line: usize, usage: &Usage, shares: &[SeatShare])
-        requires { (isrc : List ℕ) × (key : SummaryKey) × (es : List (List ℕ × ℕ)) × IsLineOf self.old isrc key es recording line shares.now
+        requires { (isrc : List ℕ) × (key : SummaryKey) × (es : List (List ℕ × ℕ))
+            × IsLineOf self.old isrc key es recording line shares.now
             × TallyFits 1 (tally_at self.old (key_under isrc key)) × (parts_size (map (part_of usage.now.amount) es) ≤ 10 ^ 22) }
         ensures range { IsInRange usage.now }
         ensures numbers { SameNumbers self.old self.new }
-        ensures tally { (isrc : List ℕ) (key : SummaryKey) (es : List (List ℕ × ℕ)) → IsLineOf self.old isrc key es recording line shares.now
+        ensures tally { (isrc : List ℕ) (key : SummaryKey) (es : List (List ℕ × ℕ))
+            → IsLineOf self.old isrc key es recording line shares.now
             → (q : Key) → tally_at self.new q ≡ (if key_eq (key_under isrc key) q then tally_with usage.now (map (part_of usage.now.amount) es) (tally_at self.old q) else tally_at self.old q) }
     {
         let (_, found) = self.recordings.pair_mut(recording);

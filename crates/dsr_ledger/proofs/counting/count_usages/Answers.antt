@@ -16,17 +16,20 @@ count_one-requires c id =
     let below = c.loop-usage-test.true in
     let taken : length us ≤ i = omega (arith, length-take i c.args.usages.now) in
     let P : Option Shown → Type 0 = λ o. ForSome o (ShownFits 1) in
-    subst P (sym (c.loop-usage.invariant.summaries id)) (shown_fits_at (shown_at c.args.summaries.now id) id us i (length c.args.usages.now) 1 taken (omega arith) c.loop-usage.invariant.range (c.requires id))
+    subst P (sym (c.loop-usage.invariant.summaries id)) (shown_fits_at (shown_at c.args.summaries.now id) id us i (length c.args.usages.now) 1 taken
+    (omega arith) c.loop-usage.invariant.range (c.requires id))
 
 pub loop-usage-preserved : goal.loop-usage-preserved
 loop-usage-preserved c =
     let i = c.loop-usage.usage-index in
     let us = take i c.args.usages.now in
     let u = c.usage-item.result in
-    let more : take (i + 1) c.args.usages.now ≡ us ++ u ∷ [] = take_more c.args.usages.now i u c.loop-usage-test.true ∙ ap (λ x. us ++ x ∷ []) (sym c.usage-item.is) in
+    let more : take (i + 1) c.args.usages.now ≡ us ++ u ∷ [] =
+    take_more c.args.usages.now i u c.loop-usage-test.true ∙ ap (λ x. us ++ x ∷ []) (sym c.usage-item.is) in
     record {
       range = subst (AllByRecursion IsInRange) (sym more) (each_append IsInRange us (u ∷ []) c.loop-usage.invariant.range (c.count_one.ensures.range, tt));
       summaries = λ id.
-          shown_more id us u (shown_at c.args.summaries.now id) (shown_at c.loop-usage.summaries id) (shown_at c.count_one.new.summaries id) (c.loop-usage.invariant.summaries id) (c.count_one.ensures.summaries id)
+          shown_more id us u (shown_at c.args.summaries.now id) (shown_at c.loop-usage.summaries id) (shown_at c.count_one.new.summaries id)
+          (c.loop-usage.invariant.summaries id) (c.count_one.ensures.summaries id)
           ∙ ap (λ l. option_map (shown_with id l) (shown_at c.args.summaries.now id)) (sym more);
     }

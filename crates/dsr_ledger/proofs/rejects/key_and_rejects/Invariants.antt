@@ -8,6 +8,7 @@ use Rattle.dsr_ledger.proofs.rejects.key_and_rejects.Given as goal
 
 abbrev pub invariant-loop-file : goal.invariant-loop-file
 invariant-loop-file l = record {
-  key : first_of l.key (option_map key_of (first_head (openings_of l.file-iterator.rest.items))) ≡ option_map key_of (first_head (openings_of l.fn.files.items));
+  key : first_of l.key (option_map key_of (first_head (openings_of l.file-iterator.rest.items)))
+      ≡ option_map key_of (first_head (openings_of l.fn.files.items));
   rejects : l.rejects ++ flat_map (λ f. f.rejects.items) l.file-iterator.rest.items ≡ flat_map (λ f. f.rejects.items) l.fn.files.items;
 }

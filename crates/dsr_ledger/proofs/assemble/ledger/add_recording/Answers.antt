@@ -50,7 +50,8 @@ ledger_line-requires-clause-within c =
     let listed =
     subst (λ xs. AreLinesOf (place_by number (line_keys xs)) items) c.as_slice.ensures.value (
     subst (AreLinesOf (place_by number (line_keys c.as_slice.result.now))) (sym c.as_slice-key-items.ensures.value) c.in_ok-lines_by_key.ensures) in
-    let there : slice_get ls item.1 ≡ Some line = slice_get-get_or ls item.1 line (place_within number ls items listed i item at) ∙ ap Some (sym c.index-line.ensures) in
+    let there : slice_get ls item.1 ≡ Some line =
+    slice_get-get_or ls item.1 line (place_within number ls items listed i item at) ∙ ap Some (sym c.index-line.ensures) in
     subst (λ ns. AreBelow (length ns) (part_seats line.parts.items.items)) (sym c.as_slice-numbers.ensures.value) (r.within item.1 line there)
 
 pub ledger_line-requires-clause-small : goal.ledger_line-requires-clause-small
@@ -67,7 +68,8 @@ ledger_line-requires-clause-small c =
     let listed =
     subst (λ xs. AreLinesOf (place_by number (line_keys xs)) items) c.as_slice.ensures.value (
     subst (AreLinesOf (place_by number (line_keys c.as_slice.result.now))) (sym c.as_slice-key-items.ensures.value) c.in_ok-lines_by_key.ensures) in
-    let there : slice_get ls item.1 ≡ Some line = slice_get-get_or ls item.1 line (place_within number ls items listed i item at) ∙ ap Some (sym c.index-line.ensures) in
+    let there : slice_get ls item.1 ≡ Some line =
+    slice_get-get_or ls item.1 line (place_within number ls items listed i item at) ∙ ap Some (sym c.index-line.ensures) in
     let party = party_in c.args.parties.now in
     ∥∥₁_map c.requires.small (λ o.
     subst (λ ns. IsOfSmall (place_by party ns) line) (sym c.as_slice-numbers.ensures.value) (record {
@@ -90,7 +92,8 @@ loop-key-preserved c = λ bs has.
     let listed =
     subst (λ xs. AreLinesOf (place_by number (line_keys xs)) items) c.as_slice.ensures.value (
     subst (AreLinesOf (place_by number (line_keys c.as_slice.result.now))) (sym c.as_slice-key-items.ensures.value) c.in_ok-lines_by_key.ensures) in
-    let there : slice_get ls item.1 ≡ Some line = slice_get-get_or ls item.1 line (place_within number ls items listed i item at) ∙ ap Some (sym c.index-line.ensures) in
+    let there : slice_get ls item.1 ≡ Some line =
+    slice_get-get_or ls item.1 line (place_within number ls items listed i item at) ∙ ap Some (sym c.index-line.ensures) in
     let party = party_in c.args.parties.now in
     let tally = own_tally number ls items listed i item at (seat_of party r) line there ∙ has item.0.now in
     let key = key_under isrc item.0.now in
@@ -102,8 +105,10 @@ loop-key-preserved c = λ bs has.
           let own = subst (λ ns. line_tally (place_by party ns) line ≡ tally_of (at_key key bs)) (sym c.as_slice-numbers.ensures.value) tally in
           let l = w.in_ok-line.line in
           let pushed : w.push.new.self ≡ out ++ l ∷ [] = search rules in
-          line_added bs isrc items i item c.loop-key-test.true c.loop-key-item.is old out c.if-line.report so_far l (w.report-is ∙ pushed) (w.in_ok-line.ensures (at_key key bs) own) (sym (ap (λ t. t.is_booked) tally) ∙ w.if-line.true)
-      | else-line w ↦ line_passed bs isrc items i item c.loop-key-test.true c.loop-key-item.is old out c.if-line.report so_far w.report-is (sym (ap (λ t. t.is_booked) tally) ∙ w.if-line.false)
+          line_added bs isrc items i item c.loop-key-test.true c.loop-key-item.is old out c.if-line.report so_far l (w.report-is ∙ pushed)
+          (w.in_ok-line.ensures (at_key key bs) own) (sym (ap (λ t. t.is_booked) tally) ∙ w.if-line.true)
+      | else-line w ↦ line_passed bs isrc items i item c.loop-key-test.true c.loop-key-item.is old out c.if-line.report so_far w.report-is
+          (sym (ap (λ t. t.is_booked) tally) ∙ w.if-line.false)
     ]
 
 pub returns : goal.returns

@@ -46,16 +46,19 @@ pub loop-isrc-preserved : goal.loop-isrc-preserved
 loop-isrc-preserved c =
     let next = lines_step c.args.books c.in-Some.isrc c.in-Some.recording c.loop-isrc.isrc-iterator c.next.new.self
     c.as_slice-names.result.now c.as_slice-keys.result.now c.loop-isrc.report c.add_recording.new.report
-    c.in-Some.ensures.steps c.as_slice-names.ensures.keys c.as_slice-keys.ensures.keys c.loop-isrc.invariant.rest c.loop-isrc.invariant.written c.in_ok-add_recording.ensures in
+    c.in-Some.ensures.steps c.as_slice-names.ensures.keys c.as_slice-keys.ensures.keys c.loop-isrc.invariant.rest c.loop-isrc.invariant.written
+    c.in_ok-add_recording.ensures in
     record { rest = next.0; written = next.1 }
 
 pub loop-isrc-preserved-in_ok-add_recording : goal.loop-isrc-preserved-in_ok-add_recording
 loop-isrc-preserved-in_ok-add_recording c =
     let next = lines_step c.args.books c.in-Some.isrc c.in-Some.recording c.loop-isrc.isrc-iterator c.next.new.self
     c.as_slice-names.result.now c.as_slice-keys.result.now c.loop-isrc.report c.add_recording.new.report
-    c.in-Some.ensures.steps c.as_slice-names.ensures.keys c.as_slice-keys.ensures.keys c.loop-isrc.invariant.rest c.loop-isrc.invariant.written c.in_ok-add_recording.ensures in
+    c.in-Some.ensures.steps c.as_slice-names.ensures.keys c.as_slice-keys.ensures.keys c.loop-isrc.invariant.rest c.loop-isrc.invariant.written
+    c.in_ok-add_recording.ensures in
     record { rest = next.0; written = next.1 }
 
 pub returns : goal.returns
 returns c = λ bs stand.
-    written_all c.args.books c.loop-isrc.report bs (subst (λ es. IsWritten c.args.books es c.loop-isrc.report) c.in-None.ensures.steps.0 c.loop-isrc.invariant.written) stand
+    written_all c.args.books c.loop-isrc.report bs (subst (λ es. IsWritten c.args.books es c.loop-isrc.report) c.in-None.ensures.steps.0
+    c.loop-isrc.invariant.written) stand

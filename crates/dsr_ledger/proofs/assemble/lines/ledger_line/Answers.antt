@@ -17,7 +17,8 @@ pub parts_by_name-requires-clause-seats_apart : goal.parts_by_name-requires-clau
 parts_by_name-requires-clause-seats_apart c = subst (λ ps. AreApart (part_seats ps)) (sym c.as_slice-parts.ensures.value) c.as_slice-parts.ensures.apart
 
 pub parts_by_name-requires-clause-seats_below : goal.parts_by_name-requires-clause-seats_below
-parts_by_name-requires-clause-seats_below c = subst (λ ps. AreBelow (length c.args.numbers.now) (part_seats ps)) (sym c.as_slice-parts.ensures.value) c.requires.within
+parts_by_name-requires-clause-seats_below c =
+    subst (λ ps. AreBelow (length c.args.numbers.now) (part_seats ps)) (sym c.as_slice-parts.ensures.value) c.requires.within
 
 pub unclaimed-requires : goal.unclaimed-requires
 unclaimed-requires c =

@@ -15,8 +15,10 @@ overflow_sub-left c =
     let p = c.line-item.result in
     let whole : to_z w128 (of_z w128 a) ≡ a = to_z-of_z w128 a c.ranges.amount in
     let item : to_z w128 (of_z w128 p.amount) ≡ p.amount = to_z-of_z w128 p.amount (amount_fits ps i p a c.loop-line-test.true c.line-item.is c.requires) in
-    let was : to_z w128 c.loop-line.left-bits ≡ a -ℤ int_sum_by (λ x. x.amount) (take i ps) = c.loop-line.invariant ∙ ap (λ z. z -ℤ int_sum_by (λ x. x.amount) (take i ps)) whole in
-    subst (λ z. FitsSigned w128 (to_z w128 c.loop-line.left-bits -ℤ z)) (sym item) (left_fits a ps i p (to_z w128 c.loop-line.left-bits) was c.loop-line-test.true c.line-item.is c.requires)
+    let was : to_z w128 c.loop-line.left-bits ≡ a -ℤ int_sum_by (λ x. x.amount) (take i ps) =
+    c.loop-line.invariant ∙ ap (λ z. z -ℤ int_sum_by (λ x. x.amount) (take i ps)) whole in
+    subst (λ z. FitsSigned w128 (to_z w128 c.loop-line.left-bits -ℤ z)) (sym item)
+    (left_fits a ps i p (to_z w128 c.loop-line.left-bits) was c.loop-line-test.true c.line-item.is c.requires)
 
 take_off : (left whole taken all amount : ℤ) → left ≡ whole -ℤ taken → all ≡ taken +ℤ amount → left -ℤ amount ≡ whole -ℤ all
 take_off left whole taken all amount h k = omega (arith, ints)

@@ -38,7 +38,8 @@ loop-line-preserved c =
     let below = slice_get_within ns i n here in
     let at : slice_get ps n ≡ Some x = slice_get-get_or ps n x (c.requires.below n i (c.requires.apart i n here)) ∙ ap Some (sym c.index-keys-lines.is) in
     let more : take (i + 1) ns ≡ take i ns ++ n ∷ [] = take_more ns i n below ∙ ap (λ m. take i ns ++ m ∷ []) (get_or_from_slice_get ns i n n here) in
-    let all : named_places c.push.new.self.items ≡ named_places old ++ (x, i) ∷ [] = ap named_places c.in_ok-push.ensures.items ∙ map-append (λ (e : Bor SummaryKey × ℕ). (e.0.now, e.1)) old (_ ∷ []) in
+    let all : named_places c.push.new.self.items ≡ named_places old ++ (x, i) ∷ [] =
+    ap named_places c.in_ok-push.ensures.items ∙ map-append (λ (e : Bor SummaryKey × ℕ). (e.0.now, e.1)) old (_ ∷ []) in
     let place : i ≡ 0 + length (take i ns) = omega (arith, length-take i ns) in
     subst (λ ms. AreNamedFrom ps 0 ms (named_places c.push.new.self.items)) (sym more) (
     subst (λ es. AreNamedFrom ps 0 (take i ns ++ n ∷ []) es) (sym all) (named_push ps 0 (take i ns) (named_places old) n (x, i) at place c.loop-line.invariant))
@@ -52,5 +53,7 @@ returns c =
     let end = c.loop-line-test.false in
     let long : length ns ≤ c.loop-line.line = omega (arith, length-map c.args.lines.now (λ (x : Line). x.key)) in
     let named = subst (λ ms. AreNamedFrom ps 0 ms (named_places was)) (take_all c.loop-line.line ns long) c.loop-line.invariant in
-    listed summary_key_eq same_summary_key summary_key_equiv ps c.requires.keys summary_key_total summary_key_ties ns was is c.requires.apart named c.sort_unstable_by.ensures.permutation
-    (c.sort_unstable_by.ensures.sorted _ (ranks_by summary_key_total (λ (e : Bor SummaryKey × ℕ). e.0.now)) (answers_always _ _ _ (λ f a r f' k. ap is_lt k.met)))
+    listed summary_key_eq same_summary_key summary_key_equiv ps c.requires.keys summary_key_total summary_key_ties ns was is c.requires.apart named
+    c.sort_unstable_by.ensures.permutation
+    (c.sort_unstable_by.ensures.sorted _ (ranks_by summary_key_total (λ (e : Bor SummaryKey × ℕ). e.0.now))
+    (answers_always _ _ _ (λ f a r f' k. ap is_lt k.met)))

@@ -58,12 +58,16 @@ loop-place-preserved c =
     let below = c.requires.seats_below p.seat i (c.requires.seats_apart i p.seat seat) in
     let here : slice_get ms i ≡ Some n = slice_get-map (λ s. get_or ns s 0) ss i ∙ ap (option_map (λ s. get_or ns s 0)) seat in
     let within = slice_get_within ms i n here in
-    let at : slice_get ps n ≡ Some x = slice_get-get_or ps n x (c.requires.below n p.seat (c.requires.apart p.seat n (slice_get-get_or ns p.seat 0 below))) ∙ ap Some (sym c.index-parties-number.is) in
+    let at : slice_get ps n ≡ Some x =
+    slice_get-get_or ps n x (c.requires.below n p.seat (c.requires.apart p.seat n (slice_get-get_or ns p.seat 0 below)))
+    ∙ ap Some (sym c.index-parties-number.is) in
     let more : take (i + 1) ms ≡ take i ms ++ n ∷ [] = take_more ms i n within ∙ ap (λ m. take i ms ++ m ∷ []) (get_or_from_slice_get ms i n n here) in
-    let all : named_places c.push.new.self.items ≡ named_places old ++ (x, i) ∷ [] = ap named_places c.in_ok-push.ensures.items ∙ map-append (λ (e : Bor (List ℕ) × ℕ). (e.0.now, e.1)) old (_ ∷ []) in
+    let all : named_places c.push.new.self.items ≡ named_places old ++ (x, i) ∷ [] =
+    ap named_places c.in_ok-push.ensures.items ∙ map-append (λ (e : Bor (List ℕ) × ℕ). (e.0.now, e.1)) old (_ ∷ []) in
     let place : i ≡ 0 + length (take i ms) = omega (arith, length-take i ms) in
     subst (λ xs. AreNamedFrom ps 0 xs (named_places c.push.new.self.items)) (sym more) (
-    subst (λ es. AreNamedFrom ps 0 (take i ms ++ n ∷ []) es) (sym all) (named_push ps 0 (take i ms) (named_places old) n (x, i) at place c.loop-place.invariant))
+    subst (λ es. AreNamedFrom ps 0 (take i ms ++ n ∷ []) es) (sym all)
+    (named_push ps 0 (take i ms) (named_places old) n (x, i) at place c.loop-place.invariant))
 
 pub returns : goal.returns
 returns c =
@@ -75,8 +79,12 @@ returns c =
     let is = c.sort_unstable_by.new.self.items in
     let within = seats_within (length c.args.numbers.now) ss c.requires.seats_apart c.requires.seats_below in
     let end = c.loop-place-test.false in
-    let long : length ns ≤ c.loop-place.place = omega (arith, length-map ss (λ s. get_or c.args.numbers.now s 0), length-map c.args.parts.now (λ (p : SeatPart). p.seat)) in
+    let long : length ns ≤ c.loop-place.place =
+    omega (arith, length-map ss (λ s. get_or c.args.numbers.now s 0), length-map c.args.parts.now (λ (p : SeatPart). p.seat)) in
     let named = subst (λ ms. AreNamedFrom ps 0 ms (named_places was)) (take_all c.loop-place.place ns long) c.loop-place.invariant in
-    let all = listed bytes_eq bytes_eq-Decides nat_list_eq_equiv ps c.requires.names nat_list_cmp_total text_ties ns was is (seats_apart c.args.numbers.now c.requires.apart ss within c.requires.seats_apart) named c.sort_unstable_by.ensures.permutation
-    (c.sort_unstable_by.ensures.sorted _ (ranks_by nat_list_cmp_total (λ (e : Bor (List ℕ) × ℕ). e.0.now)) (answers_always _ _ _ (λ f a r f' k. ap is_lt k.met))) in
+    let all =
+    listed bytes_eq bytes_eq-Decides nat_list_eq_equiv ps c.requires.names nat_list_cmp_total text_ties ns was is
+    (seats_apart c.args.numbers.now c.requires.apart ss within c.requires.seats_apart) named c.sort_unstable_by.ensures.permutation
+    (c.sort_unstable_by.ensures.sorted _ (ranks_by nat_list_cmp_total (λ (e : Bor (List ℕ) × ℕ). e.0.now))
+    (answers_always _ _ _ (λ f a r f' k. ap is_lt k.met))) in
     record { order = all.order; found = λ q. all.found q ∙ party_places c.args.numbers.now c.requires.apart party ss within q }

@@ -24,8 +24,16 @@ add_usage-requires-clause-planned c =
     let before = c.loop-i.invariant in
     let p = c.requires.planned in
     let at : slice_get us i ≡ Some u = slice_get_read us (length us) i u refl c.loop-i-test.true c.index-usages-i.is in
-    let places : place_at c.loop-i.summaries ≡ place_at c.args.summaries.now = λ j id. (ap (option_map (λ s. s.place)) (before.shown id) ∙ same_place id (take i us) (shown_at c.args.summaries.now id)) j in
-    (p.0, p.1, us, planned_stays c.args.ledger.now c.loop-i.ledger c.args.summaries.now c.loop-i.summaries p.0 p.1 us c.args.plan.now before.numbers before.index places p.2, at, p.3)
+    let places : place_at c.loop-i.summaries ≡ place_at c.args.summaries.now =
+    λ j id. (ap (option_map (λ s. s.place)) (before.shown id) ∙ same_place id (take i us) (shown_at c.args.summaries.now id)) j in (
+      p.0,
+      p.1,
+      us,
+      planned_stays c.args.ledger.now c.loop-i.ledger c.args.summaries.now c.loop-i.summaries p.0 p.1 us c.args.plan.now before.numbers
+          before.index places p.2,
+      at,
+      p.3,
+    )
 
 pub add_usage-requires-clause-ledger_fits : goal.add_usage-requires-clause-ledger_fits
 add_usage-requires-clause-ledger_fits c q =
@@ -39,7 +47,8 @@ add_usage-requires-clause-ledger_fits c q =
     let taken : length us ≤ i = omega (arith, length-take i c.args.usages.now) in
     let few : length bs ≤ i = let h = length-usage_bookings place isrc works us in omega arith in
     subst (TallyFits 1) (sym (c.loop-i.invariant.tallies isrc works c.requires.planned.2 q)) (
-    tally_fits_after (tally_at c.args.ledger.now q) bs q i (length c.args.usages.now) 1 few (omega arith) (small_usage_bookings place isrc works us c.requires.planned.3 c.loop-i.invariant.range) (c.requires.ledger_fits q))
+    tally_fits_after (tally_at c.args.ledger.now q) bs q i (length c.args.usages.now) 1 few (omega arith)
+    (small_usage_bookings place isrc works us c.requires.planned.3 c.loop-i.invariant.range) (c.requires.ledger_fits q))
 
 pub add_usage-requires-clause-summaries_fit : goal.add_usage-requires-clause-summaries_fit
 add_usage-requires-clause-summaries_fit c id =
@@ -48,7 +57,8 @@ add_usage-requires-clause-summaries_fit c id =
     let below = c.loop-i-test.true in
     let taken : length us ≤ i = omega (arith, length-take i c.args.usages.now) in
     let P : Option Shown → Type 0 = λ o. ForSome o (ShownFits 1) in
-    subst P (sym (c.loop-i.invariant.shown id)) (shown_fits_at (shown_at c.args.summaries.now id) id us i (length c.args.usages.now) 1 taken (omega arith) c.loop-i.invariant.range (c.requires.summaries_fit id))
+    subst P (sym (c.loop-i.invariant.shown id)) (shown_fits_at (shown_at c.args.summaries.now id) id us i (length c.args.usages.now) 1 taken
+    (omega arith) c.loop-i.invariant.range (c.requires.summaries_fit id))
 
 pub loop-i-init : goal.loop-i-init
 loop-i-init c = record {
@@ -69,18 +79,24 @@ loop-i-preserved c =
     let step = c.add_usage.ensures in
     let more : take (i + 1) all ≡ us ++ u ∷ [] = take_more all i u c.loop-i-test.true ∙ ap (λ x. us ++ x ∷ []) (sym c.index-usages-i.is) in
     let at : slice_get all i ≡ Some u = slice_get_read all (length all) i u refl c.loop-i-test.true c.index-usages-i.is in
-    let places : place_at c.loop-i.summaries ≡ place_at c.args.summaries.now = λ j id. (ap (option_map (λ s. s.place)) (before.shown id) ∙ same_place id us (shown_at c.args.summaries.now id)) j in
+    let places : place_at c.loop-i.summaries ≡ place_at c.args.summaries.now =
+    λ j id. (ap (option_map (λ s. s.place)) (before.shown id) ∙ same_place id us (shown_at c.args.summaries.now id)) j in
     record {
       range = subst (AllByRecursion IsInRange) (sym more) (each_append IsInRange us (u ∷ []) before.range (step.range, tt));
       numbers = numbers_twice c.args.ledger.now c.loop-i.ledger c.add_usage.new.ledger before.numbers step.numbers;
       index = λ id. step.index id ∙ before.index id;
       shown = λ id.
-          shown_more id us u (shown_at c.args.summaries.now id) (shown_at c.loop-i.summaries id) (shown_at c.add_usage.new.summaries id) (before.shown id) (step.shown id)
+          shown_more id us u (shown_at c.args.summaries.now id) (shown_at c.loop-i.summaries id) (shown_at c.add_usage.new.summaries id) (before.shown id)
+          (step.shown id)
           ∙ ap (λ l. option_map (shown_with id l) (shown_at c.args.summaries.now id)) (sym more);
       tallies = λ isrc works h q.
-          let planned = planned_stays c.args.ledger.now c.loop-i.ledger c.args.summaries.now c.loop-i.summaries isrc works all c.args.plan.now before.numbers before.index places h in
+          let planned =
+          planned_stays c.args.ledger.now c.loop-i.ledger c.args.summaries.now c.loop-i.summaries isrc works all c.args.plan.now before.numbers before.index
+          places h in
           let s = tally_at c.args.ledger.now q in
-          tally_more s (tally_at c.loop-i.ledger q) (tally_at c.add_usage.new.ledger q) (place_at c.args.summaries.now) isrc works us u q (before.tallies isrc works h q)
-          (step.tallies isrc works all planned at q ∙ ap (λ p. tally_plus (tally_at c.loop-i.ledger q) (key_tally (booked_under isrc works u (p u.summary_id)) q)) places)
+          tally_more s (tally_at c.loop-i.ledger q) (tally_at c.add_usage.new.ledger q) (place_at c.args.summaries.now) isrc works us u q
+          (before.tallies isrc works h q)
+          (step.tallies isrc works all planned at q ∙ ap (λ p. tally_plus (tally_at c.loop-i.ledger q)
+          (key_tally (booked_under isrc works u (p u.summary_id)) q)) places)
           ∙ ap (λ l. tally_plus s (key_tally (usage_bookings (place_at c.args.summaries.now) isrc works l) q)) (sym more);
     }

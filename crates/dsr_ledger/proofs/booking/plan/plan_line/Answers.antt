@@ -8,8 +8,13 @@ use Rattle.dsr_ledger.proofs.booking.plan.plan_line.Goals as goal
 pub line-requires-clause-there : goal.line-requires-clause-there
 line-requires-clause-there c =
     let p = c.requires.there in
-    let keeps = c.summary_key.ensures.keeps in
-    (p.0, p.1, keeps.recordings p.0 ∙ p.2, seated_grows (seat_at c.args.ledger.now p.0) (seat_at c.summary_key.new.self p.0) (λ q i e. keeps.seats p.0 q ∙ e) c.args.shares.now p.1 p.3)
+    let keeps = c.summary_key.ensures.keeps in (
+      p.0,
+      p.1,
+      keeps.recordings p.0 ∙ p.2,
+      seated_grows (seat_at c.args.ledger.now p.0) (seat_at c.summary_key.new.self p.0)
+          (λ q i e. keeps.seats p.0 q ∙ e) c.args.shares.now p.1 p.3,
+    )
 
 pub line-requires-clause-known : goal.line-requires-clause-known
 line-requires-clause-known c = (c.state-state.result.now.key, c.in_ok-key.ensures.there)

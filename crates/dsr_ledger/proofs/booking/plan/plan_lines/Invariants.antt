@@ -10,6 +10,7 @@ abbrev pub invariant-loop-number : goal.invariant-loop-number
 invariant-loop-number l = record {
   keeps : KeepsLines l.fn.ledger l.ledger;
   same : SameSummaries l.fn.summaries l.summaries;
-  lined : (isrc : List ℕ) (us : List Usage) → recording_number l.fn.ledger isrc ≡ Some l.recording → map (λ u. index_at l.fn.summaries u.summary_id) us ≡ map Some l.numbers
+  lined : (isrc : List ℕ) (us : List Usage) → recording_number l.fn.ledger isrc ≡ Some l.recording
+      → map (λ u. index_at l.fn.summaries u.summary_id) us ≡ map Some l.numbers
       → AreLined l.ledger (place_at l.summaries) isrc l.shares (take l.number-index us) l.plan.items;
 }

@@ -34,7 +34,9 @@ loop-i-preserved c =
     let long = ap length c.as_slice-party-items.ensures in
     let at : p ≡ get_or parties i p = c.party-item.is ∙ ap (λ l. get_or l i p) c.as_slice-party-items.ensures in
     let with_share : s ≡ get_or shares i s = c.index-shares-i.is ∙ ap (λ l. get_or l i s) c.as_slice-shares.ensures in
-    let seen = ap (λ w. take (i + 1) (zip w.parties w.shares)) (sym c.work.view_is) ∙ ap (λ m. take m (zip parties shares)) next ∙ next_share parties shares i p s (omega arith) c.work.invariant at with_share in
+    let seen =
+    ap (λ w. take (i + 1) (zip w.parties w.shares)) (sym c.work.view_is) ∙ ap (λ m. take m (zip parties shares)) next
+    ∙ next_share parties shares i p s (omega arith) c.work.invariant at with_share in
     let was = ap (λ w. take i (zip w.parties w.shares)) (sym c.work.view_is) in
     let before = c.loop-i.invariant in
     record {
@@ -43,8 +45,14 @@ loop-i-preserved c =
           let same : c.in_ok-seat.seat ≡ c.in_ok-number.number = search rules in
           let there = c.in_ok-number.ensures.there isrc (before.keeps.recordings isrc ∙ is) ∙ ap Some (sym same) in
           subst (SeatedMore (seat_at c.seat.new.self isrc) c.args.plan.now.items c.push.new.self.items) (ap (λ l. l ++ (p, s) ∷ []) was ∙ sym seen) (
-          seated_more (seat_at c.loop-i.ledger isrc) (seat_at c.seat.new.self isrc) c.args.plan.now.items c.loop-i.plan.items c.push.new.self.items (take i (zip w.parties w.shares)) ((p, s) ∷ []) (c.seat.ensures.keeps.seats isrc) (before.seated isrc is)
-          (record { more = record { seat = c.in_ok-seat.seat; share = c.parts.result } ∷ []; items = c.in_ok-push.ensures.items; seated = ((there, c.parts.ensures.value), tt) }));
+          seated_more (seat_at c.loop-i.ledger isrc) (seat_at c.seat.new.self isrc) c.args.plan.now.items c.loop-i.plan.items c.push.new.self.items
+          (take i (zip w.parties w.shares)) ((p, s) ∷ []) (c.seat.ensures.keeps.seats isrc) (before.seated isrc is)
+          (record {
+            more = record { seat = c.in_ok-seat.seat; share = c.parts.result } ∷ [];
+            items = c.in_ok-push.ensures.items;
+            seated =
+                ((there, c.parts.ensures.value), tt);
+          }));
     }
 
 pub returns-clause-seated : goal.returns-clause-seated
@@ -52,5 +60,8 @@ returns-clause-seated c = λ isrc is.
     let w = c.args.work.now in
     let test = c.loop-i-test.false in
     let long = ap length c.as_slice-party-items.ensures in
-    let many : length (zip w.parties w.shares) ≡ length c.work.inside.parties = ap (λ w. length (zip w.parties w.shares)) (sym c.work.view_is) ∙ (let z = length-zip c.work.inside.parties c.work.inside.shares in let e = c.work.invariant in omega arith) in
-    subst (SeatedMore (seat_at c.loop-i.ledger isrc) c.args.plan.now.items c.loop-i.plan.items) (take_all c.loop-i.i (zip w.parties w.shares) (omega arith)) (c.loop-i.invariant.seated isrc is)
+    let many : length (zip w.parties w.shares) ≡ length c.work.inside.parties =
+    ap (λ w. length (zip w.parties w.shares)) (sym c.work.view_is)
+    ∙ (let z = length-zip c.work.inside.parties c.work.inside.shares in let e = c.work.invariant in omega arith) in
+    subst (SeatedMore (seat_at c.loop-i.ledger isrc) c.args.plan.now.items c.loop-i.plan.items) (take_all c.loop-i.i (zip w.parties w.shares) (omega arith))
+    (c.loop-i.invariant.seated isrc is)

@@ -8,5 +8,6 @@ use Rattle.dsr_ledger.proofs.booking.plan.plan_work.Given as goal
 abbrev pub invariant-loop-i : goal.invariant-loop-i
 invariant-loop-i l = record {
   keeps : KeepsSeats l.fn.ledger l.ledger;
-  seated : (isrc : List ℕ) → recording_number l.fn.ledger isrc ≡ Some l.recording → SeatedMore (seat_at l.ledger isrc) l.fn.plan.items l.plan.items (take l.i (zip l.work.parties l.work.shares));
+  seated : (isrc : List ℕ) → recording_number l.fn.ledger isrc ≡ Some l.recording
+      → SeatedMore (seat_at l.ledger isrc) l.fn.plan.items l.plan.items (take l.i (zip l.work.parties l.work.shares));
 }

@@ -13,7 +13,8 @@ pub plan_work-requires : goal.plan_work-requires
 plan_work-requires c = (c.requires.0, c.loop-work.invariant.keeps.recordings c.requires.0 ∙ c.requires.1)
 
 pub returns-in_err-plan_work-clause-keeps : goal.returns-in_err-plan_work-clause-keeps
-returns-in_err-plan_work-clause-keeps c = seats_twice c.args.ledger.now c.loop-work.ledger c.plan_work.new.ledger c.loop-work.invariant.keeps c.plan_work.ensures.keeps
+returns-in_err-plan_work-clause-keeps c =
+    seats_twice c.args.ledger.now c.loop-work.ledger c.plan_work.new.ledger c.loop-work.invariant.keeps c.plan_work.ensures.keeps
 
 pub loop-work-preserved : goal.loop-work-preserved
 loop-work-preserved c =
@@ -27,10 +28,12 @@ loop-work-preserved c =
       keeps = seats_twice c.args.ledger.now c.loop-work.ledger c.plan_work.new.ledger before.keeps c.plan_work.ensures.keeps;
       seated = λ isrc is.
           subst (SeatedMore (seat_at c.plan_work.new.ledger isrc) c.args.plan.now.items c.plan_work.new.plan.items) (sym shares) (
-          seated_more (seat_at c.loop-work.ledger isrc) (seat_at c.plan_work.new.ledger isrc) c.args.plan.now.items c.loop-work.plan.items c.plan_work.new.plan.items (shares_of ws) (f w) (c.plan_work.ensures.keeps.seats isrc) (before.seated isrc is)
+          seated_more (seat_at c.loop-work.ledger isrc) (seat_at c.plan_work.new.ledger isrc) c.args.plan.now.items c.loop-work.plan.items
+          c.plan_work.new.plan.items (shares_of ws) (f w) (c.plan_work.ensures.keeps.seats isrc) (before.seated isrc is)
           (c.in_ok-plan_work.ensures.seated isrc (before.keeps.recordings isrc ∙ is)));
     }
 
 pub returns-clause-seated : goal.returns-clause-seated
 returns-clause-seated c = λ isrc is.
-    subst (λ ws. SeatedMore (seat_at c.loop-work.ledger isrc) c.args.plan.now.items c.loop-work.plan.items (shares_of ws)) (take_all c.loop-work.work-index c.args.works.now c.loop-work-test.false) (c.loop-work.invariant.seated isrc is)
+    subst (λ ws. SeatedMore (seat_at c.loop-work.ledger isrc) c.args.plan.now.items c.loop-work.plan.items (shares_of ws))
+    (take_all c.loop-work.work-index c.args.works.now c.loop-work-test.false) (c.loop-work.invariant.seated isrc is)

@@ -21,7 +21,8 @@ add_usages-requires-clause-planned c =
     let works : c.as_slice-works.result.now ≡ c.args.block.now.works = c.as_slice-works.ensures ∙ ap (λ b. b.works) c.block.view_is in (
       c.args.isrc,
       c.as_slice-works.result.now,
-      subst (λ us. IsPlanned c.fill.new.ledger c.fill.new.summaries c.args.isrc c.as_slice-works.result.now us c.fill.new.self) (sym usages) (c.in_ok-fill.ensures.planned c.args.block.now.usages c.requires.found),
+      subst (λ us. IsPlanned c.fill.new.ledger c.fill.new.summaries c.args.isrc c.as_slice-works.result.now us c.fill.new.self) (sym usages)
+          (c.in_ok-fill.ensures.planned c.args.block.now.usages c.requires.found),
       subst (λ ws. share_total ws ≤ 1000000) (sym works) c.requires.shares,
     )
 
@@ -42,7 +43,9 @@ returns-clause-ok c =
     let usages : c.as_slice.result.now ≡ c.args.block.now.usages = c.as_slice.ensures ∙ ap (λ b. b.usages) c.block.view_is in
     let works : c.as_slice-works.result.now ≡ c.args.block.now.works = c.as_slice-works.ensures ∙ ap (λ b. b.works) c.block.view_is in
     let places = same_places c.args.self.now.summaries c.fill.new.summaries c.fill.ensures.same.shown in
-    let planned = subst (λ us. IsPlanned c.fill.new.ledger c.fill.new.summaries c.args.isrc c.as_slice-works.result.now us c.fill.new.self) (sym usages) (c.in_ok-fill.ensures.planned c.args.block.now.usages c.requires.found) in
+    let planned =
+    subst (λ us. IsPlanned c.fill.new.ledger c.fill.new.summaries c.args.isrc c.as_slice-works.result.now us c.fill.new.self) (sym usages)
+    (c.in_ok-fill.ensures.planned c.args.block.now.usages c.requires.found) in
     let room = c.block.invariant in
     let long = ap length c.as_slice.ensures in
     let few : length c.as_slice.result.now ≤ 63 = omega arith in

@@ -9,5 +9,6 @@ abbrev pub invariant-loop-share : goal.invariant-loop-share
 invariant-loop-share l = record {
   seats : part_seats l.parts.items ≡ part_seats l.fn.parts.items;
   owed : (n : ℕ) (seat : List ℕ → Option ℕ) (es : List (List ℕ × ℕ)) → HaveSeats seat n l.shares es
-      → (q : List ℕ) → owed_in l.parts.items (seat q) ≡ owed_plus (owed_in l.fn.parts.items (seat q)) (owed_for q (map (part_of l.amount) (take l.share-index es)));
+      → (q : List ℕ) → owed_in l.parts.items (seat q) ≡ owed_plus (owed_in l.fn.parts.items (seat q))
+      (owed_for q (map (part_of l.amount) (take l.share-index es)));
 }

@@ -13,7 +13,8 @@ abbrev none : SeatShare
 none = record { seat = 0; share = 0 }
 
 pub returns-in_err-place-clause-grows : goal.returns-in_err-place-clause-grows
-returns-in_err-place-clause-grows c = parts_twice c.args.parts.now.items.items c.loop-share.parts.items.items c.place.new.self.items.items c.loop-share.invariant.grows c.place.ensures.grows
+returns-in_err-place-clause-grows c =
+    parts_twice c.args.parts.now.items.items c.loop-share.parts.items.items c.place.new.self.items.items c.loop-share.invariant.grows c.place.ensures.grows
 
 pub returns-in_err-place-clause-below : goal.returns-in_err-place-clause-below
 returns-in_err-place-clause-below c = λ n seats below.
@@ -42,4 +43,5 @@ loop-share-preserved c =
 
 pub returns-clause-wide : goal.returns-clause-wide
 returns-clause-wide c =
-    subst (λ xs. HaveParts xs c.loop-share.parts.items.items) (take_all c.loop-share.share-index c.args.shares.now c.loop-share-test.false) c.loop-share.invariant.wide
+    subst (λ xs. HaveParts xs c.loop-share.parts.items.items)
+    (take_all c.loop-share.share-index c.args.shares.now c.loop-share-test.false) c.loop-share.invariant.wide

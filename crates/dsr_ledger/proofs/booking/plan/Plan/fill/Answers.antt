@@ -18,8 +18,13 @@ plan_lines-requires-clause-there c =
     let there = c.in_ok-recording.ensures.there in
     let works = c.in_ok-plan_works.ensures.seated isrc there in
     let empty : c.clear.new.self.items ≡ [] = search rules in
-    let items = c.as_slice.ensures.value ∙ works.items ∙ ap (λ l. l ++ works.more) empty in
-    (isrc, shares_of c.args.works.now, c.plan_works.ensures.keeps.recordings isrc ∙ there, subst (λ ss. AreSeated (seat_at c.plan_works.new.ledger isrc) ss (shares_of c.args.works.now)) (sym items) works.seated)
+    let items = c.as_slice.ensures.value ∙ works.items ∙ ap (λ l. l ++ works.more) empty in (
+      isrc,
+      shares_of c.args.works.now,
+      c.plan_works.ensures.keeps.recordings isrc
+          ∙ there,
+      subst (λ ss. AreSeated (seat_at c.plan_works.new.ledger isrc) ss (shares_of c.args.works.now)) (sym items) works.seated,
+    )
 
 pub plan_lines-requires-clause-named : goal.plan_lines-requires-clause-named
 plan_lines-requires-clause-named c = (c.requires.0, c.requires.1 ∙ ap (map Some) (sym c.as_slice-2.ensures.value))
@@ -44,8 +49,11 @@ returns-clause-planned c = λ us named.
     (λ lined. record {
       recording_is = lines.recordings isrc ∙ at;
       seated = subst (λ ss. AreSeated (seat_at c.plan_lines.new.ledger isrc) ss (shares_of c.args.works.now)) (sym items) (
-          seated_grows (seat_at c.plan_works.new.ledger isrc) (seat_at c.plan_lines.new.ledger isrc) (λ q i e. lines.seats isrc q ∙ e) works.more (shares_of c.args.works.now) works.seated);
+          seated_grows (seat_at c.plan_works.new.ledger isrc) (seat_at c.plan_lines.new.ledger isrc) (λ q i e. lines.seats isrc q ∙ e) works.more
+          (shares_of c.args.works.now) works.seated);
       counted = (λ j. map (λ (u : Usage). c.plan_lines.ensures.same.index u.summary_id j) us) ∙ named;
-      lined = subst (λ ss. AreLined c.plan_lines.new.ledger (place_at c.plan_lines.new.summaries) isrc ss us c.plan_lines.new.plan.items) c.as_slice.ensures.value lined;
+      lined =
+          subst (λ ss. AreLined c.plan_lines.new.ledger (place_at c.plan_lines.new.summaries) isrc ss us c.plan_lines.new.plan.items) c.as_slice.ensures.value
+          lined;
     })
     (c.plan_lines.ensures.lined isrc us at (named ∙ ap (map Some) (sym c.as_slice-2.ensures.value)))

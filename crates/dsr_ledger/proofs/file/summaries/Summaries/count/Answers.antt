@@ -15,7 +15,8 @@ count-requires c =
     let e = c.pair_mut-state.ensures in
     let v = c.pair_mut-state.result.1.now in
     c.requires.fits (shown v) (
-    ap (option_map shown) (value_here bytes_eq bytes_eq-Decides nat_list_eq_equiv m c.args.number _ v e.unique e.value c.args.usage.now.summary_id c.requires.there))
+    ap (option_map shown) (value_here bytes_eq bytes_eq-Decides nat_list_eq_equiv m c.args.number _ v e.unique e.value c.args.usage.now.summary_id
+    c.requires.there))
 
 pub returns-clause-index : goal.returns-clause-index
 returns-clause-index c = λ q. ap (position (bytes_eq q)) (keys-with_value_at c.args.self.now.states c.args.number c.count.new.self)
@@ -28,5 +29,6 @@ returns-clause-shown c = λ q.
     let u = c.args.usage.now in
     let s = shown_at c.args.self.now q in
     changed bytes_eq bytes_eq-Decides nat_list_eq_equiv m c.args.number _ v e.unique e.value shown c.count.new.self (shown_plus u) c.count.ensures.shown q
-    ∙ ap (λ k. cond (bytes_eq k q) (option_map (shown_plus u) s) s) (key_is bytes_eq bytes_eq-Decides nat_list_eq_equiv m c.args.number _ v e.unique e.value u.summary_id c.requires.there)
+    ∙ ap (λ k. cond (bytes_eq k q) (option_map (shown_plus u) s) s)
+    (key_is bytes_eq bytes_eq-Decides nat_list_eq_equiv m c.args.number _ v e.unique e.value u.summary_id c.requires.there)
     ∙ counted q u s

@@ -29,7 +29,9 @@ add-requires-clause-fits c =
     let ls = c.args.self.now.lines.items in
     let v = c.index_mut.result.now in
     let p = c.requires.fits in
-    let read = read_here nat_eq same_number (line_tally p.1) no_tally (line_in ls) p.3 ls c.args.number v (items_are_numbered key_of ls) p.5 c.index_mut.ensures.value in
+    let read =
+    read_here nat_eq same_number (line_tally p.1) no_tally (line_in ls) p.3 ls c.args.number v
+    (items_are_numbered key_of ls) p.5 c.index_mut.ensures.value in
     (p.0, p.1, p.2, p.4, subst (TallyFits 1) read p.6, p.7)
 
 pub invariant_of-self : goal.invariant_of-self
@@ -49,7 +51,8 @@ invariant_of-self c =
     }
 
 pub returns-clause-keys : goal.returns-clause-keys
-returns-clause-keys c = numbers_kept key_of c.args.self.now.lines.items c.args.number c.index_mut.result.now c.add.new.self c.index_mut.ensures.value c.add.ensures.key
+returns-clause-keys c =
+    numbers_kept key_of c.args.self.now.lines.items c.args.number c.index_mut.result.now c.add.new.self c.index_mut.ensures.value c.add.ensures.key
 
 pub returns-clause-wide : goal.returns-clause-wide
 returns-clause-wide c =
@@ -62,5 +65,6 @@ returns-clause-wide c =
 
 pub returns-clause-tally : goal.returns-clause-tally
 returns-clause-tally c = λ n seat es key have at k.
-    tally_changed seat (tally_with c.args.usage.now (map (part_of c.args.usage.now.amount) es)) c.args.self.now.lines.items c.args.number c.index_mut.result.now c.add.new.self key c.index_mut.ensures.value c.add.ensures.key
+    tally_changed seat (tally_with c.args.usage.now (map (part_of c.args.usage.now.amount) es)) c.args.self.now.lines.items c.args.number c.index_mut.result.now
+    c.add.new.self key c.index_mut.ensures.value c.add.ensures.key
     (c.add.ensures.tally n seat es have) at k

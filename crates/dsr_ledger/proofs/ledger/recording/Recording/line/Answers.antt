@@ -14,13 +14,16 @@ pub widen-requires-clause-below : goal.widen-requires-clause-below
 widen-requires-clause-below c = subst (λ ss. AreSeatsBelow (length (seat_numbers ss)) c.args.shares.now) (sym c.line_of.ensures.seats) c.requires
 
 pub returns-in_err-widen-clause-grows : goal.returns-in_err-widen-clause-grows
-returns-in_err-widen-clause-grows c = grow_twice c.args.self.now.lines.items c.line_of.new.self.lines.items c.widen.new.self.lines.items c.line_of.ensures.grows c.widen.ensures.grows
+returns-in_err-widen-clause-grows c =
+    grow_twice c.args.self.now.lines.items c.line_of.new.self.lines.items c.widen.new.self.lines.items c.line_of.ensures.grows c.widen.ensures.grows
 
 pub returns-in_err-widen-clause-keys : goal.returns-in_err-widen-clause-keys
-returns-in_err-widen-clause-keys c = subst (λ ks. IsWithNumber (line_keys c.args.self.now.lines.items) ks c.args.key) (sym c.widen.ensures.keys) c.line_of.ensures.keys
+returns-in_err-widen-clause-keys c =
+    subst (λ ks. IsWithNumber (line_keys c.args.self.now.lines.items) ks c.args.key) (sym c.widen.ensures.keys) c.line_of.ensures.keys
 
 pub returns-clause-grows : goal.returns-clause-grows
-returns-clause-grows c = grow_twice c.args.self.now.lines.items c.line_of.new.self.lines.items c.widen.new.self.lines.items c.line_of.ensures.grows c.widen.ensures.grows
+returns-clause-grows c =
+    grow_twice c.args.self.now.lines.items c.line_of.new.self.lines.items c.widen.new.self.lines.items c.line_of.ensures.grows c.widen.ensures.grows
 
 pub returns-clause-keys : goal.returns-clause-keys
 returns-clause-keys c = subst (λ ks. IsWithNumber (line_keys c.args.self.now.lines.items) ks c.args.key) (sym c.widen.ensures.keys) c.line_of.ensures.keys

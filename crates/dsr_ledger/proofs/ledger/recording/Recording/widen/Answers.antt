@@ -45,4 +45,5 @@ returns-clause-wide c =
     let r = c.args.self.now in
     let l = c.index_mut.result.now in
     let w : Line = record { key = l.key; is_booked = l.is_booked; sums = l.sums; parts = c.widen.new.parts } in
-    on_ok_weaker c.widen.result (λ wide. record { line = w; there = written_there r.lines.items c.args.number w c.requires.there; wide = wide }) c.widen.ensures.wide
+    on_ok_weaker c.widen.result (λ wide. record { line = w; there = written_there r.lines.items c.args.number w c.requires.there; wide = wide })
+    c.widen.ensures.wide

@@ -15,7 +15,8 @@ use Rattle.dsr_ledger.specs.SummaryKeys.{summary_key_eq, summary_key_in}
 use Rattle.dsr_ledger.specs.Tallies.{Tally, line_keys, lines_tally, IsWide, tally_with, TallyFits}
 use Rattle.dsr_ledger.specs.Recordings.{party_number, key_number, seat_of, recording_tally, IsLineOf}
 use Rattle.dsr_ledger.proofs.NumberedLemmas.{same_Some}
-use Rattle.dsr_ledger.proofs.LedgerLemmas.{got, each_put, each_related, related, summary_keys_are_numbered, changed_tally, LineHere, line_here, got_here, key_here}
+use Rattle.dsr_ledger.proofs.LedgerLemmas.{got, each_put, each_related, related, summary_keys_are_numbered, changed_tally, LineHere, line_here, got_here}
+use Rattle.dsr_ledger.proofs.LedgerLemmas.{key_here}
 use Rattle.dsr_ledger.proofs.TextLemmas.{text_itself}
 use Rattle.dsr_ledger.proofs.ledger.recordings.Ledger.add.Goals as goal
 
@@ -34,7 +35,9 @@ add-requires-clause-fits c =
     let v = c.pair_mut-found.result.1.now in
     let found = got_here l.recordings c.args.recording _ v v e.unique e.value p.0 p.3.recording_is in
     let h = line_here l p.0 p.1 p.2 c.args.recording c.args.line c.args.shares.now v p.3 found in
-    let fits = subst (TallyFits 1) (ap (recording_tally (party_number l) (key_number l p.1)) found ∙ ap (λ o. recording_tally (party_number l) o (Some v)) h.number_is) p.4 in
+    let fits =
+    subst (TallyFits 1) (ap (recording_tally (party_number l) (key_number l p.1)) found ∙ ap (λ o. recording_tally (party_number l) o (Some v)) h.number_is)
+    p.4 in
     (length (seat_numbers v.seats), seat_of (party_number l) v, p.2, h.number, h.seats, h.line, fits, p.5)
 
 pub invariant_of-self : goal.invariant_of-self
@@ -70,7 +73,8 @@ returns-clause-numbers c =
           (ap (λ ss. place_by (party_number l) (seat_numbers ss) name) same) (λ o. refl) isrc;
       lines = λ isrc key.
           each_related m c.args.recording k v w e.unique e.value
-          (λ (a : Option Recording) b. option_and_then (λ r. place_by (key_number l) (line_keys r.lines.items) key) b ≡ option_and_then (λ r. place_by (key_number l) (line_keys r.lines.items) key) a)
+          (λ (a : Option Recording) b. option_and_then (λ r. place_by (key_number l) (line_keys r.lines.items) key) b
+          ≡ option_and_then (λ r. place_by (key_number l) (line_keys r.lines.items) key) a)
           (ap (λ ks. place_by (key_number l) ks key) c.add.ensures.keys) (λ o. refl) isrc;
       wide = λ isrc ss i.
           each_related m c.args.recording k v w e.unique e.value
@@ -95,10 +99,13 @@ returns-clause-tally c = λ isrc key es is q.
     let seat : seat_of party w ≡ seat_of party v = ap (λ ss. place_by party (seat_numbers ss)) c.add.ensures.seats in
     let own = key_here m c.args.recording k v e.value isrc is.recording_is in
     related m c.args.recording k v w e.unique e.value
-    (λ x (a : Option Recording) b. (sk : SummaryKey) → recording_tally party (number sk) b ≡ cond (bytes_eq isrc x && summary_key_eq key sk) (f (recording_tally party (number sk) a)) (recording_tally party (number sk) a))
+    (λ x (a : Option Recording) b. (sk : SummaryKey) → recording_tally party (number sk) b
+    ≡ cond (bytes_eq isrc x && summary_key_eq key sk) (f (recording_tally party (number sk) a)) (recording_tally party (number sk) a))
     (λ sk.
     changed_tally number (length l.summary_keys.keys) (summary_keys_are_numbered l.summary_keys.keys) party f v w key h.number h.number_is
     (λ j. ap (λ s. lines_tally s w.lines.items (Some j)) seat ∙ change j) sk
-    ∙ ap (λ b. cond (b && summary_key_eq key sk) (f (recording_tally party (number sk) (Some v))) (recording_tally party (number sk) (Some v))) (sym (ap (bytes_eq isrc) own ∙ text_itself isrc)))
-    (λ x other o sk. ap (λ b. cond (b && summary_key_eq key sk) (f (recording_tally party (number sk) o)) (recording_tally party (number sk) o)) (sym (ap (λ y. bytes_eq y x) (sym own) ∙ other)))
+    ∙ ap (λ b. cond (b && summary_key_eq key sk) (f (recording_tally party (number sk) (Some v))) (recording_tally party (number sk) (Some v)))
+    (sym (ap (bytes_eq isrc) own ∙ text_itself isrc)))
+    (λ x other o sk. ap (λ b. cond (b && summary_key_eq key sk) (f (recording_tally party (number sk) o)) (recording_tally party (number sk) o))
+    (sym (ap (λ y. bytes_eq y x) (sym own) ∙ other)))
     q.isrc (summary_key_in q)

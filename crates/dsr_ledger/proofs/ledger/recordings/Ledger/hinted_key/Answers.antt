@@ -17,5 +17,6 @@ returns-then-eq c =
     let alike : summary_key_eq k c.args.key.now ≡ true = search rules in
     let found = c.in_ok-numbered.ensures.lookup in
     let at : slice_get l.summary_keys.keys c.args.hint ≡ Some k =
-    subst (λ (ks : List SummaryKey). slice_get ks c.args.hint ≡ Some k) c.as_slice.ensures.keys (got_at c.as_slice.result.now c.args.hint k found.3.0 found.1) in
+    subst (λ (ks : List SummaryKey). slice_get ks c.args.hint ≡ Some k) c.as_slice.ensures.keys
+    (got_at c.as_slice.result.now c.args.hint k found.3.0 found.1) in
     ap (key_number l) (sym ((same_summary_key k c.args.key.now).0 alike)) ∙ number_at summary_key_eq same_summary_key l.summary_keys.keys c.args.hint k apart at

@@ -33,6 +33,7 @@ returns-then-eq c = λ isrc is.
     let named : slice_get l.parties.keys n ≡ Some text =
     subst (λ (ks : List (List ℕ)). slice_get ks n ≡ Some text) c.as_slice-3.ensures.keys (got_at c.as_slice-3.result.now n text called.3.0 called.1) in
     let number = ap (party_number l) (sym (same_text text c.args.name.now alike)) ∙ number_at bytes_eq bytes_eq-Decides l.parties.keys n text apart named in
-    ap (option_and_then (λ r. seat_of (party_number l) r c.args.name.now)) (value_here bytes_eq bytes_eq-Decides nat_list_eq_equiv m c.args.recording k v unique at isrc is)
+    ap (option_and_then (λ r. seat_of (party_number l) r c.args.name.now))
+    (value_here bytes_eq bytes_eq-Decides nat_list_eq_equiv m c.args.recording k v unique at isrc is)
     ∙ ap (option_and_then (place_in (seat_numbers v.seats))) number
     ∙ v.seats.apart c.args.hint n seat

@@ -14,7 +14,8 @@ use Rattle.dsr_ledger.specs.Recordings.{party_number, key_number, seat_of, seat_
 use Rattle.dsr_ledger.specs.Seated.{AreSeated}
 use Rattle.dsr_ledger.proofs.NumberedLemmas.{same_Some}
 use Rattle.dsr_ledger.proofs.RecordingLemmas.{below_with, if_ok_weaker}
-use Rattle.dsr_ledger.proofs.LedgerLemmas.{got, got_here, put_here, each_put, each_related, parties_are_numbered, summary_keys_are_numbered, grown_tally, grown_lines}
+use Rattle.dsr_ledger.proofs.LedgerLemmas.{got, got_here, put_here, each_put, each_related, parties_are_numbered, summary_keys_are_numbered, grown_tally}
+use Rattle.dsr_ledger.proofs.LedgerLemmas.{grown_lines}
 use Rattle.dsr_ledger.proofs.PlaceByLemmas.{by_numbered}
 use Rattle.dsr_ledger.proofs.SeatedLemmas.{seats_below}
 use Rattle.dsr_ledger.proofs.ledger.recordings.Ledger.line.Goals as goal
@@ -28,7 +29,8 @@ line-requires c =
     let found = got_here l.recordings c.args.recording _ v v e.unique e.value p.0 p.2 in
     let seat : seat_at l p.0 ≡ seat_of (party_number l) v = λ j name. option_and_then (λ (x : Recording). seat_of (party_number l) x name) (found j) in
     let numbered = by_numbered (party_number l) (length l.parties.keys) (seat_numbers v.seats) (parties_are_numbered l.parties.keys) in
-    seats_below (seat_of (party_number l) v) (length (seat_numbers v.seats)) numbered.below c.args.shares.now p.1 (subst (λ s. AreSeated s c.args.shares.now p.1) seat p.3)
+    seats_below (seat_of (party_number l) v) (length (seat_numbers v.seats)) numbered.below c.args.shares.now p.1
+    (subst (λ s. AreSeated s c.args.shares.now p.1) seat p.3)
 
 pub invariant_of-self : goal.invariant_of-self
 invariant_of-self c =
@@ -44,7 +46,8 @@ invariant_of-self c =
       seated = each_put m c.args.recording k v w e.unique e.value (λ r. AreBelow (length l.parties.keys) (seat_numbers r.seats)) l.seated
           (subst (λ ss. AreBelow (length l.parties.keys) (seat_numbers ss)) (sym c.line.ensures.seats) (l.seated k v at));
       keyed = each_put m c.args.recording k v w e.unique e.value (λ r. AreBelow (length l.summary_keys.keys) (line_keys r.lines.items)) l.keyed
-          (below_with (line_keys v.lines.items) (line_keys w.lines.items) c.args.number (length l.summary_keys.keys) c.line.ensures.keys below (l.keyed k v at));
+          (below_with (line_keys v.lines.items) (line_keys w.lines.items) c.args.number (length l.summary_keys.keys) c.line.ensures.keys below
+          (l.keyed k v at));
     }
 
 pub returns-clause-keeps : goal.returns-clause-keeps
@@ -70,7 +73,8 @@ returns-clause-keeps c =
           (ap (λ ss. place_by party (seat_numbers ss) name) same) (λ o. refl) isrc;
       lines = λ isrc.
           each_related m c.args.recording k v w e.unique e.value
-          (λ (a : Option Recording) b. (q : SummaryKey) (i : ℕ) → option_and_then (λ r. place_by (key_number l) (line_keys r.lines.items) q) a ≡ Some i → option_and_then (λ r. place_by (key_number l) (line_keys r.lines.items) q) b ≡ Some i)
+          (λ (a : Option Recording) b. (q : SummaryKey) (i : ℕ) → option_and_then (λ r. place_by (key_number l) (line_keys r.lines.items) q) a ≡ Some i
+          → option_and_then (λ r. place_by (key_number l) (line_keys r.lines.items) q) b ≡ Some i)
           (grown_lines (key_number l) v.lines.items w.lines.items grow.numbers) (λ o q i is. is) isrc;
       wide = λ isrc ss i.
           each_related m c.args.recording k v w e.unique e.value
@@ -86,7 +90,8 @@ returns-clause-there c = λ isrc key is known.
     let put = put_here l.recordings c.args.recording _ c.pair_mut-found.result.1.now w e.unique e.value isrc is in
     if_ok_weaker c.line.result
     (λ i h. (
-      ap (option_and_then (λ r. place_by (key_number l) (line_keys r.lines.items) key)) put ∙ ap (option_and_then (place_in (line_keys w.lines.items))) known ∙ h.0,
+      ap (option_and_then (λ r. place_by (key_number l) (line_keys r.lines.items) key)) put ∙ ap (option_and_then (place_in (line_keys w.lines.items))) known
+          ∙ h.0,
       λ r found. subst (λ (x : Recording). IsWide c.args.shares.now x.lines.items i) (same_Some w r (sym put ∙ found)) h.1,
     ))
     c.line.ensures.there

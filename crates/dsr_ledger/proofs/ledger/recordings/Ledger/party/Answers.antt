@@ -39,4 +39,5 @@ returns-clause-there c =
     let none : party_number l name ≡ None = search rules in
     let all : c.insert.new.self.keys ≡ ks ++ name ∷ [] = search rules in
     let long : length ks ≡ c.in-Ok.number = search rules in
-    ap (position (bytes_eq name)) all ∙ place_more bytes_eq bytes_eq-Decides ks name name none ∙ ap (λ b. cond b (Some (length ks)) (party_number l name)) (text_itself name) ∙ ap Some long
+    ap (position (bytes_eq name)) all ∙ place_more bytes_eq bytes_eq-Decides ks name name none
+    ∙ ap (λ b. cond b (Some (length ks)) (party_number l name)) (text_itself name) ∙ ap Some long

@@ -25,22 +25,28 @@ invariant_of-self c =
     let w = c.in_ok-made.made in
     let old = get bytes_eq l.recordings in
     let new = get bytes_eq c.insert.new.self in
-    let made : Updates bytes_eq l.recordings c.insert.new.self c.args.isrc (Some w) → (q : List ℕ) → new q ≡ cond (bytes_eq c.args.isrc q) (Some w) (old q) = λ u. u.0 in
+    let made : Updates bytes_eq l.recordings c.insert.new.self c.args.isrc (Some w) → (q : List ℕ) → new q ≡ cond (bytes_eq c.args.isrc q) (Some w) (old q) =
+    λ u. u.0 in
     let same : IsUnchanged l.recordings c.insert.new.self → (q : List ℕ) → new q ≡ old q = λ e q. unchanged l.recordings c.insert.new.self e q in
     let ok = on_ok_weaker c.insert.result made c.insert.ensures.updates in
     let err = on_err_weaker c.insert.result same c.insert.ensures.err in
     let n = length l.parties.keys in
     let k = length l.summary_keys.keys in
     record {
-      seated = each_inserted c.insert.result c.args.isrc w old new ok err (λ r. AreBelow n (seat_numbers r.seats)) l.seated (subst (AreBelow n) (sym c.in_ok-made.ensures.seats) (none_below n));
-      keyed = each_inserted c.insert.result c.args.isrc w old new ok err (λ r. AreBelow k (line_keys r.lines.items)) l.keyed (subst (λ ls. AreBelow k (line_keys ls)) (sym c.in_ok-made.ensures.lines) (none_below k));
+      seated =
+          each_inserted c.insert.result c.args.isrc w old new ok err (λ r. AreBelow n (seat_numbers r.seats)) l.seated
+          (subst (AreBelow n) (sym c.in_ok-made.ensures.seats) (none_below n));
+      keyed =
+          each_inserted c.insert.result c.args.isrc w old new ok err (λ r. AreBelow k (line_keys r.lines.items)) l.keyed
+          (subst (λ ls. AreBelow k (line_keys ls)) (sym c.in_ok-made.ensures.lines) (none_below k));
     }
 
 pub returns-clause-same : goal.returns-clause-same
 returns-clause-same c = λ q.
     let l = c.args.self.now in
     let absent : get bytes_eq l.recordings c.args.isrc ≡ None = search rules in
-    made_tally c.args.isrc c.in_ok-made.made (get bytes_eq l.recordings) (get bytes_eq c.insert.new.self) c.in_ok-insert.ensures.updates.0 (party_number l) (key_number l (summary_key_in q)) absent c.in_ok-made.ensures.lines q.isrc
+    made_tally c.args.isrc c.in_ok-made.made (get bytes_eq l.recordings) (get bytes_eq c.insert.new.self) c.in_ok-insert.ensures.updates.0 (party_number l)
+    (key_number l (summary_key_in q)) absent c.in_ok-made.ensures.lines q.isrc
 
 pub returns-clause-there : goal.returns-clause-there
 returns-clause-there c =
@@ -50,7 +56,8 @@ returns-clause-there c =
     let absent : get bytes_eq m isrc ≡ None = search rules in
     let long : length m.entries ≡ c.len-number.result = search rules in
     let all : keys c.insert.new.self ≡ keys m ++ isrc ∷ [] =
-    ap (λ es. keys_of es) (c.in_ok-insert.ensures.entries ∙ insert_entry-new bytes_eq m isrc c.in_ok-made.made absent) ∙ map-append (λ (e : List ℕ × Recording). e.0) m.entries ((isrc, c.in_ok-made.made) ∷ []) in
+    ap (λ es. keys_of es) (c.in_ok-insert.ensures.entries ∙ insert_entry-new bytes_eq m isrc c.in_ok-made.made absent)
+    ∙ map-append (λ (e : List ℕ × Recording). e.0) m.entries ((isrc, c.in_ok-made.made) ∷ []) in
     ap (position (bytes_eq isrc)) all ∙ place_more bytes_eq bytes_eq-Decides (keys m) isrc isrc none
     ∙ ap (λ b. cond b (Some (length (keys m))) (index_of bytes_eq m isrc)) (text_itself isrc)
     ∙ ap Some (length-map m.entries (λ (e : List ℕ × Recording). e.0) ∙ long)

@@ -61,7 +61,8 @@ returns-clause-keeps c =
       recordings = λ isrc. ap (position (bytes_eq isrc)) (keys-with_value_at m c.args.recording w);
       seats = λ isrc.
           each_related m c.args.recording k v w e.unique e.value
-          (λ (a : Option Recording) b. (q : List ℕ) (i : ℕ) → option_and_then (λ r. seat_of party r q) a ≡ Some i → option_and_then (λ r. seat_of party r q) b ≡ Some i)
+          (λ (a : Option Recording) b. (q : List ℕ) (i : ℕ) → option_and_then (λ r. seat_of party r q) a ≡ Some i
+          → option_and_then (λ r. seat_of party r q) b ≡ Some i)
           (seated_grows party all numbered v w c.args.name.now n there c.seat.ensures.lines c.seat.ensures.more) (λ o q i is. is) isrc;
     })
 
@@ -73,6 +74,7 @@ returns-clause-there c = λ isrc is.
     let at = ap (λ rs. index_of bytes_eq rs isrc) c.party.ensures.recordings ∙ is in
     if_ok_weaker c.seat.result
     (λ s h.
-    ap (option_and_then (λ r. seat_of (party_number l) r c.args.name.now)) (put_here l.recordings c.args.recording _ c.pair_mut-found.result.1.now w e.unique e.value isrc at)
+    ap (option_and_then (λ r. seat_of (party_number l) r c.args.name.now))
+    (put_here l.recordings c.args.recording _ c.pair_mut-found.result.1.now w e.unique e.value isrc at)
     ∙ ap (option_and_then (place_in (seat_numbers w.seats))) c.in_ok-party.ensures.there ∙ h)
     c.seat.ensures.there

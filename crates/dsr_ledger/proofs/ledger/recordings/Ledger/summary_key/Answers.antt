@@ -18,9 +18,11 @@ returns-clause-keeps c =
     let none : key_number l key ≡ None = search rules in
     let all : c.insert.new.self.keys ≡ ks ++ key ∷ [] = search rules in
     let new : SummaryKey → Option ℕ = λ x. position (summary_key_eq x) c.insert.new.self.keys in
-    let is : (x : SummaryKey) → new x ≡ cond (summary_key_eq key x) (Some (length ks)) (key_number l x) = λ x. ap (position (summary_key_eq x)) all ∙ place_more summary_key_eq same_summary_key ks key x none in
+    let is : (x : SummaryKey) → new x ≡ cond (summary_key_eq key x) (Some (length ks)) (key_number l x) =
+    λ x. ap (position (summary_key_eq x)) all ∙ place_more summary_key_eq same_summary_key ks key x none in
     record {
-      tallies = λ q. key_kept (key_number l) new key (length ks) none is (summary_key_in q) (party_number l) (get bytes_eq l.recordings q.isrc) (l.keyed q.isrc);
+      tallies =
+          λ q. key_kept (key_number l) new key (length ks) none is (summary_key_in q) (party_number l) (get bytes_eq l.recordings q.isrc) (l.keyed q.isrc);
       recordings = λ isrc. refl;
       seats = λ isrc name. refl;
       lines = λ isrc k i e. key_line (key_number l) new key (length ks) none is k (get bytes_eq l.recordings isrc) (l.keyed isrc) ∙ e;
@@ -35,4 +37,5 @@ returns-clause-there c =
     let none : key_number l key ≡ None = search rules in
     let all : c.insert.new.self.keys ≡ ks ++ key ∷ [] = search rules in
     let long : length ks ≡ c.in-Ok.number = search rules in
-    ap (position (summary_key_eq key)) all ∙ place_more summary_key_eq same_summary_key ks key key none ∙ ap (λ b. cond b (Some (length ks)) (key_number l key)) ((same_summary_key key key).1 refl) ∙ ap Some long
+    ap (position (summary_key_eq key)) all ∙ place_more summary_key_eq same_summary_key ks key key none
+    ∙ ap (λ b. cond b (Some (length ks)) (key_number l key)) ((same_summary_key key key).1 refl) ∙ ap Some long
