@@ -189,7 +189,8 @@ fn is_set(matches: &ArgMatches<'_>, id: &str) -> bool
 
 /// The names of the files, in the order given.
 fn read_names(alloc: Global, matches: &ArgMatches<'_>) -> Result<Names, NoMemory>
-    ensures { IfOk result (λ names. names ≡ unwrap_or (all_of (codes "FILE") (rows_of (found_of matches.now))) []) }
+    ensures { IfOk result (λ names.
+        names ≡ unwrap_or (all_of (codes "FILE") (rows_of (found_of matches.now))) []) }
 {
     match matches.get_strs("FILE") {
         Some(words) => copy_names(alloc, words),
@@ -211,7 +212,8 @@ fn copy_names(alloc: Global, words: &[&str]) -> Result<Names, NoMemory>
 
 /// The name of the layout file, if one was given.
 fn read_layout_name(alloc: Global, matches: &ArgMatches<'_>) -> Result<Option<Text>, NoMemory>
-    ensures { IfOk result (λ name. name ≡ first_of (codes "layout") (rows_of (found_of matches.now))) }
+    ensures { IfOk result (λ name.
+        name ≡ first_of (codes "layout") (rows_of (found_of matches.now))) }
 {
     match matches.get_str("layout") {
         Some(word) => Ok(Some(Text::copy_of(alloc, word)?)),

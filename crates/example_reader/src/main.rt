@@ -46,27 +46,30 @@ fn feed<P: Print>(rt: &P, file: &mut FileReader, piece: &[u8]) -> io::Result<()>
     Ok(())
 }
 
-/// Reads until the end, a failed read, the first fault or the limit.
-fn drain<P: Print, R: Read>(rt: &P, file: &mut FileReader, reader: &mut R) -> io::Result<()>
+/// Reads until the end, a failed read, the first fault or the limit. Returns how the text ends.
+fn drain<P: Print, R: Read>(rt: &P, file: &mut FileReader, reader: &mut R) -> io::Result<Ending>
     requires open { ending_told file.old ≡ None }
     ensures open { ending_told file.new ≡ None }
 {
     let mut piece = [0u8; 4096];
     for _ in 0..u64::MAX {
-        let count = reader.read(&mut piece).unwrap_or(0);
-        if count == 0 || file.done() || file.given() + 4096 > MOST {
+        if file.done() || file.given() + 4096 > MOST {
             break;
         }
-        feed(rt, file, &piece[..count])?;
+        match reader.read(&mut piece) {
+            Ok(0) => return Ok(Ending::Whole),
+            Ok(count) => feed(rt, file, &piece[..count])?,
+            Err(_) => return Ok(Ending::Read),
+        }
     }
-    Ok(())
+    Ok(Ending::Reads)
 }
 
 /// Reports the end of the text to the reader, and prints the remaining events.
-fn end<P: Print>(rt: &P, file: &mut FileReader) -> io::Result<()>
+fn end<P: Print>(rt: &P, file: &mut FileReader, ending: Ending) -> io::Result<()>
     requires { ending_told file.old ≡ None }
 {
-    while let Some(event) = file.finish(Ending::Whole) {
+    while let Some(event) = file.finish(ending) {
         show(rt, &event)?;
     }
     Ok(())
@@ -76,8 +79,8 @@ fn end<P: Print>(rt: &P, file: &mut FileReader) -> io::Result<()>
 fn print_events<P: Print, R: Read>(rt: &P, file: &mut FileReader, reader: &mut R) -> io::Result<()>
     requires { ending_told file.old ≡ None }
 {
-    drain(rt, file, reader)?;
-    end(rt, file)
+    let ending = drain(rt, file, reader)?;
+    end(rt, file, ending)
 }
 
 fn main(rt: HostRuntime) -> io::Result<()> {
