@@ -41,8 +41,8 @@ This is the standard one:
 Exit status:
   0  the report is complete and has no remarks
   1  the statement has remarks: look at its FILE, MISSING, SUMMARY and REJECT lines
-  2  a fault of the command line, a file that cannot be opened, or a bad layout
-  3  the work could not be finished; standard error says why";
+  2  an error in the command line, a file that cannot be opened, or a bad layout
+  3  the run failed; standard error says why";
 
 /// `--capacity N`.
 fn capacity_option<'a>(alloc: Global) -> Arg<'a>
@@ -68,7 +68,7 @@ fn reads_option<'a>(alloc: Global) -> Arg<'a>
         .action(ArgAction::Set)
         .value_parser(clap::value_parser!(u32).range(1..=16_777_216))
         .help(
-            "After how many reads of at most 4096 bytes a file is given up: 1 to 16777216 [default: 4194304]",
+            "The maximum number of reads for each file, of at most 4096 bytes each: 1 to 16777216 [default: 4194304]",
         )
 }
 
@@ -81,7 +81,7 @@ fn layout_option<'a>(alloc: Global) -> Arg<'a>
         .long("layout")
         .value_name("FILE")
         .action(ArgAction::Set)
-        .help("A file that says where the columns of the records stand")
+        .help("A file with the positions of the columns in each record")
 }
 
 /// `--progress`.
@@ -92,7 +92,7 @@ fn progress_option<'a>(alloc: Global) -> Arg<'a>
     Arg::new(alloc, "progress")
         .long("progress")
         .action(ArgAction::SetTrue)
-        .help("Tells on standard error how far the reading is, at most twice a second")
+        .help("Reports the progress of the reading on standard error, at most twice a second")
 }
 
 /// The names of the files.
