@@ -24,8 +24,13 @@ struct Mirror {
 }
 
 impl Outlet for Mirror {
-    ghost told = { λ s. record { contents = None; failed = s.failed; flushes = s.flushes; unflushed
-        = s.unflushed } };
+    ghost told = { λ s. record {
+      contents = None;
+      failed = s.failed;
+      flushes = s.flushes;
+      unflushed
+          = s.unflushed;
+    } };
 
     fn write(&mut self, piece: &[u8]) -> Result<usize, Failed> {
         if !stands_at(self.expected, self.written, piece) {

@@ -54,8 +54,12 @@ impl Page {
 }
 
 impl Outlet for Page {
-    ghost told = { λ s. record { contents = None; failed = s.failed; flushes = s.flush_count;
-        unflushed = s.unflushed } };
+    ghost told = { λ s. record {
+      contents = None;
+      failed = s.failed;
+      flushes = s.flush_count;
+      unflushed = s.unflushed;
+    } };
 
     fn write(&mut self, piece: &[u8]) -> Result<usize, Failed> {
         let count = piece.len().min(self.at_once).min(self.room);
