@@ -4,11 +4,11 @@ ghost use Rattle.dsr_cells.specs.Lines.{without_return};
 ghost use Rattle.dsr_file.specs.Readings.{is_skipped_text, file_fault};
 ghost use Rattle.dsr_file.specs.Counting.{foot_in, summary_count, block_count};
 
-use crate::event::EventPart;
+use crate::closed::Closed;
 use crate::fault::{Ending, FileFault, Outcome};
 use crate::stage::Stage;
 use dsr_records::{
-    Block, CheckedLine, Foot, Kind, Layout, Record, RecordFault, TypedLine, text_of,
+    CheckedLine, Foot, Kind, Layout, Record, RecordFault, TypedLine, text_of,
 };
 use std::alloc::Global;
 
@@ -120,7 +120,7 @@ impl Grammar {
     }
 
     /// Takes a record that does not belong to a block and has no early fault.
-    fn add(&mut self, alloc: Global, item: Record, closed: &mut Option<EventPart>) -> Step
+    fn add(&mut self, alloc: Global, item: Record, closed: &mut Closed) -> Step
         requires lines { self.old.lines < 2 ^ 40 - 1 }
         requires free { IsFree self.old.stage item }
         requires other { IsOther item }
@@ -134,7 +134,7 @@ impl Grammar {
         let Ok(()) = self.stage.add(alloc, item, closed) else {
             return Step::NoMemory;
         };
-        let blocks = block_count(closed);
+        let blocks = closed.block_count();
         self.count(summaries, blocks);
         match self.fault_at_foot(foot) {
             Some(fault) => Step::Faulty(fault),
@@ -146,10 +146,8 @@ impl Grammar {
     #[inline(always)]
     fn open(
         &mut self,
-        alloc: Global,
         line: &CheckedLine<'_>,
-        spare: &mut Option<Block>,
-        closed: &mut Option<EventPart>,
+        closed: &mut Closed,
     ) -> Step
         requires lines { self.old.lines < 2 ^ 40 - 1 }
         requires resource { kind_of_record line.now ≡ kinds.Resource }
@@ -158,10 +156,10 @@ impl Grammar {
             → RecordSteps ls line.now result closed.new self.new }
         ensures counts { self.new.lines ≤ self.old.lines + 1 }
     {
-        let Ok(()) = self.stage.open(alloc, line, spare, closed) else {
+        let Ok(()) = self.stage.open(line, closed) else {
             return Step::NoMemory;
         };
-        let blocks = block_count(closed);
+        let blocks = closed.block_count();
         self.count(0, blocks);
         Step::Good
     }
@@ -172,8 +170,7 @@ impl Grammar {
         &mut self,
         alloc: Global,
         line: &CheckedLine<'_>,
-        spare: &mut Option<Block>,
-        closed: &mut Option<EventPart>,
+        closed: &mut Closed,
     ) -> Step
         requires lines { self.old.lines < 2 ^ 40 - 1 }
         requires none { closed.old ≡ None }
@@ -186,7 +183,7 @@ impl Grammar {
         }
         match line.kind() {
             Kind::Work | Kind::Usage => self.add_member(alloc, line),
-            Kind::Resource => self.open(alloc, line, spare, closed),
+            Kind::Resource => self.open(line, closed),
             _ => self.other(alloc, line, closed),
         }
     }
@@ -196,7 +193,7 @@ impl Grammar {
         &mut self,
         alloc: Global,
         line: &CheckedLine<'_>,
-        closed: &mut Option<EventPart>,
+        closed: &mut Closed,
     ) -> Step
         requires lines { self.old.lines < 2 ^ 40 - 1 }
         requires free { IsFree self.old.stage line.now }
@@ -238,8 +235,7 @@ impl Grammar {
         alloc: Global,
         layout: &Layout,
         text: &str,
-        spare: &mut Option<Block>,
-        closed: &mut Option<EventPart>,
+        closed: &mut Closed,
     ) -> Step
         requires lines { self.old.lines < 2 ^ 40 - 1 }
         requires none { closed.old ≡ None }
@@ -254,7 +250,7 @@ impl Grammar {
         let mut line = TypedLine::new();
         match line.find(layout, text) {
             Err(fault) => Step::Faulty(file_fault(fault)),
-            Ok(()) => self.typed(alloc, &line, spare, closed),
+            Ok(()) => self.typed(alloc, &line, closed),
         }
     }
 
@@ -265,8 +261,7 @@ impl Grammar {
         &mut self,
         alloc: Global,
         line: &TypedLine<'_>,
-        spare: &mut Option<Block>,
-        closed: &mut Option<EventPart>,
+        closed: &mut Closed,
     ) -> Step
         requires lines { self.old.lines < 2 ^ 40 - 1 }
         requires none { closed.old ≡ None }
@@ -275,10 +270,10 @@ impl Grammar {
         ensures counts { self.new.lines ≤ self.old.lines + 1 }
     {
         match line.kind() {
-            Kind::Usage => self.tested(alloc, line, spare, closed),
-            Kind::Work => self.tested(alloc, line, spare, closed),
-            Kind::Resource => self.tested(alloc, line, spare, closed),
-            _ => self.tested_apart(alloc, line, spare, closed),
+            Kind::Usage => self.tested(alloc, line, closed),
+            Kind::Work => self.tested(alloc, line, closed),
+            Kind::Resource => self.tested(alloc, line, closed),
+            _ => self.tested_apart(alloc, line, closed),
         }
     }
 
@@ -288,8 +283,7 @@ impl Grammar {
         &mut self,
         alloc: Global,
         line: &TypedLine<'_>,
-        spare: &mut Option<Block>,
-        closed: &mut Option<EventPart>,
+        closed: &mut Closed,
     ) -> Step
         requires lines { self.old.lines < 2 ^ 40 - 1 }
         requires none { closed.old ≡ None }
@@ -297,7 +291,7 @@ impl Grammar {
             → LineSteps ls (of_record line.now) result closed.new self.new }
         ensures counts { self.new.lines ≤ self.old.lines + 1 }
     {
-        self.tested(alloc, line, spare, closed)
+        self.tested(alloc, line, closed)
     }
 
     /// Checks the cells of a line, and takes its record if they have no fault.
@@ -306,8 +300,7 @@ impl Grammar {
         &mut self,
         alloc: Global,
         line: &TypedLine<'_>,
-        spare: &mut Option<Block>,
-        closed: &mut Option<EventPart>,
+        closed: &mut Closed,
     ) -> Step
         requires lines { self.old.lines < 2 ^ 40 - 1 }
         requires none { closed.old ≡ None }
@@ -317,7 +310,7 @@ impl Grammar {
     {
         match line.check() {
             Err(fault) => Step::Faulty(file_fault(fault)),
-            Ok(line) => self.checked(alloc, &line, spare, closed),
+            Ok(line) => self.checked(alloc, &line, closed),
         }
     }
 
@@ -327,8 +320,7 @@ impl Grammar {
         &mut self,
         alloc: Global,
         line: &CheckedLine<'_>,
-        spare: &mut Option<Block>,
-        closed: &mut Option<EventPart>,
+        closed: &mut Closed,
     ) -> Step
         requires lines { self.old.lines < 2 ^ 40 - 1 }
         requires none { closed.old ≡ None }
@@ -341,7 +333,7 @@ impl Grammar {
                 self.skip_record();
                 Step::Good
             }
-            _ => self.record(alloc, line, spare, closed),
+            _ => self.record(alloc, line, closed),
         }
     }
 
@@ -351,8 +343,7 @@ impl Grammar {
         alloc: Global,
         layout: &Layout,
         line: &[u8],
-        spare: &mut Option<Block>,
-        closed: &mut Option<EventPart>,
+        closed: &mut Closed,
     ) -> Step
         requires lines { self.old.lines < 2 ^ 40 - 1 }
         requires none { closed.old ≡ None }
@@ -362,7 +353,7 @@ impl Grammar {
         ensures counts { self.new.lines ≤ self.old.lines + 1 }
     {
         match text_of(strip_return(line)) {
-            Some(text) => self.text(alloc, layout, text, spare, closed),
+            Some(text) => self.text(alloc, layout, text, closed),
             None => Step::Faulty(FileFault::NotUtf8),
         }
     }
@@ -456,15 +447,6 @@ fn summary_count(item: &Record) -> u64
 {
     match item {
         Record::Summary(_) => 1,
-        _ => 0,
-    }
-}
-
-fn block_count(part: &Option<EventPart>) -> u64
-    ensures { result ≡ block_count part.now }
-{
-    match part {
-        Some(EventPart::Block(_)) => 1,
         _ => 0,
     }
 }

@@ -60,6 +60,7 @@
 //! calls.
 #![tactic(auto)]
 
+mod closed;
 mod cutter;
 mod event;
 mod event_list;

@@ -89,11 +89,12 @@ fn read_all<R: Source, S: Sink>(
         → IsRefused layout max_reads (R.told reader.old) (R.told reader.new) (S.list sink.new) e) }
 {
     let mut piece = [0u8; PIECE];
+    let mut part = file.nothing_closed();
     for _ in 0..max_reads {
         match reader.read(&mut piece) {
             Err(_) => return finish_all(file, Ending::Read, sink),
             Ok(0) => return finish_all(file, Ending::Whole, sink),
-            Ok(n) => feed(file, &piece[..n], sink)?,
+            Ok(n) => feed(file, &mut part, &piece[..n], sink)?,
         }
         if file.done() {
             return Ok(file.outcome());

@@ -70,7 +70,8 @@ fn give_all<S: Sink>(
         → HasEvents layout (b ++ bytes.now) (Some ending) (S.list sink.new)
         × EndsWith (S.list sink.new) o) }
 {
-    feed(file, bytes, sink)?;
+    let mut part = file.nothing_closed();
+    feed(file, &mut part, bytes, sink)?;
     if file.done() {
         return Ok(file.outcome());
     }
