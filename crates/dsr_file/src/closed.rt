@@ -1,6 +1,7 @@
 //! What a line closes, in a place that is lent from the sink down to the stage.
-ghost use Rattle.std.specs.Prelude.{◌≡◌, ◌++◌, ◌∷◌, ◌<◌, ◌^◌, [], IfOk, OnOk, OnErr, IfErr, IfSome, Some, None, is_some};
+ghost use Rattle.std.specs.Prelude.{◌≡◌, ◌++◌, ◌∷◌, ◌<◌, ◌^◌, [], true, IfOk, OnOk, OnErr, IfSome, Some, None, is_some};
 ghost use Rattle.dsr_records.specs.declared.kinds.Kind.TheVariants as kinds;
+ghost use Rattle.dsr_records.specs.Blocks.{OpensBlock};
 ghost use Rattle.dsr_records.specs.Reads.{has_texts, kind_of_record};
 ghost use Rattle.dsr_file.specs.Runs.{IsSomeRun};
 ghost use Rattle.dsr_file.specs.Counting.{block_count};
@@ -107,17 +108,17 @@ impl Closed {
     pub(crate) fn open_next(
         &mut self,
         line: &CheckedLine<'_>,
-        open: &mut Block,
+        current: &mut Block,
     ) -> Result<(), NoMemory>
         requires resource { kind_of_record line.now ≡ kinds.Resource }
         requires none { self.old ≡ None }
-        ensures opens { OnOk result (OpensBlock line.now open.new) }
-        ensures closed { OnOk result (self.new ≡ Some (EventPart.Block open.old)) }
+        ensures opens { OnOk result (OpensBlock line.now current.new) }
+        ensures closed { OnOk result (self.new ≡ Some (EventPart.Block current.old)) }
         ensures memory { OnErr result (has_texts line.now ≡ true) }
-        ensures refused { OnErr result ((self.new ≡ None) × (open.new ≡ open.old)) }
+        ensures refused { OnErr result ((self.new ≡ None) × (current.new ≡ current.old)) }
     {
         line.open_block(self.alloc, &mut self.block)?;
-        mem::swap(open, &mut self.block);
+        mem::swap(current, &mut self.block);
         self.has_block = true;
         Ok(())
     }

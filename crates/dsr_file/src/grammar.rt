@@ -2,7 +2,7 @@
 ghost use Rattle.std.specs.Prelude.{◌≡◌, ◌+◌, ◌-◌, ◌<◌, ◌≤◌, ◌^◌, [], length, List, None, option_and_then};
 ghost use Rattle.dsr_cells.specs.Lines.{without_return};
 ghost use Rattle.dsr_file.specs.Readings.{is_skipped_text, file_fault};
-ghost use Rattle.dsr_file.specs.Counting.{foot_in, summary_count, block_count};
+ghost use Rattle.dsr_file.specs.Counting.{foot_in, summary_count};
 
 use crate::closed::Closed;
 use crate::fault::{Ending, FileFault, Outcome};

@@ -560,7 +560,7 @@ impl FileReader {
     {
         let line = self.grammar.lines + 1;
         self.phase = Phase::Done(Outcome::Whole);
-        let mut closed = self.nothing_closed();
+        let mut closed = Closed::over(self.alloc, None);
         let step = self
             .grammar
             .line(self.alloc, &self.layout, self.cutter.line(), &mut closed);
