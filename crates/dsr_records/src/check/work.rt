@@ -141,6 +141,7 @@ impl<'l> WorkLine<'l> {
     }
 
     /// Writes the work over another one.
+    #[inline(always)]
     pub(crate) fn write(&self, alloc: Global, work: &mut Work) -> Result<(), NoMemory>
         ensures { OnOk result (work.new ≡ self.now) }
     {
