@@ -19,7 +19,7 @@ use std::marker::Model;
 /// digits of the year and five of the designation, with no hyphens.
 ///
 /// Contracts see it as its twelve bytes. ISRCs are ordered by their bytes.
-#[derive(Clone, Copy, PartialEq, Eq)]
+#[derive(Clone, Copy)]
 pub struct Isrc {
     bytes: [u8; 12],
 }
@@ -82,6 +82,21 @@ impl Isrc {
         let b = &self.bytes;
         u32::from_be_bytes([b[8], b[9], b[10], b[11]])
     }
+}
+
+/// Two ISRCs are compared by two numbers each, not byte by byte.
+impl PartialEq for Isrc {
+    ghost eq = { bytes_eq };
+
+    ghost laws = { partial_equiv_from_equiv nat_list_eq_equiv };
+
+    fn eq(&self, other: &Isrc) -> bool {
+        self.cmp(other).is_eq()
+    }
+}
+
+impl Eq for Isrc {
+    ghost laws = { nat_list_eq_equiv };
 }
 
 impl Hash for Isrc {

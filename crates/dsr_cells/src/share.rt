@@ -40,6 +40,7 @@ impl Default for Share {
 impl Share {
     /// The share that the text spells, in percent: 1 to 3 digits and, optionally, a point and 1 to 4
     /// digits after it, at most 100. None for every other text.
+    #[inline(always)]
     pub fn read(text: &str) -> Option<Share>
         ensures { result ≡ share_of text.now }
     {

@@ -1,5 +1,5 @@
 //! Reading the cells of a row: each call returns what the column's text spells, or the fault of the column.
-ghost use Rattle.std.specs.Prelude.{◌≡◌, ℕ, List, Some, None, MatchResult, is_some, false};
+ghost use Rattle.std.specs.Prelude.{◌≡◌, ℕ, List, [], ◌∷◌, ◌++◌, Some, None, MatchResult, OnOk, OnSome, is_some, false, take};
 ghost use Rattle.dsr_cells.specs.Days.{day_of};
 ghost use Rattle.dsr_cells.specs.Numbers.{amount_of, number_of, usages_of};
 ghost use Rattle.dsr_cells.specs.Texts.{is_identifier_text};
@@ -7,13 +7,18 @@ ghost use Rattle.dsr_records.specs.declared.kinds.Column.TheVariants as columns;
 ghost use Rattle.dsr_records.specs.declared.kinds.RecordFault.TheVariants as faults;
 ghost use Rattle.dsr_records.specs.Rows.{ReadsText, ReadsValue, share_count};
 ghost use Rattle.dsr_records.specs.Tables.{cell_of, file_number_of, is_spelled, may_be_empty, text_of};
+ghost use Rattle.dsr_records.specs.Values.{shares_of};
 
 use crate::kinds::{Column, RecordFault};
 use crate::row::Row;
+use arrayvec::ArrayVec;
 use dsr_cells::{
     Amount, Day, Share, is_currency, is_identifier, is_territory, is_use_type, read_number,
     read_usages, values,
 };
+
+/// The first shares of a list cell, at most four. Most works have no more, so their cells are read only once.
+pub(crate) type FirstShares = ArrayVec<Share, 4>;
 
 /// The file number that a text spells: 1 to 9999.
 fn file_number(text: &str) -> Option<u32>
@@ -174,24 +179,44 @@ pub(crate) fn read_amount(row: &Row<'_>, i: usize) -> Result<Amount, RecordFault
     }
 }
 
-/// The number of shares in a list cell; None if a raw part is not a share.
-fn count_shares(cell: &str) -> Option<usize>
-    ensures { result ≡ share_count cell.now }
+/// Adds a share to the first ones, unless there are four.
+#[inline(always)]
+fn add_share(first: &mut FirstShares, share: Share)
+    ensures { first.new.items ≡ take 4 (first.old.items ++ share ∷ []) }
+{
+    if !first.is_full() {
+        first.push(share);
+    }
+}
+
+/// The number of shares in a list cell; None if a raw part is not a share. The first four are written over `first`.
+fn count_shares(cell: &str, first: &mut FirstShares) -> Option<usize>
+    requires { first.old.items ≡ [] }
+    ensures count { result ≡ share_count cell.now }
+    ensures first { OnSome result (first.new.items ≡ take 4 (shares_of cell.now)) }
 {
     let mut count = 0;
     for part in values(cell) {
-        Share::read(part)?;
+        let share = Share::read(part)?;
+        add_share(first, share);
         count += 1;
     }
     Some(count)
 }
 
-/// The number of shares in the cell of the column Shares, which may be missing.
+/// The number of shares in the cell of the column Shares, which may be missing. The first four are written over
+/// `first`.
 #[inline(always)]
-pub(crate) fn read_share_count(row: &Row<'_>, i: usize) -> Result<usize, RecordFault>
-    ensures { ReadsValue share_count row.now columns.Shares i result }
+pub(crate) fn read_share_count(
+    row: &Row<'_>,
+    i: usize,
+    first: &mut FirstShares,
+) -> Result<usize, RecordFault>
+    requires { first.old.items ≡ [] }
+    ensures count { ReadsValue share_count row.now columns.Shares i result }
+    ensures first { OnOk result (first.new.items ≡ take 4 (shares_of (text_of row.now i))) }
 {
-    match count_shares(row.text(i)) {
+    match count_shares(row.text(i), first) {
         Some(count) => Ok(count),
         None => Err(RecordFault::Bad(Column::Shares)),
     }

@@ -62,6 +62,7 @@ impl<'l> ResourceLine<'l> {
     }
 
     /// Writes the resource over another one.
+    #[inline(always)]
     pub(crate) fn write(&self, alloc: Global, resource: &mut Resource) -> Result<(), NoMemory>
         ensures { OnOk result (resource.new ≡ self.now) }
     {

@@ -60,6 +60,7 @@ impl<'l> UsageLine<'l> {
     }
 
     /// Writes the usage over another one.
+    #[inline(always)]
     pub(crate) fn write(&self, alloc: Global, usage: &mut Usage) -> Result<(), NoMemory>
         ensures { OnOk result (usage.new ≡ self.now) }
     {

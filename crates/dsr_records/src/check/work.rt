@@ -10,7 +10,8 @@ ghost use Rattle.dsr_records.specs.Tables.{is_share};
 use crate::kinds::{Column, RecordFault};
 use crate::record::Work;
 use crate::row::Row;
-use crate::spelled::{read_identifier, read_share_count};
+use crate::spelled::{FirstShares, read_identifier, read_share_count};
+use arrayvec::ArrayVec;
 use dsr_cells::{NoMemory, Share, Shares, Texts, count_values, read_texts_into, values};
 use std::alloc::Global;
 use std::default::MadeWith;
@@ -24,10 +25,11 @@ pub(crate) struct WorkLine<'l> {
     title: &'l str,
     parties: &'l str,
     shares: &'l str,
+    first_shares: FirstShares,
 }
 
 impl<'l> Model for WorkLine<'l> {
-    ghost use Rattle.std.specs.Prelude.{◌≡◌, true, length};
+    ghost use Rattle.std.specs.Prelude.{◌≡◌, true, length, take};
     ghost use Rattle.std.specs.List.{list_all};
     ghost use Rattle.dsr_cells.specs.Values.{raw_parts};
     ghost use Rattle.dsr_records.specs.Tables.{is_share};
@@ -45,7 +47,8 @@ impl<'l> Model for WorkLine<'l> {
     } };
 
     ghost invariant = { λ w. (list_all is_share (raw_parts w.shares.now) ≡ true)
-        × (length (raw_parts w.parties.now) ≡ length (raw_parts w.shares.now)) };
+        × (length (raw_parts w.parties.now) ≡ length (raw_parts w.shares.now))
+        × (w.first_shares.items ≡ take 4 (shares_of w.shares.now)) };
 }
 
 /// The work that a row spells, or its first fault.
@@ -56,7 +59,8 @@ pub(crate) fn check_work<'l>(row: &Row<'l>) -> Result<WorkLine<'l>, RecordFault>
 {
     let block_id = read_identifier(row, 0, Column::BlockId, 32)?;
     let parties = row.text(3);
-    let count = read_share_count(row, 4)?;
+    let mut first_shares = ArrayVec::new();
+    let count = read_share_count(row, 4, &mut first_shares)?;
     if count_values(parties) != count {
         return Err(RecordFault::Uneven);
     }
@@ -66,6 +70,7 @@ pub(crate) fn check_work<'l>(row: &Row<'l>) -> Result<WorkLine<'l>, RecordFault>
         title: row.text(2),
         parties,
         shares: row.text(4),
+        first_shares,
     })
 }
 
@@ -82,7 +87,29 @@ fn read_shares_into(cell: &str, shares: &mut Shares) -> Result<(), NoMemory>
     Ok(())
 }
 
+/// Copies shares over the items of a list.
+fn copy_shares(from: &[Share], shares: &mut Shares) -> Result<(), NoMemory>
+    ensures { OnOk result (shares.new ≡ from.now) }
+{
+    shares.restart();
+    for share in from {
+        let copy = shares.next()?;
+        *copy = *share;
+    }
+    Ok(())
+}
+
 impl<'l> WorkLine<'l> {
+    /// Writes the shares over a list. If there may be more than the first ones, their cell is read again.
+    fn write_shares(&self, shares: &mut Shares) -> Result<(), NoMemory>
+        ensures { OnOk result (shares.new ≡ self.now.shares) }
+    {
+        if self.first_shares.is_full() {
+            return read_shares_into(self.shares, shares);
+        }
+        copy_shares(self.first_shares.as_slice(), shares)
+    }
+
     /// Writes the parties and their shares over two lists. If memory is refused, both become empty.
     fn write_parties(
         &self,
@@ -95,7 +122,7 @@ impl<'l> WorkLine<'l> {
         ensures refused { OnErr result ((parties.new ≡ []) × (shares.new ≡ [])) }
     {
         if read_texts_into(alloc, self.parties, parties).is_ok()
-            && read_shares_into(self.shares, shares).is_ok()
+            && self.write_shares(shares).is_ok()
         {
             return Ok(());
         }
@@ -114,6 +141,7 @@ impl<'l> WorkLine<'l> {
     }
 
     /// Writes the work over another one.
+    #[inline(always)]
     pub(crate) fn write(&self, alloc: Global, work: &mut Work) -> Result<(), NoMemory>
         ensures { OnOk result (work.new ≡ self.now) }
     {
