@@ -20,7 +20,7 @@ use Rattle.dsr_ledger.specs.Sums.{int_sum_by}
 use Rattle.dsr_ledger.specs.Files.{File, Filed, filed, filed_after, standing, summaries_of, first_head}
 use Rattle.dsr_ledger.specs.Findings.{is_ours, ended_whole, usages_in, naming, difference, differs, differences_in, differences, has_number, is_there}
 use Rattle.dsr_ledger.specs.Findings.{missing_for, rejects_in, rejects}
-use Rattle.dsr_ledger.specs.Summaries.{shown_at, shown_with, nothing_found, found_in}
+use Rattle.dsr_ledger.specs.Summaries.{sums_at, sums_with, no_sums, found_in}
 use Rattle.dsr_ledger.specs.Openings.{openings_of, first_of}
 use Rattle.dsr_ledger.specs.Bookings.{Booking, bookings}
 use Rattle.dsr_ledger.specs.Ledger.{ledger}
@@ -99,7 +99,7 @@ sums_found : (ss : List Summary) (us : List Usage) (id : List ℕ) → list_any 
 sums_found [] us id h = absurd (cc)
 sums_found (s ∷ ss) us id h =
     elim (bytes_eq id s.id) as (λ b. (b || list_any (λ t. bytes_eq id t.id) ss) ≡ true
-    → sums_shown (option_map (λ t. shown_with id us (nothing_found t)) (cond b (Some s) (find (λ t. bytes_eq id t.id) ss)))
+    → sums_shown (option_map (λ t. sums_with id us no_sums) (cond b (Some s) (find (λ t. bytes_eq id t.id) ss)))
     ≡ record { usages = int_sum_by (λ u. u.usages) (naming id us); amount = int_sum_by (λ u. u.amount) (naming id us) }) [
       | true ↦ λ _ i. record {
         usages = zero-add (int_sum_by (λ u. u.usages) (naming id us)) i;
@@ -115,7 +115,7 @@ here_too p (t ∷ done) s ss h = elim (p t) as (λ b. (b || list_any p (done ++ 
 
 -- each summary with its state
 differences_found : (place : ℕ) (m : Summaries) (us : List Usage) (done ss all : List Summary) → all ≡ done ++ ss
-    → ((id : List ℕ) → shown_at m id ≡ found_in all us id) → map (λ s. difference_to place (sums_shown (shown_at m s.id)) s) ss ≡ map (difference place us) ss
+    → ((id : List ℕ) → sums_at m id ≡ found_in all us id) → map (λ s. difference_to place (sums_shown (sums_at m s.id)) s) ss ≡ map (difference place us) ss
 differences_found place m us done [] all split is = refl
 differences_found place m us done (s ∷ ss) all split is =
     let p : Summary → Bool = λ t. bytes_eq s.id t.id in

@@ -3,6 +3,7 @@ use Rattle.std.proofs.Common.{◌≡◌, ℕ, ◌+◌, ◌^◌, ◌<◌, ◌≤�
 use Rattle.std.proofs.Common.{arith}
 use Rattle.std.specs.Prelude.{Option, Some, map, slice_get, Result, Ok, Err, MatchResult, IfOk, OnErr}
 use Rattle.std.specs.Option.{ForSome}
+use Rattle.std.specs.List.{AllByRecursion}
 use Rattle.std.proofs.Math.Logic.{∥∥₁_elim}
 use Rattle.std.proofs.Props.{props}
 use Rattle.dsr_records.specs.Blocks.{BlockParts}
@@ -12,18 +13,23 @@ use Rattle.dsr_ledger.specs.declared.key.Key.{Key}
 use Rattle.dsr_ledger.specs.declared.sums.Sums.{Sums}
 use Rattle.dsr_ledger.specs.declared.file.FileBooks.{FileBooks}
 use Rattle.dsr_ledger.specs.declared.kept.Kept.{Kept}
+use Rattle.dsr_ledger.specs.declared.ledger.recordings.Ledger.{Ledger}
 use Rattle.dsr_ledger.specs.declared.verdict.Verdict.{Verdict}
-use Rattle.dsr_ledger.specs.Files.{File, Filed, standing, opened, with_block, with_outcome}
+use Rattle.dsr_ledger.specs.Files.{File, Filed, standing, opened, summaries_of, with_block, with_outcome}
+use Rattle.dsr_ledger.specs.Bookings.{place_named}
+use Rattle.dsr_ledger.specs.Numbered.{Grows}
 use Rattle.dsr_ledger.specs.Verdicts.{verdict_in, verdict_after}
 use Rattle.dsr_ledger.specs.Openings.{openings_of}
 use Rattle.dsr_ledger.specs.Summaries.{shown_at, ShownFits}
 use Rattle.dsr_ledger.specs.Ranges.{SumsFit}
 use Rattle.dsr_ledger.specs.Tallies.{Tally, key_tally, TallyFits}
-use Rattle.dsr_ledger.specs.Recordings.{tally_at}
-use Rattle.dsr_ledger.specs.FileSteps.{IsSameFile, IsBlockInRange}
+use Rattle.dsr_ledger.specs.Recordings.{tally_at, key_number, KeepsKeys}
+use Rattle.dsr_ledger.specs.FileSteps.{IsSameFile, IsBlockInRange, IsNumberedFile}
 use Rattle.dsr_ledger.specs.Stands.{FileStands, FilesStand, Took}
 use Rattle.dsr_ledger.specs.Books.{IsSmallFile, IsReached, Stands}
-use Rattle.dsr_ledger.proofs.EachLemmas.{each_append}
+use Rattle.dsr_ledger.proofs.EachLemmas.{each_append, each_set, each_weaker}
+use Rattle.dsr_ledger.proofs.IndexMapLemmas.{each_at}
+use Rattle.dsr_ledger.proofs.KeyNumberLemmas.{numbered_grows, same_keys}
 use Rattle.dsr_ledger.proofs.StandLemmas.{stands_same}
 use Rattle.dsr_ledger.proofs.FilesLemmas.{file_at, openings_are, length-stand, stand_push}
 use Rattle.dsr_ledger.proofs.PutLemmas.{lines_took, bookings-opened, bookings-outcome}
@@ -49,6 +55,19 @@ summaries_fit_reached kept k f r is id = λ x e.
     let at = file_at 1 [] kept.files.items y.files k f y.stands.each is in
     summaries_fit f at.filed at.stands (at.own_small y.small) id x e)
 
+IsNumberedFile-prop : (l : Ledger) (f : FileBooks) → IsProp (IsNumberedFile l f)
+IsNumberedFile-prop l f = hlevel props
+
+pub numbered_reached : (kept : Kept) (k : ℕ) (f : FileBooks) → ∥ IsReached kept ∥₁ → slice_get kept.files.items k ≡ Some f → IsNumberedFile kept.ledger f
+numbered_reached kept k f r is =
+    ∥∥₁_elim r (IsNumberedFile-prop kept.ledger f) (λ x. each_at (IsNumberedFile kept.ledger) kept.files.items k f x.numbered is)
+
+-- the files keep the numbers of their summary keys
+all_keep : (a b : Ledger) (fs : List FileBooks) → Grows (key_number a) (key_number b) → AllByRecursion (IsNumberedFile a) fs
+    → AllByRecursion (IsNumberedFile b) fs
+all_keep a b fs grows =
+    each_weaker (IsNumberedFile a) (IsNumberedFile b) (λ f. numbered_grows a b (place_named (summaries_of f.opening)) f.summaries grows) fs
+
 -- what the result of one file means for the books
 pub record Answered {A : Type 0} (f g : FileBooks) (b : BlockParts) (res : Result Verdict A) (old new : Kept) (k : ℕ) : Type 0 where
   pub at : slice_get old.files.items k ≡ Some f
@@ -57,6 +76,15 @@ pub record Answered {A : Type 0} (f g : FileBooks) (b : BlockParts) (res : Resul
   pub ok : (d : Filed) → FileStands f d → IfOk res (λ v. Took d b v g old.ledger new.ledger)
   pub err : OnErr res (IsSameFile f g)
   pub same_ledger : OnErr res ((q : Key) → tally_at new.ledger q ≡ tally_at old.ledger q)
+  pub keys : new.ledger.summary_keys ≡ old.ledger.summary_keys
+  pub numbered : IsNumberedFile new.ledger g
+
+numbered_answered : {A : Type 0} (f g : FileBooks) (b : BlockParts) (res : Result Verdict A) (old new : Kept) (k : ℕ) → Answered f g b res old new k
+    → AllByRecursion (IsNumberedFile old.ledger) old.files.items → AllByRecursion (IsNumberedFile new.ledger) new.files.items
+numbered_answered f g b res old new k a h =
+    subst (AllByRecursion (IsNumberedFile new.ledger)) (sym a.items) (
+    each_set (IsNumberedFile new.ledger) old.files.items k g
+    (all_keep old.ledger new.ledger old.files.items (same_keys old.ledger new.ledger a.keys) h) a.numbered)
 
 pub answered_stands : {A : Type 0} (f g : FileBooks) (b : BlockParts) (res : Result Verdict A) (old new : Kept) (k : ℕ) → Answered f g b res old new k
     → (files : List File) → Stands old files → MatchResult res (λ v. (v ≡ verdict_in files k b) × Stands new (with_block files k b)) (λ _. Stands new files)
@@ -90,8 +118,14 @@ answered_reached f g b (Ok v) old new k a r =
       small =
           at.small (λ x. x.blocks ++ b ∷ []) (λ x. x.outcome) r.small
           (record { few = omega arith; range = each_append IsBlockInRange at.filed.file.blocks (b ∷ []) (at.own_small r.small).range (t.range, tt) });
+      numbered = numbered_answered f g b (Ok v) old new k a r.numbered;
     }
-answered_reached f g b (Err x) old new k a r = record { files = r.files; stands = answered_stands f g b (Err x) old new k a r.files r.stands; small = r.small }
+answered_reached f g b (Err x) old new k a r = record {
+  files = r.files;
+  stands = answered_stands f g b (Err x) old new k a r.files r.stands;
+  small = r.small;
+  numbered = numbered_answered f g b (Err x) old new k a r.numbered;
+}
 
 abbrev pub ended : FileBooks → Outcome → FileBooks
 ended f o = record f { outcome = Some o }
@@ -125,6 +159,11 @@ reached_ended old new k f o is items ledger r =
       files = with_outcome r.files k o;
       stands = stands_ended old new r.files k f o is items ledger r.stands;
       small = at.small (λ x. x.blocks) (λ x. Some o) r.small (record { few = own.few; range = own.range });
+      numbered =
+          subst (AllByRecursion (IsNumberedFile new.ledger)) (sym items) (
+          each_set (IsNumberedFile new.ledger) old.files.items k (ended f o)
+          (subst (λ l. AllByRecursion (IsNumberedFile l) old.files.items) (sym ledger) r.numbered)
+          (subst (λ l. IsNumberedFile l f) (sym ledger) (each_at (IsNumberedFile old.ledger) old.files.items k f r.numbered is)));
     }
 
 -- a file that was opened after these
@@ -132,7 +171,8 @@ abbrev pub OpenedAfter : List FileBooks → Option OpeningParts → FileBooks �
 OpenedAfter fs o f = FileStands f (record { place = length fs + 1; standing = standing (openings_of fs) o; file = opened o })
 
 pub stands_opened : (old new : Kept) (files : List File) (f : FileBooks) (o : Option OpeningParts) → OpenedAfter old.files.items o f
-    → new.files.items ≡ old.files.items ++ f ∷ [] → new.ledger ≡ old.ledger → Stands old files → Stands new (files ++ opened o ∷ [])
+    → new.files.items ≡ old.files.items ++ f ∷ [] → ((q : Key) → tally_at new.ledger q ≡ tally_at old.ledger q) → Stands old files
+    → Stands new (files ++ opened o ∷ [])
 stands_opened old new files f o one items ledger h =
     let same = openings_are 1 [] old.files.items files h.each in
     let place : length old.files.items + 1 ≡ 1 + length old.files.items = omega arith in
@@ -141,32 +181,39 @@ stands_opened old new files f o one items ledger h =
           stand_push 1 [] old.files.items files f (opened o) h.each (
           subst (λ e. FileStands f (record { place = 1 + length old.files.items; standing = standing e o; file = opened o })) same (
           subst (λ m. FileStands f (record { place = m; standing = standing (openings_of old.files.items) o; file = opened o })) place one)));
-      ledger = λ q. ap (λ l. tally_at l q) ledger ∙ h.ledger q ∙ ap (λ bs. key_tally bs q) (sym (bookings-opened 1 [] files o));
+      ledger = λ q. ledger q ∙ h.ledger q ∙ ap (λ bs. key_tally bs q) (sym (bookings-opened 1 [] files o));
     }
 
-pub reached_opened : (old new : Kept) (b : Bool) (f : FileBooks) (o : Option OpeningParts) → OpenedAfter old.files.items o f
-    → new.files.items ≡ cond b (old.files.items ++ f ∷ []) old.files.items → new.ledger ≡ old.ledger → IsReached old → IsReached new
-reached_opened old new false f o one items ledger r = record {
-  files = r.files;
-  stands =
-      record { each = subst (λ fs. FilesStand 1 [] fs r.files) (sym items) r.stands.each; ledger = λ q. ap (λ l. tally_at l q) ledger ∙ r.stands.ledger q };
-  small = r.small;
+-- if nothing was opened
+pub not_opened : (old new : Kept) (files : List File) → new.files.items ≡ old.files.items → ((q : Key) → tally_at new.ledger q ≡ tally_at old.ledger q)
+    → Stands old files → Stands new files
+not_opened old new files items ledger h = record {
+  each = subst (λ fs. FilesStand 1 [] fs files) (sym items) h.each;
+  ledger = λ q. ledger q ∙ h.ledger q;
 }
-reached_opened old new true f o one items ledger r = record {
+
+pub reached_kept : (old new : Kept) → new.files.items ≡ old.files.items → KeepsKeys old.ledger new.ledger → IsReached old → IsReached new
+reached_kept old new items keeps r = record {
+  files = r.files;
+  stands = not_opened old new r.files items keeps.tallies r.stands;
+  small = r.small;
+  numbered = subst (AllByRecursion (IsNumberedFile new.ledger)) (sym items) (all_keep old.ledger new.ledger old.files.items keeps.keys r.numbered);
+}
+
+pub reached_opened : (old new : Kept) (b : Bool) (f : FileBooks) (o : Option OpeningParts) → OpenedAfter old.files.items o f → IsNumberedFile new.ledger f
+    → new.files.items ≡ cond b (old.files.items ++ f ∷ []) old.files.items → KeepsKeys old.ledger new.ledger → IsReached old → IsReached new
+reached_opened old new false f o one own items keeps r = reached_kept old new items keeps r
+reached_opened old new true f o one own items keeps r = record {
   files = r.files ++ opened o ∷ [];
-  stands = stands_opened old new r.files f o one items ledger r.stands;
+  stands = stands_opened old new r.files f o one items keeps.tallies r.stands;
   small = each_append IsSmallFile r.files (opened o ∷ []) r.small (record { few = omega arith; range = tt }, tt);
+  numbered =
+      subst (AllByRecursion (IsNumberedFile new.ledger)) (sym items) (
+      each_append (IsNumberedFile new.ledger) old.files.items (f ∷ []) (all_keep old.ledger new.ledger old.files.items keeps.keys r.numbered) (own, tt));
 }
 
 pub opened_next : (old new : Kept) (f : FileBooks) (o : Option OpeningParts) (files : List File) → OpenedAfter old.files.items o f
-    → new.files.items ≡ old.files.items ++ f ∷ [] → new.ledger ≡ old.ledger → Stands old files
+    → new.files.items ≡ old.files.items ++ f ∷ [] → ((q : Key) → tally_at new.ledger q ≡ tally_at old.ledger q) → Stands old files
     → (f.standing ≡ standing (map (λ x. x.opening) files) o) × Stands new (files ++ opened o ∷ [])
 opened_next old new f o files one items ledger h =
     (one.standing ∙ ap (λ e. standing e o) (openings_are 1 [] old.files.items files h.each), stands_opened old new files f o one items ledger h)
-
--- if nothing was opened
-pub not_opened : (old new : Kept) (files : List File) → new.files.items ≡ old.files.items → new.ledger ≡ old.ledger → Stands old files → Stands new files
-not_opened old new files items ledger h = record {
-  each = subst (λ fs. FilesStand 1 [] fs files) (sym items) h.each;
-  ledger = λ q. ap (λ l. tally_at l q) ledger ∙ h.ledger q;
-}

@@ -1,5 +1,5 @@
 -- What holds of each item of a list.
-use Rattle.std.proofs.Common.{List, [], ◌∷◌, ◌++◌, Bool, true, false, cond}
+use Rattle.std.proofs.Common.{ℕ, zero, suc, List, [], ◌∷◌, ◌++◌, Bool, true, false, cond, set}
 use Rattle.std.specs.Prelude.{filter}
 use Rattle.std.specs.List.{AllByRecursion}
 
@@ -7,6 +7,11 @@ module _ {X : Type 0} (P : X → Type 0) where
   pub each_append : (xs ys : List X) → AllByRecursion P xs → AllByRecursion P ys → AllByRecursion P (xs ++ ys)
   each_append [] ys h k = k
   each_append (x ∷ xs) ys h k = (h.0, each_append xs ys h.1 k)
+
+  pub each_set : (xs : List X) (k : ℕ) (y : X) → AllByRecursion P xs → P y → AllByRecursion P (set xs k y)
+  each_set [] k y h one = tt
+  each_set (x ∷ xs) zero y h one = (one, h.1)
+  each_set (x ∷ xs) (suc k) y h one = (h.0, each_set xs k y h.1 one)
 
   pub each_filter : (p : X → Bool) (xs : List X) → AllByRecursion P xs → AllByRecursion P (filter p xs)
   each_filter p [] h = tt

@@ -1,7 +1,7 @@
 -- An `IndexMap` whose keys' equality is equality of values: the number of a key, and a value written by its number.
 use Rattle.std.proofs.Common.{◌≡◌, ℕ, zero, suc, ◌+◌, Bool, true, false, true≢false, cond, List, [], ◌∷◌, get_or, refl, sym, ap, ◌∙◌, subst, arith}
-use Rattle.std.specs.Prelude.{Option, None, Some, is_some, option_map, slice_get, position, unwrap_or}
-use Rattle.std.specs.List.{IsDistinct, position_from, list_any, AllByRecursion}
+use Rattle.std.specs.Prelude.{Some, is_some, option_map, slice_get, position, unwrap_or}
+use Rattle.std.specs.List.{IsDistinct, position_from, AllByRecursion}
 use Rattle.std.specs.Bool.{Decides}
 use Rattle.std.specs.Cmp.{IsEquivalence}
 use Rattle.std.proofs.lemmas.Iterator.Adapters.{position_from-zero}
@@ -64,23 +64,11 @@ module _ {K : Type 0} (eq : K → K → Bool) (decides : (a b : K) → Decides (
     pub written_here : (w : V) (q : K) → index_of eq m q ≡ Some i → get eq (with_value_at m i w) q ≡ Some w
     written_here w q e = written w q ∙ ap (λ b. cond b (Some w) (get eq m q)) ((decides k q).1 (key_is q e))
 
-    module _ {W : Type 0} (read : V → W) (w : V) where
-      -- a value that reads the same as the one it replaces: nothing that is read changes
-      pub kept : read w ≡ read v → (q : K) → option_map read (get eq (with_value_at m i w) q) ≡ option_map read (get eq m q)
-      kept same q =
-          ap (option_map read) (written w q)
-          ∙ elim (eq k q) as (λ b. eq k q ≡ b → option_map read (cond b (Some w) (get eq m q)) ≡ option_map read (get eq m q)) [
-            | true ↦ λ e. ap Some same ∙ ap (option_map read) (sym (ap (get eq m) (sym ((decides k q).0 e)) ∙ own_value))
-            | false ↦ λ _. refl
-          ] refl
-
-      -- a value that reads as f of the one it replaces: at its key f changes what is read, and nowhere else
-      pub changed : (f : W → W) → read w ≡ f (read v) → (q : K)
-          → option_map read (get eq (with_value_at m i w) q) ≡ cond (eq k q) (option_map f (option_map read (get eq m q))) (option_map read (get eq m q))
-      changed f change q =
-          ap (option_map read) (written w q)
-          ∙ elim (eq k q) as (λ b. eq k q ≡ b → option_map read (cond b (Some w) (get eq m q))
-          ≡ cond b (option_map f (option_map read (get eq m q))) (option_map read (get eq m q))) [
-            | true ↦ λ e. ap Some change ∙ ap (λ o. option_map f (option_map read o)) (sym (ap (get eq m) (sym ((decides k q).0 e)) ∙ own_value))
-            | false ↦ λ _. refl
-          ] refl
+    -- a value that f makes of the one it replaces: f changes the value of its key, and no other
+    pub changed : (f : V → V) (w : V) → w ≡ f v → (q : K) → get eq (with_value_at m i w) q ≡ cond (eq k q) (option_map f (get eq m q)) (get eq m q)
+    changed f w change q =
+        written w q
+        ∙ elim (eq k q) as (λ b. eq k q ≡ b → cond b (Some w) (get eq m q) ≡ cond b (option_map f (get eq m q)) (get eq m q)) [
+          | true ↦ λ e. ap Some change ∙ ap (option_map f) (sym (ap (get eq m) (sym ((decides k q).0 e)) ∙ own_value))
+          | false ↦ λ _. refl
+        ] refl

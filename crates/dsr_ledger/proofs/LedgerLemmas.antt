@@ -225,11 +225,6 @@ module _ (old new : SummaryKey → Option ℕ) (key : SummaryKey) (m : ℕ) (non
   key_places : (r : Recording) → AreBelow m (line_keys r.lines.items) → place_by new (line_keys r.lines.items) q ≡ place_by old (line_keys r.lines.items) q
   key_places r below = by_new_key summary_key_eq same_summary_key old new key m (line_keys r.lines.items) none is below q
 
-  pub key_line : (o : Option Recording) → ((r : Recording) → o ≡ Some r → AreBelow m (line_keys r.lines.items))
-      → option_and_then (λ r. place_by new (line_keys r.lines.items) q) o ≡ option_and_then (λ r. place_by old (line_keys r.lines.items) q) o
-  key_line None below = refl
-  key_line (Some r) below = key_places r (below r refl)
-
   pub key_kept : (party : List ℕ → Option ℕ) (o : Option Recording) → ((r : Recording) → o ≡ Some r → AreBelow m (line_keys r.lines.items))
       → recording_tally party (new q) o ≡ recording_tally party (old q) o
   key_kept party None below = refl

@@ -40,4 +40,5 @@ pub mod ResultLemmas
 pub mod EachLemmas
 pub mod TallyPlusLemmas
 pub mod ShownLemmas
+pub mod KeyNumberLemmas
 pub mod AssemblyLemmas

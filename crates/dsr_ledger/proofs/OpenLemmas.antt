@@ -12,9 +12,10 @@ use Rattle.dsr_records.specs.declared.record.Head.{Head}
 use Rattle.dsr_records.specs.declared.record.Summary.{Summary}
 use Rattle.dsr_file.specs.Openings.{OpeningParts}
 use Rattle.dsr_ledger.specs.declared.report.ReportKey.{ReportKey}
+use Rattle.dsr_ledger.specs.declared.file.summaries.SummaryState.{SummaryState}
 use Rattle.dsr_ledger.specs.Reports.{key_of}
 use Rattle.dsr_ledger.specs.Files.{is_same_report, same_day, has_number_of, first_head}
-use Rattle.dsr_ledger.specs.Summaries.{found_in, nothing_found}
+use Rattle.dsr_ledger.specs.Summaries.{found_in, no_sums, nothing_found}
 use Rattle.dsr_ledger.specs.Openings.{first_of, named, openings_of}
 use Rattle.dsr_ledger.specs.declared.file.FileBooks.{FileBooks}
 use Rattle.dsr_ledger.proofs.TextLemmas.{same_text}
@@ -29,20 +30,27 @@ same_report-itself h =
     (and_from _ _ ((Decides-eqb h.number_of_files h.number_of_files).1 refl) (and_from _ _ (same_day-itself h.first_day) (same_day-itself h.last_day)))
 
 -- one more summary
-find-push : (id : List ℕ) (os : List Summary) (s : Summary) → find (λ x. bytes_eq id x.id) (os ++ s ∷ [])
+pub find-push : (id : List ℕ) (os : List Summary) (s : Summary) → find (λ x. bytes_eq id x.id) (os ++ s ∷ [])
     ≡ first_of (find (λ x. bytes_eq id x.id) os) (named id s)
 find-push id [] s = refl
 find-push id (o ∷ os) s =
     elim (bytes_eq id o.id) as (λ b. cond b (Some o) (find (λ x. bytes_eq id x.id) (os ++ s ∷ []))
     ≡ first_of (cond b (Some o) (find (λ x. bytes_eq id x.id) os)) (named id s)) [ true ↦ refl | false ↦ find-push id os s ]
 
-map-first_of : {A B : Type 0} (f : A → B) (o p : Option A) → option_map f (first_of o p) ≡ first_of (option_map f o) (option_map f p)
+pub map-first_of : {A B : Type 0} (f : A → B) (o p : Option A) → option_map f (first_of o p) ≡ first_of (option_map f o) (option_map f p)
 map-first_of f None p = refl
 map-first_of f (Some x) p = refl
 
 pub found_in-push : (id : List ℕ) (os : List Summary) (s : Summary)
-    → found_in (os ++ s ∷ []) [] id ≡ first_of (found_in os [] id) (option_map nothing_found (named id s))
-found_in-push id os s = ap (option_map nothing_found) (find-push id os s) ∙ map-first_of nothing_found (find (λ x. bytes_eq id x.id) os) (named id s)
+    → found_in (os ++ s ∷ []) [] id ≡ first_of (found_in os [] id) (option_map (λ x. no_sums) (named id s))
+found_in-push id os s = ap (option_map (λ x. no_sums)) (find-push id os s) ∙ map-first_of (λ x. no_sums) (find (λ x. bytes_eq id x.id) os) (named id s)
+
+-- the sums of an added summary
+pub sums_added : (o : Option SummaryState) (n : ℕ) (p : Option Summary)
+    → option_map (λ s. s.sums) (first_of o (option_map (λ x. nothing_found n) p)) ≡ first_of (option_map (λ s. s.sums) o) (option_map (λ x. no_sums) p)
+sums_added (Some s) n p = refl
+sums_added None n None = refl
+sums_added None n (Some s) = refl
 
 first_there : {X : Type 0} (o p : Option X) → is_some o ≡ true → o ≡ first_of o p
 first_there None p e = absurd (false≢true e)

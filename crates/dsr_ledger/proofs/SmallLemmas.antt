@@ -24,8 +24,8 @@ use Rattle.dsr_ledger.specs.Files.{File, Filed, filed_after, standing, summaries
 use Rattle.dsr_ledger.specs.Verdicts.{first_reason, is_foreign, is_doubled, names_unknown, share_total, verdict_by, verdict, judged}
 use Rattle.dsr_ledger.specs.Bookings.{verdict_bookings, block_bookings, filed_bookings, bookings, place_named}
 use Rattle.dsr_ledger.specs.Findings.{usages_in}
-use Rattle.dsr_ledger.specs.Summaries.{Shown, shown_at, shown_with, nothing_found, ShownFits}
-use Rattle.dsr_ledger.specs.Ranges.{IsInRange}
+use Rattle.dsr_ledger.specs.Summaries.{shown_at, sums_with, no_sums, ShownFits}
+use Rattle.dsr_ledger.specs.Ranges.{IsInRange, SumsFit}
 use Rattle.dsr_ledger.specs.Tallies.{tally_of, key_tally, TallyFits}
 use Rattle.dsr_ledger.specs.Recordings.{tally_at}
 use Rattle.dsr_ledger.specs.FileSteps.{IsBlockInRange}
@@ -33,7 +33,7 @@ use Rattle.dsr_ledger.specs.Stands.{FileStands, LedgerStands}
 use Rattle.dsr_ledger.specs.Books.{IsSmallFile}
 use Rattle.dsr_ledger.proofs.EachLemmas.{each_append}
 use Rattle.dsr_ledger.proofs.PutLemmas.{bookings_after}
-use Rattle.dsr_ledger.proofs.ShownLemmas.{shown_fits_after}
+use Rattle.dsr_ledger.proofs.ShownLemmas.{sums_fit_after}
 use Rattle.dsr_ledger.proofs.TallyPlusLemmas.{IsSmall, length-usage_bookings, small_usage_bookings, tally_fits_after, tally_plus-none_left}
 
 booked_last : (xs : List (Bool × Reason)) (x : Bool) (r : Reason) → first_reason (xs ++ (x, r) ∷ []) ≡ Booked → x ≡ false
@@ -138,18 +138,17 @@ small_usages_in (b ∷ bs) h =
     subst (AllByRecursion IsInRange) (sym (flat_map-cons f b bs)) (each_append IsInRange b.usages (flat_map f bs) h.0.range (small_usages_in bs h.1))
 
 found_fits : (o : Option Summary) (id : List ℕ) (us : List Usage) (i n m : ℕ) → length us ≤ i → i + m ≤ n → AllByRecursion IsInRange us → n * 2 ^ 63 < 2 ^ 127
-    → n * 10 ^ 22 < 2 ^ 127 → ForSome (option_map (λ s. shown_with id us (nothing_found s)) o) (ShownFits m)
+    → n * 10 ^ 22 < 2 ^ 127 → ForSome (option_map (λ s. sums_with id us no_sums) o) (SumsFit m)
 found_fits None id us i n m few room small u a = λ x e. absurd (cc)
 found_fits (Some s) id us i n m few room small u a = λ x e.
-    let is : shown_with id us (nothing_found s) ≡ x = cc in
-    subst (ShownFits m) is (shown_fits_after id us (nothing_found s) i n m few room small (record { usages = omega arith; amount = omega arith }))
+    let is : sums_with id us no_sums ≡ x = cc in
+    subst (SumsFit m) is (sums_fit_after id us no_sums i n m few room small (record { usages = omega arith; amount = omega arith }))
 
 -- and 63 more usages fit into the sums of a file's summaries
 pub summaries_fit : (f : FileBooks) (d : Filed) → FileStands f d → IsSmallFile d.file → (id : List ℕ) → ForSome (shown_at f.summaries id) (ShownFits 63)
-summaries_fit f d h small id =
-    let P : Option Shown → Type 0 = λ o. ForSome o (ShownFits 63) in
+summaries_fit f d h small id = λ x e.
     let many = length-usages_in d.file.blocks small.range in
     let few = small.few in
-    subst P (sym (h.summaries id)) (
     found_fits (find (λ s. bytes_eq id s.id) (summaries_of d.file.opening)) id (usages_in d.file.blocks) (2 ^ 37 * 63) (2 ^ 37 * 63 + 63) 63 (omega arith)
-    (omega arith) (small_usages_in d.file.blocks small.range) (omega arith) (omega arith))
+    (omega arith) (small_usages_in d.file.blocks small.range) (omega arith) (omega arith) x.sums
+    (sym (h.summaries id) ∙ ap (option_map (λ s. s.sums)) e)

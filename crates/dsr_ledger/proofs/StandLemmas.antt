@@ -11,48 +11,38 @@ use Rattle.dsr_records.specs.Blocks.{BlockParts}
 use Rattle.dsr_ledger.specs.declared.ledger.recordings.Ledger.{Ledger}
 use Rattle.dsr_ledger.specs.declared.file.FileBooks.{FileBooks}
 use Rattle.dsr_ledger.specs.declared.verdict.Verdict.{Verdict}
-use Rattle.dsr_ledger.specs.declared.verdict.Verdict.TheVariants.{Booked, Rejected}
 use Rattle.dsr_ledger.specs.Files.{Filed, summaries_of}
 use Rattle.dsr_ledger.specs.Verdicts.{has_id, is_summary, verdict_of, verdict_by}
-use Rattle.dsr_ledger.specs.Bookings.{place_of, place_named, block_bookings, verdict_bookings}
+use Rattle.dsr_ledger.specs.Bookings.{verdict_bookings}
 use Rattle.dsr_ledger.specs.Findings.{usages_in, rejects_from}
 use Rattle.dsr_ledger.specs.IdSteps.{is_in}
-use Rattle.dsr_ledger.specs.Summaries.{shown_with, place_at, is_known, found_in, nothing_found}
+use Rattle.dsr_ledger.specs.Summaries.{shown_at, sums_with, no_sums, is_known, found_in}
 use Rattle.dsr_ledger.specs.Tallies.{tally_plus, key_tally}
 use Rattle.dsr_ledger.specs.Recordings.{tally_at}
-use Rattle.dsr_ledger.specs.FileSteps.{IsSameFile, TakesBlock, bookings_by}
+use Rattle.dsr_ledger.specs.FileSteps.{IsSameFile, TakesBlock}
 use Rattle.dsr_ledger.specs.Stands.{FileStands, Took}
 use Rattle.dsr_ledger.proofs.SummaryLemmas.{known_shown, is_some-map}
-use Rattle.dsr_ledger.proofs.ShownLemmas.{shown_with-append}
+use Rattle.dsr_ledger.proofs.ShownLemmas.{sums_with-append, sums_after}
 use Rattle.dsr_ledger.proofs.JudgedLemmas.{rejects_more}
 
 -- the summaries of the state are those of the file
 known_is : (f : FileBooks) (d : Filed) → FileStands f d → (id : List ℕ) → is_known f.summaries id ≡ is_summary (summaries_of d.file.opening) id
 known_is f d h id =
-    sym (known_shown f.summaries id) ∙ ap is_some (h.summaries id) ∙ is_some-map _ (find (λ s. bytes_eq id s.id) (summaries_of d.file.opening))
+    sym (known_shown f.summaries id) ∙ sym (is_some-map (λ s. s.sums) (shown_at f.summaries id)) ∙ ap is_some (h.summaries id)
+    ∙ is_some-map _ (find (λ s. bytes_eq id s.id) (summaries_of d.file.opening))
 
 -- so the verdict is that of the file
 verdict_is : (f : FileBooks) (d : Filed) (b : BlockParts) → FileStands f d → verdict_by f.standing (is_in f.ids b.id) (is_known f.summaries) b ≡ verdict_of d b
 verdict_is f d b h = λ i. verdict_by (h.standing i) (h.ids b.id i) (λ id. known_is f d h id i) b
 
-place-found : (id : List ℕ) (us : List Usage) (o : Option Summary)
-    → option_map (λ s. s.place) (option_map (λ s. shown_with id us (nothing_found s)) o) ≡ option_map place_of o
-place-found id us None = refl
-place-found id us (Some s) = refl
-
-places_are : (f : FileBooks) (d : Filed) → FileStands f d → place_at f.summaries ≡ place_named (summaries_of d.file.opening)
-places_are f d h =
-    λ i id. (ap (option_map (λ s. s.place)) (h.summaries id)
-    ∙ place-found id (usages_in d.file.blocks) (find (λ s. bytes_eq id s.id) (summaries_of d.file.opening))) i
-
 -- one more usage is counted
-found_more : (os : List Summary) (us vs : List Usage) (id : List ℕ) → option_map (shown_with id vs) (found_in os us id) ≡ found_in os (us ++ vs) id
+found_more : (os : List Summary) (us vs : List Usage) (id : List ℕ) → option_map (sums_with id vs) (found_in os us id) ≡ found_in os (us ++ vs) id
 found_more os us vs id = both (find (λ s. bytes_eq id s.id) os)
   where
-    both : (o : Option Summary) → option_map (shown_with id vs) (option_map (λ s. shown_with id us (nothing_found s)) o)
-        ≡ option_map (λ s. shown_with id (us ++ vs) (nothing_found s)) o
+    both : (o : Option Summary) → option_map (sums_with id vs) (option_map (λ s. sums_with id us no_sums) o)
+        ≡ option_map (λ s. sums_with id (us ++ vs) no_sums) o
     both None = refl
-    both (Some s) = ap Some (shown_with-append id us vs (nothing_found s))
+    both (Some s) = ap Some (sums_with-append id us vs no_sums)
 
 usages_in-push : (bs : List BlockParts) (b : BlockParts) → usages_in (bs ++ b ∷ []) ≡ usages_in bs ++ b.usages
 usages_in-push bs b =
@@ -64,11 +54,6 @@ or_last true true = refl
 or_last true false = refl
 or_last false true = refl
 or_last false false = refl
-
-same_bookings : (os : List Summary) (b : BlockParts) (v : Verdict) → bookings_by (place_named os) b v ≡ verdict_bookings os (b, v)
-unfolding block_bookings
-same_bookings os b Booked = refl
-same_bookings os b (Rejected r) = refl
 
 -- a block was taken, and its identifier noted
 pub took : (d : Filed) (f g : FileBooks) (b : BlockParts) (v : Verdict) (seen : Bool) (old new : Ledger) → FileStands f d
@@ -89,14 +74,13 @@ took d f g b v seen old new h judged_so same t ids =
             ids id ∙ (λ i. cond (bytes_eq b.id id) true (h.ids id i)) ∙ or_last (bytes_eq b.id id) (list_any (has_id id) d.file.blocks)
             ∙ sym (list_any-append (has_id id) d.file.blocks (b ∷ []));
         summaries = λ id.
-            t.summaries id ∙ ap (option_map (shown_with id b.usages)) (h.summaries id) ∙ found_more os (usages_in d.file.blocks) b.usages id
+            ap (option_map (λ s. s.sums)) (t.summaries id) ∙ sums_after id b.usages (shown_at f.summaries id)
+            ∙ ap (option_map (sums_with id b.usages)) (h.summaries id) ∙ found_more os (usages_in d.file.blocks) b.usages id
             ∙ ap (λ us. found_in os us id) (sym (usages_in-push d.file.blocks b));
         rejects = t.rejects ∙ (λ i. h.rejects i ++ rejects_from (h.place i) (position i) ((b, is i) ∷ [])) ∙ sym (rejects_more d b);
         outcome = t.outcome ∙ h.outcome;
       };
-      tallies =
-          λ q. t.tallies q ∙ (λ i. tally_plus (tally_at old q) (key_tally (bookings_by (places_are f d h i) b v) q))
-          ∙ ap (λ l. tally_plus (tally_at old q) (key_tally l q)) (same_bookings os b v);
+      tallies = λ q. t.tallies q ∙ (λ i. tally_plus (tally_at old q) (key_tally (verdict_bookings (summaries_of (h.opening i)) (b, v)) q));
       range = t.range;
     }
 
@@ -108,7 +92,7 @@ stands_same f g d h t = record {
   standing = t.standing ∙ h.standing;
   blocks = t.blocks ∙ h.blocks;
   ids = λ id. t.ids id ∙ h.ids id;
-  summaries = λ id. t.summaries id ∙ h.summaries id;
+  summaries = λ id. ap (option_map (λ s. s.sums)) (t.summaries id) ∙ h.summaries id;
   rejects = t.rejects ∙ h.rejects;
   outcome = t.outcome ∙ h.outcome;
 }

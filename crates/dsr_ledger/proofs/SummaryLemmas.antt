@@ -5,9 +5,9 @@ use Rattle.std.specs.Str.{bytes_eq}
 use Rattle.std.specs.Cmp.Lexicographic.{nat_list_eq_equiv}
 use Rattle.dsr_records.specs.declared.record.Usage.{Usage}
 use Rattle.dsr_ledger.specs.declared.file.summaries.Summaries.{Summaries}
+use Rattle.dsr_ledger.specs.declared.file.summaries.SummaryState.{SummaryState}
 use Rattle.dsr_ledger.specs.Sums.{int_sum_by}
-use Rattle.dsr_ledger.specs.Summaries.{Shown, shown, shown_at, shown_plus, shown_with, index_at, is_known}
-use Rattle.indexmap.specs.IndexMap.{get}
+use Rattle.dsr_ledger.specs.Summaries.{shown_at, shown_plus, shown_with, index_at, is_known}
 use Rattle.indexmap.proofs.MapLemmas.{some_index}
 use Rattle.dsr_ledger.proofs.TextLemmas.{same_text}
 use Rattle.dsr_ledger.proofs.SumLemmas.{add-zero}
@@ -18,22 +18,21 @@ is_some-map f (Some x) = refl
 
 -- each summary that has a number has a state
 pub known_shown : (summaries : Summaries) (id : List ℕ) → is_some (shown_at summaries id) ≡ is_known summaries id
-known_shown summaries id =
-    is_some-map shown (get bytes_eq summaries.states id) ∙ sym (some_index (bytes_eq id) summaries.states.entries)
+known_shown summaries id = sym (some_index (bytes_eq id) summaries.states.entries)
 
 -- a usage of another summary adds nothing
-other_name : (id : List ℕ) (u : Usage) (s : Shown) → bytes_eq id u.summary_id ≡ false → s ≡ shown_with id (u ∷ []) s
+other_name : (id : List ℕ) (u : Usage) (s : SummaryState) → bytes_eq id u.summary_id ≡ false → s ≡ shown_with id (u ∷ []) s
 other_name id u s h = λ i. record {
-  place = s.place;
+  key = s.key;
   sums = record {
     usages = (sym (add-zero s.sums.usages) ∙ ap (λ b. s.sums.usages +ℤ int_sum_by (λ x. x.usages) (cond b (u ∷ []) [])) (sym h)) i;
     amount = (sym (add-zero s.sums.amount) ∙ ap (λ b. s.sums.amount +ℤ int_sum_by (λ x. x.amount) (cond b (u ∷ []) [])) (sym h)) i;
   };
 }
 
-own_name : (id : List ℕ) (u : Usage) (s : Shown) → bytes_eq id u.summary_id ≡ true → shown_plus u s ≡ shown_with id (u ∷ []) s
+own_name : (id : List ℕ) (u : Usage) (s : SummaryState) → bytes_eq id u.summary_id ≡ true → shown_plus u s ≡ shown_with id (u ∷ []) s
 own_name id u s h = λ i. record {
-  place = s.place;
+  key = s.key;
   sums = record {
     usages = (ap (λ x. s.sums.usages +ℤ x) (sym (add-zero u.usages)) ∙ ap (λ b. s.sums.usages +ℤ int_sum_by (λ x. x.usages) (cond b (u ∷ []) [])) (sym h)) i;
     amount = (ap (λ x. s.sums.amount +ℤ x) (sym (add-zero u.amount)) ∙ ap (λ b. s.sums.amount +ℤ int_sum_by (λ x. x.amount) (cond b (u ∷ []) [])) (sym h)) i;
@@ -45,7 +44,7 @@ alike true x = refl
 alike false x = refl
 
 -- after a usage was added to the summary that it names, and to no other
-pub counted : (id : List ℕ) (u : Usage) (s : Option Shown) → cond (bytes_eq u.summary_id id) (option_map (shown_plus u) s) s
+pub counted : (id : List ℕ) (u : Usage) (s : Option SummaryState) → cond (bytes_eq u.summary_id id) (option_map (shown_plus u) s) s
     ≡ option_map (shown_with id (u ∷ [])) s
 counted id u None = alike (bytes_eq u.summary_id id) None
 counted id u (Some s) =

@@ -12,7 +12,7 @@ use Rattle.dsr_ledger.specs.declared.report.FileLine.{FileLine}
 use Rattle.dsr_ledger.specs.declared.report.Difference.{Difference}
 use Rattle.dsr_ledger.specs.Files.{summaries_of}
 use Rattle.dsr_ledger.specs.Findings.{is_ours, ended_whole, differs, has_number}
-use Rattle.dsr_ledger.specs.Summaries.{shown_at, Shown}
+use Rattle.dsr_ledger.specs.Summaries.{sums_at}
 use Rattle.dsr_ledger.specs.Reports.{outcome_of}
 
 -- the report's line of a file
@@ -34,9 +34,9 @@ not_in None numbers = []
 not_in (Some key) numbers = filter (λ n. not (contains nat_cmp numbers n)) (range_with_len 1 key.number_of_files)
 
 -- the sums of a summary's state; zeros if there is none
-abbrev pub sums_shown : Option Shown → Sums
+abbrev pub sums_shown : Option Sums → Sums
 sums_shown None = record { usages = pos 0; amount = pos 0 }
-sums_shown (Some s) = s.sums
+sums_shown (Some s) = s
 
 -- the usages and the amount that a summary states, with these sums as those found
 abbrev pub difference_to : ℕ → Sums → Summary → Difference
@@ -51,7 +51,7 @@ difference_to place found s = record {
 
 -- the differences of the summaries that state other sums than were found
 abbrev pub differences_to : ℕ → Summaries → List Summary → List Difference
-differences_to place summaries ss = filter differs (map (λ s. difference_to place (sums_shown (shown_at summaries s.id)) s) ss)
+differences_to place summaries ss = filter differs (map (λ s. difference_to place (sums_shown (sums_at summaries s.id)) s) ss)
 
 -- the differences of a file: none unless its standing is Ours and it ended whole
 abbrev pub differences_kept : FileBooks → List Difference

@@ -5,7 +5,7 @@ use Rattle.std.specs.List.{AllByRecursion}
 use Rattle.dsr_ledger.specs.declared.kept.Kept.{Kept}
 use Rattle.dsr_ledger.specs.Files.{File}
 use Rattle.dsr_ledger.specs.Bookings.{bookings}
-use Rattle.dsr_ledger.specs.FileSteps.{IsBlockInRange}
+use Rattle.dsr_ledger.specs.FileSteps.{IsBlockInRange, IsNumberedFile}
 use Rattle.dsr_ledger.specs.Stands.{FilesStand, LedgerStands}
 
 -- the state of the books represents these files
@@ -18,11 +18,12 @@ pub record IsSmallFile (file : File) : Type 0 where
   pub few : length file.blocks ≤ 2 ^ 37
   pub range : AllByRecursion IsBlockInRange file.blocks
 
--- the state of the books represents some files within the limits
+-- the state of the books represents some files within the limits, and each summary has the number of its key
 pub record IsReached (kept : Kept) : Type 0 where
   pub files : List File
   pub stands : Stands kept files
   pub small : AllByRecursion IsSmallFile files
+  pub numbered : AllByRecursion (IsNumberedFile kept.ledger) kept.files.items
 
 -- file k, from 0, is there and has an opening
 abbrev pub has_opening_in : List File → ℕ → Bool

@@ -1,20 +1,23 @@
 -- What a block changes in the state of its file.
-use Rattle.std.specs.Prelude.{◌≡◌, ℕ, ◌+◌, ◌≤◌, List, [], ◌∷◌, ◌++◌, length, Option, option_map}
+use Rattle.std.specs.Prelude.{◌≡◌, ℕ, ◌+◌, ◌≤◌, List, [], ◌∷◌, ◌++◌, length, option_map}
 use Rattle.std.specs.List.{AllByRecursion}
 use Rattle.dsr_records.specs.Blocks.{BlockParts}
 use Rattle.dsr_ledger.specs.declared.file.FileBooks.{FileBooks}
 use Rattle.dsr_ledger.specs.declared.verdict.Verdict.{Verdict}
-use Rattle.dsr_ledger.specs.declared.verdict.Verdict.TheVariants.{Booked, Rejected}
 use Rattle.dsr_ledger.specs.IdSteps.{is_in}
-use Rattle.dsr_ledger.specs.declared.ledger.summary_key.SummaryKey.{SummaryKey}
-use Rattle.dsr_ledger.specs.Bookings.{Booking, usage_bookings}
+use Rattle.dsr_ledger.specs.Bookings.{place_named, verdict_bookings}
+use Rattle.dsr_ledger.specs.Files.{summaries_of}
 use Rattle.dsr_ledger.specs.Findings.{rejects_from}
 use Rattle.dsr_ledger.specs.Ranges.{IsInRange}
-use Rattle.dsr_ledger.specs.Summaries.{shown_at, shown_with, place_at}
+use Rattle.dsr_ledger.specs.Summaries.{shown_at, shown_with, AreNumbered}
 use Rattle.dsr_ledger.specs.Tallies.{tally_plus, key_tally}
 use Rattle.dsr_ledger.specs.Recordings.{tally_at}
 use Rattle.dsr_ledger.specs.declared.ledger.recordings.Ledger.{Ledger}
 use Rattle.dsr_ledger.specs.declared.key.Key.{Key}
+
+-- each summary of the file has the number of its key in the ledger
+abbrev pub IsNumberedFile : Ledger → FileBooks → Type 0
+IsNumberedFile ledger f = AreNumbered ledger (place_named (summaries_of f.opening)) f.summaries
 
 -- the two states represent the same file
 pub record IsSameFile (f g : FileBooks) : Type 0 where
@@ -32,11 +35,6 @@ pub record IsBlockInRange (b : BlockParts) : Type 0 where
   pub few : length b.usages ≤ 63
   pub range : AllByRecursion IsInRange b.usages
 
--- the bookings of a block with this verdict: none if it is rejected
-abbrev pub bookings_by : (List ℕ → Option SummaryKey) → BlockParts → Verdict → List Booking
-bookings_by place b Booked = usage_bookings place b.resource.isrc b.works b.usages
-bookings_by place b (Rejected reason) = []
-
 -- the file has one more block, with this verdict; nothing is said of the identifiers
 pub record TakesBlock (f g : FileBooks) (old new : Ledger) (b : BlockParts) (v : Verdict) : Type 0 where
   pub place : g.place ≡ f.place
@@ -46,5 +44,5 @@ pub record TakesBlock (f g : FileBooks) (old new : Ledger) (b : BlockParts) (v :
   pub summaries : (id : List ℕ) → shown_at g.summaries id ≡ option_map (shown_with id b.usages) (shown_at f.summaries id)
   pub rejects : g.rejects.items ≡ f.rejects.items ++ rejects_from f.place (f.blocks + 1) ((b, v) ∷ [])
   pub outcome : g.outcome ≡ f.outcome
-  pub tallies : (q : Key) → tally_at new q ≡ tally_plus (tally_at old q) (key_tally (bookings_by (place_at f.summaries) b v) q)
+  pub tallies : (q : Key) → tally_at new q ≡ tally_plus (tally_at old q) (key_tally (verdict_bookings (summaries_of f.opening) (b, v)) q)
   pub range : IsBlockInRange b

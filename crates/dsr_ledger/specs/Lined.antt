@@ -1,18 +1,11 @@
 -- The lines under which usages count.
-use Rattle.std.specs.Prelude.{◌≡◌, ℕ, List, [], ◌∷◌, ◌++◌, Option, Some}
+use Rattle.std.specs.Prelude.{◌≡◌, ℕ, List, Option, Some}
 use Rattle.std.specs.List.{AllZip}
 use Rattle.dsr_records.specs.declared.record.Usage.{Usage}
 use Rattle.dsr_ledger.specs.declared.ledger.parts.SeatShare.{SeatShare}
 use Rattle.dsr_ledger.specs.declared.ledger.summary_key.SummaryKey.{SummaryKey}
 use Rattle.dsr_ledger.specs.declared.ledger.recordings.Ledger.{Ledger}
-use Rattle.dsr_ledger.specs.declared.file.summaries.Summaries.{Summaries}
 use Rattle.dsr_ledger.specs.Recordings.{line_at, IsWideAt}
-use Rattle.dsr_ledger.specs.Summaries.{shown_at, index_at}
-
--- each summary has the same sums, key and number
-pub record SameSummaries (old new : Summaries) : Type 0 where
-  pub shown : (id : List ℕ) → shown_at new id ≡ shown_at old id
-  pub index : (id : List ℕ) → index_at new id ≡ index_at old id
 
 -- the recording's line for a usage whose summary has this key; it has a part for the seat of each share
 pub record IsLined (ledger : Ledger) (isrc : List ℕ) (shares : List SeatShare) (key : Option SummaryKey) (i : ℕ) : Type 0 where
@@ -24,10 +17,3 @@ pub record IsLined (ledger : Ledger) (isrc : List ℕ) (shares : List SeatShare)
 -- the line of each usage, where `key` gives the summary key of an identifier
 abbrev pub AreLined : Ledger → (List ℕ → Option SummaryKey) → List ℕ → List SeatShare → List Usage → List ℕ → Type 0
 AreLined ledger key isrc shares us is = AllZip (λ u i. IsLined ledger isrc shares (key u.summary_id) i) us is
-
--- the line of one more usage is appended
-pub record LinedMore (ledger : Ledger) (key : List ℕ → Option SummaryKey) (isrc : List ℕ) (shares : List SeatShare) (u : Usage)
-    (old new : List ℕ) : Type 0 where
-  pub line : ℕ
-  pub items : new ≡ old ++ line ∷ []
-  pub lined : IsLined ledger isrc shares (key u.summary_id) line

@@ -52,22 +52,31 @@ line_at ledger isrc key = option_and_then (λ r. place_by (key_number ledger) (l
 abbrev pub IsWideAt : Ledger → List ℕ → List SeatShare → ℕ → Type 0
 IsWideAt ledger isrc shares i = (r : Recording) → get bytes_eq ledger.recordings isrc ≡ Some r → IsWide shares r.lines.items i
 
--- the tallies and the numbers of recordings are the same, and each party keeps its seats
+-- the tallies are the same, and each summary key keeps its number
+pub record KeepsKeys (old new : Ledger) : Type 0 where
+  pub tallies : (q : Key) → tally_at new q ≡ tally_at old q
+  pub keys : Grows (key_number old) (key_number new)
+
+-- the tallies, the summary keys and the numbers of recordings are the same, and each party keeps its seats
 pub record KeepsSeats (old new : Ledger) : Type 0 where
   pub tallies : (q : Key) → tally_at new q ≡ tally_at old q
+  pub keys : new.summary_keys ≡ old.summary_keys
   pub recordings : (isrc : List ℕ) → recording_number new isrc ≡ recording_number old isrc
   pub seats : (isrc : List ℕ) → Grows (seat_at old isrc) (seat_at new isrc)
 
--- the tallies, the numbers of recordings and the seats are the same, lines keep their places, and wide lines stay wide
+-- the tallies, the summary keys, the numbers of recordings and the seats are the same, lines keep their places, and
+-- wide lines stay wide
 pub record KeepsLines (old new : Ledger) : Type 0 where
   pub tallies : (q : Key) → tally_at new q ≡ tally_at old q
+  pub keys : new.summary_keys ≡ old.summary_keys
   pub recordings : (isrc : List ℕ) → recording_number new isrc ≡ recording_number old isrc
   pub seats : (isrc name : List ℕ) → seat_at new isrc name ≡ seat_at old isrc name
   pub lines : (isrc : List ℕ) → Grows (line_at old isrc) (line_at new isrc)
   pub wide : (isrc : List ℕ) (shares : List SeatShare) (i : ℕ) → IsWideAt old isrc shares i → IsWideAt new isrc shares i
 
--- recordings, seats and lines have the same numbers, and wide lines stay wide
+-- summary keys, recordings, seats and lines have the same numbers, and wide lines stay wide
 pub record SameNumbers (old new : Ledger) : Type 0 where
+  pub keys : new.summary_keys ≡ old.summary_keys
   pub recordings : (isrc : List ℕ) → recording_number new isrc ≡ recording_number old isrc
   pub seats : (isrc name : List ℕ) → seat_at new isrc name ≡ seat_at old isrc name
   pub lines : (isrc : List ℕ) (key : SummaryKey) → line_at new isrc key ≡ line_at old isrc key

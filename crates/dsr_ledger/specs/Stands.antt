@@ -12,7 +12,7 @@ use Rattle.dsr_ledger.specs.Verdicts.{has_id, verdict_of}
 use Rattle.dsr_ledger.specs.Bookings.{Booking, verdict_bookings}
 use Rattle.dsr_ledger.specs.Findings.{usages_in, rejects_in}
 use Rattle.dsr_ledger.specs.IdSteps.{is_in}
-use Rattle.dsr_ledger.specs.Summaries.{shown_at, found_in}
+use Rattle.dsr_ledger.specs.Summaries.{sums_at, found_in}
 use Rattle.dsr_ledger.specs.Tallies.{tally_plus, key_tally}
 use Rattle.dsr_ledger.specs.Recordings.{tally_at}
 use Rattle.dsr_ledger.specs.FileSteps.{IsBlockInRange}
@@ -24,7 +24,7 @@ pub record FileStands (f : FileBooks) (d : Filed) : Type 0 where
   pub standing : f.standing ≡ d.standing
   pub blocks : f.blocks ≡ length d.file.blocks
   pub ids : (id : List ℕ) → is_in f.ids id ≡ list_any (has_id id) d.file.blocks
-  pub summaries : (id : List ℕ) → shown_at f.summaries id ≡ found_in (summaries_of d.file.opening) (usages_in d.file.blocks) id
+  pub summaries : (id : List ℕ) → sums_at f.summaries id ≡ found_in (summaries_of d.file.opening) (usages_in d.file.blocks) id
   pub rejects : f.rejects.items ≡ rejects_in d
   pub outcome : f.outcome ≡ d.file.outcome
 

@@ -1,5 +1,5 @@
 -- The state of a file's summaries.
-use Rattle.std.specs.Prelude.{ℕ, pos, ◌+ℤ◌, Bool, is_some, List, Option, None, Some, option_map, find}
+use Rattle.std.specs.Prelude.{◌≡◌, ℕ, pos, ◌+ℤ◌, Bool, is_some, List, Option, Some, option_map, find}
 use Rattle.std.specs.Str.{bytes_eq}
 use Rattle.indexmap.specs.IndexMap.{get, index_of}
 use Rattle.dsr_records.specs.declared.record.Summary.{Summary}
@@ -7,57 +7,68 @@ use Rattle.dsr_records.specs.declared.record.Usage.{Usage}
 use Rattle.dsr_ledger.specs.declared.sums.Sums.{Sums}
 use Rattle.dsr_ledger.specs.declared.file.summaries.SummaryState.{SummaryState}
 use Rattle.dsr_ledger.specs.declared.file.summaries.Summaries.{Summaries}
-use Rattle.dsr_ledger.specs.Sums.{int_sum_by}
+use Rattle.dsr_ledger.specs.declared.ledger.recordings.Ledger.{Ledger}
 use Rattle.dsr_ledger.specs.declared.ledger.summary_key.SummaryKey.{SummaryKey}
-use Rattle.dsr_ledger.specs.Bookings.{place_of}
+use Rattle.dsr_ledger.specs.Sums.{int_sum_by}
 use Rattle.dsr_ledger.specs.Findings.{naming}
 use Rattle.dsr_ledger.specs.Ranges.{SumsFit}
-
--- the state of a summary without its hint
-pub record Shown : Type 0 where
-  pub place : SummaryKey
-  pub sums : Sums
-
-abbrev pub shown : SummaryState → Shown
-shown s = record { place = s.key; sums = s.sums }
+use Rattle.dsr_ledger.specs.Recordings.{key_number}
 
 -- the state with one more usage
-abbrev pub shown_plus : Usage → Shown → Shown
-shown_plus u s = record { place = s.place; sums = record { usages = s.sums.usages +ℤ u.usages; amount = s.sums.amount +ℤ u.amount } }
+abbrev pub shown_plus : Usage → SummaryState → SummaryState
+shown_plus u s = record { key = s.key; sums = record { usages = s.sums.usages +ℤ u.usages; amount = s.sums.amount +ℤ u.amount } }
 
 -- the number of the summary with this identifier
 abbrev pub index_at : Summaries → List ℕ → Option ℕ
 index_at summaries id = index_of bytes_eq summaries.states id
 
 -- the state of the summary with this identifier
-abbrev pub shown_at : Summaries → List ℕ → Option Shown
-shown_at summaries id = option_map shown (get bytes_eq summaries.states id)
+abbrev pub shown_at : Summaries → List ℕ → Option SummaryState
+shown_at summaries id = get bytes_eq summaries.states id
 
--- the summary key of the summary with this identifier
-abbrev pub place_at : Summaries → List ℕ → Option SummaryKey
-place_at summaries id = option_map (λ s. s.place) (shown_at summaries id)
+-- the sums of the summary with this identifier
+abbrev pub sums_at : Summaries → List ℕ → Option Sums
+sums_at summaries id = option_map (λ s. s.sums) (shown_at summaries id)
+
+-- the number of the key of the summary with this identifier
+abbrev pub number_at : Summaries → List ℕ → Option ℕ
+number_at summaries id = option_map (λ s. s.key) (shown_at summaries id)
+
+-- this number is that of this summary key, or there is neither
+pub record IsNumberOf (ledger : Ledger) (number : Option ℕ) (key : Option SummaryKey) : Type 0 where
+  pub both : is_some number ≡ is_some key
+  pub number_is : (n : ℕ) (k : SummaryKey) → number ≡ Some n → key ≡ Some k → key_number ledger k ≡ Some n
+
+-- each summary has the number of its key, where `place` gives the summary key of an identifier
+abbrev pub AreNumbered : Ledger → (List ℕ → Option SummaryKey) → Summaries → Type 0
+AreNumbered ledger place summaries = (id : List ℕ) → IsNumberOf ledger (number_at summaries id) (place id)
+
+-- the sums with the usages added that name the summary
+abbrev pub sums_with : List ℕ → List Usage → Sums → Sums
+sums_with id us s = record {
+  usages = s.usages +ℤ int_sum_by (λ u. u.usages) (naming id us);
+  amount = s.amount +ℤ int_sum_by (λ u. u.amount) (naming id us);
+}
 
 -- the state with the usages added that name the summary
-abbrev pub shown_with : List ℕ → List Usage → Shown → Shown
-shown_with id us s = record {
-  place = s.place;
-  sums = record {
-    usages = s.sums.usages +ℤ int_sum_by (λ u. u.usages) (naming id us);
-    amount = s.sums.amount +ℤ int_sum_by (λ u. u.amount) (naming id us);
-  };
-}
+abbrev pub shown_with : List ℕ → List Usage → SummaryState → SummaryState
+shown_with id us s = record { key = s.key; sums = sums_with id us s.sums }
 
 -- there is a summary with this identifier
 abbrev pub is_known : Summaries → List ℕ → Bool
 is_known summaries id = is_some (index_at summaries id)
 
-abbrev pub nothing_found : Summary → Shown
-nothing_found s = record { place = place_of s; sums = record { usages = pos 0; amount = pos 0 } }
+abbrev pub no_sums : Sums
+no_sums = record { usages = pos 0; amount = pos 0 }
 
--- the state of the summary with this identifier, after these usages
-abbrev pub found_in : List Summary → List Usage → List ℕ → Option Shown
-found_in summaries us id = option_map (λ s. shown_with id us (nothing_found s)) (find (λ s. bytes_eq id s.id) summaries)
+-- the state of a summary before any usage, where its key has this number
+abbrev pub nothing_found : ℕ → SummaryState
+nothing_found key = record { key = key; sums = no_sums }
+
+-- the sums of the summary with this identifier, after these usages
+abbrev pub found_in : List Summary → List Usage → List ℕ → Option Sums
+found_in summaries us id = option_map (λ s. sums_with id us no_sums) (find (λ s. bytes_eq id s.id) summaries)
 
 -- n more usages in range can be added within 128 bits
-abbrev pub ShownFits : ℕ → Shown → Type 0
+abbrev pub ShownFits : ℕ → SummaryState → Type 0
 ShownFits n s = SumsFit n s.sums

@@ -138,7 +138,9 @@ impl Books {
             (λ s. (s ≡ standing (map (λ f. f.opening) files) opening) × Stands self.new (files ++ opened opening ∷ []))
             (λ _. Stands self.new files) }
     {
-        let file = open_after(self.kept.files.as_slice(), self.alloc, self.seeded, opening)?;
+        let files = self.kept.files.as_slice();
+        let ledger = &mut self.kept.ledger;
+        let file = open_after(files, ledger, self.alloc, self.seeded, opening)?;
         let standing = file.standing;
         self.kept.files.push(file)?;
         Ok(standing)

@@ -6,7 +6,7 @@ ghost use Rattle.dsr_ledger.specs.Files.{Filed};
 ghost use Rattle.dsr_ledger.specs.Summaries.{shown_at, index_at, is_known, ShownFits};
 ghost use Rattle.dsr_ledger.specs.Tallies.{TallyFits};
 ghost use Rattle.dsr_ledger.specs.Recordings.{tally_at};
-ghost use Rattle.dsr_ledger.specs.FileSteps.{IsSameFile, TakesBlock};
+ghost use Rattle.dsr_ledger.specs.FileSteps.{IsNumberedFile, IsSameFile, TakesBlock};
 ghost use Rattle.dsr_ledger.specs.Stands.{FileStands, Took};
 
 pub mod summaries;
@@ -56,10 +56,12 @@ impl FileBooks {
         requires shares { share_total block.now.works ≤ 1000000 }
         requires found { map (λ u. index_at self.old.summaries u.summary_id) block.now.usages
             ≡ map Some plan.old.summaries.items }
+        requires numbered { IsNumberedFile ledger.old self.old }
         requires ledger_fits { (q : _) → TallyFits 63 (tally_at ledger.old q) }
         requires summaries_fit { (id : List ℕ)
             → ForSome (shown_at self.old.summaries id) (ShownFits 63) }
         ensures ids { self.new.ids ≡ self.old.ids }
+        ensures keys { ledger.new.summary_keys ≡ ledger.old.summary_keys }
         ensures err { OnErr result (IsSameFile self.old self.new) }
         ensures same_ledger { OnErr result
             ((q : _) → tally_at ledger.new q ≡ tally_at ledger.old q) }
@@ -67,7 +69,7 @@ impl FileBooks {
             Verdict.Booked) }
     {
         let works = block.works.as_slice();
-        plan.fill(ledger, alloc, &mut self.summaries, isrc, works)?;
+        plan.fill(ledger, alloc, &self.summaries, isrc, works)?;
         add_usages(ledger, &mut self.summaries, plan, block.usages.as_slice());
         self.blocks += 1;
         Ok(())
@@ -111,10 +113,12 @@ impl FileBooks {
         seen: bool,
     ) -> Result<Verdict, NoMemory>
         requires blocks { self.old.blocks + 1 < 2 ^ 64 }
+        requires numbered { IsNumberedFile ledger.old self.old }
         requires ledger_fits { (q : _) → TallyFits 63 (tally_at ledger.old q) }
         requires summaries_fit { (id : List ℕ)
             → ForSome (shown_at self.old.summaries id) (ShownFits 63) }
         ensures ids { self.new.ids ≡ self.old.ids }
+        ensures keys { ledger.new.summary_keys ≡ ledger.old.summary_keys }
         ensures err { OnErr result (IsSameFile self.old self.new) }
         ensures same_ledger { OnErr result
             ((q : _) → tally_at ledger.new q ≡ tally_at ledger.old q) }
@@ -151,11 +155,14 @@ impl FileBooks {
         block: &Block,
     ) -> Result<Verdict, NoMemory>
         requires blocks { self.old.blocks + 1 < 2 ^ 64 }
+        requires numbered { IsNumberedFile ledger.old self.old }
         requires ledger_fits { (q : _) → TallyFits 63 (tally_at ledger.old q) }
         requires summaries_fit { (id : List ℕ)
             → ForSome (shown_at self.old.summaries id) (ShownFits 63) }
         ensures ok { (d : Filed) → FileStands self.old d
             → IfOk result (λ v. Took d block.now v self.new ledger.old ledger.new) }
+        ensures keys { ledger.new.summary_keys ≡ ledger.old.summary_keys }
+        ensures numbered { IsNumberedFile ledger.new self.new }
         ensures count { OnOk result (self.new.blocks ≡ self.old.blocks + 1) }
         ensures err { OnErr result (IsSameFile self.old self.new) }
         ensures same_ledger { OnErr result

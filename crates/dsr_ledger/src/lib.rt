@@ -4,8 +4,9 @@
 //! The path of a block, and the module of each stage:
 //!
 //! 1. `books` has the public functions. A file is opened by its first event (`open`), which decides
-//!    its standing after the files before it (`verdict`, [`Standing`]). `file` is the state of a
-//!    file, `kept` the state of all files with the ledger.
+//!    its standing after the files before it (`verdict`, [`Standing`]) and numbers the keys of its
+//!    summaries in the ledger. `file` is the state of a file, `kept` the state of all files with the
+//!    ledger.
 //! 2. `judge` gives the verdict of a block: whether it counts, and if not, why (`verdict`,
 //!    [`Reason`]). `ids` has the identifiers of the blocks before it, `file/summaries` the file's
 //!    summaries, in file order. `counting` adds the usages of a rejected block to their sums.

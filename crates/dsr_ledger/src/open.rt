@@ -1,14 +1,19 @@
 //! Opening a file.
-ghost use Rattle.std.specs.Prelude.{◌≡◌, ◌+◌, ◌<◌, ◌≤◌, List, [], ◌∷◌, ◌++◌, ℕ, Some, None, OnOk, IfOk, option_map, length};
+ghost use Rattle.std.specs.Prelude.{◌≡◌, ◌+◌, ◌<◌, List, [], ◌∷◌, ◌++◌, ℕ, Some, IfOk, length};
 ghost use Rattle.std.specs.List.{list_any};
 ghost use Rattle.dsr_ledger.specs.Files.{opened, is_same_report, has_number_of, is_of_report, first_head, standing, summaries_of};
-ghost use Rattle.dsr_ledger.specs.Summaries.{shown_at, found_in, nothing_found};
+ghost use Rattle.dsr_ledger.specs.Bookings.{place_named};
+ghost use Rattle.dsr_ledger.specs.FileSteps.{IsNumberedFile};
+ghost use Rattle.dsr_ledger.specs.Recordings.{KeepsKeys};
+ghost use Rattle.dsr_ledger.specs.Summaries.{sums_at, found_in, AreNumbered};
 ghost use Rattle.dsr_ledger.specs.Stands.{FileStands};
-ghost use Rattle.dsr_ledger.specs.Openings.{openings_of, first_of, named};
+ghost use Rattle.dsr_ledger.specs.Openings.{openings_of};
 
 use crate::file::FileBooks;
 use crate::file::summaries::Summaries;
 use crate::ids::Ids;
+use crate::ledger::recordings::Ledger;
+use crate::ledger::summary_key::SummaryKey;
 use crate::seeded::Seeded;
 use crate::verdict::Standing;
 use dsr_cells::NoMemory;
@@ -82,28 +87,40 @@ fn standing_after(files: &[FileBooks], opening: &Option<Opening>) -> Standing
     }
 }
 
-/// The states of these summaries, before any usage.
-fn summaries_of(alloc: Global, seeded: Seeded, stated: &[Summary]) -> Result<Summaries, NoMemory>
-    ensures { IfOk result (λ m. (id : List ℕ) → shown_at m id ≡ found_in stated.now [] id) }
+/// The states of these summaries, before any usage. Their keys are numbered in the ledger.
+fn summaries_of(
+    ledger: &mut Ledger,
+    alloc: Global,
+    seeded: Seeded,
+    stated: &[Summary],
+) -> Result<Summaries, NoMemory>
+    ensures keeps { KeepsKeys ledger.old ledger.new }
+    ensures sums { IfOk result (λ m. (id : List ℕ) → sums_at m id ≡ found_in stated.now [] id) }
+    ensures numbers { IfOk result (λ m. AreNumbered ledger.new (place_named stated.now) m) }
 {
     let mut summaries = Summaries::with_room(alloc, seeded, stated.len())?;
     for summary in stated {
-        summaries.add(alloc, summary)?;
+        let key = ledger.summary_key(SummaryKey::of(alloc, summary)?)?;
+        summaries.add(alloc, summary, key)?;
     }
     Ok(summaries)
 }
 
 /// The same, for a file that may have no opening.
 fn summaries_for(
+    ledger: &mut Ledger,
     alloc: Global,
     seeded: Seeded,
     opening: &Option<Opening>,
 ) -> Result<Summaries, NoMemory>
-    ensures { IfOk result (λ m. (id : List ℕ)
-        → shown_at m id ≡ found_in (summaries_of opening.now) [] id) }
+    ensures keeps { KeepsKeys ledger.old ledger.new }
+    ensures sums { IfOk result (λ m. (id : List ℕ)
+        → sums_at m id ≡ found_in (summaries_of opening.now) [] id) }
+    ensures numbers { IfOk result (λ m.
+        AreNumbered ledger.new (place_named (summaries_of opening.now)) m) }
 {
     match opening {
-        Some(opening) => summaries_of(alloc, seeded, opening.summaries.as_slice()),
+        Some(opening) => summaries_of(ledger, alloc, seeded, opening.summaries.as_slice()),
         None => Ok(Summaries::new(alloc, seeded)),
     }
 }
@@ -111,12 +128,15 @@ fn summaries_for(
 /// The state of a file that is opened after these.
 pub fn open_after(
     files: &[FileBooks],
+    ledger: &mut Ledger,
     alloc: Global,
     seeded: Seeded,
     opening: Option<Opening>,
 ) -> Result<FileBooks, NoMemory>
     requires { length files.now < 64 }
-    ensures { IfOk result (λ f. FileStands f
+    ensures keeps { KeepsKeys ledger.old ledger.new }
+    ensures numbered { IfOk result (λ f. IsNumberedFile ledger.new f) }
+    ensures stands { IfOk result (λ f. FileStands f
         (record {
           place = length files.now + 1;
           standing = standing
@@ -125,7 +145,7 @@ pub fn open_after(
         })) }
 {
     let standing = standing_after(files, &opening);
-    let summaries = summaries_for(alloc, seeded, &opening)?;
+    let summaries = summaries_for(ledger, alloc, seeded, &opening)?;
     Ok(FileBooks {
         place: files.len() as u32 + 1,
         opening,

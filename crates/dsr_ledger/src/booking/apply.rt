@@ -1,15 +1,16 @@
 //! The additions of a block. They allocate nothing.
-ghost use Rattle.std.specs.Prelude.{◌≡◌, ◌≤◌, ℕ, List, ◌∷◌, [], Some, option_map, slice_get, length};
+ghost use Rattle.std.specs.Prelude.{◌≡◌, ◌≤◌, ℕ, List, ◌∷◌, [], Option, Some, option_map, slice_get, length};
 ghost use Rattle.std.specs.List.{AllByRecursion};
 ghost use Rattle.std.specs.Option.{ForSome};
 ghost use Rattle.dsr_records.specs.declared.record.Usage.{Usage};
 ghost use Rattle.dsr_records.specs.Works.{WorkParts};
 ghost use Rattle.dsr_ledger.specs.declared.key.Key.{Key};
+ghost use Rattle.dsr_ledger.specs.declared.ledger.summary_key.SummaryKey.{SummaryKey};
 ghost use Rattle.dsr_ledger.specs.Bookings.{booked_under, usage_bookings};
 ghost use Rattle.dsr_ledger.specs.Plans.{IsPlanned};
 ghost use Rattle.dsr_ledger.specs.Ranges.{IsInRange};
 ghost use Rattle.dsr_ledger.specs.Recordings.{tally_at, SameNumbers};
-ghost use Rattle.dsr_ledger.specs.Summaries.{shown_at, shown_with, place_at, index_at, ShownFits};
+ghost use Rattle.dsr_ledger.specs.Summaries.{shown_at, shown_with, index_at, ShownFits};
 ghost use Rattle.dsr_ledger.specs.Tallies.{tally_plus, key_tally, TallyFits};
 ghost use Rattle.dsr_ledger.specs.Verdicts.{share_total};
 
@@ -21,7 +22,8 @@ use dsr_records::Usage;
 /// Adds usage i of a block to its summary and to its line, and to no other.
 fn add_usage(ledger: &mut Ledger, summaries: &mut Summaries, plan: &Plan, i: usize, usage: &Usage)
     requires planned { (isrc : List ℕ) × (works : List WorkParts) × (us : List Usage)
-        × IsPlanned ledger.old summaries.old isrc works us plan.now
+        × (place : List ℕ → Option SummaryKey)
+        × IsPlanned ledger.old summaries.old place isrc works us plan.now
         × (slice_get us i ≡ Some usage.now) × (share_total works ≤ 1000000) }
     requires ledger_fits { (q : Key) → TallyFits 1 (tally_at ledger.old q) }
     requires summaries_fit { (id : List ℕ) → ForSome (shown_at summaries.old id) (ShownFits 1) }
@@ -31,9 +33,10 @@ fn add_usage(ledger: &mut Ledger, summaries: &mut Summaries, plan: &Plan, i: usi
     ensures shown { (id : List ℕ) → shown_at summaries.new id ≡ option_map
         (shown_with id (usage.now ∷ [])) (shown_at summaries.old id) }
     ensures tallies { (isrc : List ℕ) (works : List WorkParts) (us : List Usage)
-        → IsPlanned ledger.old summaries.old isrc works us plan.now
+        (place : List ℕ → Option SummaryKey)
+        → IsPlanned ledger.old summaries.old place isrc works us plan.now
         → slice_get us i ≡ Some usage.now
-        → (q : Key) → tally_at ledger.new q ≡ tally_plus (tally_at ledger.old q) (key_tally (booked_under isrc works usage.now (place_at summaries.old usage.now.summary_id)) q) }
+        → (q : Key) → tally_at ledger.new q ≡ tally_plus (tally_at ledger.old q) (key_tally (booked_under isrc works usage.now (place usage.now.summary_id)) q) }
 {
     let summary = plan.summaries[i];
     let line = plan.lines[i];
@@ -45,17 +48,19 @@ fn add_usage(ledger: &mut Ledger, summaries: &mut Summaries, plan: &Plan, i: usi
 #[inline(never)]
 pub fn add_usages(ledger: &mut Ledger, summaries: &mut Summaries, plan: &Plan, usages: &[Usage])
     requires planned { (isrc : List ℕ) × (works : List WorkParts)
-        × IsPlanned ledger.old summaries.old isrc works usages.now plan.now
+        × (place : List ℕ → Option SummaryKey)
+        × IsPlanned ledger.old summaries.old place isrc works usages.now plan.now
         × (share_total works ≤ 1000000) }
     requires ledger_fits { (q : Key) → TallyFits (length usages.now) (tally_at ledger.old q) }
     requires summaries_fit { (id : List ℕ)
         → ForSome (shown_at summaries.old id) (ShownFits (length usages.now)) }
     ensures range { AllByRecursion IsInRange usages.now }
+    ensures keys { ledger.new.summary_keys ≡ ledger.old.summary_keys }
     ensures shown { (id : List ℕ) → shown_at summaries.new id ≡ option_map
         (shown_with id usages.now) (shown_at summaries.old id) }
-    ensures tallies { (isrc : List ℕ) (works : List WorkParts)
-        → IsPlanned ledger.old summaries.old isrc works usages.now plan.now
-        → (q : Key) → tally_at ledger.new q ≡ tally_plus (tally_at ledger.old q) (key_tally (usage_bookings (place_at summaries.old) isrc works usages.now) q) }
+    ensures tallies { (isrc : List ℕ) (works : List WorkParts) (place : List ℕ → Option SummaryKey)
+        → IsPlanned ledger.old summaries.old place isrc works usages.now plan.now
+        → (q : Key) → tally_at ledger.new q ≡ tally_plus (tally_at ledger.old q) (key_tally (usage_bookings place isrc works usages.now) q) }
 {
     for (i, usage) in usages.iter().enumerate() {
         add_usage(ledger, summaries, plan, i, usage);

@@ -1,11 +1,12 @@
 //! The plan of a block's additions: all memory that they need is allocated here.
-ghost use Rattle.std.specs.Prelude.{◌≡◌, ℕ, List, [], OnOk, Some, map};
+ghost use Rattle.std.specs.Prelude.{◌≡◌, ℕ, List, [], OnOk, Option, Some, map};
 ghost use Rattle.std.specs.List.{zip};
 ghost use Rattle.dsr_records.specs.declared.record.Usage.{Usage};
+ghost use Rattle.dsr_ledger.specs.declared.ledger.summary_key.SummaryKey.{SummaryKey};
 ghost use Rattle.dsr_ledger.specs.Recordings.{tally_at, seat_at, recording_number, KeepsSeats, KeepsLines};
 ghost use Rattle.dsr_ledger.specs.Seated.{shares_of, AreSeated, SeatedMore};
-ghost use Rattle.dsr_ledger.specs.Summaries.{index_at, place_at};
-ghost use Rattle.dsr_ledger.specs.Lined.{AreLined, LinedMore, SameSummaries};
+ghost use Rattle.dsr_ledger.specs.Summaries.{index_at, AreNumbered};
+ghost use Rattle.dsr_ledger.specs.Lined.{AreLined};
 
 use crate::file::summaries::Summaries;
 use crate::ledger::parts::SeatShare;
@@ -90,36 +91,6 @@ fn plan_works(
     Ok(())
 }
 
-/// Plans the line of a usage that names the summary with this number, and the parts of these shares
-/// in it.
-fn plan_line(
-    ledger: &mut Ledger,
-    alloc: Global,
-    recording: usize,
-    shares: &[SeatShare],
-    summaries: &mut Summaries,
-    summary: usize,
-    plan: &mut Vec<usize>,
-) -> Result<(), NoMemory>
-    requires there { (isrc : List ℕ) × (es : List (List ℕ × ℕ))
-        × (recording_number ledger.old isrc ≡ Some recording)
-        × AreSeated (seat_at ledger.old isrc) shares.now es }
-    requires named { (id : List ℕ) × (index_at summaries.old id ≡ Some summary) }
-    ensures keeps { KeepsLines ledger.old ledger.new }
-    ensures same { SameSummaries summaries.old summaries.new }
-    ensures lined { (isrc : List ℕ) (u : Usage) → recording_number ledger.old isrc ≡ Some recording
-        → index_at summaries.old u.summary_id ≡ Some summary
-        → OnOk result (LinedMore ledger.new (place_at summaries.new) isrc shares.now u plan.old.items plan.new.items) }
-{
-    let state = summaries.state(summary);
-    let key = ledger.summary_key(alloc, &state.key, state.key_hint)?;
-    let hint = next_line(plan.as_slice());
-    let line = ledger.line(alloc, recording, key, hint, shares)?;
-    summaries.keep_hint(summary, key);
-    plan.push(line)?;
-    Ok(())
-}
-
 /// Plans the lines of usages that name the summaries with these numbers, and the parts of these shares
 /// in them.
 #[inline(never)]
@@ -128,7 +99,7 @@ fn plan_lines(
     alloc: Global,
     recording: usize,
     shares: &[SeatShare],
-    summaries: &mut Summaries,
+    summaries: &Summaries,
     numbers: &[usize],
     plan: &mut Vec<usize>,
 ) -> Result<(), NoMemory>
@@ -136,17 +107,21 @@ fn plan_lines(
     requires there { (isrc : List ℕ) × (es : List (List ℕ × ℕ))
         × (recording_number ledger.old isrc ≡ Some recording)
         × AreSeated (seat_at ledger.old isrc) shares.now es }
-    requires named { (us : List Usage) × (map
-        (λ u. index_at summaries.old u.summary_id) us ≡ map Some numbers.now) }
+    requires named { (place : List ℕ → Option SummaryKey) × (us : List Usage)
+        × AreNumbered ledger.old place summaries.now
+        × (map (λ u. index_at summaries.now u.summary_id) us ≡ map Some numbers.now) }
     ensures keeps { KeepsLines ledger.old ledger.new }
-    ensures same { SameSummaries summaries.old summaries.new }
-    ensures lined { (isrc : List ℕ) (us : List Usage)
+    ensures lined { (isrc : List ℕ) (place : List ℕ → Option SummaryKey) (us : List Usage)
         → recording_number ledger.old isrc ≡ Some recording
-        → map (λ u. index_at summaries.old u.summary_id) us ≡ map Some numbers.now
-        → OnOk result (AreLined ledger.new (place_at summaries.new) isrc shares.now us plan.new.items) }
+        → AreNumbered ledger.old place summaries.now
+        → map (λ u. index_at summaries.now u.summary_id) us ≡ map Some numbers.now
+        → OnOk result (AreLined ledger.new place isrc shares.now us plan.new.items) }
 {
     for number in numbers {
-        plan_line(ledger, alloc, recording, shares, summaries, *number, plan)?;
+        let key = summaries.key(*number);
+        let hint = next_line(plan.as_slice());
+        let line = ledger.line(alloc, recording, key, hint, shares)?;
+        plan.push(line)?;
     }
     Ok(())
 }
@@ -171,17 +146,19 @@ impl Plan {
         &mut self,
         ledger: &mut Ledger,
         alloc: Global,
-        summaries: &mut Summaries,
+        summaries: &Summaries,
         isrc: Isrc,
         works: &[Work],
     ) -> Result<(), NoMemory>
-        requires { (us : List Usage) × (map
-            (λ u. index_at summaries.old u.summary_id) us ≡ map Some self.old.summaries.items) }
+        requires { (place : List ℕ → Option SummaryKey) × (us : List Usage)
+            × AreNumbered ledger.old place summaries.now
+            × (map (λ u. index_at summaries.now u.summary_id) us ≡ map Some self.old.summaries.items) }
         ensures tallies { (q : Key) → tally_at ledger.new q ≡ tally_at ledger.old q }
-        ensures same { SameSummaries summaries.old summaries.new }
-        ensures planned { (us : List Usage)
-            → map (λ u. index_at summaries.old u.summary_id) us ≡ map Some self.old.summaries.items
-            → OnOk result (IsPlanned ledger.new summaries.new isrc works.now us self.new) }
+        ensures keys { ledger.new.summary_keys ≡ ledger.old.summary_keys }
+        ensures planned { (place : List ℕ → Option SummaryKey) (us : List Usage)
+            → AreNumbered ledger.old place summaries.now
+            → map (λ u. index_at summaries.now u.summary_id) us ≡ map Some self.old.summaries.items
+            → OnOk result (IsPlanned ledger.new summaries.now place isrc works.now us self.new) }
     {
         self.shares.clear();
         self.lines.clear();

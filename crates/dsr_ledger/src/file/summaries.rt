@@ -1,9 +1,8 @@
 //! The state of a file's summaries.
-ghost use Rattle.std.specs.Prelude.{◌≡◌, IfOk};
+ghost use Rattle.std.specs.Prelude.{◌≡◌};
 ghost use Rattle.dsr_ledger.specs.Ranges.{IsInRange, SumsFit};
-ghost use Rattle.dsr_ledger.specs.Summaries.{shown, shown_plus, nothing_found};
+ghost use Rattle.dsr_ledger.specs.Summaries.{shown_plus, nothing_found};
 
-use crate::ledger::summary_key::SummaryKey;
 use crate::seeded::Seeded;
 use crate::sums::Sums;
 use dsr_cells::{NoMemory, Text};
@@ -14,35 +13,29 @@ use std::alloc::Global;
 /// The state of a summary: the key under which its usages count, and the sums of the usages that name it.
 #[derive(Drop)]
 pub struct SummaryState {
-    pub key: SummaryKey,
-    /// The last known number of the key in the ledger, or any other number.
-    pub key_hint: u32,
+    /// The number of the key in the ledger.
+    pub key: u32,
     pub sums: Sums,
 }
 
 impl SummaryState {
-    /// The state of a summary before any usage.
-    pub fn new(alloc: Global, summary: &Summary) -> Result<SummaryState, NoMemory>
-        ensures { IfOk result (λ s. shown s ≡ nothing_found summary.now) }
+    /// The state of a summary before any usage. Its key has this number.
+    fn new(key: u32) -> SummaryState
+        ensures { result ≡ nothing_found key }
     {
-        Ok(SummaryState {
-            key: SummaryKey {
-                territory: summary.territory.copy(alloc)?,
-                use_type: summary.use_type.copy(alloc)?,
-                currency: summary.currency.copy(alloc)?,
-            },
-            key_hint: 0,
+        SummaryState {
+            key,
             sums: Sums {
                 usages: 0,
                 amount: 0,
             },
-        })
+        }
     }
 
     /// Adds a usage that names the summary.
     fn count(&mut self, usage: &Usage)
         requires { SumsFit 1 self.old.sums }
-        ensures shown { shown self.new ≡ shown_plus usage.now (shown self.old) }
+        ensures shown { self.new ≡ shown_plus usage.now self.old }
         ensures range { IsInRange usage.now }
     {
         self.sums.add(usage);
@@ -56,10 +49,10 @@ pub struct Summaries {
 }
 
 impl Summaries {
-    ghost use Rattle.std.specs.Prelude.{[], ◌∷◌, ◌<◌, ℕ, List, IfSome, OnOk, None, Some, option_map};
+    ghost use Rattle.std.specs.Prelude.{[], ◌∷◌, ◌<◌, ℕ, List, IfSome, IfOk, OnOk, None, Some, option_map};
     ghost use Rattle.std.specs.Option.{ForSome};
     ghost use Rattle.indexmap.specs.IndexMap.{index_map_len};
-    ghost use Rattle.dsr_ledger.specs.Summaries.{shown_at, shown_with, index_at, ShownFits};
+    ghost use Rattle.dsr_ledger.specs.Summaries.{shown_at, sums_at, shown_with, number_at, index_at, ShownFits};
     ghost use Rattle.dsr_ledger.specs.Openings.{first_of, named};
 
     /// No summaries.
@@ -116,7 +109,7 @@ impl Summaries {
 
     /// The sums of the usages that name a summary.
     pub fn sums(&self, id: &Text) -> Option<Sums>
-        ensures { result ≡ option_map (λ s. s.sums) (shown_at self.now id.now) }
+        ensures { result ≡ sums_at self.now id.now }
     {
         match self.states.get(id) {
             Some(state) => Some(state.sums),
@@ -124,35 +117,26 @@ impl Summaries {
         }
     }
 
-    /// The state of the summary with this number.
-    pub fn state(&self, number: usize) -> &SummaryState
+    /// The number of the key of the summary with this number.
+    pub fn key(&self, number: usize) -> u32
         requires { number < index_map_len self.now.states }
         ensures { (id : List ℕ) → index_at self.now id ≡ Some number
-            → shown_at self.now id ≡ Some (shown result.now) }
+            → number_at self.now id ≡ Some result }
     {
-        &self.states[number]
+        self.states[number].key
     }
 
-    /// Keeps the number of a summary's key as a hint.
-    pub fn keep_hint(&mut self, number: usize, hint: u32)
-        requires { number < index_map_len self.old.states }
-        ensures index { (q : List ℕ) → index_at self.new q ≡ index_at self.old q }
-        ensures shown { (q : List ℕ) → shown_at self.new q ≡ shown_at self.old q }
-    {
-        let (_, state) = self.states.pair_mut(number);
-        state.key_hint = hint;
-    }
-
-    /// Adds a summary before any usage, unless its identifier is there. The states of the others are unchanged.
-    pub fn add(&mut self, alloc: Global, summary: &Summary) -> Result<(), NoMemory>
+    /// Adds a summary before any usage, unless its identifier is there. Its key has the number `key`. The states of the
+    /// others are unchanged.
+    pub fn add(&mut self, alloc: Global, summary: &Summary, key: u32) -> Result<(), NoMemory>
         ensures { OnOk result ((q : List ℕ)
             → shown_at self.new q ≡ first_of (shown_at self.old q)
-            (option_map nothing_found (named q summary.now))) }
+            (option_map (λ s. nothing_found key) (named q summary.now))) }
     {
         if self.states.contains_key(&summary.id) {
             return Ok(());
         }
-        let state = SummaryState::new(alloc, summary)?;
+        let state = SummaryState::new(key);
         let _none = self.states.insert(summary.id.copy(alloc)?, state)?;
         Ok(())
     }

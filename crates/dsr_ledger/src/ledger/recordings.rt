@@ -16,8 +16,7 @@ use dsr_records::Usage;
 use indexmap::{IndexMap, IndexSet};
 use std::alloc::Global;
 
-/// Each party, each summary key and each recording once. Each kind is numbered in the order of its
-/// first use.
+/// Each party, each summary key and each recording once. Each kind is numbered in order of arrival.
 #[derive(Drop)]
 pub struct Ledger {
     pub parties: IndexSet<Text, Seeded>,
@@ -39,7 +38,7 @@ impl Ledger {
     ghost use Rattle.dsr_ledger.specs.Ranges.{IsInRange};
     ghost use Rattle.dsr_ledger.specs.Seated.{AreSeated};
     ghost use Rattle.dsr_ledger.specs.Tallies.{no_tally, tally_with, TallyFits};
-    ghost use Rattle.dsr_ledger.specs.Recordings.{party_number, key_number, recording_number, tally_at, seat_at, line_at, IsWideAt, KeepsSeats, KeepsLines, SameNumbers, IsLineOf};
+    ghost use Rattle.dsr_ledger.specs.Recordings.{party_number, key_number, recording_number, tally_at, seat_at, line_at, IsWideAt, KeepsKeys, KeepsSeats, KeepsLines, SameNumbers, IsLineOf};
 
     /// No recordings.
     pub fn new(alloc: Global, seeded: Seeded) -> Ledger
@@ -56,6 +55,7 @@ impl Ledger {
     /// unchanged.
     pub fn recording(&mut self, alloc: Global, isrc: Isrc, lines: usize) -> Result<usize, NoMemory>
         ensures same { (q : Key) → tally_at self.new q ≡ tally_at self.old q }
+        ensures keys { self.new.summary_keys ≡ self.old.summary_keys }
         ensures there { IfOk result (λ number. recording_number self.new isrc ≡ Some number) }
     {
         if let Some(number) = self.recordings.get_index_of(&isrc) {
@@ -72,6 +72,7 @@ impl Ledger {
     fn party(&mut self, alloc: Global, name: &Text) -> Result<u32, NoMemory>
         ensures seats { (isrc q : List ℕ) → seat_at self.new isrc q ≡ seat_at self.old isrc q }
         ensures same { (q : Key) → tally_at self.new q ≡ tally_at self.old q }
+        ensures keys { self.new.summary_keys ≡ self.old.summary_keys }
         ensures recordings { self.new.recordings ≡ self.old.recordings }
         ensures there { IfOk result (λ number. party_number self.new name.now ≡ Some number) }
     {
@@ -121,39 +122,18 @@ impl Ledger {
         found.seat(alloc, party)
     }
 
-    /// The number `hint`, if it is this summary key's.
-    fn hinted_key(&self, key: &SummaryKey, hint: u32) -> Option<u32>
-        ensures { IfSome result (λ number. key_number self.now key.now ≡ Some number) }
+    /// The number of a summary key, which is given one if it has none. A number past 32 bits is reported as `NoMemory`.
+    pub fn summary_key(&mut self, key: SummaryKey) -> Result<u32, NoMemory>
+        ensures keeps { KeepsKeys self.old self.new }
+        ensures there { IfOk result (λ number. key_number self.new key ≡ Some number) }
     {
-        let numbered = self.summary_keys.as_slice().get(hint as usize)?;
-        if *numbered == *key {
-            return Some(hint);
-        }
-        None
-    }
-
-    /// The number of a summary key, which is given one if it has none. The key with the number `hint` is tried first.
-    /// A number past 32 bits is reported as `NoMemory`.
-    pub fn summary_key(
-        &mut self,
-        alloc: Global,
-        key: &SummaryKey,
-        hint: u32,
-    ) -> Result<u32, NoMemory>
-        ensures keeps { KeepsLines self.old self.new }
-        ensures recordings { self.new.recordings ≡ self.old.recordings }
-        ensures there { IfOk result (λ number. key_number self.new key.now ≡ Some number) }
-    {
-        if let Some(number) = self.hinted_key(key, hint) {
-            return Ok(number);
-        }
-        if let Some(number) = self.summary_keys.get_index_of(key) {
+        if let Some(number) = self.summary_keys.get_index_of(&key) {
             return u32::try_from(number).map_err(|_| NoMemory);
         }
         let Ok(number) = u32::try_from(self.summary_keys.len()) else {
             return Err(NoMemory);
         };
-        self.summary_keys.insert(key.copy(alloc)?)?;
+        self.summary_keys.insert(key)?;
         Ok(number)
     }
 

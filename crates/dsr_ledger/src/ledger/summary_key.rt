@@ -1,7 +1,9 @@
 //! The key that a summary gives to its usages.
 ghost use Rattle.std.specs.Prelude.{◌≡◌, IfOk};
+ghost use Rattle.dsr_ledger.specs.Bookings.{place_of};
 
 use dsr_cells::{NoMemory, Text};
+use dsr_records::Summary;
 use std::alloc::Global;
 
 /// The key that a summary gives to its usages: a ledger line's key without the recording.
@@ -13,14 +15,14 @@ pub struct SummaryKey {
 }
 
 impl SummaryKey {
-    /// A key with the same parts.
-    pub fn copy(&self, alloc: Global) -> Result<SummaryKey, NoMemory>
-        ensures { IfOk result (λ copy. copy ≡ self.now) }
+    /// The key of a summary.
+    pub fn of(alloc: Global, summary: &Summary) -> Result<SummaryKey, NoMemory>
+        ensures { IfOk result (λ key. key ≡ place_of summary.now) }
     {
         Ok(SummaryKey {
-            territory: self.territory.copy(alloc)?,
-            use_type: self.use_type.copy(alloc)?,
-            currency: self.currency.copy(alloc)?,
+            territory: summary.territory.copy(alloc)?,
+            use_type: summary.use_type.copy(alloc)?,
+            currency: summary.currency.copy(alloc)?,
         })
     }
 }

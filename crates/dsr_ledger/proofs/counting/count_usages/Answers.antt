@@ -3,8 +3,9 @@ use Rattle.std.specs.Prelude.{option_map, Option}
 use Rattle.std.specs.Option.{ForSome}
 use Rattle.std.specs.List.{AllByRecursion}
 use Rattle.std.proofs.lemmas.List.{take_more, length-take}
+use Rattle.dsr_ledger.specs.declared.file.summaries.SummaryState.{SummaryState}
 use Rattle.dsr_ledger.specs.Ranges.{IsInRange}
-use Rattle.dsr_ledger.specs.Summaries.{Shown, shown_at, shown_with, ShownFits}
+use Rattle.dsr_ledger.specs.Summaries.{shown_at, shown_with, ShownFits}
 use Rattle.dsr_ledger.proofs.EachLemmas.{each_append}
 use Rattle.dsr_ledger.proofs.ShownLemmas.{shown_more, shown_fits_at}
 use Rattle.dsr_ledger.proofs.counting.count_usages.Goals as goal
@@ -15,7 +16,7 @@ count_one-requires c id =
     let us = take i c.args.usages.now in
     let below = c.loop-usage-test.true in
     let taken : length us ≤ i = omega (arith, length-take i c.args.usages.now) in
-    let P : Option Shown → Type 0 = λ o. ForSome o (ShownFits 1) in
+    let P : Option SummaryState → Type 0 = λ o. ForSome o (ShownFits 1) in
     subst P (sym (c.loop-usage.invariant.summaries id)) (shown_fits_at (shown_at c.args.summaries.now id) id us i (length c.args.usages.now) 1 taken
     (omega arith) c.loop-usage.invariant.range (c.requires id))
 

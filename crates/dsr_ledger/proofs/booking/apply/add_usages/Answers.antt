@@ -4,15 +4,16 @@ use Rattle.std.specs.Option.{ForSome}
 use Rattle.std.specs.List.{AllByRecursion}
 use Rattle.std.proofs.lemmas.List.{take_more, take_all, length-take}
 use Rattle.std.proofs.lemmas.Option.{slice_get_read}
-use Rattle.dsr_ledger.specs.Bookings.{booked_under, usage_bookings}
+use Rattle.dsr_ledger.specs.declared.file.summaries.SummaryState.{SummaryState}
+use Rattle.dsr_ledger.specs.Bookings.{usage_bookings}
 use Rattle.dsr_ledger.specs.Ranges.{IsInRange}
 use Rattle.dsr_ledger.specs.Recordings.{tally_at}
-use Rattle.dsr_ledger.specs.Summaries.{Shown, shown_at, shown_with, place_at, ShownFits}
+use Rattle.dsr_ledger.specs.Summaries.{shown_at, shown_with, ShownFits}
 use Rattle.dsr_ledger.specs.Tallies.{tally_plus, key_tally, TallyFits}
 use Rattle.dsr_ledger.proofs.EachLemmas.{each_append}
 use Rattle.dsr_ledger.proofs.KeepsLemmas.{numbers_stay, numbers_twice, planned_stays}
 use Rattle.dsr_ledger.proofs.PlanLemmas.{shown_none}
-use Rattle.dsr_ledger.proofs.ShownLemmas.{shown_more, shown_fits_at, same_place}
+use Rattle.dsr_ledger.proofs.ShownLemmas.{shown_more, shown_fits_at}
 use Rattle.dsr_ledger.proofs.TallyPlusLemmas.{tally_more, tally_plus-none, tally_fits_after, length-usage_bookings, small_usage_bookings}
 use Rattle.dsr_ledger.proofs.booking.apply.add_usages.Goals as goal
 
@@ -23,16 +24,14 @@ add_usage-requires-clause-planned c =
     let u = c.index-usages-i.result in
     let before = c.loop-i.invariant in
     let p = c.requires.planned in
-    let at : slice_get us i ≡ Some u = slice_get_read us (length us) i u refl c.loop-i-test.true c.index-usages-i.is in
-    let places : place_at c.loop-i.summaries ≡ place_at c.args.summaries.now =
-    λ j id. (ap (option_map (λ s. s.place)) (before.shown id) ∙ same_place id (take i us) (shown_at c.args.summaries.now id)) j in (
+    let at : slice_get us i ≡ Some u = slice_get_read us (length us) i u refl c.loop-i-test.true c.index-usages-i.is in (
       p.0,
       p.1,
       us,
-      planned_stays c.args.ledger.now c.loop-i.ledger c.args.summaries.now c.loop-i.summaries p.0 p.1 us c.args.plan.now before.numbers
-          before.index places p.2,
+      p.2,
+      planned_stays c.args.ledger.now c.loop-i.ledger c.args.summaries.now c.loop-i.summaries p.2 p.0 p.1 us c.args.plan.now before.numbers before.index p.3,
       at,
-      p.3,
+      p.4,
     )
 
 pub add_usage-requires-clause-ledger_fits : goal.add_usage-requires-clause-ledger_fits
@@ -41,14 +40,14 @@ add_usage-requires-clause-ledger_fits c q =
     let us = take i c.args.usages.now in
     let isrc = c.requires.planned.0 in
     let works = c.requires.planned.1 in
-    let place = place_at c.args.summaries.now in
+    let place = c.requires.planned.2 in
     let bs = usage_bookings place isrc works us in
     let below = c.loop-i-test.true in
     let taken : length us ≤ i = omega (arith, length-take i c.args.usages.now) in
     let few : length bs ≤ i = let h = length-usage_bookings place isrc works us in omega arith in
-    subst (TallyFits 1) (sym (c.loop-i.invariant.tallies isrc works c.requires.planned.2 q)) (
+    subst (TallyFits 1) (sym (c.loop-i.invariant.tallies isrc works place c.requires.planned.3 q)) (
     tally_fits_after (tally_at c.args.ledger.now q) bs q i (length c.args.usages.now) 1 few (omega arith)
-    (small_usage_bookings place isrc works us c.requires.planned.3 c.loop-i.invariant.range) (c.requires.ledger_fits q))
+    (small_usage_bookings place isrc works us c.requires.planned.4 c.loop-i.invariant.range) (c.requires.ledger_fits q))
 
 pub add_usage-requires-clause-summaries_fit : goal.add_usage-requires-clause-summaries_fit
 add_usage-requires-clause-summaries_fit c id =
@@ -56,7 +55,7 @@ add_usage-requires-clause-summaries_fit c id =
     let us = take i c.args.usages.now in
     let below = c.loop-i-test.true in
     let taken : length us ≤ i = omega (arith, length-take i c.args.usages.now) in
-    let P : Option Shown → Type 0 = λ o. ForSome o (ShownFits 1) in
+    let P : Option SummaryState → Type 0 = λ o. ForSome o (ShownFits 1) in
     subst P (sym (c.loop-i.invariant.shown id)) (shown_fits_at (shown_at c.args.summaries.now id) id us i (length c.args.usages.now) 1 taken
     (omega arith) c.loop-i.invariant.range (c.requires.summaries_fit id))
 
@@ -66,7 +65,7 @@ loop-i-init c = record {
   numbers = numbers_stay c.args.ledger.now;
   index = λ id. refl;
   shown = λ id. shown_none id (shown_at c.args.summaries.now id);
-  tallies = λ isrc works h q. tally_plus-none (tally_at c.args.ledger.now q);
+  tallies = λ isrc works place h q. tally_plus-none (tally_at c.args.ledger.now q);
 }
 
 pub loop-i-preserved : goal.loop-i-preserved
@@ -79,8 +78,6 @@ loop-i-preserved c =
     let step = c.add_usage.ensures in
     let more : take (i + 1) all ≡ us ++ u ∷ [] = take_more all i u c.loop-i-test.true ∙ ap (λ x. us ++ x ∷ []) (sym c.index-usages-i.is) in
     let at : slice_get all i ≡ Some u = slice_get_read all (length all) i u refl c.loop-i-test.true c.index-usages-i.is in
-    let places : place_at c.loop-i.summaries ≡ place_at c.args.summaries.now =
-    λ j id. (ap (option_map (λ s. s.place)) (before.shown id) ∙ same_place id us (shown_at c.args.summaries.now id)) j in
     record {
       range = subst (AllByRecursion IsInRange) (sym more) (each_append IsInRange us (u ∷ []) before.range (step.range, tt));
       numbers = numbers_twice c.args.ledger.now c.loop-i.ledger c.add_usage.new.ledger before.numbers step.numbers;
@@ -89,14 +86,12 @@ loop-i-preserved c =
           shown_more id us u (shown_at c.args.summaries.now id) (shown_at c.loop-i.summaries id) (shown_at c.add_usage.new.summaries id) (before.shown id)
           (step.shown id)
           ∙ ap (λ l. option_map (shown_with id l) (shown_at c.args.summaries.now id)) (sym more);
-      tallies = λ isrc works h q.
+      tallies = λ isrc works place h q.
           let planned =
-          planned_stays c.args.ledger.now c.loop-i.ledger c.args.summaries.now c.loop-i.summaries isrc works all c.args.plan.now before.numbers before.index
-          places h in
+          planned_stays c.args.ledger.now c.loop-i.ledger c.args.summaries.now c.loop-i.summaries place isrc works all c.args.plan.now before.numbers
+          before.index h in
           let s = tally_at c.args.ledger.now q in
-          tally_more s (tally_at c.loop-i.ledger q) (tally_at c.add_usage.new.ledger q) (place_at c.args.summaries.now) isrc works us u q
-          (before.tallies isrc works h q)
-          (step.tallies isrc works all planned at q ∙ ap (λ p. tally_plus (tally_at c.loop-i.ledger q)
-          (key_tally (booked_under isrc works u (p u.summary_id)) q)) places)
-          ∙ ap (λ l. tally_plus s (key_tally (usage_bookings (place_at c.args.summaries.now) isrc works l) q)) (sym more);
+          tally_more s (tally_at c.loop-i.ledger q) (tally_at c.add_usage.new.ledger q) place isrc works us u q
+          (before.tallies isrc works place h q) (step.tallies isrc works all place planned at q)
+          ∙ ap (λ l. tally_plus s (key_tally (usage_bookings place isrc works l) q)) (sym more);
     }

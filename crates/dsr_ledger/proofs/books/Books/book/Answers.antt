@@ -7,6 +7,7 @@ use Rattle.std.specs.Vec.{with_item}
 use Rattle.dsr_ledger.specs.declared.kept.Kept.{Kept}
 use Rattle.dsr_ledger.proofs.FilesLemmas.{open_at}
 use Rattle.dsr_ledger.proofs.BooksLemmas.{lines_fit_reached, summaries_fit_reached, Answered, answered_stands, answered_reached}
+use Rattle.dsr_ledger.proofs.BooksLemmas.{numbered_reached}
 use Rattle.dsr_ledger.proofs.books.Books.book.Goals as goal
 
 pub book-requires-clause-ledger_fits : goal.book-requires-clause-ledger_fits
@@ -14,6 +15,13 @@ book-requires-clause-ledger_fits c =
     let most = c.args.self.now.most in
     let room = c.args.self.now.room in
     lines_fit_reached c.args.self.now.kept (omega arith) c.args.self.now.reached
+
+pub book-requires-clause-numbered : goal.book-requires-clause-numbered
+book-requires-clause-numbered c =
+    let old = c.args.self.now.kept in
+    let f = c.index_mut-file.result.now in
+    let at = open_at (λ f. is_some f.opening) old.files.items c.args.k f c.index_mut-file.ensures.value c.requires.opening in
+    numbered_reached old c.args.k f c.args.self.now.reached at
 
 pub book-requires-clause-summaries_fit : goal.book-requires-clause-summaries_fit
 book-requires-clause-summaries_fit c =
@@ -34,6 +42,8 @@ invariant_of-self c =
       ok = c.book.ensures.ok;
       err = c.book.ensures.err;
       same_ledger = c.book.ensures.same_ledger;
+      keys = c.book.ensures.keys;
+      numbered = c.book.ensures.numbered;
     } in
     let long = length-set old.files.items c.args.k c.book.new.self in
     let room = c.args.self.now.room in
@@ -56,5 +66,7 @@ returns-clause-stands c = λ files h.
       ok = c.book.ensures.ok;
       err = c.book.ensures.err;
       same_ledger = c.book.ensures.same_ledger;
+      keys = c.book.ensures.keys;
+      numbered = c.book.ensures.numbered;
     } in
     answered_stands f c.book.new.self c.args.block.now c.book.result old new c.args.k a files h

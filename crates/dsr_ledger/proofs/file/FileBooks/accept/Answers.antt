@@ -2,27 +2,29 @@ use Rattle.std.proofs.Common.{◌≡◌, ◌≤◌, append-nil, length, refl, sy
 use Rattle.std.specs.Prelude.{map, option_map}
 use Rattle.std.specs.List.{AllByRecursion}
 use Rattle.dsr_records.specs.declared.record.Usage.{Usage}
-use Rattle.dsr_ledger.specs.Bookings.{usage_bookings}
+use Rattle.dsr_ledger.specs.Bookings.{place_named, usage_bookings, block_bookings}
+use Rattle.dsr_ledger.specs.Files.{summaries_of}
 use Rattle.dsr_ledger.specs.Ranges.{IsInRange}
 use Rattle.dsr_ledger.specs.Tallies.{tally_plus, key_tally, TallyFits}
-use Rattle.dsr_ledger.specs.Summaries.{shown_with, place_at, index_at}
+use Rattle.dsr_ledger.specs.Summaries.{shown_at, shown_with}
 use Rattle.dsr_ledger.specs.Plans.{IsPlanned}
 use Rattle.dsr_ledger.specs.Verdicts.{share_total}
 use Rattle.dsr_ledger.proofs.FitLemmas.{fewer_sums, fewer_tallies}
-use Rattle.dsr_ledger.proofs.KeepsLemmas.{same_places}
 use Rattle.dsr_ledger.proofs.file.FileBooks.accept.Goals as goal
 
 pub fill-requires : goal.fill-requires
-fill-requires c = (c.args.block.now.usages, c.requires.found)
+fill-requires c = (place_named (summaries_of c.args.self.now.opening), c.args.block.now.usages, c.requires.numbered, c.requires.found)
 
 pub add_usages-requires-clause-planned : goal.add_usages-requires-clause-planned
 add_usages-requires-clause-planned c =
     let usages : c.as_slice.result.now ≡ c.args.block.now.usages = c.as_slice.ensures ∙ ap (λ b. b.usages) c.block.view_is in
-    let works : c.as_slice-works.result.now ≡ c.args.block.now.works = c.as_slice-works.ensures ∙ ap (λ b. b.works) c.block.view_is in (
+    let works : c.as_slice-works.result.now ≡ c.args.block.now.works = c.as_slice-works.ensures ∙ ap (λ b. b.works) c.block.view_is in
+    let place = place_named (summaries_of c.args.self.now.opening) in (
       c.args.isrc,
       c.as_slice-works.result.now,
-      subst (λ us. IsPlanned c.fill.new.ledger c.fill.new.summaries c.args.isrc c.as_slice-works.result.now us c.fill.new.self) (sym usages)
-          (c.in_ok-fill.ensures.planned c.args.block.now.usages c.requires.found),
+      place,
+      subst (λ us. IsPlanned c.fill.new.ledger c.args.self.now.summaries place c.args.isrc c.as_slice-works.result.now us c.fill.new.self) (sym usages)
+          (c.in_ok-fill.ensures.planned place c.args.block.now.usages c.requires.numbered c.requires.found),
       subst (λ ws. share_total ws ≤ 1000000) (sym works) c.requires.shares,
     )
 
@@ -36,16 +38,17 @@ pub add_usages-requires-clause-summaries_fit : goal.add_usages-requires-clause-s
 add_usages-requires-clause-summaries_fit c = λ id x at.
     let room = c.block.invariant in
     let long = ap length c.as_slice.ensures in
-    fewer_sums 63 (length c.as_slice.result.now) x.sums (omega arith) (c.requires.summaries_fit id x (sym (c.fill.ensures.same.shown id) ∙ at))
+    fewer_sums 63 (length c.as_slice.result.now) x.sums (omega arith) (c.requires.summaries_fit id x at)
 
 pub returns-clause-ok : goal.returns-clause-ok
+unfolding block_bookings
 returns-clause-ok c =
     let usages : c.as_slice.result.now ≡ c.args.block.now.usages = c.as_slice.ensures ∙ ap (λ b. b.usages) c.block.view_is in
     let works : c.as_slice-works.result.now ≡ c.args.block.now.works = c.as_slice-works.ensures ∙ ap (λ b. b.works) c.block.view_is in
-    let places = same_places c.args.self.now.summaries c.fill.new.summaries c.fill.ensures.same.shown in
+    let place = place_named (summaries_of c.args.self.now.opening) in
     let planned =
-    subst (λ us. IsPlanned c.fill.new.ledger c.fill.new.summaries c.args.isrc c.as_slice-works.result.now us c.fill.new.self) (sym usages)
-    (c.in_ok-fill.ensures.planned c.args.block.now.usages c.requires.found) in
+    subst (λ us. IsPlanned c.fill.new.ledger c.args.self.now.summaries place c.args.isrc c.as_slice-works.result.now us c.fill.new.self) (sym usages)
+    (c.in_ok-fill.ensures.planned place c.args.block.now.usages c.requires.numbered c.requires.found) in
     let room = c.block.invariant in
     let long = ap length c.as_slice.ensures in
     let few : length c.as_slice.result.now ≤ 63 = omega arith in
@@ -54,11 +57,11 @@ returns-clause-ok c =
       opening = refl;
       standing = refl;
       blocks = refl;
-      summaries = λ id. c.add_usages.ensures.shown id ∙ λ i. option_map (shown_with id (usages i)) (c.fill.ensures.same.shown id i);
+      summaries = λ id. c.add_usages.ensures.shown id ∙ λ i. option_map (shown_with id (usages i)) (shown_at c.args.self.now.summaries id);
       rejects = sym (append-nil c.args.self.now.rejects.items);
       outcome = refl;
       tallies = λ q.
-          c.add_usages.ensures.tallies c.args.isrc c.as_slice-works.result.now planned q
-          ∙ λ i. tally_plus (c.fill.ensures.tallies q i) (key_tally (usage_bookings (places i) (c.requires.recording i) (works i) (usages i)) q);
+          c.add_usages.ensures.tallies c.args.isrc c.as_slice-works.result.now place planned q
+          ∙ λ i. tally_plus (c.fill.ensures.tallies q i) (key_tally (usage_bookings place (c.requires.recording i) (works i) (usages i)) q);
       range = record { few = subst (λ us. length us ≤ 63) usages few; range = subst (AllByRecursion IsInRange) usages c.add_usages.ensures.range };
     }

@@ -8,6 +8,7 @@ use Rattle.dsr_ledger.specs.Verdicts.{verdict_by}
 use Rattle.dsr_ledger.specs.Stands.{Took}
 use Rattle.dsr_ledger.proofs.ResultLemmas.{ok_both}
 use Rattle.dsr_ledger.proofs.IdsLemmas.{noted_so, noted_is}
+use Rattle.dsr_ledger.proofs.KeyNumberLemmas.{numbered_after}
 use Rattle.dsr_ledger.proofs.StandLemmas.{took}
 use Rattle.dsr_ledger.proofs.file.FileBooks.book.Goals as goal
 
@@ -51,3 +52,17 @@ returns-then-is_err-clause-err c =
       rejects = same.rejects;
       outcome = same.outcome;
     }) c.take-answer.ensures.err
+
+pub returns-else-is_err-clause-numbered : goal.returns-else-is_err-clause-numbered
+returns-else-is_err-clause-numbered c =
+    let t = c.take-answer in
+    let f = record c.args.self.now { ids = c.note.new.self } in
+    numbered_after t.result c.args.ledger.now t.new.ledger f t.new.self c.args.block.now t.ensures.keys t.ensures.ok t.ensures.err
+    c.requires.numbered
+
+pub returns-then-is_err-clause-numbered : goal.returns-then-is_err-clause-numbered
+returns-then-is_err-clause-numbered c =
+    let t = c.take-answer in
+    let f = record c.args.self.now { ids = c.note.new.self } in
+    numbered_after t.result c.args.ledger.now t.new.ledger f t.new.self c.args.block.now t.ensures.keys t.ensures.ok t.ensures.err
+    c.requires.numbered

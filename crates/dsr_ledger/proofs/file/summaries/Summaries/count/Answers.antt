@@ -4,7 +4,7 @@ use Rattle.std.specs.Str.{bytes_eq}
 use Rattle.std.specs.Cmp.Lexicographic.{nat_list_eq_equiv}
 use Rattle.std.proofs.lemmas.Slice.Eq.{bytes_eq-Decides}
 use Rattle.indexmap.proofs.CallerLemmas.{keys-with_value_at}
-use Rattle.dsr_ledger.specs.Summaries.{shown, shown_at, shown_plus}
+use Rattle.dsr_ledger.specs.Summaries.{shown_at, shown_plus}
 use Rattle.dsr_ledger.proofs.IndexMapLemmas.{key_is, value_here, changed}
 use Rattle.dsr_ledger.proofs.SummaryLemmas.{counted}
 use Rattle.dsr_ledger.proofs.file.summaries.Summaries.count.Goals as goal
@@ -14,9 +14,8 @@ count-requires c =
     let m = c.args.self.now.states in
     let e = c.pair_mut-state.ensures in
     let v = c.pair_mut-state.result.1.now in
-    c.requires.fits (shown v) (
-    ap (option_map shown) (value_here bytes_eq bytes_eq-Decides nat_list_eq_equiv m c.args.number _ v e.unique e.value c.args.usage.now.summary_id
-    c.requires.there))
+    c.requires.fits v (
+    value_here bytes_eq bytes_eq-Decides nat_list_eq_equiv m c.args.number _ v e.unique e.value c.args.usage.now.summary_id c.requires.there)
 
 pub returns-clause-index : goal.returns-clause-index
 returns-clause-index c = λ q. ap (position (bytes_eq q)) (keys-with_value_at c.args.self.now.states c.args.number c.count.new.self)
@@ -28,7 +27,7 @@ returns-clause-shown c = λ q.
     let v = c.pair_mut-state.result.1.now in
     let u = c.args.usage.now in
     let s = shown_at c.args.self.now q in
-    changed bytes_eq bytes_eq-Decides nat_list_eq_equiv m c.args.number _ v e.unique e.value shown c.count.new.self (shown_plus u) c.count.ensures.shown q
+    changed bytes_eq bytes_eq-Decides nat_list_eq_equiv m c.args.number _ v e.unique e.value (shown_plus u) c.count.new.self c.count.ensures.shown q
     ∙ ap (λ k. cond (bytes_eq k q) (option_map (shown_plus u) s) s)
     (key_is bytes_eq bytes_eq-Decides nat_list_eq_equiv m c.args.number _ v e.unique e.value u.summary_id c.requires.there)
     ∙ counted q u s

@@ -66,6 +66,7 @@ returns-clause-numbers c =
     let w = c.add.new.self in
     let same = c.add.ensures.seats in
     record {
+      keys = refl;
       recordings = λ isrc. ap (position (bytes_eq isrc)) (keys-with_value_at m c.args.recording w);
       seats = λ isrc name.
           each_related m c.args.recording k v w e.unique e.value

@@ -66,6 +66,7 @@ returns-clause-keeps c =
           let number = key_number l (summary_key_in q) in
           each_related m c.args.recording k v w e.unique e.value (λ (a : Option Recording) b. recording_tally party number b ≡ recording_tally party number a)
           (grown_tally party number v w same grow) (λ o. refl) q.isrc;
+      keys = refl;
       recordings = λ isrc. ap (position (bytes_eq isrc)) (keys-with_value_at m c.args.recording w);
       seats = λ isrc name.
           each_related m c.args.recording k v w e.unique e.value

@@ -50,6 +50,7 @@ returns-clause-keeps c =
     let there = c.in_ok-party.ensures.there in
     let kept : KeepsSeats c.args.self.now l = record {
       tallies = c.party.ensures.same;
+      keys = c.party.ensures.keys;
       recordings = λ isrc. ap (λ rs. index_of bytes_eq rs isrc) c.party.ensures.recordings;
       seats = λ isrc q i e. c.party.ensures.seats isrc q ∙ e;
     } in
@@ -58,6 +59,7 @@ returns-clause-keeps c =
           let number = key_number l (summary_key_in q) in
           each_related m c.args.recording k v w e.unique e.value (λ (a : Option Recording) b. recording_tally party number b ≡ recording_tally party number a)
           (seated_tally party all numbered v w c.args.name.now n there c.seat.ensures.lines c.seat.ensures.more v.within number) (λ o. refl) q.isrc;
+      keys = refl;
       recordings = λ isrc. ap (position (bytes_eq isrc)) (keys-with_value_at m c.args.recording w);
       seats = λ isrc.
           each_related m c.args.recording k v w e.unique e.value

@@ -6,15 +6,15 @@ use Rattle.indexmap.specs.IndexMap.{get}
 use Rattle.dsr_ledger.specs.declared.ledger.summary_key.SummaryKey.{SummaryKey}
 use Rattle.dsr_ledger.specs.SummaryKeys.{summary_key_eq, summary_key_in}
 use Rattle.dsr_ledger.specs.Recordings.{party_number, key_number}
-use Rattle.dsr_ledger.proofs.NumberedLemmas.{place_more}
-use Rattle.dsr_ledger.proofs.LedgerLemmas.{same_summary_key, key_line, key_kept}
+use Rattle.dsr_ledger.proofs.NumberedLemmas.{place_more, grows_more}
+use Rattle.dsr_ledger.proofs.LedgerLemmas.{same_summary_key, key_kept}
 use Rattle.dsr_ledger.proofs.ledger.recordings.Ledger.summary_key.Goals as goal
 
 pub returns-clause-keeps : goal.returns-clause-keeps
 returns-clause-keeps c =
     let l = c.args.self.now in
     let ks = l.summary_keys.keys in
-    let key = c.args.key.now in
+    let key = c.args.key in
     let none : key_number l key ≡ None = search rules in
     let all : c.insert.new.self.keys ≡ ks ++ key ∷ [] = search rules in
     let new : SummaryKey → Option ℕ = λ x. position (summary_key_eq x) c.insert.new.self.keys in
@@ -23,17 +23,14 @@ returns-clause-keeps c =
     record {
       tallies =
           λ q. key_kept (key_number l) new key (length ks) none is (summary_key_in q) (party_number l) (get bytes_eq l.recordings q.isrc) (l.keyed q.isrc);
-      recordings = λ isrc. refl;
-      seats = λ isrc name. refl;
-      lines = λ isrc k i e. key_line (key_number l) new key (length ks) none is k (get bytes_eq l.recordings isrc) (l.keyed isrc) ∙ e;
-      wide = λ isrc ss i h. h;
+      keys = grows_more summary_key_eq same_summary_key (key_number l) new key (length ks) none is;
     }
 
 pub returns-clause-there : goal.returns-clause-there
 returns-clause-there c =
     let l = c.args.self.now in
     let ks = l.summary_keys.keys in
-    let key = c.args.key.now in
+    let key = c.args.key in
     let none : key_number l key ≡ None = search rules in
     let all : c.insert.new.self.keys ≡ ks ++ key ∷ [] = search rules in
     let long : length ks ≡ c.in-Ok.number = search rules in
