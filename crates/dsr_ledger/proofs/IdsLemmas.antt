@@ -3,13 +3,12 @@ use Rattle.std.proofs.Common.{◌≡◌, ℕ, zero, suc, ◌≤◌, Bool, true, 
 use Rattle.std.specs.Prelude.{◌||◌, not}
 use Rattle.std.specs.List.{list_any}
 use Rattle.std.specs.Str.{bytes_eq}
-use Rattle.std.specs.BTreeSet.{contains, BTreeSet}
+use Rattle.indexmap.specs.IndexSet.{contains, IndexSet}
 use Rattle.std.specs.Cmp.Lexicographic.{nat_list_eq_equiv}
 use Rattle.std.proofs.lemmas.List.Folds.{list_any-append}
 use Rattle.dsr_ledger.specs.declared.ids.Ids.{Ids}
 use Rattle.dsr_ledger.specs.declared.ids.Noted.{Noted}
 use Rattle.dsr_ledger.specs.declared.ids.Noted.TheVariants.{Before, InRun, InRest}
-use Rattle.dsr_ledger.specs.Keys.{text_cmp}
 use Rattle.dsr_ledger.specs.Ids.{rank_of, is_among}
 use Rattle.dsr_ledger.specs.IdSteps.{is_in, was_before, IsNoted}
 use Rattle.dsr_ledger.proofs.TextLemmas.{same_text}
@@ -21,11 +20,11 @@ or_one_more false true c = refl
 or_one_more false false c = refl
 
 -- one more in the run
-pub one_more : (run : List (List ℕ)) (rest : BTreeSet (List ℕ)) (id q : List ℕ)
+pub one_more : {S : Type 0} (run : List (List ℕ)) (rest : IndexSet (List ℕ) S) (id q : List ℕ)
     → is_among (run ++ id ∷ []) rest q ≡ cond (bytes_eq id q) true (is_among run rest q)
 one_more run rest id q =
-    ap (λ b. b || contains text_cmp rest q) (list_any-append (bytes_eq q) run (id ∷ []))
-    ∙ or_one_more (list_any (bytes_eq q) run) (bytes_eq q id) (contains text_cmp rest q)
+    ap (λ b. b || contains bytes_eq rest q) (list_any-append (bytes_eq q) run (id ∷ []))
+    ∙ or_one_more (list_any (bytes_eq q) run) (bytes_eq q id) (contains bytes_eq rest q)
     ∙ ap (λ b. cond b true (is_among run rest q)) (nat_list_eq_equiv.symm q id)
 
 -- no rank is greater after one more

@@ -1,11 +1,10 @@
 -- What noting an identifier changes.
 use Rattle.std.specs.Prelude.{◌≡◌, ℕ, Bool, true, false, List, [], ◌∷◌, ◌++◌, if◌then◌else◌}
 use Rattle.std.specs.Str.{bytes_eq}
-use Rattle.std.specs.BTreeSet.{contains}
+use Rattle.indexmap.specs.IndexSet.{contains}
 use Rattle.dsr_ledger.specs.declared.ids.Ids.{Ids}
 use Rattle.dsr_ledger.specs.declared.ids.Noted.{Noted}
 use Rattle.dsr_ledger.specs.declared.ids.Noted.TheVariants.{Before, InRun, InRest}
-use Rattle.dsr_ledger.specs.Keys.{text_cmp}
 use Rattle.dsr_ledger.specs.Ids.{is_among}
 
 -- an identifier is in the set
@@ -26,6 +25,6 @@ was_before InRest = false
 abbrev pub IsNoted : Noted → Ids → Ids → List ℕ → Type 0
 IsNoted Before old new id = (is_in old id ≡ true) × HaveSame old new
 IsNoted InRun old new id =
-    (is_in old id ≡ false) × (new.run.items ≡ old.run.items ++ id ∷ []) × ((q : List ℕ) → contains text_cmp new.rest q ≡ contains text_cmp old.rest q)
+    (is_in old id ≡ false) × (new.run.items ≡ old.run.items ++ id ∷ []) × ((q : List ℕ) → contains bytes_eq new.rest q ≡ contains bytes_eq old.rest q)
 IsNoted InRest old new id =
-    (is_in old id ≡ false) × (new.run.items ≡ []) × ((q : List ℕ) → contains text_cmp new.rest q ≡ (if bytes_eq id q then true else is_in old q))
+    (is_in old id ≡ false) × (new.run.items ≡ []) × ((q : List ℕ) → contains bytes_eq new.rest q ≡ (if bytes_eq id q then true else is_in old q))

@@ -2,8 +2,7 @@
 use Rattle.std.specs.Prelude.{ℕ, ◌+◌, ◌-◌, ◌*◌, ◌^◌, ◌%◌, Bool, List, ◌||◌, length, drop}
 use Rattle.std.specs.List.{list_any, fold}
 use Rattle.std.specs.Str.{bytes_eq}
-use Rattle.std.specs.BTreeSet.{contains, BTreeSet}
-use Rattle.dsr_ledger.specs.Keys.{text_cmp}
+use Rattle.indexmap.specs.IndexSet.{contains, IndexSet}
 
 -- a number with one more byte appended, modulo 2^64
 abbrev pub with_byte : ℕ → ℕ → ℕ
@@ -14,5 +13,5 @@ unfoldable pub rank_of : List ℕ → ℕ
 rank_of id = length id * 2 ^ 64 + fold with_byte 0 (drop (length id - 8) id)
 
 -- an identifier is in the run or among the rest
-abbrev pub is_among : List (List ℕ) → BTreeSet (List ℕ) → List ℕ → Bool
-is_among run rest q = list_any (bytes_eq q) run || contains text_cmp rest q
+abbrev pub is_among : {S : Type 0} → List (List ℕ) → IndexSet (List ℕ) S → List ℕ → Bool
+is_among run rest q = list_any (bytes_eq q) run || contains bytes_eq rest q

@@ -1,13 +1,14 @@
 //! The identifiers of a file's blocks.
 ghost use Rattle.std.specs.Prelude.{◌≡◌, ◌≤◌, ℕ, List, true, OnOk, OnErr};
 ghost use Rattle.std.specs.List.{fold};
-ghost use Rattle.std.specs.BTreeSet.{contains};
-ghost use Rattle.dsr_ledger.specs.Keys.{text_cmp};
+ghost use Rattle.std.specs.Str.{bytes_eq};
+ghost use Rattle.indexmap.specs.IndexSet.{contains};
 ghost use Rattle.dsr_ledger.specs.Ids.{rank_of, with_byte, is_among};
 
+use crate::seeded::Seeded;
 use dsr_cells::{NoMemory, Text};
+use indexmap::IndexSet;
 use std::alloc::Global;
-use std::collections::BTreeSet;
 
 /// Where an identifier was noted.
 #[derive(Clone, Copy, PartialEq, Eq)]
@@ -27,7 +28,7 @@ pub struct Ids {
     /// The ascending ones since the last one that did not ascend.
     pub run: Vec<Text>,
     /// All others.
-    pub rest: BTreeSet<Text>,
+    pub rest: IndexSet<Text, Seeded>,
     /// No identifier has a greater rank.
     pub top: u128,
     ghost below: { (q : List ℕ) → is_among run.items rest q ≡ true → rank_of q ≤ top },
@@ -56,11 +57,11 @@ fn rank(id: &Text) -> u128
 }
 
 /// Adds the identifiers of a run to the rest.
-fn gather(rest: &mut BTreeSet<Text>, alloc: Global, run: &[Text]) -> Result<(), NoMemory>
+fn gather(rest: &mut IndexSet<Text, Seeded>, alloc: Global, run: &[Text]) -> Result<(), NoMemory>
     ensures same { OnErr result ((q : List ℕ)
         → is_among run.now rest.new q ≡ is_among run.now rest.old q) }
     ensures all { OnOk result ((q : List ℕ)
-        → contains text_cmp rest.new q ≡ is_among run.now rest.old q) }
+        → contains bytes_eq rest.new q ≡ is_among run.now rest.old q) }
 {
     for id in run {
         rest.insert(id.copy(alloc)?)?;
@@ -87,12 +88,12 @@ impl Ids {
     ghost use Rattle.dsr_ledger.specs.IdSteps.{is_in, HaveSame, IsNoted};
 
     /// No identifiers.
-    pub fn new(alloc: Global) -> Ids
+    pub fn new(alloc: Global, seeded: Seeded) -> Ids
         ensures { (q : List ℕ) → is_in result q ≡ false }
     {
         Ids {
             run: Vec::new(alloc),
-            rest: BTreeSet::new(alloc),
+            rest: IndexSet::with_hasher(alloc, seeded),
             top: 0,
         }
     }
@@ -134,7 +135,7 @@ impl Ids {
                 self.run.pop();
             }
             Noted::InRest => {
-                self.rest.remove(id);
+                self.rest.swap_remove(id);
             }
         }
     }

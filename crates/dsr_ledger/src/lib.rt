@@ -15,10 +15,11 @@
 //!    none.
 //! 4. `ledger` stores each party, summary key (`ledger/summary_key`) and recording once, interned in
 //!    maps with seeded hashers (`seeded`). A recording owns its seats and lines (`ledger/recording`,
-//!    `seats`, `line`), a line its sums and parts (`sums`, `parts`). Items after the first 16 are
-//!    found by an index (`ledger/index`). `key` is the key of a ledger line, which only specs use.
+//!    `seats`, `line`), a line its sums and parts (`sums`, `parts`), whose amounts are `wide`. Items
+//!    after the first 16 are found by an index (`ledger/index`). `key` is the key of a ledger line,
+//!    which only specs use.
 //! 5. `assemble` makes the `report`: `file_lines`, `missing`, `differences`, `rejects`, and the lines
-//!    of the ledger (`assemble/ledger`).
+//!    of the ledger (`assemble/ledger`) with their `parties`.
 //!
 //! **Example**, compiled and proved in `crates/dsr_unit_tests/src/examples/ledger.rt`:
 //!
@@ -97,15 +98,18 @@ pub mod laws;
 mod ledger;
 mod missing;
 mod open;
+mod parties;
 mod rejects;
 mod report;
 mod seeded;
 mod sums;
 mod verdict;
+mod wide;
 
 pub use books::Books;
+pub use parties::Parties;
 pub use report::{
-    Difference, Differences, FileLine, FileLines, LedgerLine, LedgerLines, Numbers, Parties,
-    PartyLine, Reject, Rejects, Report, ReportKey,
+    Difference, Differences, FileLine, FileLines, LedgerLine, LedgerLines, Numbers, PartyLine,
+    Reject, Rejects, Report, ReportKey,
 };
 pub use verdict::{Reason, Standing, Verdict};

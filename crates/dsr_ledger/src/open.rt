@@ -151,7 +151,7 @@ pub fn open_after(
         opening,
         standing,
         blocks: 0,
-        ids: Ids::new(alloc),
+        ids: Ids::new(alloc, seeded),
         summaries,
         rejects: Vec::new(alloc),
         outcome: None,

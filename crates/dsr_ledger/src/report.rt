@@ -1,4 +1,5 @@
 //! The report that the books make.
+use crate::parties::Parties;
 use crate::verdict::{Reason, Standing};
 use dsr_cells::{Day, Isrc, Items, Text};
 use dsr_file::Outcome;
@@ -47,7 +48,7 @@ pub struct Difference {
 }
 
 /// A party's part of a ledger line's amount.
-#[derive(Drop)]
+#[derive(Default, Drop)]
 pub struct PartyLine {
     /// The name of the party, as the works spell it.
     pub party: Text,
@@ -97,9 +98,6 @@ pub type Numbers = Items<u32>;
 
 /// The differences, by file and then in file order.
 pub type Differences = Items<Difference>;
-
-/// The parties of a line, by the bytes of their names.
-pub type Parties = Items<PartyLine>;
 
 /// The ledger's lines, by the bytes of ISRC, territory, use type and currency.
 pub type LedgerLines = Items<LedgerLine>;

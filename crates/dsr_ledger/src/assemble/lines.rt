@@ -16,18 +16,19 @@ use crate::assemble::listed::parts_by_name;
 use crate::ledger::line::Line;
 use crate::ledger::parts::SeatPart;
 use crate::ledger::summary_key::SummaryKey;
+use crate::parties::Parties;
 use crate::report::{LedgerLine, PartyLine};
-use dsr_cells::{Isrc, Items, NoMemory, Text};
+use dsr_cells::{Isrc, NoMemory, Text};
 use std::alloc::Global;
 
-/// The part at a place; past the last one, an empty part.
-fn part_at(parts: &[SeatPart], place: usize) -> SeatPart
-    ensures has_part { result.has_part ≡ (owed_at_place parts.now (Some place)).has_part }
-    ensures amount { result.amount ≡ (owed_at_place parts.now (Some place)).amount }
+/// Whether there is a part at a place, and its amount; past the last place there is none.
+fn part_at(parts: &[SeatPart], place: usize) -> (bool, i128)
+    ensures has_part { result.0 ≡ (owed_at_place parts.now (Some place)).has_part }
+    ensures amount { result.1 ≡ (owed_at_place parts.now (Some place)).amount }
 {
     match parts.get(place) {
-        Some(part) => *part,
-        None => SeatPart::new(0),
+        Some(part) => (part.has_part, part.amount.get()),
+        None => (false, 0),
     }
 }
 
@@ -36,17 +37,16 @@ fn party_lines(
     alloc: Global,
     names: &[(&Text, usize)],
     parts: &[SeatPart],
-) -> Result<Items<PartyLine>, NoMemory>
+) -> Result<Parties, NoMemory>
     ensures { (bs : List Booking) (place : List ℕ → Option ℕ) → ArePartsOf place names.now
         → ((q : List ℕ) → owed_at_place parts.now (place q) ≡ owed_for q (all_parts bs))
         → IfOk result (λ lines. lines ≡ party_lines bs) }
 {
-    let mut lines = Items::from(Vec::with_capacity(alloc, names.len())?);
+    let mut lines = Parties::with_room(alloc, names.len())?;
     for (party, place) in names {
-        let part = part_at(parts, *place);
-        if part.has_part {
+        let (has_part, amount) = part_at(parts, *place);
+        if has_part {
             let party = party.copy(alloc)?;
-            let amount = part.amount;
             lines
                 .push(PartyLine { party, amount })
                 .map_err(|_line| NoMemory)?;

@@ -12,8 +12,13 @@ ghost use Rattle.dsr_ledger.specs.Parts.{part_of};
 ghost use Rattle.dsr_ledger.specs.Seated.{HaveSeats, HasPart, HaveParts, AreSeatsBelow};
 
 use crate::ledger::index::{Index, Numbered};
+use crate::wide::Wide;
 use dsr_cells::{Amount, NoMemory};
+use smallvec::SmallVec;
 use std::alloc::Global;
+
+/// This many parts of a line are stored in the line itself, more on the heap.
+const FEW_PARTS: usize = 2;
 
 /// A party's share of a work, at the seat of the party.
 #[derive(Clone, Copy, PartialEq, Eq, Drop)]
@@ -24,11 +29,11 @@ pub struct SeatShare {
 }
 
 /// What a line owes the party at a seat: whether the party has a part, and the sum of its parts.
-#[derive(Clone, Copy, PartialEq, Eq, Drop)]
+#[derive(Default, Drop)]
 pub struct SeatPart {
     pub seat: u32,
     pub has_part: bool,
-    pub amount: i128,
+    pub amount: Wide,
 }
 
 impl SeatPart {
@@ -40,7 +45,7 @@ impl SeatPart {
         SeatPart {
             seat,
             has_part: false,
-            amount: 0,
+            amount: Wide::of(0),
         }
     }
 
@@ -51,7 +56,7 @@ impl SeatPart {
         ensures owed { owed_kept self.new ≡ owed_with amount (owed_kept self.old) }
     {
         self.has_part = true;
-        self.amount += amount;
+        self.amount = Wide::of(self.amount.get() + amount);
     }
 }
 
@@ -66,7 +71,7 @@ impl Numbered for SeatPart {
 /// The parts of a line, one for each seat that has one, in the order in which they were added.
 #[derive(Drop)]
 pub struct Parts {
-    pub items: Vec<SeatPart>,
+    pub items: SmallVec<SeatPart, FEW_PARTS>,
     /// By the seats.
     pub index: Index,
     ghost apart: { AreApart (part_seats items.items) },
@@ -114,7 +119,7 @@ fn rising_seats(shares: &[SeatShare]) -> usize {
 }
 
 /// Adds an amount to the part at a place.
-fn add_part(parts: &mut Vec<SeatPart>, place: usize, amount: i128)
+fn add_part(parts: &mut SmallVec<SeatPart, FEW_PARTS>, place: usize, amount: i128)
     requires below { place < length parts.old.items }
     requires fits { FitsSigned w128 ((owed_at_place parts.old.items (Some place)).amount +ℤ
         amount) }
@@ -131,7 +136,7 @@ fn add_part(parts: &mut Vec<SeatPart>, place: usize, amount: i128)
 /// Adds the share of an amount to the part of its seat, and returns the place after that. The part at
 /// `hint` is tried first.
 fn add_share(
-    parts: &mut Vec<SeatPart>,
+    parts: &mut SmallVec<SeatPart, FEW_PARTS>,
     index: &Index,
     amount: Amount,
     share: &SeatShare,
@@ -157,7 +162,12 @@ fn add_share(
 }
 
 /// Adds the shares of an amount, each to the part of its seat.
-fn add_parts(parts: &mut Vec<SeatPart>, index: &Index, amount: Amount, shares: &[SeatShare])
+fn add_parts(
+    parts: &mut SmallVec<SeatPart, FEW_PARTS>,
+    index: &Index,
+    amount: Amount,
+    shares: &[SeatShare],
+)
     requires apart { AreApart (part_seats parts.old.items) }
     requires indexed { AreIndexed (part_seats parts.old.items) index.now }
     requires wide { HaveParts shares.now parts.old.items }
@@ -181,7 +191,7 @@ impl Parts {
         ensures { result.items.items ≡ [] }
     {
         Parts {
-            items: Vec::new(alloc),
+            items: SmallVec::new(alloc),
             index: Index::new(),
         }
     }

@@ -6,12 +6,16 @@ ghost use Rattle.dsr_ledger.specs.Numbered.{place_in, AreApart};
 
 use crate::ledger::index::Index;
 use dsr_cells::NoMemory;
+use smallvec::SmallVec;
 use std::alloc::Global;
+
+/// This many seats are stored in the recording itself, more on the heap.
+const FEW_SEATS: usize = 2;
 
 /// The numbers of a recording's parties, each once, at its seat, in the order of their first use.
 #[derive(Drop)]
 pub struct Seats {
-    pub numbers: Vec<u32>,
+    pub numbers: SmallVec<u32, FEW_SEATS>,
     /// By the numbers of the parties.
     pub index: Index,
     ghost apart: { AreApart numbers.items },
@@ -28,7 +32,7 @@ impl Seats {
         ensures { seat_numbers result ≡ [] }
     {
         Seats {
-            numbers: Vec::new(alloc),
+            numbers: SmallVec::new(alloc),
             index: Index::new(),
         }
     }

@@ -1,5 +1,5 @@
 use Rattle.std.proofs.Common.{false, ◌≡◌, ℕ, ◌+◌, ◌<◌, ◌≤◌, List, [], ◌∷◌, ◌++◌, take, length, get_or, sym, ap, ◌∙◌, subst, arith, Bor}
-use Rattle.std.specs.Prelude.{pos, Option, Some, slice_get, option_map}
+use Rattle.std.specs.Prelude.{Option, Some, slice_get, option_map}
 use Rattle.std.specs.List.{position}
 use Rattle.std.specs.Str.{bytes_eq}
 use Rattle.std.specs.Ordering.{is_lt}
@@ -20,26 +20,24 @@ use Rattle.dsr_ledger.proofs.PartyPlaceLemmas.{at_seats, seats_within, seats_apa
 use Rattle.dsr_ledger.proofs.ListedLemmas.{AreNamedFrom, named_push, listed}
 use Rattle.dsr_ledger.proofs.assemble.listed.parts_by_name.Goals as goal
 
-abbrev none : SeatPart
-none = record { seat = 0; has_part = false; amount = pos 0 }
-
-seat_at_place : (ps : List SeatPart) (i : ℕ) → i < length ps → slice_get (part_seats ps) i ≡ Some (get_or ps i none).seat
-seat_at_place ps i below = slice_get-map seat_of_part ps i ∙ ap (option_map seat_of_part) (slice_get-get_or ps i none below)
+seat_at_place : (ps : List SeatPart) (i : ℕ) (p : SeatPart) → i < length ps → p ≡ get_or ps i p → slice_get (part_seats ps) i ≡ Some p.seat
+seat_at_place ps i p below is = slice_get-map seat_of_part ps i ∙ ap (option_map seat_of_part) (slice_get-get_or ps i p below ∙ ap Some (sym is))
 
 pub bounds-numbers-part : goal.bounds-numbers-part
 bounds-numbers-part c =
     let i = c.loop-place.place in
-    let p = get_or c.args.parts.now i none in
-    let at = seat_at_place c.args.parts.now i c.loop-place-test.true in
+    let p = c.index-parts-place.result in
+    let at = seat_at_place c.args.parts.now i p c.loop-place-test.true c.index-parts-place.is in
     c.requires.seats_below p.seat i (c.requires.seats_apart i p.seat at)
 
 pub bounds-parties-number : goal.bounds-parties-number
 bounds-parties-number c =
     let ns = c.args.numbers.now in
     let i = c.loop-place.place in
-    let s = (get_or c.args.parts.now i none).seat in
+    let p = c.index-parts-place.result in
+    let s = p.seat in
     let n = get_or ns s 0 in
-    let seat = seat_at_place c.args.parts.now i c.loop-place-test.true in
+    let seat = seat_at_place c.args.parts.now i p c.loop-place-test.true c.index-parts-place.is in
     let below = c.requires.seats_below s i (c.requires.seats_apart i s seat) in
     c.requires.below n s (c.requires.apart s n (slice_get-get_or ns s 0 below))
 
@@ -50,11 +48,11 @@ loop-place-preserved c =
     let ss = part_seats c.args.parts.now in
     let ms = at_seats ns ss in
     let i = c.loop-place.place in
-    let p = get_or c.args.parts.now i none in
+    let p = c.index-parts-place.result in
     let n = get_or ns p.seat 0 in
     let old = c.loop-place.names.items in
     let x = c.index-parties-number.result in
-    let seat = seat_at_place c.args.parts.now i c.loop-place-test.true in
+    let seat = seat_at_place c.args.parts.now i p c.loop-place-test.true c.index-parts-place.is in
     let below = c.requires.seats_below p.seat i (c.requires.seats_apart i p.seat seat) in
     let here : slice_get ms i ≡ Some n = slice_get-map (λ s. get_or ns s 0) ss i ∙ ap (option_map (λ s. get_or ns s 0)) seat in
     let within = slice_get_within ms i n here in
