@@ -54,7 +54,10 @@ fn read_whole<S: Sink>(
 {
     let mut file = FileReader::new(alloc, layout)?;
     let mut part = file.nothing_closed();
-    give_all(&mut file, &mut part, bytes, ending, sink).map_err(|_| NoMemory)
+    let Ok(outcome) = give_all(&mut file, &mut part, bytes, ending, sink) else {
+        return Err(NoMemory);
+    };
+    Ok(outcome)
 }
 
 /// Gives the rest of a text to a reader, and its events to a sink.
