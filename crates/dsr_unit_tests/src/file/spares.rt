@@ -119,7 +119,9 @@ fn a_block_over_an_old_one(rt: HostRuntime) -> Result<(), AllocError> {
 fn third_event(alloc: Global, bytes: &[u8], old: Block) -> Option<Event>
     requires { length bytes.now ≤ 1000000 }
 {
-    let mut file = FileReader::new(alloc, &Layout::standard()).ok()?;
+    let Ok(mut file) = FileReader::new(alloc, &Layout::standard()) else {
+        return None;
+    };
     let (used, _) = file.take(bytes);
     file.reuse(old);
     let rest = &bytes[used..];
