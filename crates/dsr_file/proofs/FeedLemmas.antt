@@ -1,18 +1,20 @@
 -- The state of a reader and a sink while a source is read.
 use Rattle.std.proofs.Common.{◌≡◌, ℕ, ◌+◌, ◌-◌, ◌≤◌, ◌⊎◌, inl, inr, ◌∙◌, sym, ap, refl, subst, List, [], ◌∷◌, ◌++◌, length, take, drop, Option, None, Some}
-use Rattle.std.proofs.Common.{append_assoc, length-take, length-drop, arith}
-use Rattle.std.specs.Option.{option_to_list, IfNone}
+use Rattle.std.proofs.Common.{false, append_assoc, length-take, length-drop, arith}
+use Rattle.std.specs.Option.{option_to_list, is_some, IfNone, IfSome}
 use Rattle.std.proofs.lemmas.List.{append-nil}
 use mathlib.Core.List.{IsPrefix}
 use Rattle.dsr_records.specs.Records.{LayoutTable}
 use Rattle.dsr_file.specs.declared.fault.Ending.{Ending}
 use Rattle.dsr_file.specs.declared.fault.Ending.TheVariants as endings
+use Rattle.dsr_file.specs.declared.event.EventPart.{EventPart}
 use Rattle.dsr_file.specs.declared.reader.FileReader.{FileReader}
 use Rattle.dsr_file.specs.Placed.{Placed}
 use Rattle.dsr_file.specs.Texts.{text_events, so_far}
 use Rattle.dsr_file.specs.Runs.{FileText, IsSomeRun, IsRun, BeginsEvents, HasEvents}
 use Rattle.dsr_file.specs.Standing.{Stands, IsDone}
 use Rattle.dsr_file.specs.Feeding.{Fed, FedSome}
+use Rattle.dsr_file.specs.Closing.{event_at}
 use Rattle.dsr_file.proofs.LawLemmas.{so_far_begins_lem}
 use Rattle.dsr_file.proofs.RunLemmas.{cut_off_run, cut_off_later}
 use Rattle.dsr_file.proofs.StandLemmas.{stands_joined}
@@ -22,10 +24,6 @@ prefix_self xs = ([], append-nil xs)
 
 pub prefix_more : {A : Type 0} (xs ys zs : List A) → IsPrefix xs ys → IsPrefix ys zs → IsPrefix xs zs
 prefix_more xs ys zs p q = (p.0 ++ q.0, sym (append_assoc xs p.0 q.0) ∙ ap (λ l. l ++ q.0) p.1 ∙ q.1)
-
--- a list to which an event was appended
-pub prefix_event : (xs ys zs : List Placed) (e : Placed) → IsPrefix xs ys → zs ≡ ys ++ e ∷ [] → IsPrefix xs zs
-prefix_event xs ys zs e p is = prefix_more xs ys zs p (e ∷ [], sym is)
 
 -- the first events of bytes are the first of each text that begins with the bytes
 pub begins_later : (layout : LayoutTable) (b more : List ℕ) (ending : Ending) (es : List Placed) → BeginsEvents layout b None es
@@ -50,6 +48,15 @@ pub event_run : (layout : LayoutTable) (r : FileReader) (b : List ℕ) (told : O
 event_run layout r b told es o e is begins s =
     known_run layout b told (es ++ e ∷ []) (subst (λ x. BeginsEvents layout b told (es ++ option_to_list x)) is (begins layout b _ s))
 
+-- the same for what may be closed
+pub part_run : (layout : LayoutTable) (r : FileReader) (b : List ℕ) (es : List Placed) (place at : ℕ) (o : Option EventPart) → at ≡ place
+    → ((layout : LayoutTable) (c : List ℕ) (gs : List Placed) → Stands layout r c gs → BeginsEvents layout c None gs)
+    → Stands layout r b (es ++ option_to_list (event_at place o)) → IfSome (event_at at o) (λ e. IsSomeRun (es ++ e ∷ []))
+part_run layout r b es place at None is begins s = tt
+part_run layout r b es place at (Some part) is begins s =
+    subst (λ p. IsSomeRun (es ++ record { place = p; part = part } ∷ [])) (sym is)
+    (event_run layout r b None es (event_at place (Some part)) (record { place = place; part = part }) refl begins s)
+
 abbrev rest_of : List ℕ → ℕ → List ℕ
 rest_of piece m = take (length piece - m) (drop m piece)
 
@@ -57,12 +64,26 @@ all_used : (m n : ℕ) (piece : List ℕ) (D : Type 0) → m ≤ length piece �
 all_used m n piece D h (inl e) = inl (omega (arith, simp (length-take, length-drop) at e))
 all_used m n piece D h (inr d) = inr d
 
--- a call of `take` that returned no event, after other calls
-pub fed_all : (layout : LayoutTable) (r : FileReader) (b piece : List ℕ) (es : List Placed) (m n : ℕ) (o : Option Placed) → m ≤ length piece
-    → n ≤ length (rest_of piece m) → o ≡ None → Stands layout r ((b ++ take m piece) ++ take n (rest_of piece m)) (es ++ option_to_list o)
+-- a call of `take_part` whose event, if there was one, was put
+pub fed_more : (layout : LayoutTable) (r : FileReader) (b piece : List ℕ) (es fs : List Placed) (m n place at : ℕ) (o : Option EventPart) → m ≤ length piece
+    → at ≡ place → fs ≡ es ++ option_to_list (event_at at o)
+    → Stands layout r ((b ++ take m piece) ++ take n (rest_of piece m)) (es ++ option_to_list (event_at place o))
+    → Stands layout r (b ++ take (m + n) piece) fs
+fed_more layout r b piece es fs m n place at o h is put s =
+    subst (λ x. Stands layout r (b ++ take (m + n) piece) x) (sym (put ∙ ap (λ p. es ++ option_to_list (event_at p o)) is))
+    (stands_joined layout r b piece es m n (event_at place o) (event_at place o) h refl s)
+
+-- the list only grows by what was put
+pub prefix_part : (xs ys zs : List Placed) (at : ℕ) (o : Option EventPart) → IsPrefix xs ys → zs ≡ ys ++ option_to_list (event_at at o) → IsPrefix xs zs
+prefix_part xs ys zs at o p is = prefix_more xs ys zs p (option_to_list (event_at at o), sym is)
+
+-- a call of `take_part` that closed nothing, after other calls
+pub fed_all : (layout : LayoutTable) (r : FileReader) (b piece : List ℕ) (es : List Placed) (m n place : ℕ) (o : Option EventPart) → m ≤ length piece
+    → n ≤ length (rest_of piece m) → is_some o ≡ false
+    → Stands layout r ((b ++ take m piece) ++ take n (rest_of piece m)) (es ++ option_to_list (event_at place o))
     → IfNone o ((n ≡ length (rest_of piece m)) ⊎ IsDone r) → IfNone o
     ((layout : LayoutTable) (c : List ℕ) (gs : List Placed) → Stands layout r c gs → HasEvents layout c None gs) → Fed layout r b piece es
-fed_all layout r b piece es m n None h k is s w all =
+fed_all layout r b piece es m n place None h k is s w all =
     let now : Stands layout r (b ++ take (m + n) piece) es =
     subst (λ x. Stands layout r (b ++ take (m + n) piece) x) (append-nil es) (stands_joined layout r b piece es m n None None h refl s) in
     record {
@@ -72,18 +93,20 @@ fed_all layout r b piece es m n None h k is s w all =
       stands = now;
       all = all layout (b ++ take (m + n) piece) es now;
     }
-fed_all layout r b piece es m n (Some e) h k is s w all = absurd (cc)
+fed_all layout r b piece es m n place (Some e) h k is s w all = absurd (cc)
 
 -- an event that was refused
-pub fed_some : (layout : LayoutTable) (r : FileReader) (b piece : List ℕ) (es fs : List Placed) (m n : ℕ) (o : Option Placed) (e v : Placed) → m ≤ length piece
-    → n ≤ length (rest_of piece m) → o ≡ Some v → (e ≡ v) × (fs ≡ es)
-    → Stands layout r ((b ++ take m piece) ++ take n (rest_of piece m)) (es ++ option_to_list o)
+pub fed_some : (layout : LayoutTable) (r : FileReader) (b piece : List ℕ) (es fs : List Placed) (m n place at : ℕ) (o : Option EventPart) (e : Placed)
+    → m ≤ length piece → n ≤ length (rest_of piece m) → at ≡ place → (event_at at o ≡ Some e) × (fs ≡ es)
+    → Stands layout r ((b ++ take m piece) ++ take n (rest_of piece m)) (es ++ option_to_list (event_at place o))
     → ((layout : LayoutTable) (c : List ℕ) (gs : List Placed) → Stands layout r c gs → BeginsEvents layout c None gs)
     → FedSome layout b piece (fs ++ e ∷ [])
-fed_some layout r b piece es fs m n o e v h k is same s begins = record {
+fed_some layout r b piece es fs m n place at o e h k is refused s begins = record {
   used = m + n;
   bound = omega (arith, simp (length-take, length-drop) at k);
-  begins = rw (same.1, same.0) (begins layout _ _ (stands_joined layout r b piece es m n o (Some v) h is s));
+  begins =
+      subst (λ x. BeginsEvents layout (b ++ take (m + n) piece) None (x ++ e ∷ [])) (sym refused.1)
+      (begins layout _ _ (stands_joined layout r b piece es m n (event_at place o) (Some e) h (ap (λ p. event_at p o) (sym is) ∙ refused.0) s));
 }
 
 -- the same at the end of a text

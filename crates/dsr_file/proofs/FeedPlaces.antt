@@ -1,5 +1,5 @@
 -- Bytes without a line feed.
-use Rattle.std.proofs.Common.{◌≡◌, ℕ, ◌+◌, ◌-◌, ◌<◌, ◌≤◌, ◌∙◌, ◌++◌, ◌||◌, sym, ap, subst, true, false, eqb, not, List, length, map, take, drop, get_or, inl}
+use Rattle.std.proofs.Common.{◌≡◌, ℕ, ◌+◌, ◌-◌, ◌<◌, ◌≤◌, ◌∙◌, ◌||◌, sym, ap, subst, true, false, eqb, not, List, length, map, take, drop, get_or, inl}
 use Rattle.std.proofs.Common.{inr, arith, take-add, take_all, length-drop, Bool}
 use Rattle.std.specs.List.{list_any, prefix_len}
 use Rattle.std.specs.Simd.Lanes.{chunk, mask_l}

@@ -12,6 +12,7 @@ pub mod LawLemmas
 pub mod RunLemmas
 pub mod StandLemmas
 pub mod EndLemmas
+pub mod ClosedLemmas
 pub mod FeedLemmas
 pub mod ReadLemmas
 pub mod ResultLemmas

@@ -7,6 +7,7 @@ pub mod Faults
 pub mod Names
 pub mod Texts
 pub mod Placed
+pub mod Closing
 pub mod Orderly
 pub mod Runs
 pub mod ReadCounts

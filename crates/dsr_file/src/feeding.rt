@@ -7,41 +7,25 @@ ghost use Rattle.dsr_file.specs.Runs.{IsSomeRun, BeginsEvents, HasEvents, EndsWi
 ghost use Rattle.dsr_file.specs.Standing.{Stands, bytes_used, ending_told, events_left};
 ghost use Rattle.dsr_file.specs.Feeding.{IsKnown, Fed, FedSome};
 
+use crate::closed::Closed;
 use crate::event::Event;
 use crate::fault::{Ending, Outcome};
 use crate::reader::FileReader;
 use crate::sink::Sink;
 
-/// Puts an event of the reader into the sink, and gives the reader the block that the sink can
-/// spare.
-#[inline(always)]
-fn hand_over<S: Sink>(file: &mut FileReader, event: Event, sink: &mut S) -> Result<(), Event>
-    requires { IsSomeRun (S.list sink.old ++ event ∷ []) }
-    ensures added { OnOk result (S.list sink.new ≡ S.list sink.old ++ event ∷ []) }
-    ensures refused { IfErr result (λ back. (back ≡ event) × (S.list sink.new ≡ S.list sink.old)) }
-    ensures name { S.name sink.new ≡ S.name sink.old }
-    ensures stands { (layout : LayoutTable) (b : List ℕ) (es : List Placed)
-        → Stands layout file.old b es → Stands layout file.new b es }
-    ensures used { bytes_used file.new ≡ bytes_used file.old }
-    ensures left { events_left file.new ≡ events_left file.old }
-    ensures ending { ending_told file.new ≡ ending_told file.old }
-{
-    match sink.put(event) {
-        Ok(()) => {}
-        Err(back) => return Err(back),
-    }
-    if let Some(block) = sink.spare() {
-        file.reuse(block);
-    }
-    Ok(())
-}
-
 /// Gives a piece to a reader and its events to a sink, and notes the length of the piece in the sink.
-pub(crate) fn feed<S: Sink>(file: &mut FileReader, piece: &[u8], sink: &mut S) -> Result<(), Event>
+pub(crate) fn feed<S: Sink>(
+    file: &mut FileReader,
+    part: &mut Closed,
+    piece: &[u8],
+    sink: &mut S,
+) -> Result<(), Event>
+    requires none { part.old ≡ None }
     requires open { ending_told file.old ≡ None }
     requires room { bytes_used file.old + length piece.now ≤ 2 ^ 36 }
     requires known { IsKnown file.old (S.list sink.old) }
     ensures open { ending_told file.new ≡ None }
+    ensures none { part.new ≡ None }
     ensures used { OnOk result (bytes_used file.new ≤ bytes_used file.old + length piece.now) }
     ensures name { S.name sink.new ≡ S.name sink.old }
     ensures grows { IsPrefix (S.list sink.old) (S.list sink.new) }
@@ -54,15 +38,13 @@ pub(crate) fn feed<S: Sink>(file: &mut FileReader, piece: &[u8], sink: &mut S) -
 {
     let mut used = 0;
     loop {
-        let (more, event) = file.take(&piece[used..]);
-        used += more;
-        match event {
-            Some(event) => hand_over(file, event, sink)?,
-            None => {
-                sink.note_bytes(piece.len());
-                return Ok(());
-            }
+        let place = file.place();
+        used += file.take_part(&piece[used..], part);
+        if !part.is_some() {
+            sink.note_bytes(piece.len());
+            return Ok(());
         }
+        part.put_into(place, sink)?;
     }
 }
 
@@ -85,7 +67,7 @@ pub(crate) fn finish_all<S: Sink>(
 {
     loop {
         match file.finish(ending) {
-            Some(event) => hand_over(file, event, sink)?,
+            Some(event) => sink.put(event)?,
             None => return Ok(file.outcome()),
         }
     }

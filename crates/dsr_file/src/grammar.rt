@@ -2,14 +2,13 @@
 ghost use Rattle.std.specs.Prelude.{◌≡◌, ◌+◌, ◌-◌, ◌<◌, ◌≤◌, ◌^◌, [], length, List, None, option_and_then};
 ghost use Rattle.dsr_cells.specs.Lines.{without_return};
 ghost use Rattle.dsr_file.specs.Readings.{is_skipped_text, file_fault};
-ghost use Rattle.dsr_file.specs.Counting.{foot_in, summary_count, block_count};
+ghost use Rattle.dsr_file.specs.Counting.{foot_in, summary_count};
 
+use crate::closed::Closed;
 use crate::event::EventPart;
 use crate::fault::{Ending, FileFault, Outcome};
 use crate::stage::Stage;
-use dsr_records::{
-    Block, CheckedLine, Foot, Kind, Layout, Record, RecordFault, TypedLine, text_of,
-};
+use dsr_records::{CheckedLine, Foot, Kind, Layout, Record, RecordFault, TypedLine, text_of};
 use std::alloc::Global;
 
 /// The result of taking a line.
@@ -120,7 +119,7 @@ impl Grammar {
     }
 
     /// Takes a record that does not belong to a block and has no early fault.
-    fn add(&mut self, alloc: Global, item: Record, closed: &mut Option<EventPart>) -> Step
+    fn add(&mut self, alloc: Global, item: Record, closed: &mut Closed) -> Step
         requires lines { self.old.lines < 2 ^ 40 - 1 }
         requires free { IsFree self.old.stage item }
         requires other { IsOther item }
@@ -134,7 +133,7 @@ impl Grammar {
         let Ok(()) = self.stage.add(alloc, item, closed) else {
             return Step::NoMemory;
         };
-        let blocks = block_count(closed);
+        let blocks = closed.block_count();
         self.count(summaries, blocks);
         match self.fault_at_foot(foot) {
             Some(fault) => Step::Faulty(fault),
@@ -142,15 +141,9 @@ impl Grammar {
         }
     }
 
-    /// Opens the block of a resource line, which has no early fault, over the spare block.
+    /// Opens the block of a resource line, which has no early fault, over the old block in `closed`.
     #[inline(always)]
-    fn open(
-        &mut self,
-        alloc: Global,
-        line: &CheckedLine<'_>,
-        spare: &mut Option<Block>,
-        closed: &mut Option<EventPart>,
-    ) -> Step
+    fn open(&mut self, line: &CheckedLine<'_>, closed: &mut Closed) -> Step
         requires lines { self.old.lines < 2 ^ 40 - 1 }
         requires resource { kind_of_record line.now ≡ kinds.Resource }
         requires none { closed.old ≡ None }
@@ -158,23 +151,17 @@ impl Grammar {
             → RecordSteps ls line.now result closed.new self.new }
         ensures counts { self.new.lines ≤ self.old.lines + 1 }
     {
-        let Ok(()) = self.stage.open(alloc, line, spare, closed) else {
+        let Ok(()) = self.stage.open(line, closed) else {
             return Step::NoMemory;
         };
-        let blocks = block_count(closed);
+        let blocks = closed.block_count();
         self.count(0, blocks);
         Step::Good
     }
 
     /// Takes a record, if it has no early fault.
     #[inline(always)]
-    fn record(
-        &mut self,
-        alloc: Global,
-        line: &CheckedLine<'_>,
-        spare: &mut Option<Block>,
-        closed: &mut Option<EventPart>,
-    ) -> Step
+    fn record(&mut self, alloc: Global, line: &CheckedLine<'_>, closed: &mut Closed) -> Step
         requires lines { self.old.lines < 2 ^ 40 - 1 }
         requires none { closed.old ≡ None }
         ensures steps { (ls : List Reading) → Keeps self.old ls → IsRecord line.now
@@ -186,18 +173,13 @@ impl Grammar {
         }
         match line.kind() {
             Kind::Work | Kind::Usage => self.add_member(alloc, line),
-            Kind::Resource => self.open(alloc, line, spare, closed),
+            Kind::Resource => self.open(line, closed),
             _ => self.other(alloc, line, closed),
         }
     }
 
     /// Copies a record that does not belong to a block and has no early fault, and takes it.
-    fn other(
-        &mut self,
-        alloc: Global,
-        line: &CheckedLine<'_>,
-        closed: &mut Option<EventPart>,
-    ) -> Step
+    fn other(&mut self, alloc: Global, line: &CheckedLine<'_>, closed: &mut Closed) -> Step
         requires lines { self.old.lines < 2 ^ 40 - 1 }
         requires free { IsFree self.old.stage line.now }
         requires other { IsOther line.now }
@@ -233,14 +215,7 @@ impl Grammar {
     }
 
     /// Takes the text of the next line.
-    fn text(
-        &mut self,
-        alloc: Global,
-        layout: &Layout,
-        text: &str,
-        spare: &mut Option<Block>,
-        closed: &mut Option<EventPart>,
-    ) -> Step
+    fn text(&mut self, alloc: Global, layout: &Layout, text: &str, closed: &mut Closed) -> Step
         requires lines { self.old.lines < 2 ^ 40 - 1 }
         requires none { closed.old ≡ None }
         ensures steps { (ls : List Reading) → Keeps self.old ls
@@ -254,20 +229,14 @@ impl Grammar {
         let mut line = TypedLine::new();
         match line.find(layout, text) {
             Err(fault) => Step::Faulty(file_fault(fault)),
-            Ok(()) => self.typed(alloc, &line, spare, closed),
+            Ok(()) => self.typed(alloc, &line, closed),
         }
     }
 
     /// Takes a line of a known record type. The calls below are inlined here once for each kind that blocks
     /// are made of, so that they need not match the kind again.
     #[inline(always)]
-    fn typed(
-        &mut self,
-        alloc: Global,
-        line: &TypedLine<'_>,
-        spare: &mut Option<Block>,
-        closed: &mut Option<EventPart>,
-    ) -> Step
+    fn typed(&mut self, alloc: Global, line: &TypedLine<'_>, closed: &mut Closed) -> Step
         requires lines { self.old.lines < 2 ^ 40 - 1 }
         requires none { closed.old ≡ None }
         ensures steps { (ls : List Reading) → Keeps self.old ls
@@ -275,40 +244,28 @@ impl Grammar {
         ensures counts { self.new.lines ≤ self.old.lines + 1 }
     {
         match line.kind() {
-            Kind::Usage => self.tested(alloc, line, spare, closed),
-            Kind::Work => self.tested(alloc, line, spare, closed),
-            Kind::Resource => self.tested(alloc, line, spare, closed),
-            _ => self.tested_apart(alloc, line, spare, closed),
+            Kind::Usage => self.tested(alloc, line, closed),
+            Kind::Work => self.tested(alloc, line, closed),
+            Kind::Resource => self.tested(alloc, line, closed),
+            _ => self.tested_apart(alloc, line, closed),
         }
     }
 
     /// The same as `tested`, not inlined, for the kinds of which a file has few lines.
     #[inline(never)]
-    fn tested_apart(
-        &mut self,
-        alloc: Global,
-        line: &TypedLine<'_>,
-        spare: &mut Option<Block>,
-        closed: &mut Option<EventPart>,
-    ) -> Step
+    fn tested_apart(&mut self, alloc: Global, line: &TypedLine<'_>, closed: &mut Closed) -> Step
         requires lines { self.old.lines < 2 ^ 40 - 1 }
         requires none { closed.old ≡ None }
         ensures steps { (ls : List Reading) → Keeps self.old ls
             → LineSteps ls (of_record line.now) result closed.new self.new }
         ensures counts { self.new.lines ≤ self.old.lines + 1 }
     {
-        self.tested(alloc, line, spare, closed)
+        self.tested(alloc, line, closed)
     }
 
     /// Checks the cells of a line, and takes its record if they have no fault.
     #[inline(always)]
-    fn tested(
-        &mut self,
-        alloc: Global,
-        line: &TypedLine<'_>,
-        spare: &mut Option<Block>,
-        closed: &mut Option<EventPart>,
-    ) -> Step
+    fn tested(&mut self, alloc: Global, line: &TypedLine<'_>, closed: &mut Closed) -> Step
         requires lines { self.old.lines < 2 ^ 40 - 1 }
         requires none { closed.old ≡ None }
         ensures steps { (ls : List Reading) → Keeps self.old ls
@@ -317,19 +274,13 @@ impl Grammar {
     {
         match line.check() {
             Err(fault) => Step::Faulty(file_fault(fault)),
-            Ok(line) => self.checked(alloc, &line, spare, closed),
+            Ok(line) => self.checked(alloc, &line, closed),
         }
     }
 
     /// Takes a line whose cells have no fault.
     #[inline(always)]
-    fn checked(
-        &mut self,
-        alloc: Global,
-        line: &CheckedLine<'_>,
-        spare: &mut Option<Block>,
-        closed: &mut Option<EventPart>,
-    ) -> Step
+    fn checked(&mut self, alloc: Global, line: &CheckedLine<'_>, closed: &mut Closed) -> Step
         requires lines { self.old.lines < 2 ^ 40 - 1 }
         requires none { closed.old ≡ None }
         ensures steps { (ls : List Reading) → Keeps self.old ls
@@ -341,7 +292,7 @@ impl Grammar {
                 self.skip_record();
                 Step::Good
             }
-            _ => self.record(alloc, line, spare, closed),
+            _ => self.record(alloc, line, closed),
         }
     }
 
@@ -351,8 +302,7 @@ impl Grammar {
         alloc: Global,
         layout: &Layout,
         line: &[u8],
-        spare: &mut Option<Block>,
-        closed: &mut Option<EventPart>,
+        closed: &mut Closed,
     ) -> Step
         requires lines { self.old.lines < 2 ^ 40 - 1 }
         requires none { closed.old ≡ None }
@@ -362,9 +312,27 @@ impl Grammar {
         ensures counts { self.new.lines ≤ self.old.lines + 1 }
     {
         match text_of(strip_return(line)) {
-            Some(text) => self.text(alloc, layout, text, spare, closed),
+            Some(text) => self.text(alloc, layout, text, closed),
             None => Step::Faulty(FileFault::NotUtf8),
         }
+    }
+
+    /// Takes the last line, which is not too long. Returns also what it closes.
+    pub(crate) fn last_line(
+        &mut self,
+        alloc: Global,
+        layout: &Layout,
+        line: &[u8],
+    ) -> (Step, Option<EventPart>)
+        requires lines { self.old.lines < 2 ^ 40 - 1 }
+        requires short { length line.now ≤ 8192 }
+        ensures steps { (ls : List Reading) → Keeps self.old ls
+            → LineSteps ls (reading layout.now line.now) result.0 result.1 self.new }
+        ensures counts { self.new.lines ≤ self.old.lines + 1 }
+    {
+        let mut closed = Closed::over(alloc, None);
+        let step = self.line(alloc, layout, line, &mut closed);
+        (step, closed.take())
     }
 
     /// The outcome of a text that ends after these lines.
@@ -456,15 +424,6 @@ fn summary_count(item: &Record) -> u64
 {
     match item {
         Record::Summary(_) => 1,
-        _ => 0,
-    }
-}
-
-fn block_count(part: &Option<EventPart>) -> u64
-    ensures { result ≡ block_count part.now }
-{
-    match part {
-        Some(EventPart::Block(_)) => 1,
         _ => 0,
     }
 }

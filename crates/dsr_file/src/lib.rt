@@ -7,13 +7,14 @@
 //! 2. `grammar` takes each line: it has `dsr_records` check it, looks up its place in the table in
 //!    `stage`, and keeps the counts that FOOT is compared with.
 //! 3. `stage` keeps what is open after the records so far: the head with its summaries, or a block.
-//!    A work or a usage is appended to the open block, and a resource is written over a spare block.
+//!    A work or a usage is appended to the open block, and a resource is written over an old block.
+//!    What a line closes goes into a place that is lent to the stage (`closed`), with that old block.
 //! 4. [`FileReader`] (`reader`) gives the events (`event`), each with its place, and the [`Outcome`]
 //!    last: Whole, or the first fault (`fault`) with its line.
 //! 5. [`read_file`] (`reading`) reads a [`Source`] (`source`) to its end, as often as its limit allows
-//!    (`read_count`), and puts the events into a [`Sink`] (`sink`), by the loop in `feeding`. A spare
-//!    block of the sink ([`Sink::spare`]) is given back to the reader ([`FileReader::reuse`]), so that
-//!    a block seldom needs new memory.
+//!    (`read_count`), and puts the events into a [`Sink`] (`sink`), by the loop in `feeding`. A closed
+//!    block is exchanged for an old one of the sink ([`Sink::put_block`]), so that it is not moved and
+//!    the next one seldom needs new memory. [`FileReader::reuse`] does the same for a caller of `take`.
 //! 6. [`whole_events`] (`whole`) gives all events of a text at once, in an [`EventList`]
 //!    (`event_list`).
 //!
@@ -60,6 +61,7 @@
 //! calls.
 #![tactic(auto)]
 
+mod closed;
 mod cutter;
 mod event;
 mod event_list;

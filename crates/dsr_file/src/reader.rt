@@ -5,7 +5,9 @@ ghost use Rattle.dsr_records.specs.Records.{LayoutTable};
 ghost use Rattle.dsr_file.specs.Placed.{Placed};
 ghost use Rattle.dsr_file.specs.Orderly.{has_ended};
 ghost use Rattle.dsr_file.specs.Allowance.{allowance, left, has_given_all};
+ghost use Rattle.dsr_file.specs.Closing.{event_at};
 
+use crate::closed::Closed;
 use crate::cutter::{Cut, Cutter};
 use crate::event::{Event, EventPart};
 use crate::fault::{Ending, FileFault, Outcome};
@@ -86,7 +88,6 @@ impl FileReader {
     }
 
     /// Gives the reader a block whose memory it may reuse; the value of the block is lost.
-    #[inline(always)]
     pub fn reuse(&mut self, block: Block)
         // The reader represents what it represented before.
         ensures stands { (layout : LayoutTable) (b : List ℕ) (es : List Placed)
@@ -107,6 +108,15 @@ impl FileReader {
             → Stands layout self.now b es → result ≡ length b }
     {
         self.given
+    }
+
+    /// The place of the next event.
+    #[inline(always)]
+    pub(crate) fn place(&self) -> u64
+        ensures place { result ≡ self.now.place }
+        ensures small { result < 2 ^ 37 }
+    {
+        self.place
     }
 
     /// Whether Ended was given.
@@ -169,7 +179,7 @@ impl FileReader {
     /// Applies the result of a line. `part` is what the line closed, and becomes the content of the next
     /// event, if there is one.
     #[inline(always)]
-    fn answer(&mut self, line: u64, step: Step, part: &mut Option<EventPart>)
+    fn answer(&mut self, line: u64, step: Step, part: &mut Closed)
         requires reading { self.old.phase ≡ phases.Reading }
         requires room { self.old.place + 1 ≤ self.old.given }
         ensures stands { (layout : LayoutTable) (b : List ℕ) (es : List Placed)
@@ -183,21 +193,21 @@ impl FileReader {
             Step::Good => self.good(part),
             Step::Faulty(fault) => {
                 let event = self.faulty(part.take(), Outcome::Fault { line, fault });
-                *part = Some(event.part);
+                part.set(event.part);
             }
             Step::NoMemory => {
                 let event = self.end(Outcome::Fault {
                     line,
                     fault: FileFault::Memory,
                 });
-                *part = Some(event.part);
+                part.set(event.part);
             }
         }
     }
 
     /// Counts the event of a good line, if it closed something.
     #[inline(always)]
-    fn good(&mut self, part: &Option<EventPart>)
+    fn good(&mut self, part: &Closed)
         requires room { self.old.place + 1 ≤ self.old.given }
         requires reading { self.old.phase ≡ phases.Reading }
         ensures place { self.new.place ≡ self.old.place + length (option_to_list part.now) }
@@ -223,7 +233,7 @@ impl FileReader {
     }
 
     /// Takes the line that the cutter has kept.
-    fn kept_line(&mut self, part: &mut Option<EventPart>)
+    fn kept_line(&mut self, part: &mut Closed)
         requires reading { self.old.phase ≡ phases.Reading }
         requires none { part.old ≡ None }
         requires room { self.old.place + 1 ≤ self.old.given }
@@ -236,19 +246,15 @@ impl FileReader {
         ensures place { IfNone part.new (self.new.place ≡ self.old.place) }
     {
         let number = self.grammar.lines + 1;
-        let step = self.grammar.line(
-            self.alloc,
-            &self.layout,
-            self.cutter.line(),
-            &mut self.spare,
-            part,
-        );
+        let step = self
+            .grammar
+            .line(self.alloc, &self.layout, self.cutter.line(), part);
         self.cutter.clear();
         self.answer(number, step, part);
     }
 
     /// Takes a line that is whole in the piece.
-    fn line(&mut self, line: &[u8], part: &mut Option<EventPart>)
+    fn line(&mut self, line: &[u8], part: &mut Closed)
         requires reading { self.old.phase ≡ phases.Reading }
         requires none { part.old ≡ None }
         requires room { self.old.place + 1 ≤ self.old.given }
@@ -264,9 +270,7 @@ impl FileReader {
         ensures place { IfNone part.new (self.new.place ≡ self.old.place) }
     {
         let number = self.grammar.lines + 1;
-        let step = self
-            .grammar
-            .line(self.alloc, &self.layout, line, &mut self.spare, part);
+        let step = self.grammar.line(self.alloc, &self.layout, line, part);
         self.answer(number, step, part);
     }
 
@@ -289,7 +293,7 @@ impl FileReader {
     }
 
     /// Applies the result of the cutter, which has used these bytes.
-    fn cut(&mut self, cut: Cut, used: &[u8], part: &mut Option<EventPart>)
+    fn cut(&mut self, cut: Cut, used: &[u8], part: &mut Closed)
         requires reading { self.old.phase ≡ phases.Reading }
         requires none { part.old ≡ None }
         requires some { 0 < length used.now }
@@ -310,13 +314,13 @@ impl FileReader {
             Cut::Here => self.line(&used[..used.len() - 1], part),
             Cut::Long => {
                 let event = self.long_line();
-                *part = Some(event.part);
+                part.set(event.part);
             }
         }
     }
 
     /// Uses bytes of a piece, up to the end of a line. Returns how many.
-    fn step(&mut self, piece: &[u8], part: &mut Option<EventPart>) -> usize
+    fn step(&mut self, piece: &[u8], part: &mut Closed) -> usize
         requires reading { self.old.phase ≡ phases.Reading }
         requires some { 0 < length piece.now }
         requires room { self.old.given + length piece.now ≤ 2 ^ 36 }
@@ -338,36 +342,92 @@ impl FileReader {
         used
     }
 
-    /// Uses a piece, up to the next event. Returns the number of bytes used, and the event.
+    /// Uses a piece, up to the next event, which `part` becomes. Returns the number of bytes used.
     #[inline(always)]
-    fn read(&mut self, piece: &[u8]) -> (usize, Option<Event>)
+    fn read(&mut self, piece: &[u8], part: &mut Closed) -> usize
         requires reading { self.old.phase ≡ phases.Reading }
+        requires none { part.old ≡ None }
         requires room { self.old.given + length piece.now ≤ 2 ^ 36 }
-        ensures bound { result.0 ≤ length piece.now }
+        ensures bound { result ≤ length piece.now }
         ensures stands { (layout : LayoutTable) (b : List ℕ) (es : List Placed)
             → Stands layout self.old b es
-            → Stands layout self.new (b ++ take result.0 piece.now) (es ++ option_to_list result.1) }
+            → Stands layout self.new (b ++ take result piece.now)
+            (es ++ placed self.old.place (option_to_list part.new)) }
         ensures ending { self.new.ending ≡ self.old.ending }
-        ensures reading { IfNone result.1 (self.new.phase ≡ phases.Reading) }
-        ensures whole { IfNone result.1 (result.0 ≡ length piece.now) }
-        ensures some { OnSome result.1 (0 < result.0) }
-        ensures given { self.new.given ≡ self.old.given + result.0 }
+        ensures reading { IfNone part.new (self.new.phase ≡ phases.Reading) }
+        ensures whole { IfNone part.new (result ≡ length piece.now) }
+        ensures some { OnSome part.new (0 < result) }
+        ensures given { self.new.given ≡ self.old.given + result }
+        ensures place { IfNone part.new (self.new.place ≡ self.old.place) }
     {
-        let place = self.place;
         let mut used = 0;
-        let mut part = None;
         while used < piece.len() {
-            used += self.step(&piece[used..], &mut part);
-            match part {
-                Some(part) => return (used, Some(Event { place, part })),
-                None => {}
+            used += self.step(&piece[used..], part);
+            if part.is_some() {
+                return used;
             }
         }
-        (used, None)
+        used
+    }
+
+    /// Uses bytes of a piece, up to the next event, which `part` becomes: its place is that of the reader before. Returns
+    /// how many. A waiting outcome is given first.
+    #[inline(always)]
+    pub(crate) fn take_part(&mut self, piece: &[u8], part: &mut Closed) -> usize
+        requires open { ending_told self.old ≡ None }
+        requires none { part.old ≡ None }
+        requires room { bytes_used self.old + length piece.now ≤ 2 ^ 36 }
+        ensures stands { (layout : LayoutTable) (b : List ℕ) (es : List Placed)
+            → Stands layout self.old b es
+            → Stands layout self.new (b ++ take result piece.now)
+            (es ++ option_to_list (event_at self.old.place part.new)) }
+        ensures begins { (layout : LayoutTable) (b : List ℕ) (es : List Placed)
+            → Stands layout self.new b es → BeginsEvents layout b None es }
+        ensures all { IfNone part.new ((layout : LayoutTable) (b : List ℕ) (es : List Placed)
+            → Stands layout self.new b es → HasEvents layout b None es) }
+        ensures waiting { (layout : LayoutTable) (b : List ℕ) (es : List Placed)
+            → Stands layout self.old b es → HasEvents layout b None es ⊎ (result ≡ 0) }
+        ensures bound { result ≤ length piece.now }
+        ensures whole { IfNone part.new ((result ≡ length piece.now) ⊎ IsDone self.new) }
+        ensures used { bytes_used self.new ≡ bytes_used self.old + result }
+        ensures open { ending_told self.new ≡ None }
+        ensures progress { OnSome part.new
+            (events_left self.new < result + events_left self.old) }
+    {
+        match self.phase {
+            Phase::Reading => self.read(piece, part),
+            Phase::Waiting(outcome) => {
+                let event = self.end(outcome);
+                part.set(event.part);
+                0
+            }
+            Phase::Done(_) => 0,
+        }
+    }
+
+    /// Nothing closed.
+    pub(crate) fn nothing_closed(&self) -> Closed
+        ensures { result ≡ None }
+    {
+        Closed::over(self.alloc, None)
+    }
+
+    /// Nothing closed, over the spare block of the reader.
+    fn over_spare(&mut self) -> Closed
+        ensures none { result ≡ None }
+        ensures stands { (layout : LayoutTable) (b : List ℕ) (es : List Placed)
+            → Stands layout self.old b es → Stands layout self.new b es }
+        ensures stood { (layout : LayoutTable) (b : List ℕ) (es : List Placed)
+            → Stands layout self.new b es → Stands layout self.old b es }
+        ensures used { bytes_used self.new ≡ bytes_used self.old }
+        ensures left { events_left self.new ≡ events_left self.old }
+        ensures ending { ending_told self.new ≡ ending_told self.old }
+        ensures place { self.new.place ≡ self.old.place }
+    {
+        Closed::over(self.alloc, self.spare.take())
     }
 
     /// Uses bytes of a piece, up to the next event. Returns how many, and the event. A waiting outcome is given first.
-    #[inline(always)]
     pub fn take(&mut self, piece: &[u8]) -> (usize, Option<Event>)
         requires open { ending_told self.old ≡ None }
         requires room { bytes_used self.old + length piece.now ≤ 2 ^ 36 }
@@ -394,11 +454,15 @@ impl FileReader {
         ensures progress { OnSome result.1
             (events_left self.new < result.0 + events_left self.old) }
     {
-        match self.phase {
-            Phase::Reading => self.read(piece),
-            Phase::Waiting(outcome) => (0, Some(self.end(outcome))),
-            Phase::Done(_) => (0, None),
+        if self.done() {
+            return (0, None);
         }
+        let place = self.place;
+        let mut part = self.over_spare();
+        let used = self.take_part(piece, &mut part);
+        let event = part.take_event(place);
+        self.reuse(part.into_block());
+        (used, event)
     }
 
     /// The next event at the end of the text, until there is none. Only the ending of the first call counts.
@@ -496,14 +560,9 @@ impl FileReader {
     {
         let line = self.grammar.lines + 1;
         self.phase = Phase::Done(Outcome::Whole);
-        let mut closed = None;
-        let step = self.grammar.line(
-            self.alloc,
-            &self.layout,
-            self.cutter.line(),
-            &mut self.spare,
-            &mut closed,
-        );
+        let (step, closed) = self
+            .grammar
+            .last_line(self.alloc, &self.layout, self.cutter.line());
         match step {
             Step::Good => {
                 let outcome = self.grammar.outcome(Ending::Whole);

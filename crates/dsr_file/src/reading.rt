@@ -1,11 +1,12 @@
 //! Reading a file from a source to its end.
-ghost use Rattle.std.specs.Prelude.{◌≡◌, [], ◌<◌, ◌≤◌, ◌^◌, false, length, IfOk, OnOk, IfErr};
+ghost use Rattle.std.specs.Prelude.{◌≡◌, [], ◌<◌, ◌≤◌, ◌^◌, false, length, None, IfOk, OnOk, IfErr};
 ghost use Rattle.dsr_records.specs.Records.{LayoutTable};
 ghost use Rattle.dsr_file.specs.Runs.{EndsWith};
 ghost use Rattle.dsr_file.specs.Sources.{IsRead, IsRefused};
 ghost use Rattle.dsr_file.specs.Refusals.{IsRefusal, refused_event};
 ghost use Rattle.dsr_file.specs.Standing.{Stands, bytes_used, ending_told};
 
+use crate::closed::Closed;
 use crate::event::Event;
 use crate::fault::{Ending, Outcome};
 use crate::feeding::{feed, finish_all};
@@ -54,7 +55,8 @@ pub fn read_file<R: Source, S: Sink>(
     let Ok(mut file) = FileReader::new(alloc, layout) else {
         return Err(ReadFileError::Memory);
     };
-    error_of(read_all(&mut file, reader, sink, max_reads))
+    let mut part = file.nothing_closed();
+    error_of(read_all(&mut file, &mut part, reader, sink, max_reads))
 }
 
 /// The same result, with the event that the sink refused as a `ReadFileError`.
@@ -70,10 +72,12 @@ fn error_of(answer: Result<Outcome, Event>) -> Result<Outcome, ReadFileError>
 /// Reads up to the end, a failed read, the first fault or the limit on reads.
 fn read_all<R: Source, S: Sink>(
     file: &mut FileReader,
+    part: &mut Closed,
     reader: &mut R,
     sink: &mut S,
     max_reads: u32,
 ) -> Result<Outcome, Event>
+    requires none { part.old ≡ None }
     requires reads { max_reads ≤ 2 ^ 24 }
     requires unfailed { (R.told reader.old).failed ≡ false }
     requires open { ending_told file.old ≡ None }
@@ -93,7 +97,7 @@ fn read_all<R: Source, S: Sink>(
         match reader.read(&mut piece) {
             Err(_) => return finish_all(file, Ending::Read, sink),
             Ok(0) => return finish_all(file, Ending::Whole, sink),
-            Ok(n) => feed(file, &piece[..n], sink)?,
+            Ok(n) => feed(file, part, &piece[..n], sink)?,
         }
         if file.done() {
             return Ok(file.outcome());

@@ -1,6 +1,7 @@
 //! The destination of a file's events.
-ghost use Rattle.std.specs.Prelude.{◌≡◌, List, [], ◌∷◌, ◌++◌, OnOk, IfErr};
+ghost use Rattle.std.specs.Prelude.{◌≡◌, ◌<◌, ◌^◌, List, [], ◌∷◌, ◌++◌, true, false, OnOk, IfErr};
 ghost use Rattle.dsr_file.specs.Placed.{Placed};
+ghost use Rattle.dsr_file.specs.Closing.{block_event};
 ghost use Rattle.dsr_file.specs.Runs.{IsSomeRun};
 
 use crate::event::Event;
@@ -27,13 +28,19 @@ pub trait Sink {
         ensures refused { IfErr result (λ back. (back ≡ event) × (list self.new ≡ list self.old)) }
         ensures name { name self.new ≡ name self.old };
 
-    /// A block whose memory may be reused, if the sink has one. Its value is meaningless. A sink
-    /// that keeps its events has none.
-    fn spare(&mut self) -> Option<Block>
-        ensures list { list self.new ≡ list self.old }
+    /// Adds the event of a block with this place if the sink has an old block to give for it, and returns whether it
+    /// did. The two blocks are exchanged: the value of the old one is meaningless, and its memory may be reused.
+    /// Otherwise nothing changes, and the event is for `put`. A sink that keeps its events has no old block.
+    fn put_block(&mut self, _place: u64, _block: &mut Block) -> bool
+        requires small { _place < 2 ^ 37 }
+        requires run { IsSomeRun (list self.old ++ block_event _place _block.old ∷ []) }
+        ensures added { result ≡ true
+            → list self.new ≡ list self.old ++ block_event _place _block.old ∷ [] }
+        ensures kept { result ≡ false
+            → (_block.new ≡ _block.old) × (list self.new ≡ list self.old) }
         ensures name { name self.new ≡ name self.old }
     {
-        None
+        false
     }
 
     /// Notes that this many bytes of the file were read since the last note. A sink may count them to

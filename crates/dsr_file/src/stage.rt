@@ -8,6 +8,7 @@ ghost use Rattle.dsr_records.specs.Reads.{has_texts, kind_of_record};
 ghost use Rattle.dsr_file.specs.Faults.{place, member_fault, summary_fault};
 ghost use Rattle.dsr_file.specs.Stages.{column_at, stage_fault, stage_after, given_by, part_given, kept_fault, block_length, IsFree, IsMember, IsOther, IsNew};
 
+use crate::closed::Closed;
 use crate::event::{EventPart, Opening, Summaries};
 use crate::fault::FileFault;
 use dsr_cells::NoMemory;
@@ -144,15 +145,15 @@ impl Stage {
     }
 
     /// Changes to the next stage; `closed` becomes what was open.
-    fn close(&mut self, next: Stage, closed: &mut Option<EventPart>)
+    fn close(&mut self, next: Stage, closed: &mut Closed)
         requires { closed.old ≡ None }
         ensures next { self.new ≡ next }
         ensures given { closed.new ≡ part_given self.old }
     {
         match mem::replace(self, next) {
             Stage::Start | Stage::Closed => {}
-            Stage::Front(opening) => *closed = Some(EventPart::Opened(opening)),
-            Stage::Open(block) => *closed = Some(EventPart::Block(block)),
+            Stage::Front(opening) => closed.set(EventPart::Opened(opening)),
+            Stage::Open(block) => closed.set(EventPart::Block(block)),
         }
     }
 
@@ -162,7 +163,7 @@ impl Stage {
         &mut self,
         alloc: Global,
         item: Record,
-        closed: &mut Option<EventPart>,
+        closed: &mut Closed,
     ) -> Result<(), NoMemory>
         requires free { IsFree self.old item }
         requires other { IsOther item }
@@ -188,15 +189,13 @@ impl Stage {
         }
     }
 
-    /// Opens the block of a resource line, which has no fault, over the spare block; `closed` becomes
-    /// what the line closes. If memory is refused, nothing is closed.
+    /// Opens the block of a resource line, which has no fault, over the old block in `closed`, which
+    /// becomes what the line closes. If memory is refused, nothing is closed.
     #[inline(always)]
     pub(crate) fn open(
         &mut self,
-        alloc: Global,
         line: &CheckedLine<'_>,
-        spare: &mut Option<Block>,
-        closed: &mut Option<EventPart>,
+        closed: &mut Closed,
     ) -> Result<(), NoMemory>
         requires resource { kind_of_record line.now ≡ kinds.Resource }
         requires none { closed.old ≡ None }
@@ -204,31 +203,12 @@ impl Stage {
         ensures given { OnOk result (closed.new ≡ given_by self.old line.now) }
         ensures memory { OnErr result (has_texts line.now ≡ true) }
     {
-        let block = spare.get_or_insert_with(|| Block::empty(alloc));
-        line.open_block(alloc, block)?;
-        self.go_on(spare, closed);
-        Ok(())
-    }
-
-    /// Makes the spare block, which has the new resource, the open one; `closed` becomes what was open.
-    #[inline(always)]
-    fn go_on(&mut self, spare: &mut Option<Block>, closed: &mut Option<EventPart>)
-        requires none { closed.old ≡ None }
-        ensures next { IfSome spare.old (λ block. self.new ≡ Stage.Open block) }
-        ensures given { OnSome spare.old (closed.new ≡ part_given self.old) }
-    {
         if let Stage::Open(open) = self {
-            if let Some(block) = spare {
-                mem::swap(open, block);
-            }
-            if let Some(block) = spare.take() {
-                *closed = Some(EventPart::Block(block));
-            }
-            return;
+            return closed.open_next(line, open);
         }
-        if let Some(block) = spare.take() {
-            self.close(Stage::Open(block), closed);
-        }
+        let block = closed.open_first(line)?;
+        self.close(Stage::Open(block), closed);
+        Ok(())
     }
 
     fn add_summary(&mut self, summary: Summary) -> Result<(), NoMemory>

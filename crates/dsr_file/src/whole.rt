@@ -6,6 +6,7 @@ ghost use Rattle.dsr_file.specs.Runs.{HasEvents, EndsWith, is_memory, by_memory}
 ghost use Rattle.dsr_file.specs.Standing.{Stands, bytes_used, ending_told};
 ghost use Rattle.dsr_file.specs.Feeding.{IsKnown};
 
+use crate::closed::Closed;
 use crate::event::Event;
 use crate::event_list::EventList;
 use crate::fault::{Ending, FileFault, Outcome};
@@ -52,16 +53,22 @@ fn read_whole<S: Sink>(
         × EndsWith (S.list sink.new) o) }
 {
     let mut file = FileReader::new(alloc, layout)?;
-    give_all(&mut file, bytes, ending, sink).map_err(|_| NoMemory)
+    let mut part = file.nothing_closed();
+    let Ok(outcome) = give_all(&mut file, &mut part, bytes, ending, sink) else {
+        return Err(NoMemory);
+    };
+    Ok(outcome)
 }
 
 /// Gives the rest of a text to a reader, and its events to a sink.
 fn give_all<S: Sink>(
     file: &mut FileReader,
+    part: &mut Closed,
     bytes: &[u8],
     ending: Ending,
     sink: &mut S,
 ) -> Result<Outcome, Event>
+    requires none { part.old ≡ None }
     requires open { ending_told file.old ≡ None }
     requires room { bytes_used file.old + length bytes.now ≤ 2 ^ 36 }
     requires known { IsKnown file.old (S.list sink.old) }
@@ -70,7 +77,7 @@ fn give_all<S: Sink>(
         → HasEvents layout (b ++ bytes.now) (Some ending) (S.list sink.new)
         × EndsWith (S.list sink.new) o) }
 {
-    feed(file, bytes, sink)?;
+    feed(file, part, bytes, sink)?;
     if file.done() {
         return Ok(file.outcome());
     }

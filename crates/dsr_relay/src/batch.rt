@@ -1,12 +1,14 @@
 //! Batches: the events that go through a relay as one message.
 //!
 //! The memory of a batch, for 32 events, is reused: the feed fills it, and the tap gives it back. An event
-//! overwrites the stale one in its slot, so that nothing is freed and nothing is allocated for it. A block that
-//! was overwritten can be given to the reader, which writes the next one into its memory.
-ghost use Rattle.std.specs.Prelude.{◌≡◌, ◌∷◌, ◌++◌, [], MatchOption, MatchResult, IfOk};
+//! overwrites the stale one in its slot, so that nothing is allocated for it. A block is exchanged for a stale one,
+//! and the reader writes the next one into its memory.
+ghost use Rattle.std.specs.Prelude.{◌≡◌, ◌<◌, ◌^◌, ◌∷◌, ◌++◌, [], true, false, MatchOption, MatchResult, IfOk};
+ghost use Rattle.dsr_file.specs.Closing.{block_event};
 
 use dsr_cells::NoMemory;
-use dsr_file::Event;
+use dsr_file::{Event, EventPart};
+use dsr_records::Block;
 use std::alloc::Global;
 use std::marker::Model;
 use std::mem;
@@ -44,6 +46,22 @@ impl Model for Batch {
     ghost view = { λ b. drop b.out (take b.count b.slots.items) };
 
     ghost invariant = { λ b. (b.out ≤ b.count) × (b.count ≤ length b.slots.items) };
+}
+
+/// Overwrites a stale event with that of a block, if it is the event of a block too, and returns whether it did. The two
+/// blocks are swapped. Otherwise nothing changes.
+#[inline(always)]
+fn write_block(slot: &mut Event, place: u64, block: &mut Block) -> bool
+    requires { place < 2 ^ 37 }
+    ensures written { result ≡ true → slot.new ≡ block_event place block.old }
+    ensures kept { result ≡ false → (slot.new ≡ slot.old) × (block.new ≡ block.old) }
+{
+    match &mut slot.part {
+        EventPart::Block(stale) => mem::swap(stale, block),
+        _ => return false,
+    }
+    slot.place = place;
+    true
 }
 
 impl Batch {
@@ -101,22 +119,38 @@ impl Batch {
         self.bytes
     }
 
-    /// Appends an event, and returns the stale one that it overwrote. If there is no room, the event is returned.
-    #[inline(always)]
-    pub(crate) fn push(&mut self, event: Event) -> Result<Option<Event>, Event>
+    /// Appends an event. If there is no room, the event is returned.
+    pub(crate) fn push(&mut self, event: Event) -> Result<(), Event>
         ensures { MatchResult result (λ _. self.new ≡ self.old ++ event ∷ [])
             (λ back. (back ≡ event) × (self.new ≡ self.old)) }
     {
-        let over = if self.count < self.slots.len() {
-            Some(mem::replace(&mut self.slots[self.count], event))
+        if self.count < self.slots.len() {
+            self.slots[self.count] = event;
         } else if self.slots.len() < self.slots.capacity() {
             self.slots.push_reserved(event);
-            None
         } else {
             return Err(event);
-        };
+        }
         self.count += 1;
-        Ok(over)
+        Ok(())
+    }
+
+    /// Appends the event of a block with this place, if its slot has a stale block, and returns whether it did. The two
+    /// blocks are swapped. Otherwise nothing changes.
+    #[inline(always)]
+    pub(crate) fn push_block(&mut self, place: u64, block: &mut Block) -> bool
+        requires { place < 2 ^ 37 }
+        ensures added { result ≡ true → self.new ≡ self.old ++ block_event place block.old ∷ [] }
+        ensures kept { result ≡ false → (self.new ≡ self.old) × (block.new ≡ block.old) }
+    {
+        if self.count >= self.slots.len() {
+            return false;
+        }
+        if !write_block(&mut self.slots[self.count], place, block) {
+            return false;
+        }
+        self.count += 1;
+        true
     }
 
     /// Takes out the first event; None if there is none.

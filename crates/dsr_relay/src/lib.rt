@@ -6,7 +6,8 @@
 //!    message; if the channel is full, it waits (`feed`, `batch`, `channel`).
 //! 3. The [`Tap`] takes the events one by one, or those of a message at once; if there is none, it waits (`tap`).
 //! 4. A batch whose events are no longer needed is given back ([`Tap::give_back`]). The feed writes later events over
-//!    it, and returns the blocks that it overwrote ([`Feed::spare`]), so that the reader reuses their memory.
+//!    it. A block is exchanged for an old one ([`Feed::send_block`]), so that it is not moved and the reader reuses the
+//!    memory of the old one.
 //! 5. [`Tap::take_in`] joins the two ends and returns what was taken and what is left ([`Settled`], in `settled`).
 //!
 //! **Example**, compiled and proved in `crates/dsr_unit_tests/src/relay.rt`:

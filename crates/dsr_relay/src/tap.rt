@@ -233,7 +233,6 @@ impl Tap {
             batch: _,
             count,
             supply: _,
-            stale: _,
         } = feed;
         sender.absorb::<Meet>(&mut pass, theirs);
         sender.learn_as::<Rest>(&mut pass);

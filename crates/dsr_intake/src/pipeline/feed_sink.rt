@@ -66,10 +66,10 @@ impl<'a, H: Wait> Sink for FeedSink<'a, H> {
         self.feed.send(self.rt, event)
     }
 
-    /// A block that the collector gave back, if there is one.
+    /// Sends the event of a block where the feed has memory of an earlier block for it.
     #[inline(always)]
-    fn spare(&mut self) -> Option<Block> {
-        self.feed.spare()
+    fn put_block(&mut self, place: u64, block: &mut Block) -> bool {
+        self.feed.send_block(self.rt, place, block)
     }
 
     /// Counts the bytes, and sends the batch once there are many.

@@ -1,4 +1,4 @@
-use Rattle.std.proofs.Common.{◌<◌, ◌+◌, ◌≤◌, length, arith}
+use Rattle.std.proofs.Common.{◌+◌, ◌≤◌, length, arith}
 use Rattle.dsr_file.proofs.FeedPlaces.{none_before, none_before_more, none_joined, run_ends, run_within}
 use Rattle.dsr_file.proofs.line_feed.line_end.Goals as goal
 

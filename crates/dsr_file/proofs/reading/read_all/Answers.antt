@@ -10,6 +10,7 @@ use Rattle.dsr_file.proofs.reading.read_all.Goals as goal
 pub loop-init : goal.loop-init
 loop-init g c = record {
   ending = c.requires.«open»;
+  none = c.requires.none;
   count = omega (arith, c.requires.new);
   name = refl;
   read = λ layout s. no_reads layout (g.R.Source.told c.args.reader.now) c.args.file.now (g.S.Sink.list c.args.sink.now) s;
@@ -104,6 +105,7 @@ loop-preserved g c =
     let few : length (take c.in-Ok.n c.read.new.piece) ≤ 4096 = simp length-take (omega (arith, c.read.auto.piece)) in
     record {
       ending = c.feed.ensures.«open»;
+      none = c.feed.ensures.none;
       count = omega (arith, c.in_ok-feed-in-Ok.ensures.used, c.loop.invariant.count, few);
       name = c.feed.ensures.name ∙ c.loop.invariant.name;
       read = λ layout s.

@@ -7,6 +7,7 @@ use Rattle.dsr_file.proofs.reading.read_all.Given as goal
 abbrev pub invariant-loop : goal.invariant-loop
 invariant-loop g l = record {
   ending : ending_told l.file ≡ None;
+  none : l.part ≡ None;
   count : bytes_used l.file ≤ 4096 * l.counter;
   name : g.S.Sink.name l.sink ≡ g.S.Sink.name l.fn.sink;
   read : (layout : LayoutTable) → Stands layout l.fn.file [] (g.S.Sink.list l.fn.sink)

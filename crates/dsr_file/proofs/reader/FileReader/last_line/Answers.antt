@@ -6,28 +6,28 @@ use Rattle.dsr_file.proofs.reader.FileReader.last_line.Goals as goal
 
 pub returns-in-Good-clause-stands : goal.returns-in-Good-clause-stands
 returns-in-Good-clause-stands c = λ layout b es a.
-    good_last layout c.args.self.now b es a c.requires.some c.line-step.new.self c.line-step.result c.line-step.new.closed
+    good_last layout c.args.self.now b es a c.requires.some c.last_line-step.new.self c.last_line-step.result.0 c.last_line-step.result.1
     (subst (λ x. (ls : List Reading) → Keeps c.args.self.now.grammar ls
-    → LineSteps ls (reading c.args.self.now.layout x) c.line-step.result c.line-step.new.closed c.line-step.new.self) c.line.ensures.value
-    c.line-step.ensures.steps)
+    → LineSteps ls (reading c.args.self.now.layout x) c.last_line-step.result.0 c.last_line-step.result.1 c.last_line-step.new.self) c.line.ensures.value
+    c.last_line-step.ensures.steps)
     c.faulty.new.self c.outcome-outcome.result c.faulty.result c.in-Good.is c.outcome-outcome.ensures c.faulty.ensures.gives
     (same_text c.faulty.ensures.same.layout c.faulty.ensures.same.given c.faulty.ensures.same.ending) c.faulty.ensures.place
 
 pub returns-in-Faulty-clause-stands : goal.returns-in-Faulty-clause-stands
 returns-in-Faulty-clause-stands c = λ layout b es a.
-    faulty_last layout c.args.self.now b es a c.requires.some c.line-step.new.self c.line-step.result c.line-step.new.closed
+    faulty_last layout c.args.self.now b es a c.requires.some c.last_line-step.new.self c.last_line-step.result.0 c.last_line-step.result.1
     (subst (λ x. (ls : List Reading) → Keeps c.args.self.now.grammar ls
-    → LineSteps ls (reading c.args.self.now.layout x) c.line-step.result c.line-step.new.closed c.line-step.new.self) c.line.ensures.value
-    c.line-step.ensures.steps)
+    → LineSteps ls (reading c.args.self.now.layout x) c.last_line-step.result.0 c.last_line-step.result.1 c.last_line-step.new.self) c.line.ensures.value
+    c.last_line-step.ensures.steps)
     c.faulty-in-Faulty.new.self c.in-Faulty.fault c.faulty-in-Faulty.result c.in-Faulty.is c.faulty-in-Faulty.ensures.gives
     (same_text c.faulty-in-Faulty.ensures.same.layout c.faulty-in-Faulty.ensures.same.given c.faulty-in-Faulty.ensures.same.ending)
     c.faulty-in-Faulty.ensures.place
 
 pub returns-in-NoMemory-clause-stands : goal.returns-in-NoMemory-clause-stands
 returns-in-NoMemory-clause-stands c = λ layout b es a.
-    memory_last layout c.args.self.now b es a c.requires.some c.line-step.new.self c.line-step.result c.line-step.new.closed
+    memory_last layout c.args.self.now b es a c.requires.some c.last_line-step.new.self c.last_line-step.result.0 c.last_line-step.result.1
     (subst (λ x. (ls : List Reading) → Keeps c.args.self.now.grammar ls
-    → LineSteps ls (reading c.args.self.now.layout x) c.line-step.result c.line-step.new.closed c.line-step.new.self) c.line.ensures.value
-    c.line-step.ensures.steps)
+    → LineSteps ls (reading c.args.self.now.layout x) c.last_line-step.result.0 c.last_line-step.result.1 c.last_line-step.new.self) c.line.ensures.value
+    c.last_line-step.ensures.steps)
     c.end.new.self c.end.result c.in-NoMemory.is c.end.ensures.event c.end.ensures.done
     (same_text c.end.ensures.same.layout c.end.ensures.same.given c.end.ensures.same.ending) c.end.ensures.place

@@ -1,22 +1,22 @@
-use Rattle.std.proofs.Common.{◌≡◌, ◌∙◌, ◌++◌, ◌∷◌, [], ◌+◌, take, None, sym, refl, ap, subst, arith, length-drop}
+use Rattle.std.proofs.Common.{◌≡◌, ◌∙◌, ◌++◌, [], ◌+◌, take, None, sym, ap, subst, arith, length-drop}
 use Rattle.std.specs.Option.{IfNone, option_to_list}
 use Rattle.std.proofs.lemmas.List.{append-nil}
 use Rattle.dsr_file.specs.declared.reader.Phase.TheVariants.{Reading}
 use Rattle.dsr_file.specs.Standing.{Stands}
 use Rattle.dsr_file.specs.Texts.{placed}
 use Rattle.dsr_file.proofs.StandLemmas.{stands_more}
+use Rattle.dsr_file.proofs.ClosedLemmas.{not_some}
 use Rattle.dsr_file.proofs.reader.FileReader.read.Goals as goal
 
-pub returns-in-Some-clause-stands : goal.returns-in-Some-clause-stands
-returns-in-Some-clause-stands c = λ layout b es s.
+pub returns-then-is_some-clause-stands : goal.returns-then-is_some-clause-stands
+returns-then-is_some-clause-stands c = λ layout b es s.
     stands_more layout c.step-used.new.self b c.args.piece.now es c.loop-used.used c.step-used.result _ _ c.loop-used.invariant.bound
-    (ap (λ n. placed n (option_to_list c.step-used.new.part)) c.loop-used.invariant.place
-    ∙ ap (λ o. placed c.args.self.now.place (option_to_list o)) c.in-Some.is)
+    (ap (λ n. placed n (option_to_list c.step-used.new.part)) c.loop-used.invariant.place)
     (c.step-used.ensures.stands layout _ es (c.loop-used.invariant.stands layout b es s))
 
 pub loop-used-preserved : goal.loop-used-preserved
 loop-used-preserved c =
-    let none : c.step-used.new.part ≡ None = c.in-None.is in
+    let none : c.step-used.new.part ≡ None = not_some c.step-used.new.part (sym c.is_some.ensures ∙ c.if-is_some.false) in
     record {
       bound = omega (arith, c.step-used.ensures.bound, c.loop-used.invariant.bound, length-drop c.loop-used.used c.args.piece.now);
       reading = subst (λ o. IfNone o (c.step-used.new.self.phase ≡ Reading)) none c.step-used.ensures.reading;

@@ -11,7 +11,7 @@ invariant-loop-used l = record {
   reading : l.self.phase ≡ Reading;
   none : l.part ≡ None;
   given : l.self.given ≡ l.fn.self.given + l.used;
-  place : l.self.place ≡ l.place;
+  place : l.self.place ≡ l.fn.self.place;
   ending : l.self.ending ≡ l.fn.self.ending;
   stands : (layout : LayoutTable) (b : List ℕ) (es : List Placed) → Stands layout l.fn.self b es → Stands layout l.self (b ++ take l.used l.piece) es;
 }

@@ -3,7 +3,7 @@ use Rattle.dsr_file.proofs.StageLemmas.{opens_stage, opens_given}
 use Rattle.dsr_file.proofs.stage.Stage.open.Goals as goal
 
 pub returns-clause-next : goal.returns-clause-next
-returns-clause-next c = c.go_on.ensures.next ∙ opens_stage c.args.self.now c.args.line.now _ c.in_ok-open_block.ensures.opened
+returns-clause-next c = c.close.ensures.next ∙ opens_stage c.args.self.now c.args.line.now _ c.in_ok-block.ensures.opens
 
 pub returns-clause-given : goal.returns-clause-given
-returns-clause-given c = c.go_on.ensures.given ∙ opens_given c.args.self.now c.args.line.now _ c.in_ok-open_block.ensures.opened
+returns-clause-given c = c.close.ensures.given ∙ opens_given c.args.self.now c.args.line.now _ c.in_ok-block.ensures.opens

@@ -16,14 +16,14 @@ invariant_of-self-then-not-goes_out g c =
     let e = c.args.event in
     let out = events_of (out_of (view f.pass)) in
     let asked : IsOrderly (sent_of f ++ e ∷ []) = subst (λ (v : FeedView). IsOrderly (v.sent ++ e ∷ [])) (sym c.self.view_is) c.requires in
-    let same : out ++ c.put.new.batch ≡ sent_of f ++ e ∷ [] = ap (λ l. out ++ l) c.in_ok-self-inside.ensures ∙ sym (append_assoc out f.batch (e ∷ [])) in
+    let same : out ++ c.put.new.batch ≡ sent_of f ++ e ∷ [] = ap (λ l. out ++ l) c.in_ok-put.ensures ∙ sym (append_assoc out f.batch (e ∷ [])) in
     record {
       seat = c.self.invariant.seat;
       knows = c.self.invariant.knows;
       waits =
           omega (
             arith,
-            ap length c.in_ok-self-inside.ensures,
+            ap length c.in_ok-put.ensures,
             length-append f.batch (e ∷ []),
             has_room f.batch e
                 (sym c.goes_out-goes_out.ensures ∙ c.if-not-goes_out.true) c.self.invariant.waits,
@@ -41,7 +41,7 @@ invariant_of-self-in_default g c =
     let went = c.in_default.ensures.sent in
     let asked : IsOrderly (sent_of f ++ e ∷ []) = subst (λ (v : FeedView). IsOrderly (v.sent ++ e ∷ [])) (sym c.self.view_is) c.requires in
     let same =
-    sent_out (view f.pass) (view c.send_out.new.pass) _ _ (f.batch ++ e ∷ []) c.send_out.new.batch went.0 c.in_ok-self-inside.ensures went.1
+    sent_out (view f.pass) (view c.send_out.new.pass) _ _ (f.batch ++ e ∷ []) c.send_out.new.batch went.0 c.in_ok-put.ensures went.1
     ∙ sym (append_assoc out f.batch (e ∷ [])) in
     record {
       seat = c.send_out.ensures.seat;
@@ -59,7 +59,7 @@ returns-in_default-clause-sent g c =
     let out = events_of (out_of (view f.pass)) in
     let went = c.in_default.ensures.sent in
     let same =
-    sent_out (view f.pass) (view c.send_out.new.pass) _ _ (f.batch ++ e ∷ []) c.send_out.new.batch went.0 c.in_ok-self-inside.ensures went.1
+    sent_out (view f.pass) (view c.send_out.new.pass) _ _ (f.batch ++ e ∷ []) c.send_out.new.batch went.0 c.in_ok-put.ensures went.1
     ∙ sym (append_assoc out f.batch (e ∷ [])) in
     let seat = c.send_out.ensures.seat in
     let was = c.self.invariant.seat in

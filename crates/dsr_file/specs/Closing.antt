@@ -1,0 +1,20 @@
+-- What a line closes, and its event.
+use Rattle.std.specs.Prelude.{ℕ, if◌then◌else◌, Option, None, Some}
+use Rattle.dsr_records.specs.Blocks.{BlockParts}
+use Rattle.dsr_file.specs.declared.event.EventPart.{EventPart}
+use Rattle.dsr_file.specs.declared.event.EventPart.TheVariants as tell
+use Rattle.dsr_file.specs.declared.closed.Closed.TheInside.{Inside}
+use Rattle.dsr_file.specs.Placed.{Placed}
+
+-- what is closed
+abbrev pub part_closed : Inside → Option EventPart
+part_closed c = if c.has_block then Some (tell.Block c.block) else c.other
+
+-- the event of a block with this place
+abbrev pub block_event : ℕ → BlockParts → Placed
+block_event place block = record { place = place; part = tell.Block block }
+
+-- the event of what is closed, with this place
+abbrev pub event_at : ℕ → Option EventPart → Option Placed
+event_at place None = None
+event_at place (Some part) = Some (record { place = place; part = part })

@@ -1,0 +1,191 @@
+//! What a line closes, in a place that is lent from the sink's caller down to the stage.
+ghost use Rattle.std.specs.Prelude.{◌≡◌, ◌++◌, ◌∷◌, ◌<◌, ◌^◌, [], true, IfOk, IfErr, OnOk, OnErr, IfSome, Some, None, is_some};
+ghost use Rattle.std.specs.Option.{option_to_list};
+ghost use Rattle.dsr_records.specs.declared.kinds.Kind.TheVariants as kinds;
+ghost use Rattle.dsr_records.specs.Blocks.{OpensBlock};
+ghost use Rattle.dsr_records.specs.Reads.{has_texts, kind_of_record};
+ghost use Rattle.dsr_file.specs.Runs.{IsSomeRun};
+ghost use Rattle.dsr_file.specs.Counting.{block_count};
+ghost use Rattle.dsr_file.specs.Closing.{event_at};
+
+use crate::event::{Event, EventPart};
+use crate::sink::Sink;
+use dsr_cells::NoMemory;
+use dsr_records::{Block, CheckedLine};
+use std::alloc::Global;
+use std::marker::Model;
+use std::mem;
+
+/// What a line closes, if it closes something, with a block to be overwritten by the next one. Contracts see what is
+/// closed.
+#[derive(Drop)]
+pub(crate) struct Closed {
+    alloc: Global,
+    /// The block that was closed, if `has_block`; otherwise one to be overwritten.
+    block: Block,
+    has_block: bool,
+    /// What was closed and is not in `block`. None if `has_block`.
+    other: Option<EventPart>,
+}
+
+impl Model for Closed {
+    ghost use Rattle.std.specs.Prelude.{Option};
+    ghost use Rattle.dsr_file.specs.declared.event.EventPart.{EventPart};
+    ghost use Rattle.dsr_file.specs.Closing.{part_closed};
+
+    ghost Value = { Option EventPart };
+
+    ghost view = { part_closed };
+}
+
+impl Closed {
+    /// Nothing, with a block whose memory may be used again.
+    pub(crate) fn over(alloc: Global, spare: Option<Block>) -> Closed
+        ensures { result ≡ None }
+    {
+        let block = match spare {
+            Some(block) => block,
+            None => Block::empty(alloc),
+        };
+        Closed {
+            alloc,
+            block,
+            has_block: false,
+            other: None,
+        }
+    }
+
+    /// Whether something was closed.
+    #[inline(always)]
+    pub(crate) fn is_some(&self) -> bool
+        ensures { result ≡ is_some self.now }
+    {
+        self.has_block || self.other.is_some()
+    }
+
+    /// The number of blocks that were closed: 0 or 1.
+    #[inline(always)]
+    pub(crate) fn block_count(&self) -> u64
+        ensures { result ≡ block_count self.now }
+    {
+        if self.has_block {
+            return 1;
+        }
+        match &self.other {
+            Some(EventPart::Block(_)) => 1,
+            _ => 0,
+        }
+    }
+
+    /// Closes this part.
+    pub(crate) fn set(&mut self, part: EventPart)
+        ensures { self.new ≡ Some part }
+    {
+        self.has_block = false;
+        self.other = Some(part);
+    }
+
+    /// Takes out what was closed.
+    pub(crate) fn take(&mut self) -> Option<EventPart>
+        ensures value { result ≡ self.old }
+        ensures none { self.new ≡ None }
+    {
+        if !self.has_block {
+            return self.other.take();
+        }
+        self.has_block = false;
+        self.other = None;
+        let block = mem::replace(&mut self.block, Block::empty(self.alloc));
+        Some(EventPart::Block(block))
+    }
+
+    /// Takes out what was closed, as the event with this place.
+    pub(crate) fn take_event(&mut self, place: u64) -> Option<Event>
+        requires { place < 2 ^ 37 }
+        ensures event { result ≡ event_at place self.old }
+        ensures none { self.new ≡ None }
+    {
+        match self.take() {
+            Some(part) => Some(Event { place, part }),
+            None => None,
+        }
+    }
+
+    /// The block to be overwritten. What was closed is lost.
+    pub(crate) fn into_block(self) -> Block {
+        self.block
+    }
+
+    /// Writes the block of a resource line over the old one, and exchanges it for the open block, which is closed.
+    #[inline(always)]
+    pub(crate) fn open_next(
+        &mut self,
+        line: &CheckedLine<'_>,
+        current: &mut Block,
+    ) -> Result<(), NoMemory>
+        requires resource { kind_of_record line.now ≡ kinds.Resource }
+        requires none { self.old ≡ None }
+        ensures opens { OnOk result (OpensBlock line.now current.new) }
+        ensures closed { OnOk result (self.new ≡ Some (EventPart.Block current.old)) }
+        ensures memory { OnErr result (has_texts line.now ≡ true) }
+        ensures refused { OnErr result ((self.new ≡ None) × (current.new ≡ current.old)) }
+    {
+        line.open_block(self.alloc, &mut self.block)?;
+        mem::swap(current, &mut self.block);
+        self.has_block = true;
+        Ok(())
+    }
+
+    /// Writes the block of a resource line over the old one, and returns it.
+    pub(crate) fn open_first(&mut self, line: &CheckedLine<'_>) -> Result<Block, NoMemory>
+        requires resource { kind_of_record line.now ≡ kinds.Resource }
+        requires none { self.old ≡ None }
+        ensures opens { IfOk result (λ block. OpensBlock line.now block) }
+        ensures memory { OnErr result (has_texts line.now ≡ true) }
+        ensures none { self.new ≡ None }
+    {
+        line.open_block(self.alloc, &mut self.block)?;
+        Ok(mem::replace(&mut self.block, Block::empty(self.alloc)))
+    }
+
+    /// Puts what was closed into a sink, as the event with this place. A block is put where the sink has room for it.
+    #[inline(always)]
+    pub(crate) fn put_into<S: Sink>(&mut self, place: u64, sink: &mut S) -> Result<(), Event>
+        requires small { place < 2 ^ 37 }
+        requires run { IfSome (event_at place self.old)
+            (λ e. IsSomeRun (S.list sink.old ++ e ∷ [])) }
+        ensures added { OnOk result
+            (S.list sink.new ≡ S.list sink.old ++ option_to_list (event_at place self.old)) }
+        ensures refused { IfErr result (λ back.
+            (event_at place self.old ≡ Some back) × (S.list sink.new ≡ S.list sink.old)) }
+        ensures none { self.new ≡ None }
+        ensures name { S.name sink.new ≡ S.name sink.old }
+    {
+        if self.has_block && sink.put_block(place, &mut self.block) {
+            self.has_block = false;
+            self.other = None;
+            return Ok(());
+        }
+        self.put_moved(place, sink)
+    }
+
+    /// The same, by moving what was closed.
+    #[cold]
+    #[inline(never)]
+    fn put_moved<S: Sink>(&mut self, place: u64, sink: &mut S) -> Result<(), Event>
+        requires small { place < 2 ^ 37 }
+        requires run { IfSome (event_at place self.old)
+            (λ e. IsSomeRun (S.list sink.old ++ e ∷ [])) }
+        ensures added { OnOk result
+            (S.list sink.new ≡ S.list sink.old ++ option_to_list (event_at place self.old)) }
+        ensures refused { IfErr result (λ back.
+            (event_at place self.old ≡ Some back) × (S.list sink.new ≡ S.list sink.old)) }
+        ensures none { self.new ≡ None }
+        ensures name { S.name sink.new ≡ S.name sink.old }
+    {
+        match self.take_event(place) {
+            Some(event) => sink.put(event),
+            None => Ok(()),
+        }
+    }
+}
