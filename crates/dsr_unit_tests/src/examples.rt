@@ -1,5 +1,6 @@
-//! The examples that the lib.rt files show, one file for each crate. That of dsr_relay is a test in `relay`.
+//! The examples that the lib.rt files show, one file for each crate.
 mod cells;
 mod file;
 mod ledger;
 mod records;
+mod relay;

@@ -3,7 +3,8 @@
 //! 1. `examples`: those that the lib.rt of each crate shows.
 //! 2. `cells`, `records`, `file`, `relay`, `ledger`: the tests of each crate.
 //!
-//! They are a separate crate, since a crate with tests is proved a second time with them.
+//! They are a separate crate, since a crate with tests is proved a second time with them. Of `relay` what sends and
+//! takes is built without tests too, so that wrong bodies of it can be tried.
 #![tactic(auto)]
 
 #[cfg(test)]
@@ -16,5 +17,4 @@ mod file;
 mod ledger;
 #[cfg(test)]
 mod records;
-#[cfg(test)]
-mod relay;
+pub mod relay;
