@@ -4,7 +4,7 @@ use Rattle.std.proofs.Common.{false, eqb, refl, sym, ap, subst, ◌∙◌, arith
 use Rattle.std.proofs.Common.{mod-eq_of_lt, mul-lt-mul_of_pos_right, ◌++◌, count_by, length-append}
 use Rattle.std.specs.Int.{bit_at, from_bool}
 use Rattle.std.specs.List.{filter, position_or_len}
-use Rattle.std.specs.Simd.Lanes.{chunk}
+use Rattle.std.specs.Simd.Lanes.{chunk, mask_l}
 use Rattle.std.proofs.lemmas.Bool.{cases_lt}
 use Rattle.std.proofs.lemmas.List.{get_or_past, get_or-take, length-take, length-map, length-drop, drop-drop, drop-take, drop_more, take_min, take_all}
 use Rattle.std.proofs.lemmas.List.{take-append-drop}
@@ -43,15 +43,18 @@ halved true n = omega arith
 halved false n = omega arith
 
 -- a right shift drops bytes
+pub mask-drop : (p : ℕ → Bool) (bytes : List ℕ) (k : ℕ) → mask_l (map p bytes) / 2 ^ k ≡ mask_l (map p (drop k bytes))
+mask-drop p [] zero = zero-div (2 ^ 0)
+mask-drop p [] (suc k) = zero-div (2 ^ suc k)
+mask-drop p (b ∷ bytes) zero = div-one (mask_l (map p (b ∷ bytes)))
+mask-drop p (b ∷ bytes) (suc k) =
+    ap (λ n. mask_l (map p (b ∷ bytes)) / n) (pow-suc 2 k ∙ mul_comm (2 ^ k) 2)
+    ∙ sym (div-div-eq-div-mul (mask_l (map p (b ∷ bytes))) 2 (2 ^ k))
+    ∙ ap (λ n. n / 2 ^ k) (halved (p b) (mask_l (map p bytes)))
+    ∙ mask-drop p bytes k
+
 pub tab_bits-drop : (bytes : List ℕ) (k : ℕ) → tab_bits bytes / 2 ^ k ≡ tab_bits (drop k bytes)
-tab_bits-drop [] zero = zero-div (2 ^ 0)
-tab_bits-drop [] (suc k) = zero-div (2 ^ suc k)
-tab_bits-drop (b ∷ bytes) zero = div-one (tab_bits (b ∷ bytes))
-tab_bits-drop (b ∷ bytes) (suc k) =
-    ap (λ n. tab_bits (b ∷ bytes) / n) (pow-suc 2 k ∙ mul_comm (2 ^ k) 2)
-    ∙ sym (div-div-eq-div-mul (tab_bits (b ∷ bytes)) 2 (2 ^ k))
-    ∙ ap (λ n. n / 2 ^ k) (halved (is_tab b) (tab_bits bytes))
-    ∙ tab_bits-drop bytes k
+tab_bits-drop = mask-drop is_tab
 
 -- a shift past a TAB leaves the bits of the searched bytes after it
 pub tab_bits-behind : (text : List ℕ) (seen place : ℕ) → place < seen
