@@ -1,13 +1,14 @@
 //! Checking lines, and copying the records of lines without a fault.
-ghost use Rattle.std.specs.Prelude.{◌≡◌, ◌==◌, ◌+◌, ◌<◌, [], not, true, length, map, count_by};
-ghost use Rattle.std.specs.Prelude.{Ok, Err, IfOk, OnOk, OnErr, MatchResult, nat_lt, slice_get};
-ghost use Rattle.std.specs.Option.{option_map, unwrap_or};
+ghost use Rattle.std.specs.Prelude.{◌≡◌, ◌==◌, ◌+◌, ◌<◌, not, true, length, map, count_by};
+ghost use Rattle.std.specs.Prelude.{Ok, Err, IfOk, OnOk, OnErr, MatchResult, nat_lt, drop};
+ghost use Rattle.std.specs.Option.{option_map};
 ghost use Rattle.dsr_cells.specs.Cells.{cells};
 ghost use Rattle.dsr_records.specs.Blocks.{OpensBlock, with_member};
 ghost use Rattle.dsr_records.specs.declared.kinds.Kind.TheVariants as kinds;
 ghost use Rattle.dsr_records.specs.declared.record.Record.TheVariants as records;
 ghost use Rattle.dsr_records.specs.Checked.{record_seen};
 ghost use Rattle.dsr_records.specs.Records.{cell_in};
+ghost use Rattle.dsr_records.specs.Rows.{cells_left};
 ghost use Rattle.dsr_records.specs.Reads.{AnswersRecord, kind_of_record, id_of_record, has_texts};
 ghost use Rattle.dsr_records.specs.Values.{id_of, kind_of, record_by_row, record_of};
 
@@ -15,7 +16,6 @@ use crate::block::Block;
 use crate::check::{
     RecordLine, check_foot, check_head, check_resource, check_summary, check_usage, check_work,
 };
-use crate::cursor::Cursor;
 use crate::kinds::{Kind, ReadRecordError, RecordFault};
 use crate::layout::Layout;
 use crate::layout_line::RoleLine;
@@ -165,14 +165,6 @@ fn has_many_cells(line: &str, whole: &Rest<'_>) -> bool
     whole.may_have_more(64) && counts_many_cells(line)
 }
 
-/// The record type of a line: its first cell.
-fn record_type<'l>(cursor: &mut Cursor<'l>) -> &'l str
-    ensures value { result.now ≡ unwrap_or (slice_get cursor.old 0) [] }
-    ensures same { cursor.new ≡ cursor.old }
-{
-    cursor.cell(0).unwrap_or("")
-}
-
 /// Checks the cells of a kind's columns. Returns the line's record, not yet copied, or the first fault.
 #[inline(always)]
 fn check_row<'l>(row: &Row<'l>, kind: Kind) -> Result<CheckedLine<'l>, RecordFault>
@@ -235,11 +227,10 @@ impl<'l> TypedLine<'l> {
         if has_many_cells(line, &whole) {
             return Err(RecordFault::Many);
         }
-        let mut cursor = Cursor::at(line, whole);
-        let name = record_type(&mut cursor);
+        let (name, after) = whole.first_cell();
         match layout.role(name) {
             Some(role) => {
-                self.take(cursor, role);
+                self.take(line, after, role);
                 Ok(())
             }
             None if layout.skips(name) => {
@@ -251,15 +242,16 @@ impl<'l> TypedLine<'l> {
         }
     }
 
-    /// Takes the cells of a line's columns, by the layout line of its record type.
+    /// Takes the cells of a line's columns, by the layout line of its record type and the rest of the line after it.
     #[inline(always)]
-    fn take(&mut self, cursor: Cursor<'l>, role: &RoleLine)
+    fn take(&mut self, line: &'l str, after: Option<Rest<'l>>, role: &RoleLine)
+        requires { cells_left after ≡ drop 1 (cells line.now) }
         ensures { self.new ≡ record_by_row
-            (map (cell_in cursor.entry) role.now.positions) role.now.kind }
+            (map (cell_in (cells line.now)) role.now.positions) role.now.kind }
     {
         self.kind = role.kind;
         self.row.clear();
-        self.row.take(cursor, role.positions.as_slice());
+        self.row.take(line, after, &role.positions);
     }
 
     /// The kind of the line's record type.

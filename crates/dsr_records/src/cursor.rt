@@ -76,12 +76,24 @@ impl<'l> Cursor<'l> {
         }
     }
 
-    /// The line.
+    /// A cursor at the second cell of a line, if there is one, given the rest of the line after its first cell.
     #[inline(always)]
-    pub(crate) fn line(&self) -> &'l str
-        ensures { cells result.now ≡ self.now }
+    pub(crate) fn behind_type(line: &'l str, after: Option<Rest<'l>>) -> Cursor<'l>
+        requires { cells_left after ≡ drop 1 (cells line.now) }
+        ensures { result ≡ cells line.now }
     {
-        self.line
+        match after {
+            Some(rest) => Cursor {
+                line,
+                rest,
+                next: 1,
+            },
+            None => Cursor {
+                line,
+                rest: Rest::of(""),
+                next: NOWHERE,
+            },
+        }
     }
 
     /// The cell at an index, if the cursor is there. All calls in it that are not inlined return a

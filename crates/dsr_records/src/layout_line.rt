@@ -4,7 +4,8 @@ ghost use Rattle.std.specs.Str.{bytes_eq};
 ghost use Rattle.dsr_records.specs.Names.{start_of};
 
 use crate::kinds::Kind;
-use arrayvec::{ArrayString, ArrayVec};
+use crate::positions::Positions;
+use arrayvec::ArrayString;
 use std::marker::Model;
 
 /// The first four bytes of a record type as a number; 0 if it is shorter.
@@ -112,7 +113,7 @@ impl Default for TypeName {
 pub(crate) struct RoleLine {
     pub(crate) kind: Kind,
     pub(crate) name: TypeName,
-    pub(crate) positions: ArrayVec<Option<u8>, 7>,
+    pub(crate) positions: Positions,
 }
 
 impl Model for RoleLine {
@@ -120,7 +121,7 @@ impl Model for RoleLine {
 
     ghost Value = { Line };
 
-    ghost view = { λ a. record { kind = a.kind; name = a.name; positions = a.positions.items } };
+    ghost view = { λ a. record { kind = a.kind; name = a.name; positions = a.positions } };
 }
 
 impl RoleLine {
@@ -131,7 +132,7 @@ impl RoleLine {
         RoleLine {
             kind: self.kind,
             name: self.name.copy(),
-            positions: copy_positions(&self.positions),
+            positions: self.positions.copy(),
         }
     }
 }
@@ -141,17 +142,7 @@ impl Default for RoleLine {
         RoleLine {
             kind: Kind::Skipped,
             name: TypeName::default(),
-            positions: ArrayVec::new(),
+            positions: Positions::none(),
         }
     }
-}
-
-fn copy_positions(from: &ArrayVec<Option<u8>, 7>) -> ArrayVec<Option<u8>, 7>
-    ensures { result.items ≡ from.now.items }
-{
-    let mut copy = ArrayVec::new();
-    for position in from.as_slice() {
-        copy.push(*position);
-    }
-    copy
 }

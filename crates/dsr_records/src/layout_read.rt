@@ -12,6 +12,7 @@ use crate::layout::{Layout, place};
 use crate::layout_fault::{LayoutError, LayoutFault};
 use crate::layout_line::{RoleLine, TypeName};
 use crate::pieces::{Pieces, lines};
+use crate::positions::Positions;
 use arrayvec::ArrayVec;
 use dsr_cells::{cell, read_number};
 use std::str;
@@ -100,7 +101,7 @@ impl Layout {
                 self.add_role(RoleLine {
                     kind,
                     name: TypeName::new(name),
-                    positions,
+                    positions: Positions::of(positions),
                 });
                 Ok(())
             }

@@ -1,6 +1,6 @@
 //! The rest of a line, and its first cell.
 ghost use Rattle.std.specs.Prelude.{◌≡◌, ◌≢◌, ◌+◌, ◌-◌, ◌<◌, ◌≤◌, ◌==◌, ◌∷◌, length, take, drop};
-ghost use Rattle.std.specs.Prelude.{slice_index, false};
+ghost use Rattle.std.specs.Prelude.{[], slice_index, not, false, IfSome};
 ghost use Rattle.std.specs.List.{position, position_or_len};
 ghost use Rattle.dsr_cells.specs.Cells.{cells};
 ghost use Rattle.dsr_records.specs.Marks.{tab_bits};
@@ -98,7 +98,8 @@ impl<'l> Rest<'l> {
         ensures { cells self.entry.text.now ≡ result.0.now ∷ cells_left result.1 }
     {
         if self.tabs != 0 {
-            self.known_cell()
+            let (cell, rest) = self.known_cell();
+            (cell, Some(rest))
         } else if self.unseen == 0 {
             (self.text, None)
         } else {
@@ -113,17 +114,40 @@ impl<'l> Rest<'l> {
         ensures { cells self.entry.text.now ≡ result.0.now ∷ cells_left result.1 }
     {
         if self.tabs != 0 {
-            self.known_cell()
+            let (cell, rest) = self.known_cell();
+            (cell, Some(rest))
         } else {
             Rest::long_cell(self.text)
         }
     }
 
+    /// Whether a TAB is known.
+    #[inline(always)]
+    pub(crate) fn has_tab(&self) -> bool
+        ensures { result ≡ not (self.now.tabs == 0) }
+    {
+        self.tabs != 0
+    }
+
+    /// The first cell, if all bytes were searched and there is no TAB: it is the only one.
+    #[inline(always)]
+    pub(crate) fn only_cell(self) -> Option<&'l str>
+        ensures { IfSome result (λ cell. cells self.entry.text.now ≡ cell.now ∷ []) }
+    {
+        if self.tabs != 0 {
+            return None;
+        }
+        if self.unseen != 0 {
+            return None;
+        }
+        Some(self.text)
+    }
+
     /// The first cell, if a TAB is known, and the rest after that TAB.
     #[inline(always)]
-    fn known_cell(self) -> (&'l str, Option<Rest<'l>>)
+    pub(crate) fn known_cell(self) -> (&'l str, Rest<'l>)
         requires { self.tabs ≢ 0 }
-        ensures { cells self.entry.text.now ≡ result.0.now ∷ cells_left result.1 }
+        ensures { cells self.entry.text.now ≡ result.0.now ∷ cells result.1.text.now }
     {
         let place = self.tabs.trailing_zeros() as usize;
         let (cell, text) = around_tab(self.text, place);
@@ -132,7 +156,7 @@ impl<'l> Rest<'l> {
             unseen: self.unseen,
             tabs: (self.tabs >> place) >> 1,
         };
-        (cell, Some(rest))
+        (cell, rest)
     }
 
     /// The first cell of a text without a TAB among its first 64 bytes, and the rest after the

@@ -1,9 +1,14 @@
-use Rattle.std.proofs.Common.{sym, ◌∙◌}
+use Rattle.std.proofs.Common.{sym, ◌∙◌, ap, drop}
+use Rattle.dsr_cells.specs.Cells.{cells}
+use Rattle.dsr_records.specs.Rows.{cells_left}
 use Rattle.dsr_records.proofs.LineChecks.{found}
 use Rattle.dsr_records.proofs.checked.TypedLine.find.Goals as goal
 
+pub take-requires : goal.take-requires
+take-requires c = sym (ap (drop 1) (ap (λ text. cells text.now) (sym c.of-whole.ensures) ∙ c.first_cell.ensures))
+
 pub returns-in-Some : goal.returns-in-Some
 returns-in-Some c =
-    found c.args.layout.now c.args.line.now c.record_type-name.result.now c.in-Some.role.now c.record_type-name.new.cursor c.take.new.self
-    (sym c.has_many_cells.ensures ∙ c.if-has_many_cells.false) (c.record_type-name.ensures.same ∙ c.at-cursor.ensures)
-    (rw c.record_type-name.ensures.same c.record_type-name.ensures.value) c.in-Some.ensures c.take.ensures
+    found c.args.layout.now c.args.line.now c.first_cell.result.0.now c.in-Some.role.now (cells_left c.first_cell.result.1) c.take.new.self
+    (sym c.has_many_cells.ensures ∙ c.if-has_many_cells.false) (ap (λ text. cells text.now) (sym c.of-whole.ensures) ∙ c.first_cell.ensures)
+    c.in-Some.ensures c.take.ensures
