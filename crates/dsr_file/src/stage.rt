@@ -11,6 +11,7 @@ ghost use Rattle.dsr_file.specs.Stages.{column_at, stage_fault, stage_after, giv
 use crate::closed::Closed;
 use crate::event::{EventPart, Opening, Summaries};
 use crate::fault::FileFault;
+use crate::same_text::is_same;
 use dsr_cells::NoMemory;
 use dsr_records::{Block, CheckedLine, Kind, Record, Summary};
 use std::alloc::Global;
@@ -90,7 +91,7 @@ fn twice_or_many(summaries: &Summaries, id: &str) -> Option<FileFault>
 fn number_or_long(block: &Block, id: &str) -> Option<FileFault>
     ensures { result ≡ member_fault block.now.id (block_length block.now) id.now }
 {
-    if id != block.id.as_str() {
+    if !is_same(id, block.id.as_str()) {
         return Some(FileFault::BlockNumber);
     }
     if block.len() >= 64 {
