@@ -4,7 +4,7 @@ use Rattle.std.specs.List.{slice_get}
 use Rattle.std.proofs.lemmas.List.{take_more}
 use Rattle.std.proofs.lemmas.Option.{get_or_from_slice_get}
 use mathlib.Core.List.{map-append}
-use Rattle.dsr_records.specs.Layouts.{IsInOrder}
+use Rattle.dsr_records.specs.Rows.{IsInOrder}
 use Rattle.dsr_records.specs.Records.{cell_in}
 use Rattle.dsr_records.proofs.Drops.{slice_get_first}
 

@@ -1,5 +1,5 @@
 -- The cells of a line, and the results of reading one of them, as contracts see them.
-use Rattle.std.specs.Prelude.{◌≡◌, ℕ, List, [], length, if◌then◌else◌, Option, Some, None, Result, Ok, Err}
+use Rattle.std.specs.Prelude.{◌≡◌, ◌<◌, ◌+◌, ℕ, List, [], length, slice_get, if◌then◌else◌, Option, Some, None, Result, Ok, Err}
 use Rattle.std.specs.Borrow.{Bor}
 use Rattle.std.specs.List.{list_all}
 use Rattle.dsr_cells.specs.Cells.{cells}
@@ -19,6 +19,10 @@ cells_left (Some rest) = cells rest.text.now
 abbrev pub behind : Option (Bor (List ℕ)) → Option (List ℕ)
 behind None = None
 behind (Some text) = Some text.now
+
+-- positions that are 1, 2, 3 and so on
+abbrev pub IsInOrder : List (Option ℕ) → Type 0
+IsInOrder positions = (k : ℕ) → k < length positions → slice_get positions k ≡ Some (Some (k + 1))
 
 -- the fault of the column at index i
 abbrev pub fault_at : List (Option (List ℕ)) → Column → ℕ → Option RecordFault

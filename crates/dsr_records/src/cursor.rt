@@ -76,23 +76,16 @@ impl<'l> Cursor<'l> {
         }
     }
 
-    /// A cursor at the second cell of a line, if there is one, given the rest of the line after its first cell.
+    /// A cursor at the second cell of a line, given the rest of the line from there.
     #[inline(always)]
-    pub(crate) fn behind_type(line: &'l str, after: Option<Rest<'l>>) -> Cursor<'l>
-        requires { cells_left after ≡ drop 1 (cells line.now) }
+    pub(crate) fn behind_type(line: &'l str, rest: Rest<'l>) -> Cursor<'l>
+        requires { cells rest.text.now ≡ drop 1 (cells line.now) }
         ensures { result ≡ cells line.now }
     {
-        match after {
-            Some(rest) => Cursor {
-                line,
-                rest,
-                next: 1,
-            },
-            None => Cursor {
-                line,
-                rest: Rest::of(""),
-                next: NOWHERE,
-            },
+        Cursor {
+            line,
+            rest,
+            next: 1,
         }
     }
 

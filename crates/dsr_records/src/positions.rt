@@ -1,6 +1,6 @@
 //! The positions of a kind's columns in a line.
 ghost use Rattle.std.specs.Prelude.{◌≡◌, ◌≤◌, [], length, true};
-ghost use Rattle.dsr_records.specs.Layouts.{IsInOrder};
+ghost use Rattle.dsr_records.specs.Rows.{IsInOrder};
 
 use arrayvec::ArrayVec;
 use std::marker::Model;
@@ -30,7 +30,7 @@ pub(crate) struct Positions {
 
 impl Model for Positions {
     ghost use Rattle.std.specs.Prelude.{◌≡◌, List, ℕ, Option, true};
-    ghost use Rattle.dsr_records.specs.Layouts.{IsInOrder};
+    ghost use Rattle.dsr_records.specs.Rows.{IsInOrder};
 
     ghost Value = { List (Option ℕ) };
 

@@ -1,9 +1,10 @@
 use Rattle.std.proofs.Common.{◌≡◌, map, take}
+use Rattle.dsr_cells.specs.Cells.{cells}
 use Rattle.dsr_records.specs.Records.{cell_in}
 use Rattle.dsr_records.specs.Rows.{behind}
 use Rattle.dsr_records.proofs.row.Row.take_in_order.Given as goal
 
 abbrev pub invariant-loop-position : goal.invariant-loop-position
 invariant-loop-position l =
-    (map behind l.self-inside.cells.items ≡ map (cell_in l.fn.cursor) (take l.position-index l.positions)) × (l.cursor ≡ l.fn.cursor)
+    (map behind l.self-inside.cells.items ≡ map (cell_in (cells l.line)) (take l.position-index l.positions)) × (l.cursor ≡ cells l.line)
     × (l.done ≡ l.position-index)
