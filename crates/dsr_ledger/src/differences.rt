@@ -21,20 +21,36 @@ fn found_for(summaries: &Summaries, summary: &Summary) -> Sums
     ensures { result ≡ sums_shown (sums_at summaries.now summary.now.id) }
 {
     match summaries.sums(&summary.id) {
-        Some(sums) => sums,
-        None => Sums {
-            usages: 0,
-            amount: 0,
-        },
+        Some(sums) => sums.copy(),
+        None => Sums::new(),
     }
 }
 
 /// Whether a summary states the sums that were found for it.
-fn states(summary: &Summary, found: Sums) -> bool
-    ensures { result ≡ (int_eq summary.now.usages found.usages && int_eq summary.now.amount
-        found.amount) }
+fn states(summary: &Summary, found: &Sums) -> bool
+    ensures { result ≡ (int_eq summary.now.usages found.now.usages
+        && int_eq summary.now.amount found.now.amount) }
 {
-    i128::from(summary.usages) == found.usages && summary.amount.units() == found.amount
+    i128::from(summary.usages) == found.usages.get() && summary.amount.units() == found.amount.get()
+}
+
+/// The difference of a summary: what it states, and the sums that were found.
+fn difference_of(
+    alloc: Global,
+    place: u32,
+    summary: &Summary,
+    found: &Sums,
+) -> Result<Difference, NoMemory>
+    ensures { IfOk result (λ difference. difference ≡ difference_to place found.now summary.now) }
+{
+    Ok(Difference {
+        file: place,
+        summary_id: summary.id.copy(alloc)?,
+        stated_usages: summary.usages,
+        found_usages: found.usages.get(),
+        stated_amount: summary.amount.units(),
+        found_amount: found.amount.get(),
+    })
 }
 
 /// Adds the difference of a summary, if it states other sums than were found.
@@ -48,17 +64,10 @@ fn add_difference(
     ensures { OnOk result (differences.new ≡ differences.old ++ filter differs
         (difference_to place found summary.now ∷ [])) }
 {
-    if states(summary, found) {
+    if states(summary, &found) {
         return Ok(());
     }
-    let difference = Difference {
-        file: place,
-        summary_id: summary.id.copy(alloc)?,
-        stated_usages: summary.usages,
-        found_usages: found.usages,
-        stated_amount: summary.amount.units(),
-        found_amount: found.amount,
-    };
+    let difference = difference_of(alloc, place, summary, &found)?;
     differences.push(difference).map_err(|_difference| NoMemory)
 }
 

@@ -15,7 +15,7 @@
 //!    none.
 //! 4. `ledger` stores each party, summary key (`ledger/summary_key`) and recording once, interned in
 //!    maps with seeded hashers (`seeded`). A recording owns its seats and lines (`ledger/recording`,
-//!    `seats`, `line`), a line its sums and parts (`sums`, `parts`), whose amounts are `wide`. Items
+//!    `seats`, `line`), a line its sums and parts (`sums`, `parts`), whose numbers are `wide`. Items
 //!    after the first 16 are found by an index (`ledger/index`). `key` is the key of a ledger line,
 //!    which only specs use.
 //! 5. `assemble` makes the `report`: `file_lines`, `missing`, `differences`, `rejects`, and the lines

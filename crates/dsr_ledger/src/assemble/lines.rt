@@ -93,13 +93,13 @@ pub fn ledger_line<'a>(
     let parts = line.parts.as_slice();
     parts_by_name(parties, numbers, parts, names)?;
     let parties = party_lines(alloc, names.as_slice(), parts)?;
-    let amount = line.sums.amount;
+    let amount = line.sums.amount.get();
     Ok(LedgerLine {
         isrc,
         territory,
         use_type,
         currency,
-        usages: line.sums.usages,
+        usages: line.sums.usages.get(),
         amount,
         unclaimed: unclaimed(amount, parties.as_slice()),
         parties,

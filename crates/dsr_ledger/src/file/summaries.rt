@@ -25,10 +25,7 @@ impl SummaryState {
     {
         SummaryState {
             key,
-            sums: Sums {
-                usages: 0,
-                amount: 0,
-            },
+            sums: Sums::new(),
         }
     }
 
@@ -108,11 +105,11 @@ impl Summaries {
     }
 
     /// The sums of the usages that name a summary.
-    pub fn sums(&self, id: &Text) -> Option<Sums>
-        ensures { result ≡ sums_at self.now id.now }
+    pub fn sums(&self, id: &Text) -> Option<&Sums>
+        ensures { option_map (λ sums. sums.now) result ≡ sums_at self.now id.now }
     {
         match self.states.get(id) {
-            Some(state) => Some(state.sums),
+            Some(state) => Some(&state.sums),
             None => None,
         }
     }

@@ -13,7 +13,7 @@ use dsr_records::Usage;
 use std::alloc::Global;
 
 /// A line: the number of its summary key, whether it has a booked usage, the sums of these, and the
-/// parties' parts of them. The widest fields come first, so that a line takes 128 bytes.
+/// parties' parts of them. The widest fields come first, so that a line takes 120 bytes.
 #[derive(Drop)]
 pub struct Line {
     pub sums: Sums,
@@ -40,10 +40,7 @@ impl Line {
         Line {
             key,
             is_booked: false,
-            sums: Sums {
-                usages: 0,
-                amount: 0,
-            },
+            sums: Sums::new(),
             parts: Parts::new(alloc),
         }
     }

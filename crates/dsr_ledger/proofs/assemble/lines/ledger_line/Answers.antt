@@ -27,10 +27,10 @@ unclaimed-requires c =
     let ps : List SeatPart = c.as_slice-parts.result.now in
     let place : List ℕ → Option ℕ = place_by seat (part_seats ps) in
     let listed : ArePartsOf place c.as_slice.result.now = subst (ArePartsOf place) (sym c.as_slice.ensures.value) c.in_ok-parts_by_name.ensures in
-    let same : to_z w128 (of_z w128 line.sums.amount) ≡ line.sums.amount = search rules in
+    let same : to_z w128 (of_z w128 c.get-amount.result) ≡ line.sums.amount = search rules in
     let size : List PartyLine → ℕ = λ ls. sum_by (λ p. unsigned_abs p.amount) ls in
     ∥∥₁_elim c.requires.small (hlevel props) (λ o.
-    let amount : to_z w128 (of_z w128 line.sums.amount) ≡ amount_sum o.bookings = same ∙ ap (λ t. t.amount) o.tally in
+    let amount : to_z w128 (of_z w128 c.get-amount.result) ≡ amount_sum o.bookings = same ∙ ap (λ t. t.amount) o.tally in
     let owed = λ (q : List ℕ). ap (λ (xs : List SeatPart). owed_in xs (seat q)) c.as_slice-parts.ensures.value ∙ ap (λ t. t.owed q) o.tally in
     let lines : c.as_slice-2.result.now ≡ party_lines o.bookings = c.as_slice-2.ensures ∙ c.in_ok-parties.ensures o.bookings place listed owed in
     subst (λ n. n < 2 ^ 127) (λ i. unsigned_abs (sym amount i) + size (sym lines i)) (line_fits o.bookings o.small))
@@ -44,8 +44,8 @@ returns c = λ bs is.
     let ps : List SeatPart = c.as_slice-parts.result.now in
     let place : List ℕ → Option ℕ = place_by seat (part_seats ps) in
     let listed : ArePartsOf place c.as_slice.result.now = subst (ArePartsOf place) (sym c.as_slice.ensures.value) c.in_ok-parts_by_name.ensures in
-    let usages : to_z w128 (of_z w128 line.sums.usages) ≡ line.sums.usages = search rules in
-    let amount : to_z w128 (of_z w128 line.sums.amount) ≡ line.sums.amount = search rules in
+    let usages : to_z w128 (of_z w128 c.get.result) ≡ line.sums.usages = search rules in
+    let amount : to_z w128 (of_z w128 c.get-amount.result) ≡ line.sums.amount = search rules in
     let left : to_z w128 (of_z w128 c.unclaimed.result) ≡ c.unclaimed.result = search rules in
     let owed = λ (q : List ℕ). ap (λ (xs : List SeatPart). owed_in xs (seat q)) c.as_slice-parts.ensures.value ∙ ap (λ t. t.owed q) is in
     let lines : c.in_ok-parties.parties ≡ party_lines bs = c.in_ok-parties.ensures bs place listed owed in
