@@ -14,12 +14,12 @@ use Rattle.dsr_file.proofs.CutLemmas.{none_among}
 abbrev pub NoneBefore : List ℕ → ℕ → Type 0
 NoneBefore xs n = (k : ℕ) → k < n → eqb (get_or xs k 0) 10 ≡ false
 
--- 16 more bytes, up to the first line feed among them
-pub none_before_more : (xs : List ℕ) (at run : ℕ) → at + 16 ≤ length xs → run ≡ prefix_len (λ b. not (eqb b 10)) (chunk at 16 xs)
+-- 64 more bytes, up to the first line feed among them
+pub none_before_more : (xs : List ℕ) (at run : ℕ) → at + 64 ≤ length xs → run ≡ prefix_len (λ b. not (eqb b 10)) (chunk at 64 xs)
     → NoneBefore xs at → NoneBefore xs (at + run)
 none_before_more xs at run room counted before k lt = elim (cases_lt k at) [
   | inl near ↦ before k near
-  | inr far ↦ run_in_chunk_fails (λ b. eqb b 10) xs at 16 run 0 room counted k far lt
+  | inr far ↦ run_in_chunk_fails (λ b. eqb b 10) xs at 64 run 0 room counted k far lt
 ]
 
 pub none_before : (xs : List ℕ) (n : ℕ) → NoneBefore xs n → list_any is_line_feed (take n xs) ≡ false
@@ -36,19 +36,19 @@ none_joined xs at n before behind =
 abbrev is_feed : ℕ → Bool
 is_feed b = eqb b 10
 
--- the mask of 16 bytes gives the number of bytes before the first line feed
-pub all_of_16 : (xs : List ℕ) (at feeds : ℕ) → at + 16 ≤ length xs → feeds ≡ mask_l (map is_feed (chunk at 16 xs)) → feeds ≡ 0
-    → 16 ≡ prefix_len (λ b. not (is_feed b)) (chunk at 16 xs)
-all_of_16 xs at feeds room are none = sym (leading_from_mask_l is_feed (chunk at 16 xs) (sym are ∙ none) ∙ length-chunk at 16 xs room)
+-- the mask of 64 bytes gives the number of bytes before the first line feed
+pub all_of_64 : (xs : List ℕ) (at feeds : ℕ) → at + 64 ≤ length xs → feeds ≡ mask_l (map is_feed (chunk at 64 xs)) → feeds ≡ 0
+    → 64 ≡ prefix_len (λ b. not (is_feed b)) (chunk at 64 xs)
+all_of_64 xs at feeds room are none = sym (leading_from_mask_l is_feed (chunk at 64 xs) (sym are ∙ none) ∙ length-chunk at 64 xs room)
 
-pub some_of_16 : (xs : List ℕ) (at feeds : ℕ) → at + 16 ≤ length xs → feeds ≡ mask_l (map is_feed (chunk at 16 xs)) → (feeds ≡ 0 → ⊥)
-    → count_trailing_zeros 64 feeds ≡ prefix_len (λ b. not (is_feed b)) (chunk at 16 xs)
-some_of_16 xs at feeds room are some =
-    ap (count_trailing_zeros 64) are ∙ trailing_mask_l is_feed 64 (chunk at 16 xs) (omega (arith, length-chunk at 16 xs room)) (omega (arith, are, some))
+pub some_of_64 : (xs : List ℕ) (at feeds : ℕ) → at + 64 ≤ length xs → feeds ≡ mask_l (map is_feed (chunk at 64 xs)) → (feeds ≡ 0 → ⊥)
+    → count_trailing_zeros 64 feeds ≡ prefix_len (λ b. not (is_feed b)) (chunk at 64 xs)
+some_of_64 xs at feeds room are some =
+    ap (count_trailing_zeros 64) are ∙ trailing_mask_l is_feed 64 (chunk at 64 xs) (omega (arith, length-chunk at 64 xs room)) (omega (arith, are, some))
 
-pub run_within : (xs : List ℕ) (at run : ℕ) → at + 16 ≤ length xs → run ≡ prefix_len (λ b. not (is_feed b)) (chunk at 16 xs) → run ≤ 16
-run_within xs at run room counted = run_in_chunk_le is_feed xs at 16 run 0 room counted
+pub run_within : (xs : List ℕ) (at run : ℕ) → at + 64 ≤ length xs → run ≡ prefix_len (λ b. not (is_feed b)) (chunk at 64 xs) → run ≤ 64
+run_within xs at run room counted = run_in_chunk_le is_feed xs at 64 run 0 room counted
 
-pub run_ends : (xs : List ℕ) (at run : ℕ) → at + 16 ≤ length xs → run ≡ prefix_len (λ b. not (is_feed b)) (chunk at 16 xs) → run < 16
+pub run_ends : (xs : List ℕ) (at run : ℕ) → at + 64 ≤ length xs → run ≡ prefix_len (λ b. not (is_feed b)) (chunk at 64 xs) → run < 64
     → get_or xs (at + run) 0 ≡ 10
-run_ends xs at run room counted short = eqb-true _ 10 (run_in_chunk_stops is_feed xs at 16 run 0 room counted short)
+run_ends xs at run room counted short = eqb-true _ 10 (run_in_chunk_stops is_feed xs at 64 run 0 room counted short)

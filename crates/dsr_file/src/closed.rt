@@ -1,5 +1,5 @@
 //! What a line closes, in a place that is lent from the sink's caller down to the stage.
-ghost use Rattle.std.specs.Prelude.{◌≡◌, ◌++◌, ◌∷◌, ◌<◌, ◌^◌, [], true, IfOk, IfErr, OnOk, OnErr, IfSome, Some, None, is_some};
+ghost use Rattle.std.specs.Prelude.{◌≡◌, ◌++◌, ◌∷◌, ◌<◌, ◌^◌, [], true, false, IfOk, IfErr, OnOk, OnErr, IfSome, Some, None, is_some};
 ghost use Rattle.std.specs.Option.{option_to_list};
 ghost use Rattle.dsr_records.specs.declared.kinds.Kind.TheVariants as kinds;
 ghost use Rattle.dsr_records.specs.Blocks.{OpensBlock};
@@ -148,31 +148,33 @@ impl Closed {
         Ok(mem::replace(&mut self.block, Block::empty(self.alloc)))
     }
 
-    /// Puts what was closed into a sink, as the event with this place. A block is put where the sink has room for it.
+    /// Puts a closed block into a sink, as the event with this place, by an exchange with a stale block of the sink.
+    /// Returns whether it did; otherwise nothing changes.
     #[inline(always)]
-    pub(crate) fn put_into<S: Sink>(&mut self, place: u64, sink: &mut S) -> Result<(), Event>
+    pub(crate) fn exchange_into<S: Sink>(&mut self, place: u64, sink: &mut S) -> bool
         requires small { place < 2 ^ 37 }
         requires run { IfSome (event_at place self.old)
             (λ e. IsSomeRun (S.list sink.old ++ e ∷ [])) }
-        ensures added { OnOk result
-            (S.list sink.new ≡ S.list sink.old ++ option_to_list (event_at place self.old)) }
-        ensures refused { IfErr result (λ back.
-            (event_at place self.old ≡ Some back) × (S.list sink.new ≡ S.list sink.old)) }
-        ensures none { self.new ≡ None }
+        ensures added { result ≡ true
+            → S.list sink.new ≡ S.list sink.old ++ option_to_list (event_at place self.old) }
+        ensures none { result ≡ true → self.new ≡ None }
+        ensures kept { result ≡ false
+            → (self.new ≡ self.old) × (S.list sink.new ≡ S.list sink.old) }
         ensures name { S.name sink.new ≡ S.name sink.old }
     {
         if self.has_block && sink.put_block(place, &mut self.block) {
             self.has_block = false;
             self.other = None;
-            return Ok(());
+            return true;
         }
-        self.put_moved(place, sink)
+        false
     }
 
-    /// The same, by moving what was closed.
+    /// Puts what was closed into a sink, as the event with this place, by moving it; not inlined, since most blocks are
+    /// exchanged.
     #[cold]
     #[inline(never)]
-    fn put_moved<S: Sink>(&mut self, place: u64, sink: &mut S) -> Result<(), Event>
+    pub(crate) fn put_into<S: Sink>(&mut self, place: u64, sink: &mut S) -> Result<(), Event>
         requires small { place < 2 ^ 37 }
         requires run { IfSome (event_at place self.old)
             (λ e. IsSomeRun (S.list sink.old ++ e ∷ [])) }

@@ -1,4 +1,4 @@
-//! Finding the first line feed of a piece, 16 bytes at a time.
+//! Finding the first line feed of a piece, 64 bytes at a time.
 ghost use Rattle.std.specs.Prelude.{◌≡◌, ◌+◌, ◌<◌, ◌≤◌, ◌==◌, length, map, not, false, take, slice_index};
 ghost use Rattle.std.specs.List.{list_any, prefix_len};
 ghost use Rattle.std.specs.Simd.Lanes.{chunk, mask_l};
@@ -7,27 +7,27 @@ ghost use Rattle.dsr_cells.specs.Lines.{is_line_feed};
 use memchr::memchr;
 use std::simd::prelude::*;
 
-/// The line feeds of the 16 bytes from offset `at`: bit k is set if byte k is one.
+/// The line feeds of the 64 bytes from offset `at`: bit k is set if byte k is one.
 #[inline(always)]
-fn feeds_of_16(piece: &[u8], at: usize) -> u64
-    requires { at + 16 ≤ length piece.now }
-    ensures { result ≡ mask_l (map (λ b. b == 10) (chunk at 16 piece.now)) }
+fn feeds_of_64(piece: &[u8], at: usize) -> u64
+    requires { at + 64 ≤ length piece.now }
+    ensures { result ≡ mask_l (map (λ b. b == 10) (chunk at 64 piece.now)) }
 {
-    u8x16::from_slice(&piece[at..])
-        .simd_eq(u8x16::splat(b'\n'))
+    u8x64::from_slice(&piece[at..])
+        .simd_eq(u8x64::splat(b'\n'))
         .to_bitmask()
 }
 
-/// The number of bytes before the first line feed among the 16 bytes from offset `at`; 16 if there
+/// The number of bytes before the first line feed among the 64 bytes from offset `at`; 64 if there
 /// is none.
 #[inline(always)]
-fn run_of_16(piece: &[u8], at: usize) -> usize
-    requires { at + 16 ≤ length piece.now }
-    ensures { result ≡ prefix_len (λ b. not (b == 10)) (chunk at 16 piece.now) }
+fn run_of_64(piece: &[u8], at: usize) -> usize
+    requires { at + 64 ≤ length piece.now }
+    ensures { result ≡ prefix_len (λ b. not (b == 10)) (chunk at 64 piece.now) }
 {
-    let feeds = feeds_of_16(piece, at);
+    let feeds = feeds_of_64(piece, at);
     if feeds == 0 {
-        16
+        64
     } else {
         feeds.trailing_zeros() as usize
     }
@@ -53,10 +53,10 @@ pub(crate) fn line_end(piece: &[u8]) -> usize
     ensures found { result < length piece.now → slice_index piece.now result ≡ 10 }
 {
     let mut at = 0;
-    while piece.len() - at >= 16 {
-        let run = run_of_16(piece, at);
+    while piece.len() - at >= 64 {
+        let run = run_of_64(piece, at);
         at += run;
-        if run < 16 {
+        if run < 64 {
             return at;
         }
     }

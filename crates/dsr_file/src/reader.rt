@@ -189,6 +189,26 @@ impl FileReader {
         ensures reading { IfNone part.new (self.new.phase ≡ phases.Reading) }
         ensures place { IfNone part.new (self.new.place ≡ self.old.place) }
     {
+        if let Step::Good = step {
+            self.good(part);
+        } else {
+            self.answer_apart(line, step, part);
+        }
+    }
+
+    /// The same as `answer`, not inlined, for the lines that end the file.
+    #[cold]
+    #[inline(never)]
+    fn answer_apart(&mut self, line: u64, step: Step, part: &mut Closed)
+        requires reading { self.old.phase ≡ phases.Reading }
+        requires room { self.old.place + 1 ≤ self.old.given }
+        ensures stands { (layout : LayoutTable) (b : List ℕ) (es : List Placed)
+            → AtAnswer layout self.old line step part.old b es
+            → Stands layout self.new b (es ++ placed self.old.place (option_to_list part.new)) }
+        ensures same { SameText self.old self.new }
+        ensures reading { IfNone part.new (self.new.phase ≡ phases.Reading) }
+        ensures place { IfNone part.new (self.new.place ≡ self.old.place) }
+    {
         match step {
             Step::Good => self.good(part),
             Step::Faulty(fault) => {
