@@ -3,8 +3,8 @@
 //! 1. `examples`: those that the lib.rt of each crate shows.
 //! 2. `cells`, `records`, `file`, `relay`, `ledger`: the tests of each crate.
 //!
-//! They are a separate crate, since a crate with tests is proved a second time with them. Of `relay` what sends and
-//! takes is built without tests too, so that wrong bodies of it can be tried.
+//! They are a separate crate, since a crate with tests is proved a second time with them. Of `ledger` what makes books
+//! is built without tests too, so that wrong bodies of it can be tried.
 #![tactic(auto)]
 
 #[cfg(test)]
@@ -13,8 +13,8 @@ mod cells;
 mod examples;
 #[cfg(test)]
 mod file;
-#[cfg(test)]
-mod ledger;
+pub mod ledger;
 #[cfg(test)]
 mod records;
-pub mod relay;
+#[cfg(test)]
+mod relay;

@@ -26,6 +26,10 @@ fn joined_once(alloc: Global, first: &str, second: &str, third: &str) -> Result<
 }
 
 /// A text of three parts.
+///
+/// # Errors
+///
+/// `NoMemory`: memory was refused twice.
 pub fn joined(alloc: Global, first: &str, second: &str, third: &str) -> Result<String, NoMemory> {
     match joined_once(alloc, first, second, third) {
         Ok(text) => Ok(text),
@@ -34,6 +38,10 @@ pub fn joined(alloc: Global, first: &str, second: &str, third: &str) -> Result<S
 }
 
 /// The events of a whole text.
+///
+/// # Errors
+///
+/// A failure of the test: the text is too long, or memory was refused twice.
 pub fn events_of(alloc: Global, text: &str) -> Result<EventList, Fail> {
     match events_once(alloc, text)? {
         Ok(events) => Ok(events),
@@ -42,6 +50,10 @@ pub fn events_of(alloc: Global, text: &str) -> Result<EventList, Fail> {
 }
 
 /// The opening of a text, and the events after it.
+///
+/// # Errors
+///
+/// A failure of the test: the text is too long or has no opening, or memory was refused twice.
 pub fn opening_of(alloc: Global, text: &str) -> Result<(Opening, EventList), Fail> {
     let mut events = events_of(alloc, text)?;
     match events.next() {
@@ -56,6 +68,10 @@ pub fn opening_of(alloc: Global, text: &str) -> Result<(Opening, EventList), Fai
 }
 
 /// New books.
+///
+/// # Errors
+///
+/// A failure of the test: there are no files or more than 64, or memory was refused twice.
 pub fn new_books(alloc: Global, files: usize) -> Result<Books, Fail> {
     if files == 0 || files > 64 {
         return Err(Fail::new("no number of files"));
@@ -67,6 +83,10 @@ pub fn new_books(alloc: Global, files: usize) -> Result<Books, Fail> {
 }
 
 /// Opens the next file, if there is one.
+///
+/// # Errors
+///
+/// A failure of the test: all files are opened.
 pub fn open_with(
     books: &mut Books,
     opening: Option<Opening>,
@@ -78,6 +98,10 @@ pub fn open_with(
 }
 
 /// Opens the next file with the opening of a text. Returns its standing, and the events after the opening.
+///
+/// # Errors
+///
+/// A failure of the test: the text has no opening, all files are opened, or memory was refused twice.
 pub fn open(alloc: Global, books: &mut Books, text: &str) -> Result<(Standing, EventList), Fail> {
     let (opening, events) = opening_of(alloc, text)?;
     match open_with(books, Some(opening))? {
@@ -111,6 +135,10 @@ fn end(books: &mut Books, k: u32, outcome: Outcome) -> Result<(), Fail> {
 }
 
 /// Takes an event of file k, and returns the verdict if it is a block.
+///
+/// # Errors
+///
+/// A failure of the test: the file takes no such event, or memory was refused twice.
 pub fn take(books: &mut Books, k: u32, event: Event) -> Result<Option<Verdict>, Fail> {
     match event.part {
         EventPart::Opened(_) => Err(Fail::new("a second opening")),
@@ -123,6 +151,10 @@ pub fn take(books: &mut Books, k: u32, event: Event) -> Result<Option<Verdict>, 
 }
 
 /// Takes all further events of file k.
+///
+/// # Errors
+///
+/// A failure of the test: the file does not take one of them, or memory was refused twice.
 pub fn take_all(books: &mut Books, k: u32, events: &mut EventList) -> Result<(), Fail> {
     for _ in 0..events.len() {
         if let Some(event) = events.next() {
@@ -149,6 +181,10 @@ fn all_ended(books: &Books) -> bool
 }
 
 /// The report of books whose files are all ended.
+///
+/// # Errors
+///
+/// A failure of the test: a file has not ended.
 pub fn report(books: Books) -> Result<Result<Report, NoMemory>, Fail> {
     if !all_ended(&books) {
         return Err(Fail::new("a file that is not ended"));
@@ -167,6 +203,10 @@ fn report_once(alloc: Global, texts: &[&str]) -> Result<Result<Report, NoMemory>
 }
 
 /// The report of files with these texts.
+///
+/// # Errors
+///
+/// A failure of the test: a text is not that of a whole file, or memory was refused twice.
 pub fn report_of(alloc: Global, texts: &[&str]) -> Result<Report, Fail> {
     match report_once(alloc, texts)? {
         Ok(report) => Ok(report),

@@ -209,6 +209,10 @@ fn report_once(alloc: Global, report: &Report) -> Result<Vec<u8>, NoMemory> {
 }
 
 /// The lines of a report.
+///
+/// # Errors
+///
+/// Out of memory.
 pub fn report_lines(alloc: Global, report: &Report) -> Result<Vec<u8>, NoMemory> {
     match report_once(alloc, report) {
         Ok(lines) => Ok(lines),
@@ -223,6 +227,10 @@ fn ledger_once(alloc: Global, report: &Report) -> Result<Vec<u8>, NoMemory> {
 }
 
 /// The ledger's lines of a report.
+///
+/// # Errors
+///
+/// Out of memory.
 pub fn ledger_lines(alloc: Global, report: &Report) -> Result<Vec<u8>, NoMemory> {
     match ledger_once(alloc, report) {
         Ok(lines) => Ok(lines),
