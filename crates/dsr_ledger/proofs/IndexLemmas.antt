@@ -1,7 +1,7 @@
 -- The index of a list of numbers: if they ascend, and with one more number.
 use Rattle.std.proofs.Common.{◌≡◌, ℕ, zero, suc, ◌+◌, ◌-◌, ◌<◌, ◌≤◌, Bool, true, false, true≢false, cond, List, [], ◌∷◌, ◌++◌, length, length-append, take}
 use Rattle.std.proofs.Common.{get_or, nat_eq, Result, Ok, Err, refl, sym, ap, subst, ◌∙◌, arith}
-use Rattle.std.specs.Prelude.{Option, None, Some, map, slice_get, slice_index}
+use Rattle.std.specs.Prelude.{Option, None, Some, is_some, map, slice_get, slice_index}
 use Rattle.std.specs.List.{position_from}
 use Rattle.std.specs.List.Sorted.{IsSearchInRange, IsBinarySearchResult, IsNonDecreasingBy}
 use Rattle.std.specs.Option.{option_map}
@@ -13,8 +13,8 @@ use Rattle.std.proofs.lemmas.Iterator.Adapters.{position_from-zero}
 use Rattle.std.proofs.lemmas.Option.{slice_get-map}
 use Rattle.std.proofs.lemmas.List.{take_more, get_or-map, get_or_append_left, get_or-append_right, length-map, length-take-le}
 use Rattle.dsr_ledger.specs.Indexes.{Rise}
-use Rattle.dsr_ledger.specs.Numbered.{place_in, AreApart}
-use Rattle.dsr_ledger.proofs.NumberedLemmas.{same_Some, not_Some, place_more, place_before, got_or}
+use Rattle.dsr_ledger.specs.Numbered.{place_in}
+use Rattle.dsr_ledger.proofs.NumberedLemmas.{same_Some, not_Some, place_more, got_or}
 use Rattle.dsr_ledger.proofs.PlaceByLemmas.{same_number}
 
 -- the first element that passes, and none
@@ -60,12 +60,6 @@ within : (ns : List ℕ) (i n : ℕ) → slice_get ns i ≡ Some n → i < lengt
 within [] i n at = absurd (not_Some n at)
 within (x ∷ ns) zero n at = omega arith
 within (x ∷ ns) (suc i) n at = let less = within ns i n at in omega arith
-
-pub rising_apart : (ns : List ℕ) → Rise ns → AreApart ns
-rising_apart ns rise i n at =
-    let below = within ns i n at in
-    let here = same_Some (get_or ns i 0) n (sym (got_or ns i 0 below) ∙ at) in
-    subst (λ m. place_in ns m ≡ Some i) here (placed_rising ns i rise below)
 
 -- one more number, above the last one
 pub rise_more : (ns : List ℕ) (n : ℕ) → Rise ns → ((last : ℕ) → slice_get ns (length ns - 1) ≡ Some last → last < n) → Rise (ns ++ n ∷ [])
@@ -135,17 +129,61 @@ pub placed_more : (at new : ℕ → Option ℕ) (ns : List ℕ) (n : ℕ) → pl
 placed_more at new ns n none all is q =
     is q ∙ ap (cond (nat_eq n q) (Some (length ns))) (all q) ∙ sym (place_more nat_eq same_number ns n q none)
 
--- places of the first of some ascending numbers, with the next one
-pub place_next : (ns : List ℕ) (i n : ℕ) → Rise ns → slice_get ns i ≡ Some n → (at new : ℕ → Option ℕ) → ((q : ℕ) → at q ≡ place_in (take i ns) q)
-    → ((q : ℕ) → new q ≡ cond (nat_eq n q) (Some i) (at q)) → (q : ℕ) → new q ≡ place_in (take (i + 1) ns) q
-place_next ns i n rise here at new all is q =
+-- the first of some numbers, with the next one
+next_taken : (ns : List ℕ) (i n : ℕ) → slice_get ns i ≡ Some n → take (i + 1) ns ≡ take i ns ++ n ∷ []
+next_taken ns i n here =
+    let below = within ns i n here in
+    take_more ns i 0 below ∙ ap (λ m. take i ns ++ m ∷ []) (same_Some (get_or ns i 0) n (sym (got_or ns i 0 below) ∙ here))
+
+other_from : (ns : List ℕ) (n q k : ℕ) → nat_eq q n ≡ false → position_from (nat_eq q) k (ns ++ n ∷ []) ≡ position_from (nat_eq q) k ns
+other_from [] n q k other = ap (λ b. cond b (Some k) None) other
+other_from (x ∷ ns) n q k other = ap (cond (nat_eq q x) (Some k)) (other_from ns n q (k + 1) other)
+
+first_again : (ns : List ℕ) (x n q k : ℕ) → nat_eq n x ≡ true → position_from (nat_eq q) k (x ∷ (ns ++ n ∷ [])) ≡ position_from (nat_eq q) k (x ∷ ns)
+first_again ns x n q k is =
+    elim (nat_eq q x) as (λ b. nat_eq q x ≡ b → cond b (Some k) (position_from (nat_eq q) (k + 1) (ns ++ n ∷ []))
+    ≡ cond b (Some k) (position_from (nat_eq q) (k + 1) ns)) [
+      | true ↦ λ e. refl
+      | false ↦ λ e. other_from ns n q (k + 1) (differ q n (λ s. true≢false (sym ((same_number q x).1 (s ∙ (same_number n x).0 is)) ∙ e)))
+    ] refl
+
+again_from : (ns : List ℕ) (n q k : ℕ) → is_some (position_from (nat_eq n) k ns) ≡ true
+    → position_from (nat_eq q) k (ns ++ n ∷ []) ≡ position_from (nat_eq q) k ns
+again_from [] n q k there = absurd (true≢false (sym there))
+again_from (x ∷ ns) n q k there =
+    elim (nat_eq n x) as (λ b. nat_eq n x ≡ b → is_some (cond b (Some k) (position_from (nat_eq n) (k + 1) ns)) ≡ true
+    → position_from (nat_eq q) k (x ∷ (ns ++ n ∷ [])) ≡ position_from (nat_eq q) k (x ∷ ns)) [
+      | true ↦ λ e h. first_again ns x n q k e
+      | false ↦ λ e h. ap (cond (nat_eq q x) (Some k)) (again_from ns n q (k + 1) h)
+    ] refl there
+
+-- places of numbers, with one more that is among them
+placed_again : (ns : List ℕ) (n : ℕ) → is_some (place_in ns n) ≡ true → (q : ℕ) → place_in (ns ++ n ∷ []) q ≡ place_in ns q
+placed_again ns n there q =
+    position_from-zero (nat_eq q) (ns ++ n ∷ [])
+    ∙ again_from ns n q 0 (sym (ap is_some (position_from-zero (nat_eq n) ns)) ∙ there)
+    ∙ sym (position_from-zero (nat_eq q) ns)
+
+nowhere : (o : Option ℕ) → is_some o ≡ false → o ≡ None
+nowhere None e = refl
+nowhere (Some i) e = absurd (true≢false e)
+
+-- places of the first of some numbers, with the next one, which is not among them
+pub place_next : (ns : List ℕ) (i n : ℕ) → slice_get ns i ≡ Some n → (at new : ℕ → Option ℕ) → ((q : ℕ) → at q ≡ place_in (take i ns) q)
+    → is_some (at n) ≡ false → ((q : ℕ) → new q ≡ cond (nat_eq n q) (Some i) (at q)) → (q : ℕ) → new q ≡ place_in (take (i + 1) ns) q
+place_next ns i n here at new all absent is q =
     let below = within ns i n here in
     let long : length (take i ns) ≡ i = length-take-le i ns (omega arith) in
-    let more : take (i + 1) ns ≡ take i ns ++ n ∷ [] =
-    take_more ns i 0 below ∙ ap (λ m. take i ns ++ m ∷ []) (same_Some (get_or ns i 0) n (sym (got_or ns i 0 below) ∙ here)) in
-    placed_more at new (take i ns) n (place_before nat_eq same_number ns i n (rising_apart ns rise) here) all
-    (λ r. is r ∙ ap (λ k. cond (nat_eq n r) (Some k) (at r)) (sym long)) q
-    ∙ ap (λ l. place_in l q) (sym more)
+    placed_more at new (take i ns) n (sym (all n) ∙ nowhere (at n) absent) all (λ r. is r ∙ ap (λ k. cond (nat_eq n r) (Some k) (at r)) (sym long)) q
+    ∙ ap (λ l. place_in l q) (sym (next_taken ns i n here))
+
+-- the same, if it is among them
+pub place_passed : (ns : List ℕ) (i n : ℕ) → slice_get ns i ≡ Some n → (at : ℕ → Option ℕ) → ((q : ℕ) → at q ≡ place_in (take i ns) q)
+    → is_some (at n) ≡ true → (q : ℕ) → at q ≡ place_in (take (i + 1) ns) q
+place_passed ns i n here at all there q =
+    all q
+    ∙ sym (placed_again (take i ns) n (sym (ap is_some (all n)) ∙ there) q)
+    ∙ ap (λ l. place_in l q) (sym (next_taken ns i n here))
 
 -- the number of the item at a place
 pub at_place : {X : Type 0} (number : X → ℕ) (xs : List X) (i : ℕ) (x : X) (n : ℕ) → i < length xs → x ≡ get_or xs i x → n ≡ number x

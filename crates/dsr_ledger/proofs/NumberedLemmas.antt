@@ -1,5 +1,5 @@
 -- Numbered keys: one more key, and one more value.
-use Rattle.std.proofs.Common.{◌≡◌, ℕ, zero, suc, ◌+◌, ◌<◌, ◌≤◌, Bool, true, false, cond, true≢false, List, [], ◌∷◌, ◌++◌, length, take, set, get_or, ◌⊎◌, inl}
+use Rattle.std.proofs.Common.{◌≡◌, ℕ, zero, suc, ◌+◌, ◌<◌, Bool, true, false, cond, true≢false, List, [], ◌∷◌, ◌++◌, length, set, get_or, ◌⊎◌, inl}
 use Rattle.std.proofs.Common.{inr, ⊎_elim, refl, sym, ap, ◌∙◌, arith}
 use Rattle.std.specs.Prelude.{Option, None, Some, is_some, map, slice_get, unwrap_or}
 use Rattle.std.specs.List.{position, position_from}
@@ -222,21 +222,6 @@ position-push p xs y h =
     ∙ ap (λ m. cond (p y) (Some m) (position_from p 0 xs)) (omega arith)
     ∙ ap (cond (p y) (Some (length xs))) (sym (position_from-zero p xs))
 
--- if none of the first i elements passes
-position_from-taken : {X : Type 0} (p : X → Bool) (xs : List X) (i n : ℕ) (d : X) → i ≤ length xs → ((k : ℕ) → k < i → p (get_or xs k d) ≡ false)
-    → position_from p n (take i xs) ≡ None
-position_from-taken p xs zero n d le h = refl
-position_from-taken p [] (suc i) n d le h = absurd (omega arith)
-position_from-taken p (x ∷ xs) (suc i) n d le h =
-    ap (λ b. cond b (Some n) (position_from p (n + 1) (take i xs))) (h zero (omega arith))
-    ∙ position_from-taken p xs i (n + 1) d (omega arith) (λ k l. h (suc k) (omega arith))
-
--- the elements before the first that passes
-pub position-before : {X : Type 0} (p : X → Bool) (xs : List X) (i : ℕ) (d : X) → position p xs ≡ Some i → position p (take i xs) ≡ None
-position-before p xs i d e =
-    let first = position-Some p xs i d e in
-    position_from-zero p (take i xs) ∙ position_from-taken p xs i 0 d (let within = first.0 in omega arith) first.2
-
 pushed_at : {X : Type 0} (xs : List X) (y : X) (i : ℕ) (x : X) → slice_get (xs ++ y ∷ []) i ≡ Some x → (slice_get xs i ≡ Some x) ⊎ ((i ≡ length xs) × (y ≡ x))
 pushed_at [] y zero x e = inr (refl, same_Some y x e)
 pushed_at [] y (suc i) x e = absurd (not_Some x e)
@@ -280,10 +265,6 @@ module _ {K : Type 0} (same : K → K → Bool) (decides : (a b : K) → Decides
       ∙ ap (λ b. cond b (Some (length ks)) (place ks q)) ((decides k q).1 last.1)
       ∙ ap Some (sym last.0))
       (pushed_at ks k i q at)
-
-  -- the key at a place is not among those before
-  pub place_before : (ks : List K) (i : ℕ) (k : K) → Apart ks → slice_get ks i ≡ Some k → place (take i ks) k ≡ None
-  place_before ks i k h at = position-before (same k) ks i k (h i k at)
 
 -- the item at a place
 pub got_or : {X : Type 0} (xs : List X) (i : ℕ) (d : X) → i < length xs → slice_get xs i ≡ Some (get_or xs i d)

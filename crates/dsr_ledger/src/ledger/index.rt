@@ -5,13 +5,13 @@ ghost use Rattle.std.specs.BTreeMap.{get};
 ghost use Rattle.std.specs.List.{position};
 ghost use Rattle.std.specs.Ordering.{nat_cmp};
 ghost use Rattle.dsr_ledger.specs.Numbered.{place_in};
-ghost use Rattle.dsr_ledger.specs.Indexes.{Rise, Describes, AreIndexed};
+ghost use Rattle.dsr_ledger.specs.Indexes.{Rise, AreIndexed};
 
 use dsr_cells::NoMemory;
 use std::alloc::Global;
 use std::collections::BTreeMap;
 
-/// This many first items of a list are found by a linear search. The index is of those after them.
+/// This many first items of a list are found by a linear search, while the list has no tree.
 pub const FEW: usize = 16;
 
 /// An item that is found by its number.
@@ -31,9 +31,9 @@ impl Numbered for u32 {
     }
 }
 
-/// The places of items with distinct numbers. While the numbers ascend the index is empty, and an
-/// item is found by a binary search. The first number that does not ascend makes a tree of the
-/// places of all items.
+/// The places of items with distinct numbers. While the numbers after the first few ascend the index
+/// is empty, and an item is found among the first few or by a binary search. The first number that
+/// does not ascend makes a tree of the places of all items, and they are found through it alone.
 #[derive(Drop)]
 pub struct Index {
     pub places: Option<Box<BTreeMap<u32, usize>>>,
@@ -77,56 +77,39 @@ fn is_above<T: Numbered>(items: &[T], number: u32) -> bool
     }
 }
 
-/// The places of items whose numbers ascend.
+/// The places of items: of each number the first.
 fn gather<T: Numbered>(alloc: Global, items: &[T]) -> Result<BTreeMap<u32, usize>, NoMemory>
-    requires { Rise (map T.number_of items.now) }
     ensures { IfOk result (λ places. (n : ℕ) →
         get nat_cmp places n ≡ place_in (map T.number_of items.now) n) }
 {
     let mut places = BTreeMap::new(alloc);
     for (place, item) in items.iter().enumerate() {
-        places.insert(item.number(), place)?;
+        let number = item.number();
+        if !places.contains_key(&number) {
+            places.insert(number, place)?;
+        }
     }
     Ok(places)
+}
+
+/// The place of a number in a list whose numbers after the first few ascend.
+fn place_in_rising<T: Numbered>(items: &[T], number: u32) -> Option<usize>
+    requires { Rise (drop 16 (map T.number_of items.now)) }
+    ensures { result ≡ place_in (map T.number_of items.now) number }
+{
+    if let Some(place) = first_place(items, number) {
+        return Some(place);
+    }
+    let place = search(behind(items), number)?;
+    Some(place + FEW)
 }
 
 impl Index {
     /// No items.
     pub fn new() -> Index
-        ensures { Describes result [] }
+        ensures { AreIndexed [] result }
     {
         Index { places: None }
-    }
-
-    /// The place of a number among the items that the index describes.
-    fn place<T: Numbered>(&self, items: &[T], number: u32) -> Option<usize>
-        requires { Describes self.now (map T.number_of items.now) }
-        ensures { result ≡ place_in (map T.number_of items.now) number }
-    {
-        match &self.places {
-            Some(places) => places.get(&number).copied(),
-            None => search(items, number),
-        }
-    }
-
-    /// Adds the number of the item that comes after those that the index describes.
-    fn put<T: Numbered>(&mut self, alloc: Global, items: &[T], number: u32) -> Result<(), NoMemory>
-        requires described { Describes self.old (map T.number_of items.now) }
-        requires absent { place_in (map T.number_of items.now) number ≡ None }
-        ensures ok { OnOk result (Describes self.new (map T.number_of items.now ++ number ∷ [])) }
-        ensures err { OnErr result (Describes self.new (map T.number_of items.now)) }
-    {
-        if let Some(places) = &mut self.places {
-            places.insert(number, items.len())?;
-            return Ok(());
-        }
-        if is_above(items, number) {
-            return Ok(());
-        }
-        let mut places = gather(alloc, items)?;
-        places.insert(number, items.len())?;
-        self.places = Some(Box::new(alloc, places)?);
-        Ok(())
     }
 
     /// The place of a number in a list. Callers mostly know the place, so the search stands out of line.
@@ -135,11 +118,10 @@ impl Index {
         requires { AreIndexed (map T.number_of items.now) self.now }
         ensures { result ≡ place_in (map T.number_of items.now) number }
     {
-        if let Some(place) = first_place(items, number) {
-            return Some(place);
+        match &self.places {
+            Some(places) => places.get(&number).copied(),
+            None => place_in_rising(items, number),
         }
-        let place = self.place(behind(items), number)?;
-        Some(place + FEW)
     }
 
     /// Adds the number of the item that comes after those of a list, none of which has it.
@@ -154,9 +136,19 @@ impl Index {
         ensures ok { OnOk result (AreIndexed (map T.number_of items.now ++ number ∷ []) self.new) }
         ensures err { OnErr result (AreIndexed (map T.number_of items.now) self.new) }
     {
+        if let Some(places) = &mut self.places {
+            places.insert(number, items.len())?;
+            return Ok(());
+        }
         if items.len() < FEW {
             return Ok(());
         }
-        self.put(alloc, behind(items), number)
+        if is_above(behind(items), number) {
+            return Ok(());
+        }
+        let mut places = gather(alloc, items)?;
+        places.insert(number, items.len())?;
+        self.places = Some(Box::new(alloc, places)?);
+        Ok(())
     }
 }

@@ -6,7 +6,7 @@ use Rattle.std.proofs.lemmas.List.{length-map}
 use Rattle.dsr_ledger.specs.Numbered.{place_in}
 use Rattle.dsr_ledger.proofs.IndexLemmas.{placed_more}
 use Rattle.dsr_ledger.proofs.TieLemmas.{number_ties}
-use Rattle.dsr_ledger.proofs.ledger.index.Index.put.Goals as goal
+use Rattle.dsr_ledger.proofs.ledger.index.Index.add.Goals as goal
 
 pub returns-in-Some-clause-ok : goal.returns-in-Some-clause-ok
 returns-in-Some-clause-ok g c =
