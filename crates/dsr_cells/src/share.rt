@@ -2,7 +2,7 @@
 ghost use Rattle.std.specs.Prelude.{◌≡◌, ◌≤◌};
 ghost use Rattle.dsr_cells.specs.Numbers.{share_of};
 
-use crate::items::Items;
+use crate::inline_items::InlineItems;
 use crate::number::read_decimal;
 use std::marker::Model;
 
@@ -27,7 +27,7 @@ impl Model for Share {
 }
 
 /// A list of shares.
-pub type Shares = Items<Share>;
+pub type Shares = InlineItems<Share, 4>;
 
 impl Default for Share {
     ghost is_default = { λ share. share ≡ 0 };

@@ -1,6 +1,6 @@
 use Rattle.std.proofs.Common.{inl}
 use Rattle.dsr_cells.proofs.Views.{set_one_more}
-use Rattle.dsr_cells.proofs.items.Items.next.Goals as goal
+use Rattle.dsr_cells.proofs.inline_items.InlineItems.next.Goals as goal
 
 pub returns : goal.returns
 returns g c =
