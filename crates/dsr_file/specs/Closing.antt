@@ -1,14 +1,19 @@
 -- What a line closes, and its event.
-use Rattle.std.specs.Prelude.{ℕ, if◌then◌else◌, Option, None, Some}
+use Rattle.std.specs.Prelude.{ℕ, Option, None, Some}
 use Rattle.dsr_records.specs.Blocks.{BlockParts}
 use Rattle.dsr_file.specs.declared.event.EventPart.{EventPart}
 use Rattle.dsr_file.specs.declared.event.EventPart.TheVariants as tell
 use Rattle.dsr_file.specs.declared.closed.Closed.TheInside.{Inside}
 use Rattle.dsr_file.specs.Placed.{Placed}
 
+-- the block, or else the other part
+abbrev pub block_or : Option BlockParts → Option EventPart → Option EventPart
+block_or (Some block) other = Some (tell.Block block)
+block_or None other = other
+
 -- what is closed
 abbrev pub part_closed : Inside → Option EventPart
-part_closed c = if c.has_block then Some (tell.Block c.block) else c.other
+part_closed c = block_or c.block c.other
 
 -- the event of a block with this place
 abbrev pub block_event : ℕ → BlockParts → Placed

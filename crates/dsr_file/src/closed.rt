@@ -11,21 +11,29 @@ ghost use Rattle.dsr_file.specs.Closing.{event_at};
 use crate::event::{Event, EventPart};
 use crate::sink::Sink;
 use dsr_cells::NoMemory;
-use dsr_records::{Block, CheckedLine};
+use dsr_records::{Block, BoxedBlock, CheckedLine};
 use std::alloc::Global;
 use std::marker::Model;
 use std::mem;
 
 /// What a line closes, if it closes something, with a block to be overwritten by the next one. Contracts see what is
-/// closed.
+/// closed. Blocks are boxed, so that they are exchanged by their addresses.
 #[derive(Drop)]
 pub(crate) struct Closed {
     alloc: Global,
-    /// The block that was closed, if `has_block`; otherwise one to be overwritten.
-    block: Block,
-    has_block: bool,
-    /// What was closed and is not in `block`. None if `has_block`.
+    /// The block that was closed, if one was.
+    block: Option<BoxedBlock>,
+    /// What was closed, if it is not a block in `block`.
     other: Option<EventPart>,
+    /// A block to be overwritten, if there is one.
+    spare: Option<BoxedBlock>,
+}
+
+/// A block in new memory, to be overwritten.
+#[cold]
+#[inline(never)]
+fn new_block(alloc: Global) -> Result<BoxedBlock, NoMemory> {
+    BoxedBlock::empty(alloc)
 }
 
 impl Model for Closed {
@@ -40,18 +48,14 @@ impl Model for Closed {
 
 impl Closed {
     /// Nothing, with a block whose memory may be used again.
-    pub(crate) fn over(alloc: Global, spare: Option<Block>) -> Closed
+    pub(crate) fn over(alloc: Global, spare: Option<BoxedBlock>) -> Closed
         ensures { result ≡ None }
     {
-        let block = match spare {
-            Some(block) => block,
-            None => Block::empty(alloc),
-        };
         Closed {
             alloc,
-            block,
-            has_block: false,
+            block: None,
             other: None,
+            spare,
         }
     }
 
@@ -60,7 +64,7 @@ impl Closed {
     pub(crate) fn is_some(&self) -> bool
         ensures { result ≡ is_some self.now }
     {
-        self.has_block || self.other.is_some()
+        self.block.is_some() || self.other.is_some()
     }
 
     /// The number of blocks that were closed: 0 or 1.
@@ -68,7 +72,7 @@ impl Closed {
     pub(crate) fn block_count(&self) -> u64
         ensures { result ≡ block_count self.now }
     {
-        if self.has_block {
+        if self.block.is_some() {
             return 1;
         }
         match &self.other {
@@ -81,8 +85,26 @@ impl Closed {
     pub(crate) fn set(&mut self, part: EventPart)
         ensures { self.new ≡ Some part }
     {
-        self.has_block = false;
+        self.block = None;
         self.other = Some(part);
+    }
+
+    /// Closes this block.
+    pub(crate) fn set_block(&mut self, block: BoxedBlock)
+        ensures { self.new ≡ Some (EventPart.Block block) }
+    {
+        self.block = Some(block);
+    }
+
+    /// A block to be overwritten, of any value: the spare one, or a new one.
+    #[inline(always)]
+    fn take_spare(&mut self) -> Result<BoxedBlock, NoMemory>
+        ensures { self.new ≡ self.old }
+    {
+        match self.spare.take() {
+            Some(block) => Ok(block),
+            None => new_block(self.alloc),
+        }
     }
 
     /// Takes out what was closed.
@@ -90,12 +112,12 @@ impl Closed {
         ensures value { result ≡ self.old }
         ensures none { self.new ≡ None }
     {
-        if !self.has_block {
+        let Some(mut boxed) = self.block.take() else {
             return self.other.take();
-        }
-        self.has_block = false;
+        };
+        let block = boxed.replace(Block::empty(self.alloc));
+        self.spare = Some(boxed);
         self.other = None;
-        let block = mem::replace(&mut self.block, Block::empty(self.alloc));
         Some(EventPart::Block(block))
     }
 
@@ -111,17 +133,17 @@ impl Closed {
         }
     }
 
-    /// The block to be overwritten. What was closed is lost.
-    pub(crate) fn into_block(self) -> Block {
-        self.block
+    /// The block to be overwritten, if there is one. What was closed is lost.
+    pub(crate) fn into_spare(self) -> Option<BoxedBlock> {
+        self.spare
     }
 
-    /// Writes the block of a resource line over the old one, and exchanges it for the open block, which is closed.
+    /// Writes the block of a resource line over the spare one. It takes the place of the open block, which is closed.
     #[inline(always)]
     pub(crate) fn open_next(
         &mut self,
         line: &CheckedLine<'_>,
-        current: &mut Block,
+        current: &mut BoxedBlock,
     ) -> Result<(), NoMemory>
         requires resource { kind_of_record line.now ≡ kinds.Resource }
         requires none { self.old ≡ None }
@@ -130,22 +152,23 @@ impl Closed {
         ensures memory { OnErr result (has_texts line.now ≡ true) }
         ensures refused { OnErr result ((self.new ≡ None) × (current.new ≡ current.old)) }
     {
-        line.open_block(self.alloc, &mut self.block)?;
-        mem::swap(current, &mut self.block);
-        self.has_block = true;
+        let mut next = self.take_spare()?;
+        line.open_block(self.alloc, next.get_mut())?;
+        self.block = Some(mem::replace(current, next));
         Ok(())
     }
 
-    /// Writes the block of a resource line over the old one, and returns it.
-    pub(crate) fn open_first(&mut self, line: &CheckedLine<'_>) -> Result<Block, NoMemory>
+    /// Writes the block of a resource line over the spare one, and returns it.
+    pub(crate) fn open_first(&mut self, line: &CheckedLine<'_>) -> Result<BoxedBlock, NoMemory>
         requires resource { kind_of_record line.now ≡ kinds.Resource }
         requires none { self.old ≡ None }
         ensures opens { IfOk result (λ block. OpensBlock line.now block) }
         ensures memory { OnErr result (has_texts line.now ≡ true) }
         ensures none { self.new ≡ None }
     {
-        line.open_block(self.alloc, &mut self.block)?;
-        Ok(mem::replace(&mut self.block, Block::empty(self.alloc)))
+        let mut next = self.take_spare()?;
+        line.open_block(self.alloc, next.get_mut())?;
+        Ok(next)
     }
 
     /// Puts a closed block into a sink, as the event with this place, by an exchange with a stale block of the sink.
@@ -162,12 +185,15 @@ impl Closed {
             → (self.new ≡ self.old) × (S.list sink.new ≡ S.list sink.old) }
         ensures name { S.name sink.new ≡ S.name sink.old }
     {
-        if self.has_block && sink.put_block(place, &mut self.block) {
-            self.has_block = false;
-            self.other = None;
-            return true;
+        let Some(block) = &mut self.block else {
+            return false;
+        };
+        if !sink.put_block(place, block.get_mut()) {
+            return false;
         }
-        false
+        self.spare = self.block.take();
+        self.other = None;
+        true
     }
 
     /// Puts what was closed into a sink, as the event with this place, by moving it; not inlined, since most blocks are

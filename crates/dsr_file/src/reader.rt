@@ -13,7 +13,7 @@ use crate::event::{Event, EventPart};
 use crate::fault::{Ending, FileFault, Outcome};
 use crate::grammar::{Grammar, Step};
 use dsr_cells::NoMemory;
-use dsr_records::{Block, Layout};
+use dsr_records::{Block, BoxedBlock, Layout};
 use std::alloc::Global;
 
 /// How far a reader has come.
@@ -39,6 +39,13 @@ impl Phase {
     }
 }
 
+/// The boxed block, if there is one, with this block written over it.
+fn written_over(spare: Option<BoxedBlock>, block: Block) -> Option<BoxedBlock> {
+    let mut boxed = spare?;
+    let _old = boxed.replace(block);
+    Some(boxed)
+}
+
 /// Reads a file by a layout: takes its bytes in pieces, and gives its events one by one.
 #[derive(Drop)]
 pub struct FileReader {
@@ -51,7 +58,7 @@ pub struct FileReader {
     phase: Phase,
     ending: Option<Ending>,
     /// A block to be overwritten by the next one, if there is one.
-    spare: Option<Block>,
+    spare: Option<BoxedBlock>,
     ghost lines_given: { grammar.lines ≤ given + allowance phase },
     ghost given_small: { given ≤ 2 ^ 36 },
     ghost place_small: { place ≤ given + allowance phase },
@@ -98,7 +105,22 @@ impl FileReader {
         ensures left { events_left self.new ≡ events_left self.old }
         ensures ending { ending_told self.new ≡ ending_told self.old }
     {
-        self.spare = Some(block);
+        let spare = written_over(self.over_spare().into_spare(), block);
+        self.keep(spare);
+    }
+
+    /// Keeps a block, if there is one, whose memory is used for the next one.
+    fn keep(&mut self, spare: Option<BoxedBlock>)
+        // The reader represents what it represented before.
+        ensures stands { (layout : LayoutTable) (b : List ℕ) (es : List Placed)
+            → Stands layout self.old b es → Stands layout self.new b es }
+        ensures stood { (layout : LayoutTable) (b : List ℕ) (es : List Placed)
+            → Stands layout self.new b es → Stands layout self.old b es }
+        ensures used { bytes_used self.new ≡ bytes_used self.old }
+        ensures left { events_left self.new ≡ events_left self.old }
+        ensures ending { ending_told self.new ≡ ending_told self.old }
+    {
+        self.spare = spare;
     }
 
     /// The number of bytes used.
@@ -481,7 +503,7 @@ impl FileReader {
         let mut part = self.over_spare();
         let used = self.take_part(piece, &mut part);
         let event = part.take_event(place);
-        self.reuse(part.into_block());
+        self.keep(part.into_spare());
         (used, event)
     }
 

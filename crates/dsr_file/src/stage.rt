@@ -13,7 +13,7 @@ use crate::event::{EventPart, Opening, Summaries};
 use crate::fault::FileFault;
 use crate::same_text::is_same;
 use dsr_cells::NoMemory;
-use dsr_records::{Block, CheckedLine, Kind, Record, Summary};
+use dsr_records::{Block, BoxedBlock, CheckedLine, Kind, Record, Summary};
 use std::alloc::Global;
 use std::mem;
 
@@ -40,7 +40,7 @@ pub(crate) enum Stage {
     /// There was HEAD, with any summaries.
     Front(Opening),
     /// A block is open.
-    Open(Block),
+    Open(BoxedBlock),
     /// There was FOOT.
     Closed,
 }
@@ -110,7 +110,7 @@ impl Stage {
         match self {
             Stage::Start => Before::Nothing,
             Stage::Front(_) => Before::Front,
-            Stage::Open(block) => if block.usages.len() == 0 {
+            Stage::Open(block) => if block.get().usages.len() == 0 {
                 Before::Open
             } else {
                 Before::Used
@@ -129,7 +129,10 @@ impl Stage {
                 &opening.summaries,
                 id,
             ),
-            (Stage::Open(block), Kind::Work | Kind::Usage, Some(id)) => number_or_long(block, id),
+            (Stage::Open(block), Kind::Work | Kind::Usage, Some(id)) => number_or_long(
+                block.get(),
+                id,
+            ),
             _ => None,
         }
     }
@@ -154,7 +157,7 @@ impl Stage {
         match mem::replace(self, next) {
             Stage::Start | Stage::Closed => {}
             Stage::Front(opening) => closed.set(EventPart::Opened(opening)),
-            Stage::Open(block) => closed.set(EventPart::Block(block)),
+            Stage::Open(block) => closed.set_block(block),
         }
     }
 
@@ -237,7 +240,7 @@ impl Stage {
         ensures memory { OnErr result (has_texts line.now ≡ true) }
     {
         match self {
-            Stage::Open(block) => line.append_to(alloc, block),
+            Stage::Open(block) => line.append_to(alloc, block.get_mut()),
             _ => Ok(()),
         }
     }

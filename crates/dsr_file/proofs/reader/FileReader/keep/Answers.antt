@@ -1,6 +1,6 @@
 use Rattle.std.proofs.Common.{refl}
 use Rattle.dsr_file.proofs.StandLemmas.{stands_same}
-use Rattle.dsr_file.proofs.reader.FileReader.reuse.Goals as goal
+use Rattle.dsr_file.proofs.reader.FileReader.keep.Goals as goal
 
 pub returns-clause-stands : goal.returns-clause-stands
 returns-clause-stands c =
