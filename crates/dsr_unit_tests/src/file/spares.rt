@@ -88,8 +88,8 @@ fn is_second_block(event: Option<&Event>) -> bool {
     }
 }
 
-/// The sink takes the first two of three blocks for the old ones. The third is written over the first of these, which
-/// has a work.
+/// The sink takes the first two of three blocks for the old ones, and has none left for the third, which is put. That
+/// one is written over the first of these, which has a work.
 #[test]
 fn a_block_over_an_old_one(rt: HostRuntime) -> Result<(), AllocError> {
     let bytes = text(rt.alloc(), "HYSWUSWUOV*", "FOOT\t11\t1\t3", b"\n")?;
@@ -106,7 +106,7 @@ fn a_block_over_an_old_one(rt: HostRuntime) -> Result<(), AllocError> {
     );
     assert!(rt; read.is_ok());
     let Exchanging { events, old } = sink;
-    assert_eq!(rt; old.len(), 1);
+    assert_eq!(rt; old.len(), 0);
     let Some(events) = listed(rt.alloc(), events) else {
         return Err(AllocError);
     };
