@@ -64,11 +64,4 @@ impl BoxedBlock {
     {
         mem::replace(&mut *self.block, block)
     }
-
-    /// The block, by value.
-    pub fn into_block(self) -> Block
-        ensures { result ≡ self }
-    {
-        Box::into_inner(self.block)
-    }
 }
