@@ -185,6 +185,20 @@ impl FileReader {
         self.event(EventPart::Ended(outcome))
     }
 
+    /// The same as `end`, with Ended as what is closed. Not inlined, since a file has one.
+    #[cold]
+    #[inline(never)]
+    fn close_with(&mut self, outcome: Outcome, part: &mut Closed)
+        requires { self.old.place + 1 ≤ self.old.given + 3 }
+        ensures part { part.new ≡ Some (EventPart.Ended outcome) }
+        ensures place { self.new.place ≡ self.old.place + 1 }
+        ensures same { SameText self.old self.new }
+        ensures done { self.new.phase ≡ phases.Done outcome }
+    {
+        let event = self.end(outcome);
+        part.set(event.part);
+    }
+
     /// Gives an event, and keeps the outcome, which comes next.
     fn last(&mut self, part: EventPart, outcome: Outcome) -> Event
         requires lines { self.old.grammar.lines ≤ self.old.given + 2 }
@@ -334,6 +348,29 @@ impl FileReader {
         })
     }
 
+    /// Ends the file at a line that is too long, which the cutter has found. Not inlined, since few files have one.
+    #[cold]
+    #[inline(never)]
+    fn too_long(&mut self, cut: Cut, used: &[u8], part: &mut Closed)
+        requires long { cut ≡ Cut.Long }
+        requires reading { self.old.phase ≡ phases.Reading }
+        requires none { part.old ≡ None }
+        requires some { 0 < length used.now }
+        requires room { self.old.place + 1 ≤ self.old.given }
+        requires lines { self.old.grammar.lines + 1 ≤ self.old.given }
+        requires here { FitsCut cut used.now self.old.cutter }
+        ensures stands { (layout : LayoutTable) (b : List ℕ) (es : List Placed)
+            → AtCut layout self.old cut b used.now es
+            → Stands layout self.new (b ++ used.now)
+            (es ++ placed self.old.place (option_to_list part.new)) }
+        ensures same { SameText self.old self.new }
+        ensures reading { IfNone part.new (self.new.phase ≡ phases.Reading) }
+        ensures place { IfNone part.new (self.new.place ≡ self.old.place) }
+    {
+        let event = self.long_line();
+        part.set(event.part);
+    }
+
     /// Applies the result of the cutter, which has used these bytes.
     fn cut(&mut self, cut: Cut, used: &[u8], part: &mut Closed)
         requires reading { self.old.phase ≡ phases.Reading }
@@ -354,10 +391,7 @@ impl FileReader {
             Cut::More => {}
             Cut::Kept => self.kept_line(part),
             Cut::Here => self.line(&used[..used.len() - 1], part),
-            Cut::Long => {
-                let event = self.long_line();
-                part.set(event.part);
-            }
+            Cut::Long => self.too_long(cut, used, part),
         }
     }
 
@@ -439,8 +473,7 @@ impl FileReader {
         match self.phase {
             Phase::Reading => self.read(piece, part),
             Phase::Waiting(outcome) => {
-                let event = self.end(outcome);
-                part.set(event.part);
+                self.close_with(outcome, part);
                 0
             }
             Phase::Done(_) => 0,

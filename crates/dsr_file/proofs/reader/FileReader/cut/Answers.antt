@@ -1,8 +1,4 @@
-use Rattle.std.proofs.Common.{◌++◌, ◌∷◌, [], subst, sym}
-use Rattle.std.specs.Option.{option_to_list}
-use Rattle.dsr_file.specs.Standing.{Stands}
-use Rattle.dsr_file.specs.Texts.{placed}
-use Rattle.dsr_file.proofs.StandLemmas.{at_kept, at_here, ended_again, long_stands}
+use Rattle.dsr_file.proofs.StandLemmas.{at_kept, at_here}
 use Rattle.dsr_file.proofs.reader.FileReader.cut.Goals as goal
 
 pub returns-in-Kept-clause-stands : goal.returns-in-Kept-clause-stands
@@ -12,11 +8,3 @@ returns-in-Kept-clause-stands c =
 pub returns-in-Here-clause-stands : goal.returns-in-Here-clause-stands
 returns-in-Here-clause-stands c =
     λ layout b es a. c.line.ensures.stands layout _ es (at_here layout c.args.self.now b c.args.used.now es c.args.cut a c.in-Here.is)
-
-pub returns-in-Long-clause-stands : goal.returns-in-Long-clause-stands
-returns-in-Long-clause-stands c = λ layout b es a.
-    subst (λ o. Stands layout c.long_line-event.new.self (b ++ c.args.used.now) (es ++ placed c.args.self.now.place (option_to_list o))) (sym c.set.ensures)
-    (subst (λ e. Stands layout c.long_line-event.new.self (b ++ c.args.used.now) (es ++ e ∷ []))
-    (sym (ended_again c.args.self.now.place _ _ c.long_line-event.result _ c.event.view_is c.long_line-event.ensures.event))
-    (long_stands layout c.args.self.now c.long_line-event.new.self c.args.cut b c.args.used.now es c.long_line-event.result a c.in-Long.is
-    c.long_line-event.ensures.event c.long_line-event.ensures.same c.long_line-event.ensures.place c.long_line-event.ensures.done))
