@@ -196,24 +196,32 @@ impl Closed {
         true
     }
 
-    /// Puts what was closed into a sink, as the event with this place, by moving it; not inlined, since most blocks are
-    /// exchanged.
+    /// Puts what was closed into a sink, as the event with this place, by moving it. An event that the sink refuses is in
+    /// `refused` then. Not inlined, since most blocks are exchanged.
     #[cold]
     #[inline(never)]
-    pub(crate) fn put_into<S: Sink>(&mut self, place: u64, sink: &mut S) -> Result<(), Event>
+    pub(crate) fn put_into<S: Sink>(
+        &mut self,
+        place: u64,
+        sink: &mut S,
+        refused: &mut Option<Event>,
+    )
         requires small { place < 2 ^ 37 }
         requires run { IfSome (event_at place self.old)
             (λ e. IsSomeRun (S.list sink.old ++ e ∷ [])) }
-        ensures added { OnOk result
-            (S.list sink.new ≡ S.list sink.old ++ option_to_list (event_at place self.old)) }
-        ensures refused { IfErr result (λ back.
+        requires none { refused.old ≡ None }
+        ensures added { refused.new ≡ None
+            → S.list sink.new ≡ S.list sink.old ++ option_to_list (event_at place self.old) }
+        ensures refused { IfSome refused.new (λ back.
             (event_at place self.old ≡ Some back) × (S.list sink.new ≡ S.list sink.old)) }
         ensures none { self.new ≡ None }
         ensures name { S.name sink.new ≡ S.name sink.old }
     {
-        match self.take_event(place) {
-            Some(event) => sink.put(event),
-            None => Ok(()),
+        let Some(event) = self.take_event(place) else {
+            return;
+        };
+        if let Err(back) = sink.put(event) {
+            *refused = Some(back);
         }
     }
 }

@@ -1,5 +1,5 @@
 //! Feeding bytes to a reader, and its events to a sink.
-ghost use Rattle.std.specs.Prelude.{◌≡◌, ◌++◌, ◌∷◌, [], ◌+◌, ◌≤◌, ◌^◌, length, List, ℕ, Some, None, OnOk, IfOk, IfErr};
+ghost use Rattle.std.specs.Prelude.{◌≡◌, ◌++◌, ◌∷◌, [], ◌+◌, ◌≤◌, ◌^◌, length, List, ℕ, Some, None, OnOk, IfOk, IfErr, IfSome};
 ghost use mathlib.Core.List.{IsPrefix};
 ghost use Rattle.dsr_records.specs.Records.{LayoutTable};
 ghost use Rattle.dsr_file.specs.Placed.{Placed};
@@ -12,6 +12,51 @@ use crate::event::Event;
 use crate::fault::{Ending, Outcome};
 use crate::reader::FileReader;
 use crate::sink::Sink;
+
+/// Gives a piece to a reader and its events to a sink, and notes the length of the piece in the sink. An event that the
+/// sink refuses is in `refused` then: as a result it would be a large local of the loop, which is set to zero each time.
+fn feed_up_to<S: Sink>(
+    file: &mut FileReader,
+    part: &mut Closed,
+    piece: &[u8],
+    sink: &mut S,
+    refused: &mut Option<Event>,
+)
+    requires none { part.old ≡ None }
+    requires open { ending_told file.old ≡ None }
+    requires room { bytes_used file.old + length piece.now ≤ 2 ^ 36 }
+    requires known { IsKnown file.old (S.list sink.old) }
+    requires not_refused { refused.old ≡ None }
+    ensures open { ending_told file.new ≡ None }
+    ensures none { part.new ≡ None }
+    ensures used { refused.new ≡ None
+        → bytes_used file.new ≤ bytes_used file.old + length piece.now }
+    ensures name { S.name sink.new ≡ S.name sink.old }
+    ensures grows { IsPrefix (S.list sink.old) (S.list sink.new) }
+    ensures fed { refused.new ≡ None → (layout : LayoutTable) (b : List ℕ)
+        → Stands layout file.old b (S.list sink.old)
+        → Fed layout file.new b piece.now (S.list sink.new) }
+    ensures refused { IfSome refused.new (λ e. (layout : LayoutTable) (b : List ℕ)
+        → Stands layout file.old b (S.list sink.old)
+        → FedSome layout b piece.now (S.list sink.new ++ e ∷ [])) }
+{
+    let mut used = 0;
+    loop {
+        let place = file.place();
+        used += file.take_part(&piece[used..], part);
+        if !part.is_some() {
+            sink.note_bytes(piece.len());
+            return;
+        }
+        if part.exchange_into(place, sink) {
+            continue;
+        }
+        part.put_into(place, sink, refused);
+        if refused.is_some() {
+            return;
+        }
+    }
+}
 
 /// Gives a piece to a reader and its events to a sink, and notes the length of the piece in the sink.
 pub(crate) fn feed<S: Sink>(
@@ -36,18 +81,11 @@ pub(crate) fn feed<S: Sink>(
         → Stands layout file.old b (S.list sink.old)
         → FedSome layout b piece.now (S.list sink.new ++ e ∷ [])) }
 {
-    let mut used = 0;
-    loop {
-        let place = file.place();
-        used += file.take_part(&piece[used..], part);
-        if !part.is_some() {
-            sink.note_bytes(piece.len());
-            return Ok(());
-        }
-        if part.exchange_into(place, sink) {
-            continue;
-        }
-        part.put_into(place, sink)?;
+    let mut refused = None;
+    feed_up_to(file, part, piece, sink, &mut refused);
+    match refused {
+        Some(event) => Err(event),
+        None => Ok(()),
     }
 }
 
