@@ -1,8 +1,8 @@
 -- The items of a list, and the stale ones after them.
 use Rattle.std.proofs.Common.{◌≡◌, ℕ, ◌<◌, ◌≤◌, ◌+◌, ◌-◌, [], ◌∷◌, ◌++◌, length, slice_set, slice_index_or, List, take, arith, sym, ◌∙◌, ap, length-take-le}
 use Rattle.std.proofs.Common.{length-set}
-use Rattle.std.proofs.lemmas.List.{places, take_more_set, take_all, take-take}
-use Rattle.std.proofs.Math.Seq.{take-set-lt, take-append_seam}
+use Rattle.std.proofs.lemmas.List.{places, take_more_set, take_all}
+use Rattle.std.proofs.Math.Seq.{take-set-lt}
 use Rattle.dsr_cells.specs.Views.{IsOneMore}
 
 module _ {T : Type 0} where
@@ -20,23 +20,6 @@ module _ {T : Type 0} where
       → slice_index_or xs (len - 1) x ≡ slice_index_or (take len xs) (length (take len xs) - 1) x
   take-last len xs x some le = let cut = length-take-le len xs le in grind (arith, places)
 
-  -- a front that is one item shorter
-  pub take-less : (len : ℕ) (xs : List T) → len ≤ length xs → 0 < length (take len xs)
-      → take (len - 1) xs ≡ take (length (take len xs) - 1) (take len xs)
-  take-less len xs le some =
-      rw (length-take-le len xs le) (sym (take-take (len - 1) len xs (omega arith)))
-
-  -- an item written over the first stale one
-  pub take-over : (len : ℕ) (xs : List T) (w : T) → len < length xs
-      → take (len + 1) (slice_set xs len w) ≡ take len xs ++ w ∷ []
-  take-over len xs w lt = take_more_set xs len w lt
-
-  -- an item pushed onto a list without stale ones
-  pub take-push : (len : ℕ) (xs : List T) (w : T) → len ≤ length xs → length xs ≤ len
-      → take (len + 1) (xs ++ w ∷ []) ≡ take len xs ++ w ∷ []
-  take-push len xs w le ge =
-      rw (take_all len xs ge) (take_all (len + 1) (xs ++ w ∷ []) (grind (arith, places)))
-
   -- a write to the item by which a list grew
   pub set_one_more : (old new : List T) (w : T) → IsOneMore old new → slice_set new (length new - 1) w ≡ old ++ w ∷ []
   set_one_more old new w more =
@@ -44,14 +27,3 @@ module _ {T : Type 0} where
       let set = take_more_set new (length old) w (omega (arith, more.0)) in
       let all = take_all (length old + 1) (slice_set new (length old) w) (omega (arith, more.0, length-set new (length old) w)) in
       rw at (sym all ∙ set ∙ ap (λ xs. xs ++ w ∷ []) more.1)
-
-  -- a longer front
-  pub longer : (len : ℕ) (xs : List T) → len < length xs → IsOneMore (take len xs) (take (len + 1) xs)
-  longer len xs lt =
-      let short = length-take-le len xs (omega arith) in
-      let long = length-take-le (len + 1) xs (omega arith) in
-      (omega arith, rw short (take-take len (len + 1) xs (omega arith)))
-
-  -- a list with an item appended
-  pub appended : (old : List T) (w : T) → IsOneMore old (old ++ w ∷ [])
-  appended old w = (grind (arith, places), take-append_seam old (w ∷ []))
