@@ -18,11 +18,17 @@ pub(crate) struct Supply {
     receiver: Receiver<Batch>,
 }
 
-/// The end of the pool that gives memory back.
+/// The end of the pool that gives memory back, several batches at a time: if each were given back alone, a feed that
+/// waits for memory would be woken for each.
 #[derive(Drop)]
 pub(crate) struct Returns {
     alloc: Global,
     sender: Sender<Batch>,
+    /// Batches that are not given back yet.
+    kept: Vec<Batch>,
+    /// This many are given back together, 1 to half the capacity of the channel. So the feed always has memory for at
+    /// least half of the channel, and never waits for memory while the tap waits for a message.
+    together: usize,
 }
 
 /// Memory for this many batches.
@@ -51,7 +57,14 @@ pub(crate) fn memory(alloc: Global, capacity: u32) -> Result<(Supply, Returns), 
         unused,
         receiver,
     };
-    Ok((supply, Returns { alloc, sender }))
+    let together = (capacity as usize / 2).max(1);
+    let returns = Returns {
+        alloc,
+        sender,
+        kept: Vec::with_capacity(alloc, together)?,
+        together,
+    };
+    Ok((supply, returns))
 }
 
 impl Supply {
@@ -88,10 +101,27 @@ impl Supply {
 }
 
 impl Returns {
-    /// Gives the memory of a batch back, if it has any. The call does not wait.
-    pub(crate) fn give<R: Wait>(&self, rt: &R, batch: Batch) {
-        if batch.has_room() {
+    /// Gives the memory of a batch back, if it has any, once there are several. The call neither waits nor allocates.
+    pub(crate) fn give<R: Wait>(&mut self, rt: &R, batch: Batch) {
+        if !batch.has_room() {
+            return;
+        }
+        if self.kept.len() < self.kept.capacity() {
+            self.kept.push_reserved(batch);
+        } else {
             let _ = self.sender.try_send(rt, batch);
+        }
+        if self.kept.len() >= self.together {
+            self.give_kept(rt);
+        }
+    }
+
+    /// Gives all kept batches back.
+    fn give_kept<R: Wait>(&mut self, rt: &R) {
+        for _ in 0..self.kept.len() {
+            if let Some(batch) = self.kept.pop() {
+                let _ = self.sender.try_send(rt, batch);
+            }
         }
     }
 
