@@ -1,5 +1,5 @@
 -- What a line closes, and its event.
-use Rattle.std.specs.Prelude.{ℕ, Option, None, Some}
+use Rattle.std.specs.Prelude.{◌≡◌, ℕ, Option, None, Some, OnSome}
 use Rattle.dsr_records.specs.Blocks.{BlockParts}
 use Rattle.dsr_file.specs.declared.event.EventPart.{EventPart}
 use Rattle.dsr_file.specs.declared.event.EventPart.TheVariants as tell
@@ -14,6 +14,10 @@ block_or None other = other
 -- what is closed
 abbrev pub part_closed : Inside → Option EventPart
 part_closed c = block_or c.block c.other
+
+-- a block and another part are not closed at once
+abbrev pub IsOne : Inside → Type 0
+IsOne c = OnSome c.block (c.other ≡ None)
 
 -- the event of a block with this place
 abbrev pub block_event : ℕ → BlockParts → Placed

@@ -23,7 +23,7 @@ pub(crate) struct Closed {
     alloc: Global,
     /// The block that was closed, if one was.
     block: Option<BoxedBlock>,
-    /// What was closed, if it is not a block in `block`.
+    /// What was closed, if it is not a block in `block`: then it is None.
     other: Option<EventPart>,
     /// A block to be overwritten, if there is one.
     spare: Option<BoxedBlock>,
@@ -39,11 +39,13 @@ fn new_block(alloc: Global) -> Result<BoxedBlock, NoMemory> {
 impl Model for Closed {
     ghost use Rattle.std.specs.Prelude.{Option};
     ghost use Rattle.dsr_file.specs.declared.event.EventPart.{EventPart};
-    ghost use Rattle.dsr_file.specs.Closing.{part_closed};
+    ghost use Rattle.dsr_file.specs.Closing.{part_closed, IsOne};
 
     ghost Value = { Option EventPart };
 
     ghost view = { part_closed };
+
+    ghost invariant = { IsOne };
 }
 
 impl Closed {
@@ -91,6 +93,7 @@ impl Closed {
 
     /// Closes this block.
     pub(crate) fn set_block(&mut self, block: BoxedBlock)
+        requires { self.old ≡ None }
         ensures { self.new ≡ Some (EventPart.Block block) }
     {
         self.block = Some(block);
@@ -117,7 +120,6 @@ impl Closed {
         };
         let block = boxed.replace(Block::empty(self.alloc));
         self.spare = Some(boxed);
-        self.other = None;
         Some(EventPart::Block(block))
     }
 
@@ -192,7 +194,6 @@ impl Closed {
             return false;
         }
         self.spare = self.block.take();
-        self.other = None;
         true
     }
 

@@ -1,5 +1,5 @@
 //! Taking the lines of a file one after another, each with the event that it closes or the fault that ends the file.
-ghost use Rattle.std.specs.Prelude.{◌≡◌, ◌+◌, ◌-◌, ◌<◌, ◌≤◌, ◌^◌, [], length, List, None, option_and_then};
+ghost use Rattle.std.specs.Prelude.{◌≡◌, ◌+◌, ◌-◌, ◌<◌, ◌≤◌, ◌^◌, [], length, List, None, true, option_and_then};
 ghost use Rattle.dsr_cells.specs.Lines.{without_return};
 ghost use Rattle.dsr_file.specs.Readings.{is_skipped_text, file_fault};
 ghost use Rattle.dsr_file.specs.Counting.{foot_in, summary_count};
@@ -297,7 +297,8 @@ impl Grammar {
     }
 
     /// Takes the next line, which is not too long; `closed` becomes what the line closes.
-    pub(crate) fn line(
+    #[inline(always)]
+    fn any_line(
         &mut self,
         alloc: Global,
         layout: &Layout,
@@ -317,6 +318,35 @@ impl Grammar {
         }
     }
 
+    /// Takes the next line, which is not too long; `closed` becomes what the line closes. Returns whether the line is good;
+    /// otherwise `step` becomes the result.
+    #[inline(never)]
+    pub(crate) fn line(
+        &mut self,
+        alloc: Global,
+        layout: &Layout,
+        line: &[u8],
+        closed: &mut Closed,
+        step: &mut Step,
+    ) -> bool
+        requires lines { self.old.lines < 2 ^ 40 - 1 }
+        requires none { closed.old ≡ None }
+        requires good { step.old ≡ Step.Good }
+        requires short { length line.now ≤ 8192 }
+        ensures steps { (ls : List Reading) → Keeps self.old ls
+            → LineSteps ls (reading layout.now line.now) step.new closed.new self.new }
+        ensures good { result ≡ true → step.new ≡ Step.Good }
+        ensures counts { self.new.lines ≤ self.old.lines + 1 }
+    {
+        match self.any_line(alloc, layout, line, closed) {
+            Step::Good => true,
+            bad => {
+                *step = bad;
+                false
+            }
+        }
+    }
+
     /// Takes the last line, which is not too long. Returns also what it closes.
     pub(crate) fn last_line(
         &mut self,
@@ -331,7 +361,8 @@ impl Grammar {
         ensures counts { self.new.lines ≤ self.old.lines + 1 }
     {
         let mut closed = Closed::over(alloc, None);
-        let step = self.line(alloc, layout, line, &mut closed);
+        let mut step = Step::Good;
+        self.line(alloc, layout, line, &mut closed, &mut step);
         (step, closed.take())
     }
 

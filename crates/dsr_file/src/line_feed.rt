@@ -33,7 +33,9 @@ fn run_of_64(piece: &[u8], at: usize) -> usize
     }
 }
 
-/// The index of the first line feed, or the length if there is none, for few bytes.
+/// The index of the first line feed, or the length if there is none, for few bytes. Not inlined, since a piece ends in
+/// them once.
+#[inline(never)]
 fn end_of_few(piece: &[u8]) -> usize
     ensures bound { result ≤ length piece.now }
     ensures before { list_any is_line_feed (take result piece.now) ≡ false }

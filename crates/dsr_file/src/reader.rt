@@ -212,10 +212,11 @@ impl FileReader {
         self.event(part)
     }
 
-    /// Applies the result of a line. `part` is what the line closed, and becomes the content of the next
-    /// event, if there is one.
+    /// Applies the result of a line, which may be known to be good. `part` is what the line closed, and becomes the content
+    /// of the next event, if there is one.
     #[inline(always)]
-    fn answer(&mut self, line: u64, step: Step, part: &mut Closed)
+    fn answer(&mut self, is_good: bool, line: u64, step: Step, part: &mut Closed)
+        requires good { is_good ≡ true → step ≡ Step.Good }
         requires reading { self.old.phase ≡ phases.Reading }
         requires room { self.old.place + 1 ≤ self.old.given }
         ensures stands { (layout : LayoutTable) (b : List ℕ) (es : List Placed)
@@ -225,7 +226,7 @@ impl FileReader {
         ensures reading { IfNone part.new (self.new.phase ≡ phases.Reading) }
         ensures place { IfNone part.new (self.new.place ≡ self.old.place) }
     {
-        if let Step::Good = step {
+        if is_good {
             self.good(part);
         } else {
             self.answer_apart(line, step, part);
@@ -302,11 +303,16 @@ impl FileReader {
         ensures place { IfNone part.new (self.new.place ≡ self.old.place) }
     {
         let number = self.grammar.lines + 1;
-        let step = self
-            .grammar
-            .line(self.alloc, &self.layout, self.cutter.line(), part);
+        let mut step = Step::Good;
+        let is_good = self.grammar.line(
+            self.alloc,
+            &self.layout,
+            self.cutter.line(),
+            part,
+            &mut step,
+        );
         self.cutter.clear();
-        self.answer(number, step, part);
+        self.answer(is_good, number, step, part);
     }
 
     /// Takes a line that is whole in the piece.
@@ -326,8 +332,11 @@ impl FileReader {
         ensures place { IfNone part.new (self.new.place ≡ self.old.place) }
     {
         let number = self.grammar.lines + 1;
-        let step = self.grammar.line(self.alloc, &self.layout, line, part);
-        self.answer(number, step, part);
+        let mut step = Step::Good;
+        let is_good = self
+            .grammar
+            .line(self.alloc, &self.layout, line, part, &mut step);
+        self.answer(is_good, number, step, part);
     }
 
     /// Ends the file at a line that is too long.

@@ -1,5 +1,5 @@
 -- Items that have numbers: one more, or one replaced.
-use Rattle.std.proofs.Common.{◌≡◌, ℕ, zero, suc, ◌<◌, cond, List, [], ◌∷◌, ◌++◌, length, take, set, get_or, nat_eq, refl, sym, ap, subst, ◌∙◌, arith}
+use Rattle.std.proofs.Common.{◌≡◌, ℕ, ◌<◌, cond, List, [], ◌∷◌, ◌++◌, length, take, set, get_or, nat_eq, refl, sym, ap, subst, ◌∙◌}
 use Rattle.std.specs.Prelude.{Option, None, Some, map, slice_get}
 use Rattle.std.specs.Option.{option_map, option_and_then}
 use Rattle.std.specs.List.{position}
@@ -7,7 +7,7 @@ use Rattle.std.proofs.lemmas.List.{length-map, map-append, take-map}
 use Rattle.std.proofs.Math.Seq.{map-set_same}
 use Rattle.std.proofs.lemmas.Option.{slice_get-map, slice_get_read}
 use Rattle.dsr_ledger.specs.Numbered.{IsNumbered, Grows, read_at, place_in}
-use Rattle.dsr_ledger.proofs.NumberedLemmas.{not_Some, place_more, grows_more, read_pushed, read_set_same, position-map, places_are_numbered}
+use Rattle.dsr_ledger.proofs.NumberedLemmas.{place_more, grows_more, read_pushed, read_set_same, position-map, places_are_numbered}
 use Rattle.dsr_ledger.proofs.PlaceByLemmas.{same_number}
 
 module _ {X : Type 0} (number : X → ℕ) where

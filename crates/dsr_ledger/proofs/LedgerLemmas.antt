@@ -1,6 +1,6 @@
 -- The ledger's tallies when a party, a summary key, a recording, a seat or a line is added, or a line is changed.
-use Rattle.std.proofs.Common.{◌≡◌, ℕ, ◌<◌, ◌≤◌, Bool, true, false, true≢false, cond, ◌&&◌, List, [], ◌∷◌, ◌++◌, length, length-append, get_or, nat_eq, ⊎_elim}
-use Rattle.std.proofs.Common.{refl, sym, ap, subst, ◌∙◌, arith}
+use Rattle.std.proofs.Common.{◌≡◌, ℕ, Bool, true, false, true≢false, cond, List, [], ◌∷◌, ◌++◌, length, get_or, nat_eq, ⊎_elim}
+use Rattle.std.proofs.Common.{refl, sym, ap, subst, ◌∙◌}
 use Rattle.std.specs.Prelude.{Option, None, Some, Result, Ok, Err, OnOk, OnErr, slice_get, option_map}
 use Rattle.std.specs.Option.{option_and_then}
 use Rattle.std.specs.List.{position}
@@ -13,20 +13,19 @@ use Rattle.std.proofs.lemmas.List.Quantifiers.{position-Some}
 use Rattle.std.proofs.lemmas.Option.{slice_get-map, get_or_from_slice_get}
 use Rattle.std.proofs.lemmas.Slice.Eq.{bytes_eq-Decides}
 use Rattle.indexmap.specs.IndexMap.{IndexMap, keys, get, index_of, with_value_at, IsUnique, IsUnchanged}
-use Rattle.dsr_records.specs.declared.record.Usage.{Usage}
 use Rattle.dsr_ledger.specs.declared.ledger.line.Line.{Line}
 use Rattle.dsr_ledger.specs.declared.ledger.summary_key.SummaryKey.{SummaryKey}
 use Rattle.dsr_ledger.specs.declared.ledger.recording.Recording.{Recording}
 use Rattle.dsr_ledger.specs.Numbered.{IsNumbered, Grows, IsWithNumber, AreBelow, read_at, place_in, place_by}
 use Rattle.dsr_ledger.specs.Seats.{seat_numbers}
 use Rattle.dsr_ledger.specs.SummaryKeys.{summary_key_eq}
-use Rattle.dsr_ledger.specs.Tallies.{Tally, no_tally, line_tally, lines_tally, line_keys, line_in, AreWithin, IsWide, LinesGrow}
+use Rattle.dsr_ledger.specs.Tallies.{Tally, no_tally, line_tally, lines_tally, line_keys, line_in, AreWithin, LinesGrow}
 use Rattle.dsr_ledger.specs.Recordings.{party_number, key_number, seat_of, seat_at, recording_tally, IsLineOf}
 use Rattle.dsr_ledger.specs.Seated.{AreSeated, HaveSeats}
 use Rattle.dsr_ledger.specs.declared.ledger.parts.SeatShare.{SeatShare}
 use Rattle.dsr_ledger.specs.declared.ledger.recordings.Ledger.{Ledger}
-use Rattle.dsr_ledger.proofs.IndexMapLemmas.{own_value, key_is, written, written_here}
-use Rattle.dsr_ledger.proofs.NumberedLemmas.{same_Some, not_Some, place_more, grows_more, places_are_numbered}
+use Rattle.dsr_ledger.proofs.IndexMapLemmas.{own_value, written, written_here}
+use Rattle.dsr_ledger.proofs.NumberedLemmas.{same_Some, not_Some, grows_more, places_are_numbered}
 use Rattle.dsr_ledger.proofs.PlaceByLemmas.{same_number, by_number, by_numbered, by_new_key, by_new_number}
 use Rattle.dsr_ledger.proofs.RecordingLemmas.{lines_seated}
 

@@ -1,7 +1,7 @@
 -- Names with the places of their numbers, and in order.
-use Rattle.std.proofs.Common.{◌≡◌, ℕ, zero, suc, ◌+◌, ◌<◌, Bool, true, false, true≢false, cond, List, [], ◌∷◌, ◌++◌, length, take, get_or, nat_eq, refl, sym}
+use Rattle.std.proofs.Common.{◌≡◌, ℕ, suc, ◌+◌, ◌<◌, Bool, true, false, true≢false, cond, List, [], ◌∷◌, ◌++◌, length, get_or, nat_eq, refl, sym}
 use Rattle.std.proofs.Common.{ap, ◌∙◌, subst, arith}
-use Rattle.std.specs.Prelude.{Option, None, Some, is_some, slice_get, position, map, unwrap_or}
+use Rattle.std.specs.Prelude.{Option, None, Some, slice_get, position, map}
 use Rattle.std.specs.Option.{option_map_or, option_and_then}
 use Rattle.std.specs.List.{IsDistinct, position_from, AllByRecursion}
 use Rattle.std.specs.List.Sorted.{IsPermutation, IsSortedBy, IsStrictlySortedBy}
@@ -14,14 +14,12 @@ use Rattle.std.specs.declared.cmp.Ordering.{Ordering}
 use Rattle.std.specs.FinMap.Entries.{find}
 use Rattle.std.proofs.lemmas.Bool.Decides.{Decides-eqb}
 use Rattle.std.proofs.lemmas.Iterator.Adapters.{position_from-zero}
-use Rattle.std.proofs.lemmas.List.{map-append}
 use Rattle.std.proofs.lemmas.List.Quantifiers.{position-Some}
 use Rattle.std.proofs.lemmas.List.Sorted.{IsPermutation-map}
 use Rattle.std.proofs.lemmas.Map.Keys.{IsDistinct-IsPermutation}
 use Rattle.std.proofs.lemmas.Option.{get_or_from_slice_get}
-use Rattle.std.proofs.lemmas.Simd.{map-map}
 use Rattle.indexmap.proofs.MapLemmas.{lookup_permutation}
-use Rattle.dsr_ledger.specs.Numbered.{place_in, place_by, AreApart, AreBelow}
+use Rattle.dsr_ledger.specs.Numbered.{place_in, place_by, AreApart}
 use Rattle.dsr_ledger.specs.Listed.{named_places, AreListed}
 use Rattle.dsr_ledger.proofs.IndexMapLemmas.{number_at}
 use Rattle.dsr_ledger.proofs.OrderLemmas.{strictly_sorted}

@@ -1,7 +1,7 @@
 -- Numbered keys: one more key, and one more value.
 use Rattle.std.proofs.Common.{◌≡◌, ℕ, zero, suc, ◌+◌, ◌<◌, ◌≤◌, Bool, true, false, cond, true≢false, List, [], ◌∷◌, ◌++◌, length, take, set, get_or, ◌⊎◌, inl}
 use Rattle.std.proofs.Common.{inr, ⊎_elim, refl, sym, ap, ◌∙◌, arith}
-use Rattle.std.specs.Prelude.{Option, None, Some, is_some, map, slice_get, unwrap_or}
+use Rattle.std.specs.Prelude.{Option, None, Some, map, slice_get, unwrap_or}
 use Rattle.std.specs.List.{position, position_from}
 use Rattle.std.specs.Option.{option_map, option_map_or}
 use Rattle.std.specs.Bool.{Decides}

@@ -2,18 +2,16 @@
 use Rattle.std.proofs.Common.{◌≡◌, ℕ, zero, suc, ◌<◌, ◌≤◌, Bool, true, false, cond, List, [], ◌∷◌, ◌++◌, length, length-append, set, get_or, nat_eq, ⊎_elim}
 use Rattle.std.proofs.Common.{refl, sym, ap, subst, ◌∙◌, arith}
 use Rattle.std.specs.Prelude.{Option, None, Some, Result, Ok, Err, IfOk, slice_get}
-use Rattle.std.specs.Option.{option_and_then, option_map, option_map_or}
+use Rattle.std.specs.Option.{option_and_then, option_map_or}
 use Rattle.std.specs.Str.{bytes_eq}
-use Rattle.std.proofs.lemmas.List.{length-map, map-append}
 use Rattle.std.proofs.lemmas.Slice.Eq.{bytes_eq-Decides}
-use Rattle.std.proofs.Math.Seq.{map-set_same}
-use Rattle.std.proofs.lemmas.Option.{slice_get-map, slice_get_read}
+use Rattle.std.proofs.lemmas.Option.{slice_get_read}
 use Rattle.dsr_ledger.specs.declared.ledger.line.Line.{Line}
 use Rattle.dsr_ledger.specs.declared.ledger.parts.SeatShare.{SeatShare}
-use Rattle.dsr_ledger.specs.Numbered.{IsNumbered, IsWithNumber, AreApart, AreBelow, read_at, place_in}
+use Rattle.dsr_ledger.specs.Numbered.{IsWithNumber, AreBelow, read_at, place_in}
 use Rattle.dsr_ledger.specs.Owed.{owed_at_place, part_seats}
 use Rattle.dsr_ledger.specs.Seated.{HaveParts}
-use Rattle.dsr_ledger.specs.Tallies.{Tally, no_tally, line_tally, line_keys, line_in, lines_tally, AreWithin, IsWide, LinesGrow}
+use Rattle.dsr_ledger.specs.Tallies.{Tally, no_tally, line_tally, line_in, lines_tally, AreWithin, IsWide, LinesGrow}
 use Rattle.dsr_ledger.proofs.NumberedLemmas.{same_Some, not_Some, place_more, read_changed}
 use Rattle.dsr_ledger.proofs.PlaceByLemmas.{same_number, by_new_key}
 use Rattle.dsr_ledger.proofs.ItemLemmas.{numbers_kept, items_are_numbered, items_grow, items_pushed, items_written}

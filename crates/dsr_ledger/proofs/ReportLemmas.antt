@@ -1,18 +1,18 @@
 -- The lines of the report, recording after recording.
 use Rattle.std.proofs.Common.{◌≡◌, ℕ, zero, suc, ◌+◌, ◌<◌, ◌≤◌, take, get_or, Bool, true, false, true≢false, cond, List, [], ◌∷◌, ◌++◌, append_assoc}
 use Rattle.std.proofs.Common.{append-nil, length, refl, sym, ap, ◌∙◌, subst, arith}
-use Rattle.std.specs.Prelude.{Option, None, Some, is_some, slice_get, position, map, filter, unwrap_or, nat_lt, ◌||◌, option_map}
+use Rattle.std.specs.Prelude.{Option, None, Some, is_some, slice_get, map, filter, unwrap_or, nat_lt, ◌||◌, option_map}
 use Rattle.std.specs.Option.{option_map_or, option_and_then}
-use Rattle.std.specs.List.{IsDistinct, AllByRecursion, list_any}
+use Rattle.std.specs.List.{AllByRecursion, list_any}
 use Rattle.std.specs.List.Sorted.{IsSorted, IsStrictlySortedBy}
 use Rattle.std.specs.Borrow.{Bor}
 use Rattle.std.specs.Str.{bytes_eq}
-use Rattle.std.specs.Cmp.{IsEquivalence, IsTotalOrder, tied_itself, eq_by_cmp_equiv}
+use Rattle.std.specs.Cmp.{IsTotalOrder, tied_itself, eq_by_cmp_equiv}
 use Rattle.std.specs.Cmp.Lexicographic.{nat_list_cmp_total, nat_list_eq_equiv}
 use Rattle.std.specs.Map.{keys_of, lookup}
-use Rattle.std.specs.Ordering.{is_eq, is_lt, eq_by_cmp, ordering_then, ordering_reverse}
+use Rattle.std.specs.Ordering.{is_eq, eq_by_cmp, ordering_then, ordering_reverse}
 use Rattle.std.specs.declared.cmp.Ordering.{Ordering}
-use Rattle.std.specs.declared.cmp.Ordering.TheVariants.{Less, Equal, Greater}
+use Rattle.std.specs.declared.cmp.Ordering.TheVariants.{Less}
 use Rattle.std.specs.FinMap.Entries.{find}
 use Rattle.std.proofs.lemmas.Bool.{lt-ltb}
 use Rattle.std.proofs.lemmas.List.{map-append, map-id, length-map, take_more}
@@ -21,7 +21,6 @@ use Rattle.std.proofs.lemmas.Map.Entries.{lookup_from_place}
 use Rattle.std.proofs.lemmas.List.Quantifiers.{position-Some}
 use Rattle.std.proofs.lemmas.Option.{slice_get-map}
 use Rattle.std.proofs.lemmas.Simd.{map-map}
-use Rattle.std.proofs.lemmas.Slice.Eq.{bytes_eq-Decides}
 use Rattle.indexmap.specs.IndexMap.{IndexMap, get, keys, IsUnique}
 use Rattle.dsr_ledger.specs.declared.key.Key.{Key}
 use Rattle.dsr_ledger.specs.declared.ledger.line.Line.{Line}
@@ -30,18 +29,18 @@ use Rattle.dsr_ledger.specs.declared.ledger.recording.Recording.{Recording}
 use Rattle.dsr_ledger.specs.declared.ledger.recordings.Ledger.{Ledger}
 use Rattle.dsr_ledger.specs.declared.report.LedgerLine.{LedgerLine}
 use Rattle.dsr_ledger.specs.Keys.{text_cmp, key_cmp, key_eq}
-use Rattle.dsr_ledger.specs.SummaryKeys.{summary_key_eq, summary_key_cmp, summary_key_in}
+use Rattle.dsr_ledger.specs.SummaryKeys.{summary_key_cmp, summary_key_in}
 use Rattle.dsr_ledger.specs.Numbered.{read_at, place_in, place_by}
 use Rattle.dsr_ledger.specs.Bookings.{Booking, key_under}
 use Rattle.dsr_ledger.specs.Ledger.{is_at_key, at_key, line_of, ledger}
 use Rattle.dsr_ledger.specs.Recordings.{tally_at, recording_tally, party_number, key_number, seat_of}
-use Rattle.dsr_ledger.specs.Tallies.{Tally, no_tally, line_tally, lines_tally, line_keys, key_tally}
+use Rattle.dsr_ledger.specs.Tallies.{no_tally, line_tally, lines_tally, line_keys, key_tally}
 use Rattle.dsr_ledger.specs.Stands.{LedgerStands}
 use Rattle.dsr_ledger.specs.Order.{IsSmall, AreSmall, AreOfSmall}
-use Rattle.dsr_ledger.specs.Listed.{named_places, booked_lines, entries_under, party_in, key_in, HasBookings, IsOfSmallAt, AddsLines, AreListed}
+use Rattle.dsr_ledger.specs.Listed.{named_places, booked_lines, entries_under, key_in, HasBookings, IsOfSmallAt, AddsLines, AreListed}
 use Rattle.dsr_ledger.proofs.KeyLemmas.{key_total, key_exact, key_ties}
 use Rattle.dsr_ledger.proofs.SummaryKeyLemmas.{summary_key_total}
-use Rattle.dsr_ledger.proofs.TextLemmas.{text_ties, text_itself, same_text}
+use Rattle.dsr_ledger.proofs.TextLemmas.{text_ties, same_text}
 use Rattle.dsr_ledger.proofs.IndexMapLemmas.{each_at}
 use Rattle.dsr_ledger.proofs.OrderLemmas.{in_order_is, strictly_sorted}
 
@@ -150,11 +149,11 @@ module _ (bs : List Booking) (isrc : List ℕ) (items : List (Bor SummaryKey × 
       ∙ map-append (λ (e : Bor SummaryKey × ℕ). (key_under isrc e.0.now, e.1)) (take i items) (item ∷ [])
 
   -- that has a booking
-  pub line_added : (l : LedgerLine) → new ≡ out ++ l ∷ [] → l ≡ line_of own_key (at_key own_key bs) → (key_tally bs own_key).is_booked ≡ true
+  pub line_added : new ≡ out ++ line_of own_key (at_key own_key bs) ∷ [] → (key_tally bs own_key).is_booked ≡ true
       → new ≡ old ++ booked_lines bs (entries_under isrc (take (i + 1) items))
-  line_added l added line has =
+  line_added added has =
       added
-      ∙ (λ j. so_far j ++ line j ∷ [])
+      ∙ (λ j. so_far j ++ line_of own_key (at_key own_key bs) ∷ [])
       ∙ append_assoc old (booked_lines bs passed) (line_of own_key (at_key own_key bs) ∷ [])
       ∙ ap (λ ls. old ++ ls) (sym (more_kept (λ (e : Key × ℕ). line_of e.0 (at_key e.0 bs)) (λ (e : Key × ℕ). (key_tally bs e.0).is_booked) passed
       (own_key, item.1) has))

@@ -1,17 +1,13 @@
 -- Shares at the seats of their parties, and lines of usages.
-use Rattle.std.proofs.Common.{◌≡◌, ℕ, zero, suc, ◌+◌, ◌<◌, ◌≤◌, List, [], ◌∷◌, ◌++◌, length, take, drop, get_or, refl, sym, ap, subst, ◌∙◌, arith, append_assoc}
-use Rattle.std.proofs.Common.{append-nil}
-use Rattle.std.specs.Prelude.{ℤ, Option, Some, None, map, slice_get}
+use Rattle.std.proofs.Common.{◌≡◌, ℕ, zero, suc, ◌<◌, List, [], ◌∷◌, ◌++◌, length, take, drop, get_or, refl, sym, ap, subst, ◌∙◌, arith, append_assoc}
+use Rattle.std.specs.Prelude.{ℤ, Option, Some, map, slice_get}
 use Rattle.std.specs.List.{zip, flat_map, AllZip}
 use Rattle.std.proofs.lemmas.List.{map-append}
 use Rattle.std.proofs.lemmas.List.Concat.{flat_map-cons}
-use Rattle.dsr_records.specs.declared.record.Usage.{Usage}
 use Rattle.dsr_records.specs.Works.{WorkParts}
 use Rattle.dsr_ledger.specs.declared.ledger.parts.SeatShare.{SeatShare}
-use Rattle.dsr_ledger.specs.declared.ledger.recordings.Ledger.{Ledger}
 use Rattle.dsr_ledger.specs.Numbered.{Grows}
-use Rattle.dsr_ledger.specs.Parts.{Part, part_of, rounded, work_parts}
-use Rattle.dsr_ledger.specs.Owed.{parts_size}
+use Rattle.dsr_ledger.specs.Parts.{part_of, work_parts}
 use Rattle.dsr_ledger.specs.Seated.{IsSeated, AreSeated, AreSeatsBelow, SeatedMore, shares_of}
 use Rattle.dsr_ledger.proofs.NumberedLemmas.{same_Some, not_Some}
 

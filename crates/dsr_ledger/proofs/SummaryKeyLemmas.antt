@@ -1,5 +1,5 @@
 -- The equality and the order of summary keys.
-use Rattle.std.proofs.Common.{◌≡◌, Bool, true, refl, sym, ap, subst}
+use Rattle.std.proofs.Common.{◌≡◌, true, refl, sym, ap, subst}
 use Rattle.std.specs.Bool.{Decides}
 use Rattle.std.specs.Ordering.{is_eq}
 use Rattle.std.specs.declared.cmp.Ordering.TheVariants.{Equal}

@@ -129,6 +129,14 @@ impl<'l> Rest<'l> {
         self.tabs != 0
     }
 
+    /// The same text, whose next 64 bytes were searched.
+    #[inline(always)]
+    pub(crate) fn searched_on(self) -> Rest<'l>
+        ensures { result.text ≡ self.entry.text }
+    {
+        Rest::of(self.text)
+    }
+
     /// The first cell, if all bytes were searched and there is no TAB: it is the only one.
     #[inline(always)]
     pub(crate) fn only_cell(self) -> Option<&'l str>

@@ -1,6 +1,8 @@
 -- A feed after its batch was sent.
-use Rattle.std.proofs.Common.{◌≡◌, ℕ, ◌≤◌, true, false, List, [], ◌∷◌, ◌++◌, length, refl, sym, ap, ◌∙◌, arith}
+use Rattle.std.proofs.Common.{◌≡◌, ℕ, ◌≤◌, true, false, List, [], ◌∷◌, ◌++◌, length, refl, sym, ap, ◌∙◌, arith, length-append}
+use Rattle.dsr_records.specs.Blocks.{BlockParts}
 use Rattle.dsr_file.specs.Placed.{Placed}
+use Rattle.dsr_file.specs.Closing.{block_event}
 use Rattle.dsr_relay.specs.declared.rule.Log.{Log}
 use Rattle.dsr_relay.specs.declared.rule.Log.TheVariants.{Sends}
 use Rattle.dsr_relay.specs.Messages.{Message, events_of}
@@ -27,3 +29,10 @@ batch_stays batch e h = rw h refl
 
 pub batch_goes : (batch : List Placed) (e : Placed) → goes_out batch e ≡ true → batch_after batch e ≡ []
 batch_goes batch e h = rw h refl
+
+-- a batch of which a block is the 32nd event is sent with it
+pub full_goes : (batch : List Placed) (place : ℕ) (block : BlockParts) → 32 ≤ length (batch ++ block_event place block ∷ []) → length batch ≤ 31
+    → goes_out batch (block_event place block) ≡ true
+full_goes batch place block full most =
+    let is : length batch ≡ 31 = omega (arith, full, most, length-append batch (block_event place block ∷ [])) in
+    rw is refl

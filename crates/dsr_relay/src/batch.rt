@@ -2,8 +2,11 @@
 //!
 //! The memory of a batch, for 32 events, is reused: the feed fills it, and the tap gives it back. An event
 //! overwrites the stale one in its slot, so that nothing is allocated for it. A block is exchanged for a stale one,
-//! and the reader writes the next one into its memory.
-ghost use Rattle.std.specs.Prelude.{◌≡◌, ◌<◌, ◌^◌, ◌∷◌, ◌++◌, [], true, false, MatchOption, MatchResult, IfOk};
+//! and the reader writes the next one into its memory. So that there is a stale one from the beginning, all slots are
+//! filled with empty blocks before a batch is filled for the first time.
+ghost use Rattle.std.specs.Prelude.{◌≡◌, ◌<◌, ◌^◌, ◌∷◌, ◌++◌, [], ℕ, List, true, false, MatchOption, MatchResult, IfOk};
+ghost use Rattle.dsr_records.specs.Blocks.{BlockParts};
+ghost use Rattle.dsr_file.specs.Placed.{Placed};
 ghost use Rattle.dsr_file.specs.Closing.{block_event};
 
 use dsr_cells::NoMemory;
@@ -46,6 +49,26 @@ impl Model for Batch {
     ghost view = { λ b. drop b.out (take b.count b.slots.items) };
 
     ghost invariant = { λ b. (b.out ≤ b.count) × (b.count ≤ length b.slots.items) };
+}
+
+/// A stale event, whose block has no memory of its own.
+fn stale_event(alloc: Global) -> Event {
+    Event {
+        place: 0,
+        part: EventPart::Block(Block::empty(alloc)),
+    }
+}
+
+/// Frees stale events, and fills all slots with empty blocks.
+#[cold]
+#[inline(never)]
+fn renew(slots: &mut Vec<Event>, alloc: Global) {
+    slots.clear();
+    for _ in 0..slots.capacity() {
+        if slots.len() < slots.capacity() {
+            slots.push_reserved(stale_event(alloc));
+        }
+    }
 }
 
 /// Overwrites a stale event with that of a block, if it is the event of a block too, and returns whether it did. The two
@@ -178,8 +201,23 @@ impl Batch {
         Some(mem::take(&mut self.slots[self.count]))
     }
 
+    /// Takes out the last event, which is that of a block, and makes it the value of `block`.
+    #[cold]
+    #[inline(never)]
+    pub(crate) fn take_last_block(&mut self, block: &mut Block)
+        ensures { (events : List Placed) (place : ℕ) (last : BlockParts)
+            → self.old ≡ events ++ block_event place last ∷ []
+            → (self.new ≡ events) × (block.new ≡ last) }
+    {
+        if let Some(event) = self.take_last() {
+            if let EventPart::Block(last) = event.part {
+                *block = last;
+            }
+        }
+    }
+
     /// Makes the events stale, to be overwritten. Stale events are freed once they may take too much memory.
-    pub(crate) fn restart(&mut self)
+    pub(crate) fn restart(&mut self, alloc: Global)
         ensures { self.new ≡ [] }
     {
         self.stale = self
@@ -189,9 +227,9 @@ impl Batch {
         self.bytes = 0;
         self.count = 0;
         self.out = 0;
-        if self.stale > MOST_STALE {
-            self.slots.clear();
+        if self.stale > MOST_STALE || self.slots.is_empty() {
             self.stale = 0;
+            renew(&mut self.slots, alloc);
         }
     }
 }

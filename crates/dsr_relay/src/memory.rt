@@ -88,7 +88,7 @@ impl Supply {
         ensures { result ≡ [] }
     {
         let mut batch = self.find(rt);
-        batch.restart();
+        batch.restart(self.alloc);
         batch
     }
 

@@ -12,13 +12,15 @@ ghost use Rattle.dsr_ledger.specs.Stands.{LedgerStands};
 ghost use Rattle.dsr_ledger.specs.Order.{AreOfSmall};
 ghost use Rattle.dsr_ledger.specs.Listed.{IsOfSmallAt, AddsLines};
 
-use crate::assemble::lines::ledger_line;
+use crate::assemble::lines::push_line;
 use crate::assemble::listed::lines_by_key;
 use crate::ledger::recording::Recording;
 use crate::ledger::recordings::Ledger;
 use crate::ledger::summary_key::SummaryKey;
 use crate::report::LedgerLines;
+use crate::seeded::Seeded;
 use dsr_cells::{Isrc, Items, NoMemory, Text};
+use indexmap::IndexMap;
 use std::alloc::Global;
 
 /// Adds the lines of a recording that have a booking, in the order of their summary keys. `order` and
@@ -46,11 +48,19 @@ fn add_recording<'a>(
     for (key, place) in order.as_slice() {
         let line = &recording.lines[*place];
         if line.is_booked {
-            let line = ledger_line(alloc, isrc, key, line, parties, numbers, names)?;
-            report.push(line).map_err(|_line| NoMemory)?;
+            push_line(report, alloc, isrc, key, line, parties, numbers, names)?;
         }
     }
     Ok(())
+}
+
+/// The number of lines of these recordings, for which memory is taken at once.
+fn count_lines(recordings: &IndexMap<Isrc, Recording, Seeded>) -> usize {
+    let mut count = 0usize;
+    for (_isrc, recording) in recordings.iter() {
+        count = count.saturating_add(recording.lines.len());
+    }
+    count
 }
 
 /// The lines of all keys that have a booking, in the order of the keys.
@@ -66,7 +76,7 @@ pub fn ledger_lines(alloc: Global, books: Ledger) -> Result<LedgerLines, NoMemor
     recordings.sort_unstable_keys()?;
     let names = parties.as_slice();
     let keys = summary_keys.as_slice();
-    let mut report = Items::from(Vec::with_capacity(alloc, recordings.len())?);
+    let mut report = Items::from(Vec::with_capacity(alloc, count_lines(&recordings))?);
     let mut order = Vec::new(alloc);
     let mut listed = Vec::new(alloc);
     for (isrc, recording) in recordings {

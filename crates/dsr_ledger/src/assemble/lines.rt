@@ -1,5 +1,5 @@
 //! A ledger line of the report, from the state of its line in the ledger.
-ghost use Rattle.std.specs.Prelude.{◌≡◌, ◌+◌, ◌^◌, ◌<◌, ◌-ℤ◌, ℕ, List, Option, Some, IfOk, length, sum_by, unsigned_abs};
+ghost use Rattle.std.specs.Prelude.{◌≡◌, ◌+◌, ◌++◌, ◌∷◌, [], ◌^◌, ◌<◌, ◌-ℤ◌, ℕ, List, Option, Some, IfOk, OnOk, length, sum_by, unsigned_abs};
 ghost use Rattle.std.specs.List.{IsDistinct};
 ghost use Rattle.std.specs.Str.{bytes_eq};
 ghost use Rattle.dsr_ledger.specs.Sums.{int_sum_by};
@@ -17,7 +17,7 @@ use crate::ledger::line::Line;
 use crate::ledger::parts::SeatPart;
 use crate::ledger::summary_key::SummaryKey;
 use crate::parties::Parties;
-use crate::report::{LedgerLine, PartyLine};
+use crate::report::{LedgerLine, LedgerLines, PartyLine};
 use dsr_cells::{Isrc, NoMemory, Text};
 use std::alloc::Global;
 
@@ -67,9 +67,10 @@ fn unclaimed(amount: i128, parties: &[PartyLine]) -> i128
     left
 }
 
-/// The line of a recording and a summary key, with its parties in the byte order of their names.
+/// Appends the line of a recording and a summary key to the report, with its parties in the byte order of their names.
 /// `numbers` has the number of the party at each seat of the recording. `names` is filled anew.
-pub fn ledger_line<'a>(
+pub fn push_line<'a>(
+    report: &mut LedgerLines,
     alloc: Global,
     isrc: Isrc,
     key: &SummaryKey,
@@ -77,7 +78,7 @@ pub fn ledger_line<'a>(
     parties: &'a [Text],
     numbers: &[u32],
     names: &mut Vec<(&'a Text, usize)>,
-) -> Result<LedgerLine, NoMemory>
+) -> Result<(), NoMemory>
     requires names { IsDistinct bytes_eq parties.now }
     requires apart { AreApart numbers.now }
     requires below { AreBelow (length parties.now) numbers.now }
@@ -85,7 +86,7 @@ pub fn ledger_line<'a>(
     requires small { ∥ IsOfSmall (place_by (party_in parties.now) numbers.now) line.now ∥₁ }
     ensures { (bs : List Booking) → line_tally
         (place_by (party_in parties.now) numbers.now) line.now ≡ tally_of bs
-        → IfOk result (λ l. l ≡ line_of (key_under isrc key.now) bs) }
+        → OnOk result (report.new ≡ report.old ++ line_of (key_under isrc key.now) bs ∷ []) }
 {
     let territory = key.territory.copy(alloc)?;
     let use_type = key.use_type.copy(alloc)?;
@@ -94,14 +95,18 @@ pub fn ledger_line<'a>(
     parts_by_name(parties, numbers, parts, names)?;
     let parties = party_lines(alloc, names.as_slice(), parts)?;
     let amount = line.sums.amount.get();
-    Ok(LedgerLine {
-        isrc,
-        territory,
-        use_type,
-        currency,
-        usages: line.sums.usages.get(),
-        amount,
-        unclaimed: unclaimed(amount, parties.as_slice()),
-        parties,
-    })
+    let left = unclaimed(amount, parties.as_slice());
+    report
+        .push(LedgerLine {
+            isrc,
+            territory,
+            use_type,
+            currency,
+            usages: line.sums.usages.get(),
+            amount,
+            unclaimed: left,
+            parties,
+        })
+        .map_err(|_line| NoMemory)?;
+    Ok(())
 }

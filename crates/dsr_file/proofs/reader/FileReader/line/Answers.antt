@@ -4,5 +4,5 @@ use Rattle.dsr_file.proofs.reader.FileReader.line.Goals as goal
 
 pub returns-clause-stands : goal.returns-clause-stands
 returns-clause-stands c = λ layout b es a.
-    c.answer.ensures.stands layout b es (line_taken layout c.args.self.now _ b es c.args.line.now c.line-step.result _ a c.line-step.ensures.steps
+    c.answer.ensures.stands layout b es (line_taken layout c.args.self.now _ b es c.args.line.now c.line-is_good.new.step _ a c.line-is_good.ensures.steps
     c.requires.cleared c.requires.settled refl refl refl refl)

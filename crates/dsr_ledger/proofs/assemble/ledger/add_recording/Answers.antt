@@ -1,6 +1,6 @@
 use Rattle.std.proofs.Math.Logic.{∥∥₁_map}
-use Rattle.std.proofs.Common.{rules, ◌≡◌, ◌<◌, ◌++◌, ◌∷◌, [], List, ℕ, length, sym, ap, ◌∙◌, subst}
-use Rattle.std.specs.Prelude.{Option, Some, slice_get}
+use Rattle.std.proofs.Common.{rules, ◌≡◌, ◌<◌, ◌++◌, length, sym, ap, ◌∙◌, subst}
+use Rattle.std.specs.Prelude.{Some, slice_get}
 use Rattle.std.specs.Vec.{vec_len}
 use Rattle.std.proofs.lemmas.List.{take_all}
 use Rattle.std.proofs.lemmas.Option.{slice_get-get_or}
@@ -14,7 +14,7 @@ use Rattle.dsr_ledger.specs.Recordings.{seat_of}
 use Rattle.dsr_ledger.specs.Tallies.{line_keys, line_tally, tally_of}
 use Rattle.dsr_ledger.specs.Listed.{AreLinesOf, party_in, key_in, entries_under, booked_lines}
 use Rattle.dsr_ledger.proofs.ReportLemmas.{place_within, own_tally, line_added, line_passed, under_sorted, under_own, under_found, small_at}
-use Rattle.dsr_ledger.proofs.assemble.ledger.add_recording.Goals.{then-line+in_ok-line+in_ok-map_err, else-line}
+use Rattle.dsr_ledger.proofs.assemble.ledger.add_recording.Goals.{then-line+in_ok-push_line, else-line}
 use Rattle.dsr_ledger.proofs.assemble.ledger.add_recording.Goals as goal
 
 pub index-line-requires : goal.index-line-requires
@@ -31,14 +31,14 @@ index-line-requires c =
     let long : length ls ≡ vec_len c.args.recording.now.lines = search rules in
     subst (λ n. item.1 < n) long (place_within number ls items listed i item at)
 
-pub ledger_line-requires-clause-apart : goal.ledger_line-requires-clause-apart
-ledger_line-requires-clause-apart c = subst AreApart (sym c.as_slice-numbers.ensures.value) c.as_slice-numbers.ensures.apart
+pub push_line-requires-clause-apart : goal.push_line-requires-clause-apart
+push_line-requires-clause-apart c = subst AreApart (sym c.as_slice-numbers.ensures.value) c.as_slice-numbers.ensures.apart
 
-pub ledger_line-requires-clause-below : goal.ledger_line-requires-clause-below
-ledger_line-requires-clause-below c = subst (AreBelow (length c.args.parties.now)) (sym c.as_slice-numbers.ensures.value) c.requires.seated
+pub push_line-requires-clause-below : goal.push_line-requires-clause-below
+push_line-requires-clause-below c = subst (AreBelow (length c.args.parties.now)) (sym c.as_slice-numbers.ensures.value) c.requires.seated
 
-pub ledger_line-requires-clause-within : goal.ledger_line-requires-clause-within
-ledger_line-requires-clause-within c =
+pub push_line-requires-clause-within : goal.push_line-requires-clause-within
+push_line-requires-clause-within c =
     let r = c.args.recording.now in
     let items = c.as_slice-key-items.result.now in
     let i = c.loop-key.key-index in
@@ -54,8 +54,8 @@ ledger_line-requires-clause-within c =
     slice_get-get_or ls item.1 line (place_within number ls items listed i item at) ∙ ap Some (sym c.index-line.ensures) in
     subst (λ ns. AreBelow (length ns) (part_seats line.parts.items.items)) (sym c.as_slice-numbers.ensures.value) (r.within item.1 line there)
 
-pub ledger_line-requires-clause-small : goal.ledger_line-requires-clause-small
-ledger_line-requires-clause-small c =
+pub push_line-requires-clause-small : goal.push_line-requires-clause-small
+push_line-requires-clause-small c =
     let isrc = c.args.isrc in
     let r = c.args.recording.now in
     let items = c.as_slice-key-items.result.now in
@@ -101,12 +101,10 @@ loop-key-preserved c = λ bs has.
     let out = c.loop-key.report in
     let so_far = c.loop-key.invariant bs has in
     elim c.if-line.branch [
-      | then-line+in_ok-line+in_ok-map_err w ↦
+      | then-line+in_ok-push_line w ↦
           let own = subst (λ ns. line_tally (place_by party ns) line ≡ tally_of (at_key key bs)) (sym c.as_slice-numbers.ensures.value) tally in
-          let l = w.in_ok-line.line in
-          let pushed : w.push.new.self ≡ out ++ l ∷ [] = search rules in
-          line_added bs isrc items i item c.loop-key-test.true c.loop-key-item.is old out c.if-line.report so_far l (w.report-is ∙ pushed)
-          (w.in_ok-line.ensures (at_key key bs) own) (sym (ap (λ t. t.is_booked) tally) ∙ w.if-line.true)
+          line_added bs isrc items i item c.loop-key-test.true c.loop-key-item.is old out c.if-line.report so_far
+          (w.report-is ∙ w.in_ok-push_line.ensures (at_key key bs) own) (sym (ap (λ t. t.is_booked) tally) ∙ w.if-line.true)
       | else-line w ↦ line_passed bs isrc items i item c.loop-key-test.true c.loop-key-item.is old out c.if-line.report so_far w.report-is
           (sym (ap (λ t. t.is_booked) tally) ∙ w.if-line.false)
     ]

@@ -1,5 +1,5 @@
 use Rattle.std.proofs.Math.Logic.{∥∥₁_map}
-use Rattle.std.proofs.Common.{◌≡◌, ◌<◌, ◌∙◌, ℕ, List, [], length, sym, subst}
+use Rattle.std.proofs.Common.{◌<◌, ◌∙◌, ℕ, List, [], length, sym, subst}
 use Rattle.std.specs.List.{IsDistinct}
 use Rattle.dsr_ledger.specs.SummaryKeys.{summary_key_eq}
 use Rattle.dsr_ledger.specs.Listed.{IsOfSmallAt}

@@ -1,4 +1,4 @@
-use Rattle.std.proofs.Common.{sym, ap, ◌∙◌}
+use Rattle.std.proofs.Common.{ap, ◌∙◌}
 use Rattle.std.proofs.lemmas.List.{take_all}
 use Rattle.dsr_ledger.specs.Listed.{named_places}
 use Rattle.dsr_ledger.proofs.PartyLineLemmas.{seat_lines, party_lines_are}

@@ -1,4 +1,4 @@
-use Rattle.std.proofs.Common.{false, ◌≡◌, ℕ, ◌+◌, ◌<◌, ◌≤◌, List, [], ◌∷◌, ◌++◌, take, length, get_or, sym, ap, ◌∙◌, subst, arith, Bor}
+use Rattle.std.proofs.Common.{◌≡◌, ℕ, ◌+◌, ◌<◌, ◌≤◌, List, [], ◌∷◌, ◌++◌, take, length, get_or, sym, ap, ◌∙◌, subst, arith, Bor}
 use Rattle.std.specs.Prelude.{Option, Some, slice_get, option_map}
 use Rattle.std.specs.List.{position}
 use Rattle.std.specs.Str.{bytes_eq}
@@ -10,9 +10,7 @@ use Rattle.std.proofs.lemmas.List.MinMax.{ranks_by}
 use Rattle.std.proofs.lemmas.List.Sorted.{answers_always}
 use Rattle.std.proofs.lemmas.Option.{slice_get-get_or, slice_get-map, slice_get_within, get_or_from_slice_get}
 use Rattle.dsr_ledger.specs.declared.ledger.parts.SeatPart.{SeatPart}
-use Rattle.dsr_ledger.specs.Keys.{text_cmp}
-use Rattle.dsr_ledger.specs.Listed.{named_places, AreListed}
-use Rattle.dsr_ledger.specs.Numbered.{place_by}
+use Rattle.dsr_ledger.specs.Listed.{named_places}
 use Rattle.dsr_ledger.specs.Owed.{part_seats}
 use Rattle.dsr_ledger.proofs.TextLemmas.{text_ties}
 use Rattle.dsr_ledger.proofs.PartLemmas.{seat_of_part}

@@ -1,20 +1,14 @@
-use Rattle.std.proofs.Common.{◌≡◌, ◌<◌, ◌≤◌, ℕ, get_or, length, sym, ap, ◌∙◌, subst, arith, rules}
-use Rattle.std.specs.Prelude.{Some, map, slice_get}
+use Rattle.std.proofs.Common.{◌≡◌, ◌<◌, length, sym, ap, ◌∙◌, subst, arith, rules}
+use Rattle.std.specs.Prelude.{Some}
 use Rattle.std.specs.Vec.{vec_len}
-use Rattle.std.specs.List.{flat_map}
-use Rattle.std.proofs.lemmas.Option.{get_or_from_slice_get}
-use Rattle.dsr_records.specs.declared.record.Usage.{Usage}
 use Rattle.dsr_ledger.specs.Bookings.{key_under, booked_under}
-use Rattle.dsr_ledger.specs.Keys.{key_eq}
-use Rattle.dsr_ledger.specs.Lined.{IsLined}
 use Rattle.dsr_ledger.specs.Owed.{parts_size}
-use Rattle.dsr_ledger.specs.Parts.{Part, part_of, work_parts}
-use Rattle.dsr_ledger.specs.Recordings.{tally_at, seat_at, IsLineOf}
-use Rattle.dsr_ledger.specs.Seated.{AreSeated, shares_of}
-use Rattle.dsr_ledger.specs.Tallies.{tally_plus, key_tally, tally_with}
+use Rattle.dsr_ledger.specs.Recordings.{tally_at}
+use Rattle.dsr_ledger.specs.Seated.{shares_of}
+use Rattle.dsr_ledger.specs.Tallies.{tally_plus, key_tally}
 use Rattle.dsr_ledger.proofs.ShareLemmas.{parts_within}
-use Rattle.dsr_ledger.proofs.SeatedLemmas.{zip_step, value_at, parts_of_shares}
-use Rattle.dsr_ledger.proofs.PlanLemmas.{StepOf, step_of}
+use Rattle.dsr_ledger.proofs.SeatedLemmas.{parts_of_shares}
+use Rattle.dsr_ledger.proofs.PlanLemmas.{step_of}
 use Rattle.dsr_ledger.proofs.TallyPlusLemmas.{tally_with-key}
 use Rattle.dsr_ledger.proofs.booking.apply.add_usage.Goals as goal
 

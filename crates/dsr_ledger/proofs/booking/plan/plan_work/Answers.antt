@@ -3,7 +3,7 @@ use Rattle.std.proofs.Common.{rules, ◌≡◌, suc, ◌+◌, [], ◌∷◌, ◌
 use Rattle.std.specs.List.{zip}
 use Rattle.std.proofs.lemmas.List.{take_all}
 use Rattle.std.proofs.lemmas.Slice.Zip.{length-zip}
-use Rattle.dsr_ledger.specs.Recordings.{recording_number, seat_at}
+use Rattle.dsr_ledger.specs.Recordings.{seat_at}
 use Rattle.dsr_ledger.specs.Seated.{SeatedMore}
 use Rattle.dsr_ledger.proofs.KeepsLemmas.{seats_twice}
 use Rattle.dsr_ledger.proofs.SeatedLemmas.{seated_more, next_share}

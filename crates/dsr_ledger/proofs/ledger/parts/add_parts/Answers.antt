@@ -1,5 +1,5 @@
-use Rattle.std.proofs.Common.{◌≡◌, ◌<◌, suc, ◌+◌, [], ◌∷◌, ◌++◌, take, get_or, length, cond, refl, sym, ap, ◌∙◌, subst, arith, ◌^◌}
-use Rattle.std.specs.Prelude.{Some, map, pos, ◌+ℤ◌, ◌*ℤ◌, slice_get}
+use Rattle.std.proofs.Common.{◌≡◌, suc, ◌+◌, [], ◌∷◌, take, get_or, cond, sym, ap, ◌∙◌, subst, arith, ◌^◌}
+use Rattle.std.specs.Prelude.{Some, map, ◌+ℤ◌, slice_get}
 use Rattle.std.specs.Int.{w128}
 use Rattle.std.specs.Int.RustNames.{FitsSigned}
 use Rattle.std.specs.Str.{bytes_eq}
@@ -8,7 +8,7 @@ use Rattle.dsr_ledger.specs.declared.ledger.parts.SeatShare.{SeatShare}
 use Rattle.dsr_ledger.specs.Indexes.{AreIndexed}
 use Rattle.dsr_ledger.specs.Numbered.{AreApart, place_in}
 use Rattle.dsr_ledger.specs.Owed.{owed_in, owed_plus, owed_for, owed_with}
-use Rattle.dsr_ledger.specs.Parts.{part_of, rounded, is_for}
+use Rattle.dsr_ledger.specs.Parts.{part_of, rounded}
 use Rattle.dsr_ledger.specs.Seated.{IsSeated, HasPart}
 use Rattle.dsr_ledger.proofs.IndexMapLemmas.{each_at}
 use Rattle.dsr_ledger.proofs.NumberedLemmas.{got_or}

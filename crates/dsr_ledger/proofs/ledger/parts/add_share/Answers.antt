@@ -1,4 +1,4 @@
-use Rattle.std.proofs.Common.{rules, ◌≡◌, ◌<◌, ℕ, List, length, cond, sym, ap, ◌∙◌, subst, to_z, of_z}
+use Rattle.std.proofs.Common.{rules, ◌≡◌, ℕ, List, cond, sym, ap, ◌∙◌, subst, to_z, of_z}
 use Rattle.std.specs.Prelude.{Option, None, Some, pos, ◌+ℤ◌, ◌*ℤ◌}
 use Rattle.std.specs.Option.{option_and_then}
 use Rattle.std.specs.Int.{w128}
@@ -6,7 +6,7 @@ use Rattle.std.specs.Int.RustNames.{int_div, FitsSigned}
 use Rattle.std.specs.Str.{bytes_eq}
 use Rattle.std.proofs.lemmas.Int.{to_z-of_z}
 use Rattle.dsr_ledger.specs.Indexes.{AreIndexed}
-use Rattle.dsr_ledger.specs.Numbered.{AreApart, place_in, place_by}
+use Rattle.dsr_ledger.specs.Numbered.{place_in, place_by}
 use Rattle.dsr_ledger.specs.Owed.{owed_at_place, owed_in, owed_with, part_in, part_seats}
 use Rattle.dsr_ledger.proofs.ItemLemmas.{items_are_numbered}
 use Rattle.dsr_ledger.proofs.NumberedLemmas.{not_Some}

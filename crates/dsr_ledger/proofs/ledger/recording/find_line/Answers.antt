@@ -1,6 +1,5 @@
 use Rattle.std.proofs.Common.{◌≡◌, ◌<◌, get_or, ap, sym, ◌∙◌, length, rules}
 use Rattle.std.specs.Prelude.{Some}
-use Rattle.dsr_ledger.specs.declared.ledger.line.Line.{Line}
 use Rattle.dsr_ledger.proofs.ItemLemmas.{number_at_place}
 use Rattle.dsr_ledger.proofs.RecordingLemmas.{key_of}
 use Rattle.dsr_ledger.proofs.ledger.recording.find_line.Goals as goal

@@ -1,4 +1,4 @@
-use Rattle.std.proofs.Common.{◌+◌, ◌-◌, ◌<◌, ◌≤◌, ◌≡◌, length, arith, refl}
+use Rattle.std.proofs.Common.{◌+◌, ◌-◌, ◌≤◌, ◌≡◌, length, arith}
 use Rattle.std.specs.Int.Count.{count_trailing_zeros}
 use Rattle.dsr_records.proofs.Sequences.{utf8_more, utf8_ascii, utf8_end, run_of, run_before}
 use Rattle.dsr_records.proofs.scan.utf8.is_quick.Goals as goal

@@ -1,16 +1,17 @@
-use Rattle.std.proofs.Common.{◌≡◌, [], ◌∷◌, ◌++◌, length, sym, ap, ◌∙◌, subst, arith, append_assoc, length-append}
+use Rattle.std.proofs.Common.{◌≡◌, ◌+◌, ◌≤◌, [], ◌∷◌, ◌++◌, length, sym, ap, ◌∙◌, subst, arith, append_assoc, length-append}
 use Rattle.crossbeam_channel.specs.Claims.{view}
 use Rattle.dsr_file.specs.Closing.{block_event}
 use Rattle.dsr_file.specs.Orderly.{IsOrderly}
 use Rattle.dsr_file.specs.OrderlyLaws.{orderly_next}
 use Rattle.dsr_relay.specs.Messages.{events_of}
 use Rattle.dsr_relay.specs.Rule.{out_of}
-use Rattle.dsr_relay.specs.Views.{FeedView}
-use Rattle.dsr_relay.specs.Feeds.{sent_of}
+use Rattle.dsr_relay.specs.Views.{FeedView, batch_after}
+use Rattle.dsr_relay.specs.Feeds.{feed_view, sent_of}
+use Rattle.dsr_relay.proofs.Sending.{sends_again, sent_out, batch_goes, full_goes}
 use Rattle.dsr_relay.proofs.feed.Feed.send_block.Goals as goal
 
-pub invariant_of-self-2 : goal.invariant_of-self-2
-invariant_of-self-2 g c =
+pub invariant_of-self-then-events-lt32 : goal.invariant_of-self-then-events-lt32
+invariant_of-self-then-events-lt32 g c =
     let f = c.self.inside in
     let e = block_event c.args.place c.args.block.now in
     let out = events_of (out_of (view f.pass)) in
@@ -20,7 +21,49 @@ invariant_of-self-2 g c =
     record {
       seat = c.self.invariant.seat;
       knows = c.self.invariant.knows;
-      waits = omega (arith, ap length added, length-append f.batch (e ∷ []), ap length c.events.ensures, c.if-events-ge31.false);
+      waits = omega (arith, ap length c.events.ensures, c.if-events-lt32.true);
       orderly = subst IsOrderly (sym same) asked;
       count = omega (arith, orderly_next (sent_of f) e [] asked, ap length same, length-append (sent_of f) (e ∷ []));
     }
+
+pub invariant_of-self-in_default : goal.invariant_of-self-in_default
+invariant_of-self-in_default g c =
+    let f = c.self.inside in
+    let e = block_event c.args.place c.args.block.now in
+    let out = events_of (out_of (view f.pass)) in
+    let went = c.in_default.ensures.sent in
+    let added = c.put_block.ensures.added c.if-not-put_block.false in
+    let asked : IsOrderly (sent_of f ++ e ∷ []) = subst (λ (v : FeedView). IsOrderly (v.sent ++ e ∷ [])) (sym c.self.view_is) c.requires.orderly in
+    let same =
+    sent_out (view f.pass) (view c.send_out.new.pass) _ _ (f.batch ++ e ∷ []) c.send_out.new.batch went.0 added went.1
+    ∙ sym (append_assoc out f.batch (e ∷ [])) in
+    record {
+      seat = c.send_out.ensures.seat;
+      knows = sends_again _ _ _ went.0;
+      waits = omega (arith, ap length went.1);
+      orderly = subst IsOrderly (sym same) asked;
+      count = omega (arith, orderly_next (sent_of f) e [] asked, ap length same, length-append (sent_of f) (e ∷ []));
+    }
+
+pub returns-in_default-clause-sent : goal.returns-in_default-clause-sent
+returns-in_default-clause-sent g c = λ _.
+    let f = c.self.inside in
+    let e = block_event c.args.place c.args.block.now in
+    let out = events_of (out_of (view f.pass)) in
+    let went = c.in_default.ensures.sent in
+    let added = c.put_block.ensures.added c.if-not-put_block.false in
+    let same =
+    sent_out (view f.pass) (view c.send_out.new.pass) _ _ (f.batch ++ e ∷ []) c.send_out.new.batch went.0 added went.1
+    ∙ sym (append_assoc out f.batch (e ∷ [])) in
+    let seat = c.send_out.ensures.seat in
+    let was = c.self.invariant.seat in
+    let full : 32 ≤ length (f.batch ++ e ∷ []) = omega (arith, ap length added, ap length c.events.ensures, c.if-events-lt32.false) in
+    let batch = went.1 ∙ sym (batch_goes f.batch e (full_goes f.batch c.args.place c.args.block.now full c.self.invariant.waits)) in
+    let next : feed_view (record f { pass = c.send_out.new.pass; batch = c.send_out.new.batch; count = c.args.place + 1 })
+    ≡ record (feed_view f) { sent = sent_of f ++ e ∷ []; batch = batch_after f.batch e } =
+    λ i. record {
+      name = record { of = record {}; table = (seat.0 ∙ sym was.0) i; key = (seat.1 ∙ sym was.1) i; capacity = (feed_view f).name.capacity };
+      sent = same i;
+      batch = batch i;
+    } in
+    next ∙ ap (λ (v : FeedView). record v { sent = v.sent ++ e ∷ []; batch = batch_after v.batch e }) c.self.view_is

@@ -1,4 +1,4 @@
-use Rattle.std.proofs.Common.{◌≡◌, arith, true}
+use Rattle.std.proofs.Common.{arith, true}
 use Rattle.dsr_ledger.proofs.ledger.line.Line.add.Goals as goal
 
 pub add-requires : goal.add-requires

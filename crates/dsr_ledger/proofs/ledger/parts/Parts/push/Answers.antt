@@ -1,6 +1,4 @@
 use Rattle.std.proofs.Common.{rules, ◌≡◌, ◌++◌, ◌∷◌, [], sym, ap, ◌∙◌, subst, nat_eq}
-use Rattle.std.specs.Prelude.{None}
-use Rattle.dsr_ledger.specs.declared.ledger.parts.SeatPart.{SeatPart}
 use Rattle.dsr_ledger.specs.Indexes.{AreIndexed}
 use Rattle.dsr_ledger.specs.Numbered.{AreApart}
 use Rattle.dsr_ledger.specs.Owed.{part_in, part_seats, PartsGrow}

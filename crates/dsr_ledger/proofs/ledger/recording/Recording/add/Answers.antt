@@ -1,5 +1,5 @@
 use Rattle.std.proofs.Common.{rules, ◌≡◌, ◌<◌, refl, sym, ap, ◌∙◌, subst, length, nat_eq}
-use Rattle.std.specs.Prelude.{Some, map}
+use Rattle.std.specs.Prelude.{map}
 use Rattle.std.specs.Vec.{vec_len}
 use Rattle.std.proofs.lemmas.Option.{slice_get_read}
 use Rattle.dsr_ledger.specs.Indexes.{AreIndexed}

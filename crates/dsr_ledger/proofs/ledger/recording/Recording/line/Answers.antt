@@ -1,4 +1,4 @@
-use Rattle.std.proofs.Common.{◌≡◌, refl, ap, sym, subst, ◌∙◌, length}
+use Rattle.std.proofs.Common.{ap, sym, subst, ◌∙◌, length}
 use Rattle.dsr_ledger.specs.Numbered.{IsWithNumber, place_in}
 use Rattle.dsr_ledger.specs.Seated.{AreSeatsBelow}
 use Rattle.dsr_ledger.specs.Seats.{seat_numbers}

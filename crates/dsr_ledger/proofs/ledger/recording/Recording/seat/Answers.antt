@@ -1,4 +1,4 @@
-use Rattle.std.proofs.Common.{◌≡◌, ◌<◌, ◌≤◌, length, arith}
+use Rattle.std.proofs.Common.{arith}
 use Rattle.dsr_ledger.specs.Seats.{seat_numbers}
 use Rattle.dsr_ledger.proofs.RecordingLemmas.{no_fewer}
 use Rattle.dsr_ledger.proofs.ledger.recording.Recording.seat.Goals as goal

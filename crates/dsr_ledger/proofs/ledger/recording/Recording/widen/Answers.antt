@@ -1,4 +1,4 @@
-use Rattle.std.proofs.Common.{◌≡◌, refl, ap, sym, subst, ◌∙◌, length, set}
+use Rattle.std.proofs.Common.{refl, sym, subst, length}
 use Rattle.std.proofs.lemmas.Result.{on_ok_weaker}
 use Rattle.std.proofs.lemmas.Option.{slice_get_read}
 use Rattle.dsr_ledger.specs.declared.ledger.line.Line.{Line}
