@@ -298,13 +298,7 @@ impl Grammar {
 
     /// Takes the next line, which is not too long; `closed` becomes what the line closes.
     #[inline(always)]
-    fn any_line(
-        &mut self,
-        alloc: Global,
-        layout: &Layout,
-        line: &[u8],
-        closed: &mut Closed,
-    ) -> Step
+    fn any_line(&mut self, alloc: Global, layout: &Layout, line: &[u8], closed: &mut Closed) -> Step
         requires lines { self.old.lines < 2 ^ 40 - 1 }
         requires none { closed.old ≡ None }
         requires short { length line.now ≤ 8192 }

@@ -35,7 +35,6 @@ unclaimed-left-requires c =
     let lines : c.as_slice-2.result.now ≡ party_lines o.bookings = c.as_slice-2.ensures ∙ c.in_ok-parties.ensures o.bookings place listed owed in
     subst (λ n. n < 2 ^ 127) (λ i. unsigned_abs (sym amount i) + size (sym lines i)) (line_fits o.bookings o.small))
 
-
 pub returns : goal.returns
 unfolding line_of
 returns c = λ bs is.
