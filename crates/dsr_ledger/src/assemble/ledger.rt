@@ -13,7 +13,7 @@ ghost use Rattle.dsr_ledger.specs.Order.{AreOfSmall};
 ghost use Rattle.dsr_ledger.specs.Listed.{IsOfSmallAt, AddsLines};
 
 use crate::assemble::lines::push_line;
-use crate::assemble::listed::lines_by_key;
+use crate::assemble::listed::{lines_by_key, ranks_of};
 use crate::ledger::recording::Recording;
 use crate::ledger::recordings::Ledger;
 use crate::ledger::summary_key::SummaryKey;
@@ -32,7 +32,8 @@ fn add_recording<'a>(
     keys: &'a [SummaryKey],
     isrc: Isrc,
     recording: &Recording,
-    order: &mut Vec<(&'a SummaryKey, usize)>,
+    ranks: &[u32],
+    order: &mut Vec<(u32, usize)>,
     names: &mut Vec<(&'a Text, usize)>,
 ) -> Result<(), NoMemory>
     requires names { IsDistinct bytes_eq parties.now }
@@ -44,9 +45,10 @@ fn add_recording<'a>(
         report.new) }
 {
     let numbers = recording.seats.as_slice();
-    lines_by_key(keys, recording.lines.as_slice(), order)?;
-    for (key, place) in order.as_slice() {
+    lines_by_key(keys, ranks, recording.lines.as_slice(), order)?;
+    for (_rank, place) in order.as_slice() {
         let line = &recording.lines[*place];
+        let key = &keys[line.key as usize];
         if line.is_booked {
             push_line(report, alloc, isrc, key, line, parties, numbers, names)?;
         }
@@ -77,6 +79,7 @@ pub fn ledger_lines(alloc: Global, books: Ledger) -> Result<LedgerLines, NoMemor
     let names = parties.as_slice();
     let keys = summary_keys.as_slice();
     let mut report = Items::from(Vec::with_capacity(alloc, count_lines(&recordings))?);
+    let ranks = ranks_of(alloc, keys)?;
     let mut order = Vec::new(alloc);
     let mut listed = Vec::new(alloc);
     for (isrc, recording) in recordings {
@@ -87,6 +90,7 @@ pub fn ledger_lines(alloc: Global, books: Ledger) -> Result<LedgerLines, NoMemor
             keys,
             isrc,
             &recording,
+            ranks.as_slice(),
             &mut order,
             &mut listed,
         )?;

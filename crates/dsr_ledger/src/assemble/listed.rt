@@ -13,6 +13,7 @@ use crate::ledger::line::Line;
 use crate::ledger::parts::SeatPart;
 use crate::ledger::summary_key::SummaryKey;
 use dsr_cells::{NoMemory, Text};
+use std::alloc::Global;
 use std::cmp::Ordering;
 
 /// The order of two parties: the byte order of their names.
@@ -27,6 +28,25 @@ fn by_key(one: &(&SummaryKey, usize), other: &(&SummaryKey, usize)) -> Ordering
     ensures { result ≡ summary_key_cmp one.now.0.now other.now.0.now }
 {
     one.0.cmp(other.0)
+}
+
+fn by_rank(one: &(u32, usize), other: &(u32, usize)) -> Ordering {
+    one.0.cmp(&other.0)
+}
+
+/// The rank of each key.
+pub fn ranks_of(alloc: Global, keys: &[SummaryKey]) -> Result<Vec<u32>, NoMemory> {
+    let mut order = Vec::new(alloc);
+    let mut ranks = Vec::new(alloc);
+    for place in 0..keys.len() {
+        order.push((&keys[place], place))?;
+        ranks.push(0u32)?;
+    }
+    order.sort_unstable_by(by_key);
+    for rank in 0..order.len() {
+        ranks[order[rank].1] = rank as u32;
+    }
+    Ok(ranks)
 }
 
 /// Fills a list with the names of the parties that have these parts, in byte order, with the places
@@ -58,8 +78,9 @@ pub fn parts_by_name<'a>(
 /// Fills a list with the summary keys of a recording's lines, sorted, with the places of the lines.
 pub fn lines_by_key<'a>(
     keys: &'a [SummaryKey],
+    ranks: &[u32],
     lines: &[Line],
-    order: &mut Vec<(&'a SummaryKey, usize)>,
+    order: &mut Vec<(u32, usize)>,
 ) -> Result<(), NoMemory>
     requires keys { IsDistinct summary_key_eq keys.now }
     requires apart { AreApart (line_keys lines.now) }
@@ -69,8 +90,8 @@ pub fn lines_by_key<'a>(
 {
     order.clear();
     for line in 0..lines.len() {
-        order.push((&keys[lines[line].key as usize], line))?;
+        order.push((ranks[lines[line].key as usize], line))?;
     }
-    order.sort_unstable_by(by_key);
+    order.sort_unstable_by(by_rank);
     Ok(())
 }
