@@ -18,7 +18,7 @@
 //! 6. [`whole_events`] (`whole`) gives all events of a text at once, in an [`EventList`]
 //!    (`event_list`).
 //!
-//! **Example**, compiled and proved in `crates/dsr_unit_tests/src/examples/file.rt`;
+//! **Example**, compiled and proved in `crates/dsr_reader_tests/src/examples/file.rt`;
 //! `crates/example_reader` is a small program that does the same with a real file:
 //!
 //! ```

@@ -21,7 +21,7 @@
 //! 5. `assemble` makes the `report`: `file_lines`, `missing`, `differences`, `rejects`, and the lines
 //!    of the ledger (`assemble/ledger`) with their `parties`.
 //!
-//! **Example**, compiled and proved in `crates/dsr_unit_tests/src/examples/ledger.rt`:
+//! **Example**, compiled and proved in `crates/dsr_ledger_tests/src/example.rt`:
 //!
 //! ```
 //! /// Opens the first file.

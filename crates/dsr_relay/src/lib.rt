@@ -10,7 +10,7 @@
 //!    memory of the old one.
 //! 5. [`Tap::take_in`] joins the two ends and returns what was taken and what is left ([`Settled`], in `settled`).
 //!
-//! **Example**, compiled and proved in `crates/dsr_unit_tests/src/examples/relay.rt`:
+//! **Example**, compiled and proved in `crates/dsr_relay_tests/src/example.rt`:
 //!
 //! ```
 //! /// An example: the end of a file goes from one end of a relay to the other.

@@ -1,0 +1,4 @@
+//! The examples that the lib.rt files show, one file for each crate.
+mod cells;
+mod file;
+mod records;

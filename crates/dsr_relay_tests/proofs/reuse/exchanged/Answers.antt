@@ -1,0 +1,7 @@
+use Rattle.std.proofs.Common.{arith}
+use Rattle.dsr_file.specs.OrderlyLaws.{orderly_push}
+use Rattle.dsr_relay_tests.proofs.reuse.exchanged.Goals as goal
+
+pub send_block-requires-clause-orderly : goal.send_block-requires-clause-orderly
+send_block-requires-clause-orderly g c =
+    orderly_push _ _ c.sent_count-place.ensures.orderly c.requires.going c.sent_count-place.ensures.count (λ e. omega (arith, e, c.requires.few.0))

@@ -1,0 +1,5 @@
+use Rattle.dsr_file.specs.OrderlyLaws.{orderly_push}
+use Rattle.dsr_relay_tests.proofs.sending.send_part.Goals as goal
+
+pub send-requires : goal.send-requires
+send-requires g c = orderly_push _ _ c.sent_count-place.ensures.orderly c.requires.going c.sent_count-place.ensures.count c.requires.part

@@ -1,0 +1,28 @@
+//! Tests of dsr_relay, with relays at work: refusals, returned events, closed ends, full channels, and threads.
+//!
+//! 1. `example`: the one that the lib.rt of dsr_relay shows.
+//! 2. `events` makes the events that go through a relay, `sending` sends them, and `taking` takes them.
+//! 3. `batches`, `ends` and `reuse`: batches, the two ends, and blocks that are written over old ones.
+//! 4. `memory`: refused allocations. `threads`: a file that goes from one thread to another.
+//!
+//! They are a separate crate, since a crate with tests is proved a second time with them.
+#![tactic(auto)]
+
+#[cfg(test)]
+mod batches;
+#[cfg(test)]
+mod ends;
+#[cfg(test)]
+mod events;
+#[cfg(test)]
+mod example;
+#[cfg(test)]
+mod memory;
+#[cfg(test)]
+mod reuse;
+#[cfg(test)]
+mod sending;
+#[cfg(test)]
+mod taking;
+#[cfg(test)]
+mod threads;

@@ -1,0 +1,86 @@
+//! Relays where allocations are refused.
+ghost use Rattle.std.specs.Prelude.{◌≡◌, ◌+◌, ◌<◌, ◌≤◌, true, false, length};
+ghost use Rattle.dsr_file.specs.Orderly.{has_ended};
+
+use crate::events::plain_block;
+use crate::sending::{flushes, send_file, send_opened, send_part};
+use crate::taking::{take_batches, takes_batch, takes_opened};
+use dsr_relay::{Feed, Tap, open_relay};
+use std::alloc::Global;
+use std::sync::Wait;
+use std::thread;
+
+/// Sends a block that allocates nothing, takes it and gives it back. Returns whether all of that succeeded.
+fn passes_block<R: Wait>(rt: &R, alloc: Global, feed: &mut Feed, tap: &mut Tap) -> bool
+    requires going { has_ended feed.old.sent ≡ false }
+    requires few { (0 < length feed.old.sent) × (length feed.old.sent < 100000) }
+    ensures going { has_ended feed.new.sent ≡ false }
+    ensures few { length feed.new.sent ≤ length feed.old.sent + 1 }
+    ensures sent { result ≡ true → length feed.new.sent ≡ length feed.old.sent + 1 }
+{
+    let Ok(part) = plain_block(alloc) else {
+        return false;
+    };
+    let Ok(()) = send_part(rt, feed, part) else {
+        return false;
+    };
+    if !flushes(rt, feed) || tap.ended() {
+        return false;
+    }
+    takes_batch(rt, tap) == Some(1)
+}
+
+/// Sends and takes `blocks` blocks, one after another. Returns whether all of that succeeded.
+fn passes_blocks<R: Wait>(
+    rt: &R,
+    alloc: Global,
+    feed: &mut Feed,
+    tap: &mut Tap,
+    blocks: u64,
+) -> bool
+    requires going { has_ended feed.old.sent ≡ false }
+    requires some { 0 < length feed.old.sent }
+    requires few { length feed.old.sent + blocks < 50000 }
+{
+    for _n in 0..blocks {
+        if !passes_block(rt, alloc, feed, tap) {
+            return false;
+        }
+    }
+    true
+}
+
+/// Once a relay is open nothing in it allocates: if any one allocation is refused, all that is sent is received.
+#[test]
+fn sends_take_no_memory(rt: HostRuntime) {
+    let alloc: Global = rt.alloc();
+    let Ok((mut feed, mut tap)) = open_relay(alloc, 1) else {
+        return;
+    };
+    if !send_opened(&rt, alloc, &mut feed) {
+        return;
+    }
+    if feed.sent_count() != 1 {
+        return;
+    }
+    assert!(rt; flushes(&rt, &mut feed));
+    assert!(rt; takes_opened(&rt, &mut tap));
+    assert!(rt; passes_blocks(&rt, alloc, &mut feed, &mut tap, 100));
+}
+
+/// A file goes from thread to thread. If an allocation is refused it has fewer blocks, and what was
+/// sent is taken.
+#[test]
+fn a_file_goes_through_or_no_memory(rt: HostRuntime) {
+    let alloc: Global = rt.alloc();
+    let Ok((feed, mut tap)) = open_relay(alloc, 1) else {
+        return;
+    };
+    let Ok(sender) = thread::spawn(&rt, move || send_file(&rt, alloc, feed, 70)) else {
+        return;
+    };
+    let taken = take_batches(&rt, &mut tap);
+    assert!(rt; tap.ended());
+    let feed = sender.join(&rt);
+    assert_eq!(rt; taken, feed.sent_count());
+}

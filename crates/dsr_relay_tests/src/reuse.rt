@@ -1,0 +1,108 @@
+//! Blocks that are exchanged for stale ones of a batch that came back.
+ghost use Rattle.std.specs.Prelude.{◌≡◌, ◌+◌, ◌<◌, ◌≤◌, false, length};
+ghost use Rattle.dsr_file.specs.Orderly.{has_ended};
+
+use crate::events::{are_right, block};
+use crate::sending::{flushes, relay, send_block, send_blocks};
+use crate::taking::takes_batch;
+use dsr_file::EventPart;
+use dsr_relay::{Feed, Tap};
+use std::alloc::Global;
+use std::sync::Wait;
+use std::test::Fail;
+
+/// Sends the block of the next place if the feed has an old one for it. Returns the number of the old one, 0 if that is
+/// empty.
+fn exchanged<R: Wait>(rt: &R, alloc: Global, feed: &mut Feed) -> Option<u64>
+    requires going { has_ended feed.old.sent ≡ false }
+    requires few { (0 < length feed.old.sent) × (length feed.old.sent < 100000) }
+    ensures name { feed.new.name ≡ feed.old.name }
+    ensures going { has_ended feed.new.sent ≡ false }
+    ensures few { length feed.new.sent ≤ length feed.old.sent + 1 }
+    ensures some { 0 < length feed.new.sent }
+{
+    let place = feed.sent_count();
+    let EventPart::Block(mut block) = block(alloc, place)? else {
+        return None;
+    };
+    if !feed.send_block(rt, place, &mut block) {
+        return None;
+    }
+    Some(block.id.as_str().parse::<u64>().unwrap_or(0))
+}
+
+/// Takes a batch of five blocks from this place on, and returns whether all were right.
+fn takes_blocks<R: Wait>(rt: &R, tap: &mut Tap, place: u64) -> bool
+    requires { has_ended tap.old.taken ≡ false }
+    ensures { tap.new.name ≡ tap.old.name }
+{
+    let Ok(batch) = tap.take_batch(rt) else {
+        return false;
+    };
+    let right = batch.events().len() == 5 && are_right(batch.events(), place);
+    tap.give_back(rt, batch);
+    right
+}
+
+/// A block is exchanged for an empty one in the first round of a batch and for a stale one after that, but not for the
+/// opening.
+#[test]
+fn a_block_is_sent_for_a_stale_one(rt: HostRuntime) -> Result<(), Fail> {
+    let alloc: Global = rt.alloc();
+    let (mut feed, mut tap) = relay(alloc, 1)?;
+    assert!(rt; send_blocks(&rt, alloc, &mut feed, 1));
+    assert_eq!(rt; exchanged(&rt, alloc, &mut feed), Some(0));
+    assert_eq!(rt; exchanged(&rt, alloc, &mut feed), Some(0));
+    assert!(rt; flushes(&rt, &mut feed));
+    assert_eq!(rt; takes_batch(&rt, &mut tap), Some(4));
+    assert!(rt; exchanged(&rt, alloc, &mut feed).is_none());
+    assert!(rt; send_block(&rt, alloc, &mut feed));
+    assert_eq!(rt; exchanged(&rt, alloc, &mut feed), Some(1));
+    assert_eq!(rt; exchanged(&rt, alloc, &mut feed), Some(2));
+    assert_eq!(rt; exchanged(&rt, alloc, &mut feed), Some(3));
+    assert_eq!(rt; exchanged(&rt, alloc, &mut feed), Some(0));
+    assert!(rt; flushes(&rt, &mut feed));
+    assert!(rt; !tap.ended());
+    assert!(rt; takes_blocks(&rt, &mut tap, 4));
+    Ok(())
+}
+
+/// A batch is sent with the block that fills it.
+#[test]
+fn a_block_that_fills_a_batch_sends_it(rt: HostRuntime) -> Result<(), Fail> {
+    let alloc: Global = rt.alloc();
+    let (mut feed, mut tap) = relay(alloc, 1)?;
+    assert!(rt; send_blocks(&rt, alloc, &mut feed, 30));
+    assert_eq!(rt; exchanged(&rt, alloc, &mut feed), Some(0));
+    assert!(rt; !tap.ended());
+    assert_eq!(rt; takes_batch(&rt, &mut tap), Some(32));
+    Ok(())
+}
+
+/// If the tap is gone, the block that would fill a batch is not sent.
+#[test]
+fn a_block_that_fills_a_batch_comes_back(rt: HostRuntime) -> Result<(), Fail> {
+    let alloc: Global = rt.alloc();
+    let (mut feed, tap) = relay(alloc, 1)?;
+    assert!(rt; send_blocks(&rt, alloc, &mut feed, 30));
+    drop(tap);
+    assert!(rt; exchanged(&rt, alloc, &mut feed).is_none());
+    assert_eq!(rt; feed.sent_count(), 31);
+    Ok(())
+}
+
+/// The blocks of a batch for which many bytes were read are freed once it is given back.
+#[test]
+fn a_block_of_many_bytes_is_freed(rt: HostRuntime) -> Result<(), Fail> {
+    let alloc: Global = rt.alloc();
+    let (mut feed, mut tap) = relay(alloc, 1)?;
+    assert!(rt; send_blocks(&rt, alloc, &mut feed, 2));
+    feed.note_bytes(256 * 1024);
+    assert_eq!(rt; feed.batch_bytes(), 256 * 1024);
+    assert!(rt; flushes(&rt, &mut feed));
+    assert_eq!(rt; feed.batch_bytes(), 0);
+    assert_eq!(rt; takes_batch(&rt, &mut tap), Some(3));
+    assert!(rt; send_block(&rt, alloc, &mut feed));
+    assert_eq!(rt; exchanged(&rt, alloc, &mut feed), Some(0));
+    Ok(())
+}

@@ -1,0 +1,154 @@
+//! What a test sends: the opening of a file, its blocks and its end.
+ghost use Rattle.std.specs.Prelude.{◌≡◌, ◌+◌, ◌<◌, ◌≤◌, true, false, [], length, IfOk, OnOk, OnErr};
+ghost use Rattle.dsr_file.specs.Orderly.{has_ended, is_ended, MayStandAt};
+
+use crate::events::{block, ended, is_end, opened};
+use dsr_file::{Event, EventPart};
+use dsr_relay::{Feed, Tap, open_relay};
+use std::alloc::Global;
+use std::sync::Wait;
+use std::test::Fail;
+
+/// A new relay.
+///
+/// # Errors
+///
+/// A failure of the test: the capacity is not one of 1 to 1,024, or out of memory.
+pub fn relay(alloc: Global, capacity: u32) -> Result<(Feed, Tap), Fail>
+    ensures { IfOk result (λ r. (r.1.name ≡ r.0.name) × (r.0.sent ≡ []) × (r.0.batch ≡ [])
+        × (r.1.taken ≡ []) × (r.1.held ≡ [])) }
+{
+    match open_relay(alloc, capacity) {
+        Ok(ends) => Ok(ends),
+        Err(_) => Err(Fail::new("no relay")),
+    }
+}
+
+/// Sends a part with the next place.
+///
+/// # Errors
+///
+/// If the tap is gone, the event is returned and nothing changes.
+pub fn send_part<R: Wait>(rt: &R, feed: &mut Feed, part: EventPart) -> Result<(), Event>
+    requires going { has_ended feed.old.sent ≡ false }
+    requires few { length feed.old.sent < 100000 }
+    requires part { MayStandAt (length feed.old.sent) part }
+    ensures name { feed.new.name ≡ feed.old.name }
+    ensures sent { OnOk result ((length feed.new.sent ≡ length feed.old.sent + 1)
+        × (has_ended feed.new.sent ≡ is_ended part)) }
+    ensures refused { OnErr result (feed.new ≡ feed.old) }
+{
+    let place = feed.sent_count();
+    feed.send(rt, Event { place, part })
+}
+
+/// Sends the opening, and returns whether it was taken.
+pub fn send_opened<R: Wait>(rt: &R, alloc: Global, feed: &mut Feed) -> bool
+    requires { feed.old.sent ≡ [] }
+    ensures name { feed.new.name ≡ feed.old.name }
+    ensures going { has_ended feed.new.sent ≡ false }
+    ensures few { length feed.new.sent ≤ 1 }
+    ensures sent { result ≡ true → length feed.new.sent ≡ 1 }
+{
+    let Some(part) = opened(alloc) else {
+        return false;
+    };
+    let Ok(()) = send_part(rt, feed, part) else {
+        return false;
+    };
+    true
+}
+
+/// Sends the block of the next place, and returns whether it was taken.
+pub fn send_block<R: Wait>(rt: &R, alloc: Global, feed: &mut Feed) -> bool
+    requires going { has_ended feed.old.sent ≡ false }
+    requires few { (0 < length feed.old.sent) × (length feed.old.sent < 100000) }
+    ensures name { feed.new.name ≡ feed.old.name }
+    ensures going { has_ended feed.new.sent ≡ false }
+    ensures few { length feed.new.sent ≤ length feed.old.sent + 1 }
+    ensures sent { result ≡ true → length feed.new.sent ≡ length feed.old.sent + 1 }
+{
+    let Some(part) = block(alloc, feed.sent_count()) else {
+        return false;
+    };
+    let Ok(()) = send_part(rt, feed, part) else {
+        return false;
+    };
+    true
+}
+
+/// Sends Opened, then blocks, and returns whether all were taken.
+pub fn send_blocks<R: Wait>(rt: &R, alloc: Global, feed: &mut Feed, blocks: u64) -> bool
+    requires empty { feed.old.sent ≡ [] }
+    requires few { blocks < 50000 }
+    ensures name { feed.new.name ≡ feed.old.name }
+    ensures going { has_ended feed.new.sent ≡ false }
+    ensures few { length feed.new.sent ≤ blocks + 1 }
+    ensures sent { result ≡ true → length feed.new.sent ≡ blocks + 1 }
+{
+    if !send_opened(rt, alloc, feed) {
+        return false;
+    }
+    for _n in 0..blocks {
+        if !send_block(rt, alloc, feed) {
+            return false;
+        }
+    }
+    true
+}
+
+/// Sends Ended.
+///
+/// # Errors
+///
+/// If the tap is gone, the event is returned and nothing changes.
+pub fn send_ended<R: Wait>(rt: &R, feed: &mut Feed) -> Result<(), Event>
+    requires going { has_ended feed.old.sent ≡ false }
+    requires few { length feed.old.sent < 100000 }
+    ensures name { feed.new.name ≡ feed.old.name }
+    ensures refused { OnErr result (feed.new ≡ feed.old) }
+{
+    send_part(rt, feed, ended())
+}
+
+/// Flushes, and returns whether the batch was sent.
+pub fn flushes<R: Wait>(rt: &R, feed: &mut Feed) -> bool
+    ensures sent { feed.new.sent ≡ feed.old.sent }
+    ensures name { feed.new.name ≡ feed.old.name }
+{
+    feed.flush(rt).is_ok()
+}
+
+/// Sends the opening and drops the feed.
+pub fn send_and_leave<R: Wait>(rt: &R, alloc: Global, mut feed: Feed) -> bool
+    requires { feed.sent ≡ [] }
+{
+    send_opened(rt, alloc, &mut feed) && flushes(rt, &mut feed)
+}
+
+/// Sends a whole file of `blocks` blocks, and returns the feed. If memory is refused the file has fewer blocks, and ends all
+/// the same, so that nobody waits for more.
+pub fn send_file<R: Wait>(rt: &R, alloc: Global, mut feed: Feed, blocks: u64) -> Feed
+    requires empty { feed.sent ≡ [] }
+    requires few { blocks < 50000 }
+    ensures { result.name ≡ feed.name }
+{
+    let _sent = send_blocks(rt, alloc, &mut feed, blocks);
+    let Ok(()) = send_ended(rt, &mut feed) else {
+        return feed;
+    };
+    let _ = feed.flush(rt);
+    feed
+}
+
+/// Sends Ended after the tap is gone, and returns whether it was handed back.
+pub fn ended_comes_back<R: Wait>(rt: &R, feed: &mut Feed, place: u64) -> bool
+    requires going { has_ended feed.old.sent ≡ false }
+    requires few { length feed.old.sent < 100000 }
+    ensures { result ≡ true → feed.new ≡ feed.old }
+{
+    let Err(event) = send_ended(rt, feed) else {
+        return false;
+    };
+    is_end(&event, place)
+}

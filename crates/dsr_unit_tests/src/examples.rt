@@ -1,6 +1,0 @@
-//! The examples that the lib.rt files show, one file for each crate.
-mod cells;
-mod file;
-mod ledger;
-mod records;
-mod relay;
