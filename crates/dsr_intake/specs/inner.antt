@@ -8,3 +8,4 @@ pub mod Pieces
 pub mod Puts
 pub mod Bound
 pub mod Laid
+pub mod Read

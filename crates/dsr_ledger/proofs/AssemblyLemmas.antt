@@ -14,7 +14,9 @@ use Rattle.dsr_file.specs.Openings.{OpeningParts}
 use Rattle.dsr_ledger.specs.declared.file.summaries.Summaries.{Summaries}
 use Rattle.dsr_ledger.specs.declared.file.FileBooks.{FileBooks}
 use Rattle.dsr_ledger.specs.declared.kept.Kept.{Kept}
-use Rattle.dsr_ledger.specs.declared.report.Report.{Report}
+use Rattle.dsr_ledger.specs.declared.closed.ClosedBooks.{ClosedBooks}
+use Rattle.dsr_ledger.specs.declared.key.Key.{Key}
+use Rattle.dsr_ledger.specs.declared.ledger.recordings.Ledger.{Ledger}
 use Rattle.dsr_ledger.specs.declared.report.ReportKey.{ReportKey}
 use Rattle.dsr_ledger.specs.Sums.{int_sum_by}
 use Rattle.dsr_ledger.specs.Files.{File, Filed, filed, filed_after, standing, summaries_of, first_head}
@@ -22,10 +24,11 @@ use Rattle.dsr_ledger.specs.Findings.{is_ours, ended_whole, usages_in, naming, d
 use Rattle.dsr_ledger.specs.Findings.{missing_for, rejects_in, rejects}
 use Rattle.dsr_ledger.specs.Summaries.{sums_at, sums_with, no_sums, found_in}
 use Rattle.dsr_ledger.specs.Openings.{openings_of, first_of}
-use Rattle.dsr_ledger.specs.Bookings.{Booking, bookings}
-use Rattle.dsr_ledger.specs.Ledger.{ledger}
-use Rattle.dsr_ledger.specs.Reports.{key_of, outcome_of, file_line, report_head, missing, report_of}
-use Rattle.dsr_ledger.specs.Stands.{FileStands, FilesStand, LedgerStands}
+use Rattle.dsr_ledger.specs.Bookings.{bookings}
+use Rattle.dsr_ledger.specs.Reports.{key_of, outcome_of, file_line, report_head, missing}
+use Rattle.dsr_ledger.specs.Closed.{AreClosed}
+use Rattle.dsr_ledger.specs.Recordings.{tally_at}
+use Rattle.dsr_ledger.specs.Stands.{FileStands, FilesStand}
 use Rattle.dsr_ledger.specs.Books.{IsSmallFile, IsReached, Stands}
 use Rattle.dsr_ledger.specs.Order.{AreOfSmall}
 use Rattle.dsr_ledger.specs.Assembly.{line_kept, is_number_kept, not_in, sums_shown, difference_to, differences_to, differences_kept}
@@ -168,33 +171,32 @@ small_lines kept few r =
       small = bookings_small r.files (omega arith) (short_files r.files r.small);
     }
 
--- the parts of the report, as they were made of the states
-pub record Assembled (kept : Kept) (numbers : BTreeSet ℕ) (r : Report) : Type 0 where
-  pub key : r.key ≡ option_map key_of (first_head (openings_of kept.files.items))
-  pub lines : r.files ≡ map line_kept kept.files.items
-  pub own : (n : ℕ) → contains nat_cmp numbers n ≡ list_any (is_number_kept n) kept.files.items
-  pub missing : r.missing ≡ not_in r.key numbers
-  pub differences : r.differences ≡ flat_map differences_kept kept.files.items
-  pub ledger : (bs : List Booking) → LedgerStands kept.ledger bs → r.ledger ≡ ledger bs
-  pub rejects : r.rejects ≡ flat_map (λ f. f.rejects.items) kept.files.items
+-- small bookings of a ledger are those of another one with the same tallies
+pub small_after : (old new : Ledger) → ((q : Key) → tally_at new q ≡ tally_at old q) → AreOfSmall old → AreOfSmall new
+small_after old new same o = record { bookings = o.bookings; stand = λ q. same q ∙ o.stand q; small = o.small }
 
-pub report_is : (kept : Kept) (numbers : BTreeSet ℕ) (r : Report) → Assembled kept numbers r → (files : List File) → Stands kept files → r ≡ report_of files
-unfolding report_of missing differences rejects
-report_is kept numbers r a files h =
+-- closed books, as they were made of the states
+pub record Assembled (kept : Kept) (numbers : BTreeSet ℕ) (c : ClosedBooks) : Type 0 where
+  pub key : c.key ≡ option_map key_of (first_head (openings_of kept.files.items))
+  pub lines : c.files ≡ map line_kept kept.files.items
+  pub own : (n : ℕ) → contains nat_cmp numbers n ≡ list_any (is_number_kept n) kept.files.items
+  pub missing : c.missing ≡ not_in c.key numbers
+  pub differences : c.differences ≡ flat_map differences_kept kept.files.items
+  pub ledger : (q : Key) → tally_at c.ledger q ≡ tally_at kept.ledger q
+  pub rejects : c.rejects ≡ flat_map (λ f. f.rejects.items) kept.files.items
+
+pub closed_is : (kept : Kept) (numbers : BTreeSet ℕ) (c : ClosedBooks) → Assembled kept numbers c → (files : List File) → Stands kept files → AreClosed c files
+unfolding missing differences rejects
+closed_is kept numbers c a files h =
     let fs = kept.files.items in
     let key = a.key ∙ ap (λ os. option_map key_of (first_head os)) (openings_are 1 [] fs files h.each) in
     let there : (n : ℕ) → contains nat_cmp numbers n ≡ is_there n (filed files) =
     λ n. a.own n ∙ any_stands (is_number_kept n) (λ d. is_ours d.standing && has_number n d.file.opening) (number_stands n) 1 [] fs files h.each in
-    let missing = a.missing ∙ ap (λ k. not_in k numbers) key ∙ not_in_is (report_head files) numbers (filed files) there in
-    let lines = a.lines ∙ map_stands line_kept file_line line_stands 1 [] fs files h.each in
-    let differences = a.differences ∙ flat_map_stands differences_kept differences_in differences_stand 1 [] fs files h.each in
-    let rejects = a.rejects ∙ flat_map_stands (λ f. f.rejects.items) rejects_in (λ f d s. s.rejects) 1 [] fs files h.each in
-    let ledger = a.ledger (bookings files) h.ledger in
-    λ i. record {
-      key = key i;
-      files = lines i;
-      missing = missing i;
-      differences = differences i;
-      ledger = ledger i;
-      rejects = rejects i;
+    record {
+      key = key;
+      lines = a.lines ∙ map_stands line_kept file_line line_stands 1 [] fs files h.each;
+      missing = a.missing ∙ ap (λ k. not_in k numbers) key ∙ not_in_is (report_head files) numbers (filed files) there;
+      differences = a.differences ∙ flat_map_stands differences_kept differences_in differences_stand 1 [] fs files h.each;
+      ledger = λ q. a.ledger q ∙ h.ledger q;
+      rejects = a.rejects ∙ flat_map_stands (λ f. f.rejects.items) rejects_in (λ f d s. s.rejects) 1 [] fs files h.each;
     }

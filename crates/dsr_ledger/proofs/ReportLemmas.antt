@@ -21,7 +21,7 @@ use Rattle.std.proofs.lemmas.Map.Entries.{lookup_from_place}
 use Rattle.std.proofs.lemmas.List.Quantifiers.{position-Some}
 use Rattle.std.proofs.lemmas.Option.{slice_get-map}
 use Rattle.std.proofs.lemmas.Simd.{map-map}
-use Rattle.indexmap.specs.IndexMap.{IndexMap, get, keys, IsUnique}
+use Rattle.indexmap.specs.IndexMap.{get, keys, IsUnique}
 use Rattle.dsr_ledger.specs.declared.key.Key.{Key}
 use Rattle.dsr_ledger.specs.declared.ledger.line.Line.{Line}
 use Rattle.dsr_ledger.specs.declared.ledger.summary_key.SummaryKey.{SummaryKey}
@@ -314,29 +314,28 @@ module _ (books : Ledger) where
       (λ q. some_at q bs)
       (λ q none. sym (ap (λ t. t.is_booked) (stand q)) ∙ w.absent q none refl))
 
-  -- before any is written: the recordings, put in order
-  module _ {S : Type 0} (m : IndexMap (List ℕ) Recording S) (unique : IsUnique bytes_eq m)
-      (same : (q : List ℕ) → get bytes_eq m q ≡ get bytes_eq books.recordings q) where
-    pub rest_all : IsSorted text_cmp (keys m) → AreRest books m.entries
-    rest_all sorted = record {
-      order =
-          subst (IsStrictlySortedBy text_cmp) (map-id (keys m))
-          (strictly_sorted (λ (k : List ℕ). k) nat_list_cmp_total bytes_eq text_ties (keys m) sorted unique);
-      own =
-          all_at (λ x. get bytes_eq books.recordings x.0 ≡ Some x.1) m.entries
-          (λ i x at. sym (same x.0) ∙ lookup_from_place nat_list_eq_equiv m.entries i x.0 x.1 unique at);
-    }
+  -- before any is written: the recordings, which are in order
+  pub rest_all : IsUnique bytes_eq books.recordings → IsSorted text_cmp (keys books.recordings) → AreRest books books.recordings.entries
+  rest_all unique sorted =
+      let m = books.recordings in
+      record {
+        order =
+            subst (IsStrictlySortedBy text_cmp) (map-id (keys m))
+            (strictly_sorted (λ (k : List ℕ). k) nat_list_cmp_total bytes_eq text_ties (keys m) sorted unique);
+        own =
+            all_at (λ x. get bytes_eq books.recordings x.0 ≡ Some x.1) m.entries
+            (λ i x at. lookup_from_place nat_list_eq_equiv m.entries i x.0 x.1 unique at);
+      }
 
-    pub written_none : IsWritten books m.entries []
-    unfolding IsStrictlySortedBy
-    written_none = record {
-      entries = [];
-      order = tt;
-      before = tt;
-      absent =
-          λ q none missing. ap (λ o. (recording_tally (party_number books) (key_number books (summary_key_in q)) o).is_booked) (sym (same q.isrc) ∙ missing);
-      lines = λ bs stand. refl;
-    }
+  pub written_none : IsWritten books books.recordings.entries []
+  unfolding IsStrictlySortedBy
+  written_none = record {
+    entries = [];
+    order = tt;
+    before = tt;
+    absent = λ q none missing. ap (λ o. (recording_tally (party_number books) (key_number books (summary_key_in q)) o).is_booked) missing;
+    lines = λ bs stand. refl;
+  }
 
 -- a recording is taken, and its lines are added
 pub lines_step : (books : Ledger) (isrc : List ℕ) (r : Recording) (all rest : List (List ℕ × Recording)) (ps : List (List ℕ)) (ks : List SummaryKey)

@@ -32,3 +32,6 @@ pub mod BooksWords
 pub mod Order
 pub mod Listed
 pub mod Assembly
+pub mod LentTexts
+pub mod Lent
+pub mod Closed

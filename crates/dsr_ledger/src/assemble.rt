@@ -1,25 +1,25 @@
-//! The report, from the state of the books.
+//! Closed books, from the state of the books.
 ghost use Rattle.std.specs.Prelude.{◌≡◌, ◌≤◌, ℕ, List, IfOk, length, map};
 ghost use Rattle.std.specs.List.{flat_map, list_any};
 ghost use Rattle.std.specs.BTreeSet.{contains};
 ghost use Rattle.std.specs.Ordering.{nat_cmp};
 ghost use Rattle.dsr_ledger.specs.Assembly.{line_kept, is_number_kept, differences_kept};
 ghost use Rattle.dsr_ledger.specs.Files.{File};
-ghost use Rattle.dsr_ledger.specs.Reports.{report_of};
+ghost use Rattle.dsr_ledger.specs.Closed.{AreClosed};
 ghost use Rattle.dsr_ledger.specs.Books.{IsReached, Stands};
 
 pub mod ledger;
 mod lines;
 mod listed;
 
-use crate::assemble::ledger::ledger_lines;
+use crate::closed::ClosedBooks;
 use crate::differences::differences_of;
 use crate::file::FileBooks;
 use crate::file_lines::file_lines;
 use crate::kept::Kept;
 use crate::missing::{missing_numbers, own_numbers};
 use crate::rejects::key_and_rejects;
-use crate::report::{Differences, FileLines, Report};
+use crate::report::{Differences, FileLines};
 use dsr_cells::NoMemory;
 use std::alloc::Global;
 use std::collections::BTreeSet;
@@ -46,23 +46,25 @@ fn told_of(alloc: Global, files: &[FileBooks]) -> Result<Told, NoMemory>
     })
 }
 
-/// The report of the files.
-pub fn assemble(alloc: Global, kept: Kept) -> Result<Report, NoMemory>
+/// Closes the books of the files: puts the recordings in order, and makes the other parts of the report.
+pub fn close(alloc: Global, kept: Kept) -> Result<ClosedBooks, NoMemory>
     requires reached { ∥ IsReached kept ∥₁ }
     requires few { length kept.files.items ≤ 64 }
-    ensures { (files : List File) → Stands kept files → IfOk result (λ r. r ≡ report_of files) }
+    ensures { (files : List File) → Stands kept files
+        → IfOk result (λ books. AreClosed books files) }
 {
-    let Kept { files, ledger } = kept;
+    let Kept { files, mut ledger } = kept;
     let told = told_of(alloc, files.as_slice())?;
     let (key, rejects) = key_and_rejects(alloc, files)?;
     let missing = missing_numbers(alloc, &key, &told.numbers)?;
-    let ledger = ledger_lines(alloc, ledger)?;
-    Ok(Report {
+    ledger.sort()?;
+    Ok(ClosedBooks {
+        alloc,
         key,
         files: told.lines,
         missing,
         differences: told.differences,
-        ledger,
         rejects,
+        ledger,
     })
 }

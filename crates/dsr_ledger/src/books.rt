@@ -2,8 +2,9 @@
 ghost use Rattle.std.specs.Prelude.{◌≤◌, length};
 ghost use Rattle.dsr_ledger.specs.Books.{IsReached};
 
-use crate::assemble::assemble;
+use crate::assemble::close;
 use crate::booking::plan::Plan;
+use crate::closed::ClosedBooks;
 use crate::kept::Kept;
 use crate::ledger::recordings::Ledger;
 use crate::open::open_after;
@@ -34,6 +35,7 @@ impl Books {
     ghost use Rattle.dsr_ledger.specs.Files.{File, standing, opened, with_block, with_outcome};
     ghost use Rattle.dsr_ledger.specs.Verdicts.{verdict_in};
     ghost use Rattle.dsr_ledger.specs.Books.{has_opening_in, ended_in, blocks_in};
+    ghost use Rattle.dsr_ledger.specs.Closed.{AreClosed};
     ghost use Rattle.dsr_ledger.specs.Reports.{report_of};
     ghost use Rattle.dsr_ledger.specs.BooksWords.{Stands, files_count, opened_count, has_opening_at, ended_at, blocks_at, CanBook, CanEnd, AllEnded};
 
@@ -179,6 +181,19 @@ impl Books {
         Ok(())
     }
 
+    /// Closes the books of the files, which have all ended.
+    ///
+    /// # Errors
+    ///
+    /// `NoMemory`: out of memory; the books are dropped.
+    pub fn close(self) -> Result<ClosedBooks, NoMemory>
+        requires { AllEnded self }
+        ensures { (files : List File) → Stands self files
+            → IfOk result (λ books. AreClosed books files) }
+    {
+        close(self.alloc, self.kept)
+    }
+
     /// The report of the files, which have all ended. The texts of its key and its rejects are moved
     /// out of the books, its other texts are copied.
     ///
@@ -189,6 +204,6 @@ impl Books {
         requires { AllEnded self }
         ensures { (files : List File) → Stands self files → IfOk result (λ r. r ≡ report_of files) }
     {
-        assemble(self.alloc, self.kept)
+        self.close()?.into_report()
     }
 }

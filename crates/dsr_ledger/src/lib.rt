@@ -18,8 +18,10 @@
 //!    `seats`, `line`), a line its sums and parts (`sums`, `parts`), whose numbers are `wide`. Items
 //!    after the first 16 are found by an index (`ledger/index`). `key` is the key of a ledger line,
 //!    which only specs use.
-//! 5. `assemble` makes the `report`: `file_lines`, `missing`, `differences`, `rejects`, and the lines
-//!    of the ledger (`assemble/ledger`) with their `parties`.
+//! 5. `assemble` closes the books (`closed`): it makes the parts of the `report` that say how the files
+//!    did (`file_lines`, `missing`, `differences`, `rejects`) and puts the recordings in order. Closed
+//!    books make the lines of the ledger (`assemble/ledger`), which borrow their texts (`lent`) or
+//!    have copies of them, and their `parties`.
 //!
 //! **Example**, compiled and proved in `crates/dsr_ledger_tests/src/example.rt`:
 //!
@@ -86,6 +88,7 @@
 mod assemble;
 mod booking;
 mod books;
+mod closed;
 mod counting;
 mod differences;
 mod file;
@@ -96,6 +99,7 @@ mod kept;
 mod key;
 pub mod laws;
 mod ledger;
+mod lent;
 mod missing;
 mod open;
 mod parties;
@@ -107,6 +111,8 @@ mod verdict;
 mod wide;
 
 pub use books::Books;
+pub use closed::ClosedBooks;
+pub use lent::{LentLine, LentParty, LentReport};
 pub use parties::Parties;
 pub use report::{
     Difference, Differences, FileLine, FileLines, LedgerLine, LedgerLines, Numbers, PartyLine,

@@ -2,19 +2,21 @@
 ghost use Rattle.std.specs.Prelude.{◌≡◌, ◌<◌, ◌≤◌, false, List, [], map, All, IfOk, OnOk, IfErr};
 ghost use Rattle.std.specs.Prelude.{Err, MatchOption, vec_len, vec_capacity};
 ghost use Rattle.dsr_file.specs.Runs.{FileText, events_of_text};
-ghost use Rattle.dsr_ledger.specs.Reports.{report_of};
+ghost use Rattle.dsr_ledger.specs.Closed.{AreClosed};
 ghost use Rattle.dsr_intake.specs.inner.Collecting.{IsDrained};
 ghost use Rattle.dsr_intake.specs.meaning.Texts.{GaveEach, file_of};
 ghost use Rattle.dsr_intake.specs.meaning.Options.{refusal_of, IsLate};
 ghost use Rattle.dsr_intake.specs.meaning.Outcomes.{IsReportOf};
+ghost use Rattle.dsr_intake.specs.inner.Read.{AreBooksOf};
 ghost use Rattle.dsr_intake.specs.inner.Ready.{AreReady};
 
 use crate::pipeline::collector::collect;
 use crate::pipeline::errors::{CollectError, IntakeError};
 use crate::pipeline::options::{MOST_MESSAGES, Options, refusal};
 use crate::pipeline::threads::{Thread, start};
+use dsr_cells::NoMemory;
 use dsr_file::Source;
-use dsr_ledger::Report;
+use dsr_ledger::{ClosedBooks, Report};
 use dsr_relay::{Feed, RelayError, Tap, open_relay};
 use std::alloc::Global;
 use std::random::RandomSource;
@@ -126,7 +128,7 @@ fn start_and_collect<
     options: &Options,
     threads: &mut Vec<Thread<R>>,
     taps: &mut Vec<Tap>,
-) -> Result<Report, IntakeError>
+) -> Result<ClosedBooks, IntakeError>
     requires ready { AreReady R.told options.now readers.items }
     requires no_threads { threads.old.items ≡ [] }
     requires no_taps { taps.old.items ≡ [] }
@@ -138,12 +140,13 @@ fn start_and_collect<
     ensures terms { OnOk result (All (λ h. h.promise.options.value ≡ options.now)
         threads.new.items) }
     ensures ended { OnOk result (All IsDrained taps.new.items) }
-    ensures report { IfOk result (λ r. r ≡ report_of (map (λ t. file_of t.taken) taps.new.items)) }
+    ensures books { IfOk result (λ books. AreClosed books
+        (map (λ t. file_of t.taken) taps.new.items)) }
     ensures late { IfErr result IsLate }
 {
     start_all(rt, alloc, readers, options, threads, taps)?;
     match collect(rt, alloc, taps) {
-        Ok(report) => Ok(report),
+        Ok(books) => Ok(books),
         Err(error) => Err(collect_error(error)),
     }
 }
@@ -151,9 +154,14 @@ fn start_and_collect<
 fn gather<
     R: Source + Send + Drop + 'static,
     H: Threads + Wait + RandomSource + Copy + Send + 'static,
->(rt: &H, alloc: Global, readers: &mut Vec<R>, options: &Options) -> Result<Report, IntakeError>
+>(
+    rt: &H,
+    alloc: Global,
+    readers: &mut Vec<R>,
+    options: &Options,
+) -> Result<ClosedBooks, IntakeError>
     requires ready { AreReady R.told options.now readers.old.items }
-    ensures report { IfOk result (IsReportOf R.told options.now readers.old.items
+    ensures books { IfOk result (AreBooksOf R.told options.now readers.old.items
         readers.new.items) }
     ensures late { IfErr result IsLate }
 {
@@ -162,9 +170,9 @@ fn gather<
     let mut taps = with_room(alloc, count)?;
     let given = std::mem::replace(readers, with_room(alloc, count)?);
     match start_and_collect(rt, alloc, given, options, &mut threads, &mut taps) {
-        Ok(report) => {
+        Ok(books) => {
             settle_all(rt, threads, taps, readers, options);
-            Ok(report)
+            Ok(books)
         }
         Err(error) => {
             drop(taps);
@@ -197,6 +205,33 @@ fn collect_error(error: CollectError) -> IntakeError
     }
 }
 
+/// Reads the files concurrently, with a thread for each, and returns closed books of them.
+///
+/// # Errors
+///
+/// `NoFiles`, `TooManyFiles`, `Capacity` and `Reads`, the first that applies: the readers are unchanged.
+/// `Memory`, `Thread` and `Broken`: found later; the readers may be dropped.
+pub(crate) fn read_books<
+    R: Source + Send + Drop + 'static,
+    H: Threads + Wait + RandomSource + Copy + Send + 'static,
+>(
+    rt: &H,
+    alloc: Global,
+    readers: &mut Vec<R>,
+    options: &Options,
+) -> Result<ClosedBooks, IntakeError>
+    requires { All (λ r. (R.told r).failed ≡ false) readers.old.items }
+    ensures books { IfOk result (AreBooksOf R.told options.now readers.old.items
+        readers.new.items) }
+    ensures refused { MatchOption (refusal_of (vec_len readers.old) options.now) (IfErr result IsLate)
+        (λ e. (result ≡ Err e) × (readers.new ≡ readers.old)) }
+{
+    if let Some(error) = refusal(readers.len(), options) {
+        return Err(error);
+    }
+    gather(rt, alloc, readers, options)
+}
+
 /// Reads the files concurrently, with a thread for each, and returns their report.
 ///
 /// # Errors
@@ -212,8 +247,9 @@ pub fn intake<
     ensures refused { MatchOption (refusal_of (vec_len readers.old) options) (IfErr result IsLate)
         (λ e. (result ≡ Err e) × (readers.new ≡ readers.old)) }
 {
-    if let Some(error) = refusal(readers.len(), &options) {
-        return Err(error);
+    let books = read_books(rt, alloc, readers, &options)?;
+    match books.into_report() {
+        Ok(report) => Ok(report),
+        Err(NoMemory) => Err(IntakeError::Memory),
     }
-    gather(rt, alloc, readers, &options)
 }

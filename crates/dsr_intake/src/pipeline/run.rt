@@ -7,10 +7,10 @@ ghost use Rattle.dsr_intake.specs.meaning.Statement.{statement_of};
 ghost use Rattle.dsr_intake.specs.meaning.Outcomes.{IsReported, IsUnwritten, IsLateRun};
 
 use crate::outlet::Outlet;
-use crate::pipeline::errors::RunError;
-use crate::pipeline::gather::intake;
+use crate::pipeline::errors::{IntakeError, RunError};
+use crate::pipeline::gather::read_books;
 use crate::pipeline::options::Options;
-use crate::statements::status::status;
+use crate::statements::status::lent_status;
 use crate::statements::verdict::Status;
 use crate::statements::write::{room_for, write_statement};
 use dsr_file::Source;
@@ -50,15 +50,18 @@ pub fn run<
         (IfErr result IsLateRun)
         (λ e. (result ≡ Err (RunError.Intake e)) × (readers.new ≡ readers.old)) }
 {
-    let report = match intake(rt, alloc, readers, options) {
-        Ok(report) => report,
+    let books = match read_books(rt, alloc, readers, &options) {
+        Ok(books) => books,
         Err(error) => return Err(RunError::Intake(error)),
+    };
+    let Ok(report) = books.report() else {
+        return Err(RunError::Intake(IntakeError::Memory));
     };
     let Ok(room) = room_for(alloc, &report) else {
         return Err(RunError::Memory);
     };
     match write_statement(room, &report, out) {
-        Ok(()) => Ok(status(&report)),
+        Ok(()) => Ok(lent_status(&report)),
         Err(written) => Err(RunError::Write { written }),
     }
 }

@@ -5,13 +5,13 @@ ghost use Rattle.dsr_intake.specs.inner.Puts.{Puts};
 
 use crate::statements::cells::put_text;
 use crate::statements::put::Put;
-use dsr_ledger::LedgerLine;
+use dsr_ledger::LentLine;
 
 /// Room for this many bytes of a key's cells.
 pub(crate) const KEY_ROOM: usize = 256;
 
 /// The cells of a key, written into this room, if they fit.
-pub(crate) fn laid_key<'a>(room: &'a mut Vec<u8>, line: &LedgerLine) -> Option<&'a [u8]>
+pub(crate) fn laid_key<'a>(room: &'a mut Vec<u8>, line: &LentLine<'_>) -> Option<&'a [u8]>
     ensures { IfSome result (λ k. k.now ≡ tabbed (key_cells line.now)) }
 {
     if lay_key(room, line) {
@@ -22,14 +22,14 @@ pub(crate) fn laid_key<'a>(room: &'a mut Vec<u8>, line: &LedgerLine) -> Option<&
 }
 
 /// Writes the cells of a key over what the room has. Returns whether they fit.
-fn lay_key(room: &mut Vec<u8>, line: &LedgerLine) -> bool
+fn lay_key(room: &mut Vec<u8>, line: &LentLine<'_>) -> bool
     ensures { result ≡ true → room.new.items ≡ tabbed (key_cells line.now) }
 {
     room.clear();
-    lay_cell(room, line.isrc.as_bytes())
-        && lay_cell(room, line.territory.as_str().as_bytes())
-        && lay_cell(room, line.use_type.as_str().as_bytes())
-        && lay_cell(room, line.currency.as_str().as_bytes())
+    lay_cell(room, line.isrc().as_bytes())
+        && lay_cell(room, line.territory().as_bytes())
+        && lay_cell(room, line.use_type().as_bytes())
+        && lay_cell(room, line.currency().as_bytes())
 }
 
 /// Appends a cell, after a tab. Returns whether it fits.
@@ -46,7 +46,7 @@ fn lay_cell(room: &mut Vec<u8>, cell: &[u8]) -> bool
 
 /// Puts the cells of a line's key: those of `key`, if they were laid there.
 #[inline(always)]
-pub(crate) fn put_key<P: Put>(out: &mut P, key: Option<&[u8]>, line: &LedgerLine)
+pub(crate) fn put_key<P: Put>(out: &mut P, key: Option<&[u8]>, line: &LentLine<'_>)
     requires { IfSome key (λ k. k.now ≡ tabbed (key_cells line.now)) }
     ensures { Puts P.after out.old out.new (tabbed (key_cells line.now)) }
 {
@@ -57,11 +57,11 @@ pub(crate) fn put_key<P: Put>(out: &mut P, key: Option<&[u8]>, line: &LedgerLine
 }
 
 /// Puts the cells of a line's key one by one.
-fn put_key_cells<P: Put>(out: &mut P, line: &LedgerLine)
+fn put_key_cells<P: Put>(out: &mut P, line: &LentLine<'_>)
     ensures { Puts P.after out.old out.new (tabbed (key_cells line.now)) }
 {
-    put_text(out, line.isrc.as_bytes());
-    put_text(out, line.territory.as_str().as_bytes());
-    put_text(out, line.use_type.as_str().as_bytes());
-    put_text(out, line.currency.as_str().as_bytes())
+    put_text(out, line.isrc().as_bytes());
+    put_text(out, line.territory().as_bytes());
+    put_text(out, line.use_type().as_bytes());
+    put_text(out, line.currency().as_bytes())
 }

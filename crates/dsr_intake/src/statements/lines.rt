@@ -13,7 +13,7 @@ use crate::statements::key::{laid_key, put_key};
 use crate::statements::names::{reason_name, standing_name};
 use crate::statements::put::Put;
 use dsr_file::Outcome;
-use dsr_ledger::{Difference, FileLine, LedgerLine, PartyLine, Reject, ReportKey};
+use dsr_ledger::{Difference, FileLine, LentLine, LentParty, Reject, ReportKey};
 use dsr_records::Column;
 
 /// Puts the first line. `days` has the cells of the report's days.
@@ -126,7 +126,7 @@ fn put_usages<P: Put>(out: &mut P, stated: i64, found: i128)
 
 /// Puts the lines of a ledger line: its sums, its parties, and the unclaimed amount. The cells of
 /// the key, with which each of them begins, are written into `room` once.
-pub(crate) fn put_ledger<P: Put>(out: &mut P, room: &mut Vec<u8>, line: &LedgerLine)
+pub(crate) fn put_ledger<P: Put>(out: &mut P, room: &mut Vec<u8>, line: &LentLine<'_>)
     ensures { Puts P.after out.old out.new (ledger_lines line.now) }
 {
     let key = if out.copies_bytes() {
@@ -140,47 +140,47 @@ pub(crate) fn put_ledger<P: Put>(out: &mut P, room: &mut Vec<u8>, line: &LedgerL
 }
 
 /// Puts the line of a key's sums. `key` has the key's cells, if they fit.
-fn put_sums<P: Put>(out: &mut P, key: Option<&[u8]>, line: &LedgerLine)
+fn put_sums<P: Put>(out: &mut P, key: Option<&[u8]>, line: &LentLine<'_>)
     requires { IfSome key (λ k. k.now ≡ tabbed (key_cells line.now)) }
     ensures { Puts P.after out.old out.new (sums_line line.now) }
 {
     out.put(b"LEDGER");
     put_key(out, key, line);
-    put_signed(out, line.usages);
-    put_amount(out, line.amount);
+    put_signed(out, line.usages());
+    put_amount(out, line.amount());
     put_end(out)
 }
 
 /// Puts the lines of a key's parties. `key` has the key's cells, if they fit.
-fn put_parties<P: Put>(out: &mut P, key: Option<&[u8]>, line: &LedgerLine)
+fn put_parties<P: Put>(out: &mut P, key: Option<&[u8]>, line: &LentLine<'_>)
     requires { IfSome key (λ k. k.now ≡ tabbed (key_cells line.now)) }
     ensures { Puts P.after out.old out.new (flat_map (party_line line.now) line.now.parties) }
 {
-    for party in line.parties.as_slice() {
+    for party in line.parties() {
         put_party(out, key, line, party);
     }
 }
 
 /// Puts the line of a party. `key` has the key's cells, if they fit.
-fn put_party<P: Put>(out: &mut P, key: Option<&[u8]>, line: &LedgerLine, party: &PartyLine)
+fn put_party<P: Put>(out: &mut P, key: Option<&[u8]>, line: &LentLine<'_>, party: &LentParty<'_>)
     requires { IfSome key (λ k. k.now ≡ tabbed (key_cells line.now)) }
     ensures { Puts P.after out.old out.new (party_line line.now party.now) }
 {
     out.put(b"PARTY");
     put_key(out, key, line);
-    put_text(out, party.party.as_str().as_bytes());
-    put_amount(out, party.amount);
+    put_text(out, party.party().as_bytes());
+    put_amount(out, party.amount());
     put_end(out)
 }
 
 /// Puts the line of a key's unclaimed amount. `key` has the key's cells, if they fit.
-fn put_unclaimed<P: Put>(out: &mut P, key: Option<&[u8]>, line: &LedgerLine)
+fn put_unclaimed<P: Put>(out: &mut P, key: Option<&[u8]>, line: &LentLine<'_>)
     requires { IfSome key (λ k. k.now ≡ tabbed (key_cells line.now)) }
     ensures { Puts P.after out.old out.new (unclaimed_line line.now) }
 {
     out.put(b"UNCLAIMED");
     put_key(out, key, line);
-    put_amount(out, line.unclaimed);
+    put_amount(out, line.unclaimed());
     put_end(out)
 }
 

@@ -1,21 +1,57 @@
 //! Whether a statement has remarks.
-ghost use Rattle.std.specs.Prelude.{◌≡◌};
+ghost use Rattle.std.specs.Prelude.{◌≡◌, ◌&&◌, is_some, if◌then◌else◌};
 ghost use Rattle.std.specs.List.{list_all};
-ghost use Rattle.dsr_intake.specs.meaning.Status.{status_of, is_clean_file};
+ghost use Rattle.dsr_ledger.specs.Lent.{report_lent};
+ghost use Rattle.dsr_intake.specs.declared.statements.verdict.Status.TheVariants.{Clean, Remarks};
+ghost use Rattle.dsr_intake.specs.meaning.Status.{status_of, is_clean_file, is_nil};
 
 use crate::statements::verdict::Status;
 use dsr_file::Outcome;
-use dsr_ledger::{FileLine, Report, Standing};
+use dsr_ledger::{Difference, FileLine, LentReport, Reject, Report, ReportKey, Standing};
 
 /// Whether the statement has remarks.
 pub fn status(report: &Report) -> Status
     ensures { result ≡ status_of report.now }
 {
-    if report.key.is_some()
-        && are_clean(report.files.as_slice())
-        && report.missing.len() == 0
-        && report.differences.len() == 0
-        && report.rejects.len() == 0
+    status_by(
+        &report.key,
+        report.files.as_slice(),
+        report.missing.as_slice(),
+        report.differences.as_slice(),
+        report.rejects.as_slice(),
+    )
+}
+
+/// The same of a report that is lent.
+pub(crate) fn lent_status(report: &LentReport<'_>) -> Status
+    ensures { result ≡ status_of (report_lent report.now) }
+{
+    status_by(
+        report.key,
+        report.files,
+        report.missing,
+        report.differences,
+        report.rejects,
+    )
+}
+
+/// Whether the statement of a report with these parts has remarks.
+fn status_by(
+    key: &Option<ReportKey>,
+    files: &[FileLine],
+    missing: &[u32],
+    differences: &[Difference],
+    rejects: &[Reject],
+) -> Status
+    ensures { result ≡ if is_some key.now && (list_all is_clean_file files.now
+        && (is_nil missing.now && (is_nil differences.now && is_nil rejects.now)))
+        then Clean else Remarks }
+{
+    if key.is_some()
+        && are_clean(files)
+        && missing.is_empty()
+        && differences.is_empty()
+        && rejects.is_empty()
     {
         Status::Clean
     } else {

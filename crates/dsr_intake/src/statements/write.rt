@@ -2,6 +2,7 @@
 ghost use Rattle.std.specs.Prelude.{◌≡◌, ◌<◌, ◌≤◌, true, length, take, IfSome, OnOk, IfOk, IfErr};
 ghost use Rattle.std.specs.List.{flat_map};
 ghost use Rattle.dsr_intake.specs.meaning.Statement.{statement_of, file_lines, missing_line, difference_line, ledger_lines, reject_line};
+ghost use Rattle.dsr_ledger.specs.Lent.{report_lent};
 ghost use Rattle.dsr_intake.specs.meaning.Written.{IsFlushed, IsCut};
 ghost use Rattle.dsr_intake.specs.inner.Pieces.{Carries, MOST};
 ghost use Rattle.dsr_intake.specs.inner.Puts.{Puts};
@@ -18,7 +19,7 @@ use crate::statements::put::Put;
 use crate::statements::room::Room;
 use crate::to_write::ToWrite;
 use dsr_cells::NoMemory;
-use dsr_ledger::{Difference, FileLine, LedgerLine, Reject, Report};
+use dsr_ledger::{Difference, FileLine, LentLine, LentReport, Reject, Report};
 use std::alloc::Global;
 
 /// The bytes of the statement.
@@ -29,9 +30,10 @@ use std::alloc::Global;
 pub fn statement(alloc: Global, report: &Report) -> Result<Vec<u8>, NoMemory>
     ensures { IfOk result (λ v. v.items ≡ statement_of report.now) }
 {
-    let room = Room::new(alloc, &report.key)?;
+    let lent = LentReport::of(alloc, report)?;
+    let room = Room::new(alloc, lent.key)?;
     let mut out = ToWrite::new(Vec::new(alloc));
-    match write_statement(room, report, &mut out) {
+    match write_statement(room, &lent, &mut out) {
         Ok(()) => Ok(out.into_writer()),
         Err(_written) => Err(NoMemory),
     }
@@ -39,11 +41,11 @@ pub fn statement(alloc: Global, report: &Report) -> Result<Vec<u8>, NoMemory>
 
 /// All memory that writing the statement needs. It is refused also if the statement may have
 /// 2^64 - 1 bytes or more, since no error could say how much of it was written.
-pub(crate) fn room_for(alloc: Global, report: &Report) -> Result<Room, NoMemory>
-    ensures days { IfOk result (λ r. IfSome report.now.key (λ k. r.days.items ≡ day_cells k)) }
-    ensures short { OnOk result (length (statement_of report.now) < MOST) }
+pub(crate) fn room_for(alloc: Global, report: &LentReport<'_>) -> Result<Room, NoMemory>
+    ensures days { IfOk result (λ r. IfSome (report_lent report.now).key (λ k. r.days.items ≡ day_cells k)) }
+    ensures short { OnOk result (length (statement_of (report_lent report.now)) < MOST) }
 {
-    let mut room = Room::new(alloc, &report.key)?;
+    let mut room = Room::new(alloc, report.key)?;
     if statement_bound(&room.days, &mut room.key, report) < u64::MAX {
         Ok(room)
     } else {
@@ -53,9 +55,9 @@ pub(crate) fn room_for(alloc: Global, report: &Report) -> Result<Room, NoMemory>
 
 /// An upper bound of the statement's bytes, or `u64::MAX`. `days` has the cells of the report's
 /// days, `key` is room for those of a key.
-fn statement_bound(days: &[u8], key: &mut Vec<u8>, report: &Report) -> u64
-    requires { IfSome report.now.key (λ k. days.now ≡ day_cells k) }
-    ensures { IsUpTo result (length (statement_of report.now)) }
+fn statement_bound(days: &[u8], key: &mut Vec<u8>, report: &LentReport<'_>) -> u64
+    requires { IfSome (report_lent report.now).key (λ k. days.now ≡ day_cells k) }
+    ensures { IsUpTo result (length (statement_of (report_lent report.now))) }
 {
     let mut bound = Bound { most: 0 };
     put_statement(&mut bound, days, key, report);
@@ -66,15 +68,15 @@ fn statement_bound(days: &[u8], key: &mut Vec<u8>, report: &Report) -> u64
 /// written.
 pub(crate) fn write_statement<W: Outlet>(
     room: Room,
-    report: &Report,
+    report: &LentReport<'_>,
     out: &mut W,
 ) -> Result<(), u64>
-    requires { IfSome report.now.key (λ k. room.days.items ≡ day_cells k) }
-    ensures whole { OnOk result (IsFlushed (statement_of report.now)
+    requires { IfSome (report_lent report.now).key (λ k. room.days.items ≡ day_cells k) }
+    ensures whole { OnOk result (IsFlushed (statement_of (report_lent report.now))
         (W.told out.old) (W.told out.new)) }
-    ensures part { length (statement_of report.now) < MOST → IfErr result (λ n.
-        (n ≤ length (statement_of report.now))
-        × IsCut (take n (statement_of report.now)) (W.told out.old) (W.told out.new)) }
+    ensures part { length (statement_of (report_lent report.now)) < MOST → IfErr result (λ n.
+        (n ≤ length (statement_of (report_lent report.now)))
+        × IsCut (take n (statement_of (report_lent report.now))) (W.told out.old) (W.told out.new)) }
 {
     let Room {
         days,
@@ -94,26 +96,26 @@ fn send_statement<W: Outlet>(
     out: &mut Pieces<'_, W>,
     days: &[u8],
     key: &mut Vec<u8>,
-    report: &Report,
+    report: &LentReport<'_>,
 )
-    requires { IfSome report.now.key (λ k. days.now ≡ day_cells k) }
+    requires { IfSome (report_lent report.now).key (λ k. days.now ≡ day_cells k) }
     ensures same_outlet { out.new.sender.out.ghost_name ≡ out.old.sender.out.ghost_name }
-    ensures put { Carries W.told out.old out.new (statement_of report.now) }
+    ensures put { Carries W.told out.old out.new (statement_of (report_lent report.now)) }
 {
     put_statement(out, days, key, report);
 }
 
 /// Puts the statement. `days` has the cells of the report's days, `key` is room for those of a key.
-fn put_statement<P: Put>(out: &mut P, days: &[u8], key: &mut Vec<u8>, report: &Report)
-    requires { IfSome report.now.key (λ k. days.now ≡ day_cells k) }
-    ensures { Puts P.after out.old out.new (statement_of report.now) }
+fn put_statement<P: Put>(out: &mut P, days: &[u8], key: &mut Vec<u8>, report: &LentReport<'_>)
+    requires { IfSome (report_lent report.now).key (λ k. days.now ≡ day_cells k) }
+    ensures { Puts P.after out.old out.new (statement_of (report_lent report.now)) }
 {
-    put_head(out, &report.key, days);
-    put_files(out, report.files.as_slice());
-    put_numbers(out, report.missing.as_slice());
-    put_differences(out, report.differences.as_slice());
+    put_head(out, report.key, days);
+    put_files(out, report.files);
+    put_numbers(out, report.missing);
+    put_differences(out, report.differences);
     put_ledgers(out, key, report.ledger.as_slice());
-    put_rejects(out, report.rejects.as_slice());
+    put_rejects(out, report.rejects);
 }
 
 /// Puts the lines of the files.
@@ -146,7 +148,7 @@ fn put_differences<P: Put>(out: &mut P, differences: &[Difference])
 }
 
 /// Puts the lines of the ledger. It stops once the outlet has failed.
-fn put_ledgers<P: Put>(out: &mut P, key: &mut Vec<u8>, lines: &[LedgerLine])
+fn put_ledgers<P: Put>(out: &mut P, key: &mut Vec<u8>, lines: &[LentLine<'_>])
     ensures { Puts P.after out.old out.new (flat_map ledger_lines lines.now) }
 {
     for line in lines {

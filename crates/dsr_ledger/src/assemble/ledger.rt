@@ -1,6 +1,9 @@
 //! The ledger's lines in their order.
 ghost use Rattle.std.specs.Prelude.{◌≡◌, List, IfOk, OnOk, length};
 ghost use Rattle.std.specs.List.{IsDistinct};
+ghost use Rattle.std.specs.List.Sorted.{IsSorted};
+ghost use Rattle.indexmap.specs.IndexMap.{keys};
+ghost use Rattle.dsr_ledger.specs.Keys.{text_cmp};
 ghost use Rattle.std.specs.Str.{bytes_eq};
 ghost use Rattle.dsr_ledger.specs.Bookings.{Booking};
 ghost use Rattle.dsr_ledger.specs.Ledger.{ledger};
@@ -17,7 +20,7 @@ use crate::assemble::listed::lines_by_key;
 use crate::ledger::recording::Recording;
 use crate::ledger::recordings::Ledger;
 use crate::ledger::summary_key::SummaryKey;
-use crate::report::LedgerLines;
+use crate::lent::LentLines;
 use crate::seeded::Seeded;
 use dsr_cells::{Isrc, Items, NoMemory, Text};
 use indexmap::IndexMap;
@@ -26,11 +29,11 @@ use std::alloc::Global;
 /// Adds the lines of a recording that have a booking, in the order of their summary keys. `order` and
 /// `names` are filled anew for each recording and line, so that their memory is taken once.
 fn add_recording<'a>(
-    report: &mut LedgerLines,
+    report: &mut LentLines<'a>,
     alloc: Global,
     parties: &'a [Text],
     keys: &'a [SummaryKey],
-    isrc: Isrc,
+    isrc: &'a Isrc,
     recording: &Recording,
     order: &mut Vec<(&'a SummaryKey, usize)>,
     names: &mut Vec<(&'a Text, usize)>,
@@ -39,8 +42,8 @@ fn add_recording<'a>(
     requires keys { IsDistinct summary_key_eq keys.now }
     requires seated { AreBelow (length parties.now) (seat_numbers recording.now.seats) }
     requires keyed { AreBelow (length keys.now) (line_keys recording.now.lines.items) }
-    requires small { ∥ IsOfSmallAt parties.now keys.now isrc recording.now ∥₁ }
-    ensures { OnOk result (AddsLines parties.now keys.now isrc recording.now report.old
+    requires small { ∥ IsOfSmallAt parties.now keys.now isrc.now recording.now ∥₁ }
+    ensures { OnOk result (AddsLines parties.now keys.now isrc.now recording.now report.old
         report.new) }
 {
     let numbers = recording.seats.as_slice();
@@ -63,30 +66,26 @@ fn count_lines(recordings: &IndexMap<Isrc, Recording, Seeded>) -> usize {
     count
 }
 
-/// The lines of all keys that have a booking, in the order of the keys.
-pub fn ledger_lines(alloc: Global, books: Ledger) -> Result<LedgerLines, NoMemory>
-    requires { ∥ AreOfSmall books ∥₁ }
-    ensures { (bs : List Booking) → LedgerStands books bs → IfOk result (λ l. l ≡ ledger bs) }
+/// The lines of all keys that have a booking, in the order of the keys. The recordings are in order.
+pub fn ledger_lines(alloc: Global, books: &Ledger) -> Result<LentLines<'_>, NoMemory>
+    requires sorted { IsSorted text_cmp (keys books.now.recordings) }
+    requires small { ∥ AreOfSmall books.now ∥₁ }
+    ensures { (bs : List Booking) → LedgerStands books.now bs
+        → IfOk result (λ l. l ≡ ledger bs) }
 {
-    let Ledger {
-        parties,
-        summary_keys,
-        mut recordings,
-    } = books;
-    recordings.sort_unstable_keys()?;
-    let names = parties.as_slice();
-    let keys = summary_keys.as_slice();
-    let mut report = Items::from(Vec::with_capacity(alloc, count_lines(&recordings))?);
+    let names = books.parties.as_slice();
+    let keys = books.summary_keys.as_slice();
+    let mut report = Items::from(Vec::with_capacity(alloc, count_lines(&books.recordings))?);
     let mut order = Vec::new(alloc);
     let mut listed = Vec::new(alloc);
-    for (isrc, recording) in recordings {
+    for (isrc, recording) in books.recordings.iter() {
         add_recording(
             &mut report,
             alloc,
             names,
             keys,
             isrc,
-            &recording,
+            recording,
             &mut order,
             &mut listed,
         )?;

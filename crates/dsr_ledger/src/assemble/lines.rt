@@ -16,9 +16,10 @@ use crate::assemble::listed::parts_by_name;
 use crate::ledger::line::Line;
 use crate::ledger::parts::SeatPart;
 use crate::ledger::summary_key::SummaryKey;
-use crate::parties::Parties;
-use crate::report::{LedgerLine, LedgerLines, PartyLine};
+use crate::lent::{FEW, LentLine, LentLines, LentParty};
+use crate::wide::Wide;
 use dsr_cells::{Isrc, NoMemory, Text};
+use smallvec::SmallVec;
 use std::alloc::Global;
 
 /// Whether there is a part at a place, and its amount; past the last place there is none.
@@ -33,36 +34,36 @@ fn part_at(parts: &[SeatPart], place: usize) -> (bool, i128)
 }
 
 /// The lines of the parties that have a part, in the byte order of their names.
-fn party_lines(
+fn party_lines<'a>(
     alloc: Global,
-    names: &[(&Text, usize)],
+    names: &[(&'a Text, usize)],
     parts: &[SeatPart],
-) -> Result<Parties, NoMemory>
+) -> Result<SmallVec<LentParty<'a>, FEW>, NoMemory>
     ensures { (bs : List Booking) (place : List ℕ → Option ℕ) → ArePartsOf place names.now
         → ((q : List ℕ) → owed_at_place parts.now (place q) ≡ owed_for q (all_parts bs))
-        → IfOk result (λ lines. lines ≡ party_lines bs) }
+        → IfOk result (λ lines. lines.items ≡ party_lines bs) }
 {
-    let mut lines = Parties::with_room(alloc, names.len())?;
+    let mut lines = SmallVec::with_capacity(alloc, names.len())?;
     for (party, place) in names {
         let (has_part, amount) = part_at(parts, *place);
         if has_part {
-            let party = party.copy(alloc)?;
-            lines
-                .push(PartyLine { party, amount })
-                .map_err(|_line| NoMemory)?;
+            lines.push(LentParty {
+                party: Some(*party),
+                part: Wide::of(amount),
+            })?;
         }
     }
     Ok(lines)
 }
 
 /// An amount minus the amounts of the parties.
-fn unclaimed(amount: i128, parties: &[PartyLine]) -> i128
+fn unclaimed(amount: i128, parties: &[LentParty<'_>]) -> i128
     requires { unsigned_abs amount + sum_by (λ p. unsigned_abs p.amount) parties.now < 2 ^ 127 }
     ensures { result ≡ amount -ℤ int_sum_by (λ p. p.amount) parties.now }
 {
     let mut left = amount;
     for line in parties {
-        left -= line.amount;
+        left -= line.amount();
     }
     left
 }
@@ -70,10 +71,10 @@ fn unclaimed(amount: i128, parties: &[PartyLine]) -> i128
 /// Appends the line of a recording and a summary key to the report, with its parties in the byte order of their names.
 /// `numbers` has the number of the party at each seat of the recording. `names` is filled anew.
 pub fn push_line<'a>(
-    report: &mut LedgerLines,
+    report: &mut LentLines<'a>,
     alloc: Global,
-    isrc: Isrc,
-    key: &SummaryKey,
+    isrc: &'a Isrc,
+    key: &'a SummaryKey,
     line: &Line,
     parties: &'a [Text],
     numbers: &[u32],
@@ -86,22 +87,19 @@ pub fn push_line<'a>(
     requires small { ∥ IsOfSmall (place_by (party_in parties.now) numbers.now) line.now ∥₁ }
     ensures { (bs : List Booking) → line_tally
         (place_by (party_in parties.now) numbers.now) line.now ≡ tally_of bs
-        → OnOk result (report.new ≡ report.old ++ line_of (key_under isrc key.now) bs ∷ []) }
+        → OnOk result (report.new ≡ report.old ++ line_of (key_under isrc.now key.now) bs ∷ []) }
 {
-    let territory = key.territory.copy(alloc)?;
-    let use_type = key.use_type.copy(alloc)?;
-    let currency = key.currency.copy(alloc)?;
     let parts = line.parts.as_slice();
     parts_by_name(parties, numbers, parts, names)?;
     let parties = party_lines(alloc, names.as_slice(), parts)?;
     let amount = line.sums.amount.get();
     let left = unclaimed(amount, parties.as_slice());
     report
-        .push(LedgerLine {
+        .push(LentLine {
             isrc,
-            territory,
-            use_type,
-            currency,
+            territory: &key.territory,
+            use_type: &key.use_type,
+            currency: &key.currency,
             usages: line.sums.usages.get(),
             amount,
             unclaimed: left,

@@ -15,6 +15,6 @@ files_are g c =
       c.in-Ok.ensures.count,
     )
 
-pub into_report-requires : goal.into_report-requires
-into_report-requires g c = files_ended c.take_all.new.books c.take_all.new.taps.items c.in_ok-take_all.ensures.stands (files_are g c)
+pub close-requires : goal.close-requires
+close-requires g c = files_ended c.take_all.new.books c.take_all.new.taps.items c.in_ok-take_all.ensures.stands (files_are g c)
     c.in_ok-take_all.ensures.ended

@@ -6,7 +6,7 @@ use Rattle.dsr_intake.proofs.statements.lines.put_parties.Goals as goal
 pub loop-party-preserved : goal.loop-party-preserved
 loop-party-preserved g c =
     let i = c.loop-party.party-index in
-    let same : c.as_slice-party-items.result.now ≡ c.args.line.now.parties = search rules in
+    let same : c.parties-party-items.result.now ≡ c.args.line.now.parties = search rules in
     let less = subst (λ l. i < length l) same c.loop-party-test.true in
     more (party_line c.args.line.now) c.args.line.now.parties i c.party-item.result _ less (rw same at c.party-item.is)
     c.loop-party.invariant c.put_party.ensures
@@ -14,5 +14,5 @@ loop-party-preserved g c =
 pub returns : goal.returns
 returns g c =
     let i = c.loop-party.party-index in
-    let same : c.as_slice-party-items.result.now ≡ c.args.line.now.parties = search rules in
+    let same : c.parties-party-items.result.now ≡ c.args.line.now.parties = search rules in
     all (party_line c.args.line.now) c.args.line.now.parties i (subst (λ l. length l ≤ i) same c.loop-party-test.false) c.loop-party.invariant

@@ -56,7 +56,7 @@ push_line-requires-clause-within c =
 
 pub push_line-requires-clause-small : goal.push_line-requires-clause-small
 push_line-requires-clause-small c =
-    let isrc = c.args.isrc in
+    let isrc = c.args.isrc.now in
     let r = c.args.recording.now in
     let items = c.as_slice-key-items.result.now in
     let i = c.loop-key.key-index in
@@ -81,7 +81,7 @@ push_line-requires-clause-small c =
 pub loop-key-preserved : goal.loop-key-preserved
 loop-key-preserved c = λ bs has.
     let r = c.args.recording.now in
-    let isrc = c.args.isrc in
+    let isrc = c.args.isrc.now in
     let items = c.as_slice-key-items.result.now in
     let i = c.loop-key.key-index in
     let item = c.loop-key-item.result in
@@ -111,7 +111,7 @@ loop-key-preserved c = λ bs has.
 
 pub returns : goal.returns
 returns c =
-    let isrc = c.args.isrc in
+    let isrc = c.args.isrc.now in
     let items = c.as_slice-key-items.result.now in
     let number = key_in c.args.keys.now in
     let listed =

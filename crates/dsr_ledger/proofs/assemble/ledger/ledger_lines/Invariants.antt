@@ -3,6 +3,6 @@ use Rattle.dsr_ledger.proofs.assemble.ledger.ledger_lines.Given as goal
 
 abbrev pub invariant-loop-isrc : goal.invariant-loop-isrc
 invariant-loop-isrc l = record {
-  rest : AreRest l.fn.books l.isrc-iterator;
-  written : IsWritten l.fn.books l.isrc-iterator l.report;
+  rest : AreRest l.books l.isrc-iterator;
+  written : IsWritten l.books l.isrc-iterator l.report;
 }

@@ -4,4 +4,4 @@ use Rattle.dsr_ledger.proofs.PartyLineLemmas.{seat_lines}
 use Rattle.dsr_ledger.proofs.assemble.lines.party_lines.Given as goal
 
 abbrev pub invariant-loop-party : goal.invariant-loop-party
-invariant-loop-party l = l.lines ≡ seat_lines l.parts (named_places (take l.party-index l.names))
+invariant-loop-party l = l.lines.items ≡ seat_lines l.parts (named_places (take l.party-index l.names))

@@ -14,7 +14,8 @@ overflow_sub-left c =
     let i = c.loop-line.line-index in
     let p = c.line-item.result in
     let whole : to_z w128 (of_z w128 a) ≡ a = to_z-of_z w128 a c.ranges.amount in
-    let item : to_z w128 (of_z w128 p.amount) ≡ p.amount = to_z-of_z w128 p.amount (amount_fits ps i p a c.loop-line-test.true c.line-item.is c.requires) in
+    let item : to_z w128 (of_z w128 c.amount-left.result) ≡ p.amount =
+    ap (λ z. to_z w128 (of_z w128 z)) c.amount-left.ensures ∙ to_z-of_z w128 p.amount (amount_fits ps i p a c.loop-line-test.true c.line-item.is c.requires) in
     let was : to_z w128 c.loop-line.left-bits ≡ a -ℤ int_sum_by (λ x. x.amount) (take i ps) =
     c.loop-line.invariant ∙ ap (λ z. z -ℤ int_sum_by (λ x. x.amount) (take i ps)) whole in
     subst (λ z. FitsSigned w128 (to_z w128 c.loop-line.left-bits -ℤ z)) (sym item)
@@ -29,7 +30,8 @@ loop-line-preserved c =
     let ps = c.args.parties.now in
     let i = c.loop-line.line-index in
     let p = c.line-item.result in
-    let item : to_z w128 (of_z w128 p.amount) ≡ p.amount = to_z-of_z w128 p.amount (amount_fits ps i p a c.loop-line-test.true c.line-item.is c.requires) in
+    let item : to_z w128 (of_z w128 c.amount-left.result) ≡ p.amount =
+    ap (λ z. to_z w128 (of_z w128 z)) c.amount-left.ensures ∙ to_z-of_z w128 p.amount (amount_fits ps i p a c.loop-line-test.true c.line-item.is c.requires) in
     let next : i + 1 ≡ suc i = omega arith in
     let more = ap (λ n. int_sum_by (λ x. x.amount) (take n ps)) next ∙ taken_more ps i p c.loop-line-test.true c.line-item.is in
     to_z-of_z w128 _ (overflow_sub-left c)
