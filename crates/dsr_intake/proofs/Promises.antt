@@ -1,5 +1,5 @@
 -- A thread's list of events, by the result of reading its file.
-use Rattle.std.proofs.Common.{◌≡◌, false, List, [], ◌∷◌, ◌++◌, inl, inr, ap, Result, Ok, Err, IfErr}
+use Rattle.std.proofs.Common.{◌≡◌, false, List, [], ◌∷◌, inl, inr, ap, Result, Ok, Err, IfErr}
 use Rattle.std.specs.Prelude.{OnOk}
 use Rattle.dsr_file.specs.declared.fault.Outcome.{Outcome}
 use Rattle.dsr_file.specs.declared.reading.ReadFileError.{ReadFileError}
