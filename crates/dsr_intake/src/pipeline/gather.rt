@@ -223,8 +223,8 @@ pub(crate) fn read_books<
     requires { All (λ r. (R.told r).failed ≡ false) readers.old.items }
     ensures books { IfOk result (AreBooksOf R.told options.now readers.old.items
         readers.new.items) }
-    ensures refused { MatchOption (refusal_of (vec_len readers.old) options.now) (IfErr result IsLate)
-        (λ e. (result ≡ Err e) × (readers.new ≡ readers.old)) }
+    ensures refused { MatchOption (refusal_of (vec_len readers.old) options.now)
+        (IfErr result IsLate) (λ e. (result ≡ Err e) × (readers.new ≡ readers.old)) }
 {
     if let Some(error) = refusal(readers.len(), options) {
         return Err(error);

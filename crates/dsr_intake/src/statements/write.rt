@@ -42,7 +42,8 @@ pub fn statement(alloc: Global, report: &Report) -> Result<Vec<u8>, NoMemory>
 /// All memory that writing the statement needs. It is refused also if the statement may have
 /// 2^64 - 1 bytes or more, since no error could say how much of it was written.
 pub(crate) fn room_for(alloc: Global, report: &LentReport<'_>) -> Result<Room, NoMemory>
-    ensures days { IfOk result (λ r. IfSome (report_lent report.now).key (λ k. r.days.items ≡ day_cells k)) }
+    ensures days { IfOk result (λ r.
+        IfSome (report_lent report.now).key (λ k. r.days.items ≡ day_cells k)) }
     ensures short { OnOk result (length (statement_of (report_lent report.now)) < MOST) }
 {
     let mut room = Room::new(alloc, report.key)?;
@@ -76,7 +77,8 @@ pub(crate) fn write_statement<W: Outlet>(
         (W.told out.old) (W.told out.new)) }
     ensures part { length (statement_of (report_lent report.now)) < MOST → IfErr result (λ n.
         (n ≤ length (statement_of (report_lent report.now)))
-        × IsCut (take n (statement_of (report_lent report.now))) (W.told out.old) (W.told out.new)) }
+        × IsCut (take n (statement_of (report_lent report.now)))
+        (W.told out.old) (W.told out.new)) }
 {
     let Room {
         days,
