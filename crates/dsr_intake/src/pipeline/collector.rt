@@ -1,10 +1,11 @@
-//! The collector: it takes the events of all files, books them, and closes the books.
+//! The collector: it takes the events of all files, books them, and closes the books or makes their report.
 ghost use Rattle.std.specs.Prelude.{◌≡◌, ◌+◌, ◌<◌, ◌≤◌, true, false, List, [], map, All, OnOk, IfOk, IfErr};
 ghost use Rattle.std.specs.Prelude.{vec_len};
 ghost use Rattle.dsr_file.specs.Placed.{Placed};
 ghost use Rattle.dsr_file.specs.Orderly.{is_ended, has_ended, MayStandAt};
 ghost use Rattle.dsr_ledger.specs.BooksWords.{Stands, files_count};
 ghost use Rattle.dsr_ledger.specs.Closed.{AreClosed};
+ghost use Rattle.dsr_ledger.specs.Reports.{report_of};
 ghost use Rattle.dsr_ledger.specs.Files.{File};
 ghost use Rattle.dsr_intake.specs.inner.Ends.{is_clean_end, is_memory};
 ghost use Rattle.dsr_intake.specs.meaning.Texts.{file_of};
@@ -17,7 +18,7 @@ use crate::pipeline::options::MOST_FILES;
 use crate::pipeline::seed::random_seed;
 use dsr_cells::NoMemory;
 use dsr_file::{Event, EventPart, FileFault, Outcome};
-use dsr_ledger::{Books, ClosedBooks};
+use dsr_ledger::{Books, ClosedBooks, Report};
 use dsr_relay::Tap;
 use std::alloc::Global;
 use std::random::RandomSource;
@@ -247,7 +248,7 @@ fn take_all<H: Wait>(rt: &H, books: &mut Books, taps: &mut Vec<Tap>) -> Result<(
 ///
 /// - `CollectError::Memory`: out of memory for the books, or in the sender of an event.
 /// - `CollectError::Closed`: the relay of this tap closed before the file had ended.
-pub fn collect<H: Wait + RandomSource>(
+pub(crate) fn collect_books<H: Wait + RandomSource>(
     rt: &H,
     alloc: Global,
     taps: &mut Vec<Tap>,
@@ -268,6 +269,32 @@ pub fn collect<H: Wait + RandomSource>(
     take_all(rt, &mut books, taps)?;
     match books.close() {
         Ok(books) => Ok(books),
+        Err(NoMemory) => Err(CollectError::Memory),
+    }
+}
+
+/// Takes all events of the taps, and makes the report of their files.
+///
+/// # Errors
+///
+/// - `CollectError::Memory`: out of memory for the books or the report, or in the sender of an event.
+/// - `CollectError::Closed`: the relay of this tap closed before the file had ended.
+pub fn collect<H: Wait + RandomSource>(
+    rt: &H,
+    alloc: Global,
+    taps: &mut Vec<Tap>,
+) -> Result<Report, CollectError>
+    requires some { 0 < vec_len taps.old }
+    requires most { vec_len taps.old ≤ MOST_FILES }
+    requires fresh { All (λ t. t.taken ≡ []) taps.old.items }
+    ensures names { map (λ t. t.name) taps.new.items ≡ map (λ t. t.name) taps.old.items }
+    ensures ended { OnOk result (All IsDrained taps.new.items) }
+    ensures report { IfOk result (λ r. r ≡ report_of (map (λ t. file_of t.taken) taps.new.items)) }
+    ensures stopped { IfErr result (IsStopped taps.new.items) }
+{
+    let books = collect_books(rt, alloc, taps)?;
+    match books.into_report() {
+        Ok(report) => Ok(report),
         Err(NoMemory) => Err(CollectError::Memory),
     }
 }

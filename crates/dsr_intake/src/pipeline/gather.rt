@@ -10,7 +10,7 @@ ghost use Rattle.dsr_intake.specs.meaning.Outcomes.{IsReportOf};
 ghost use Rattle.dsr_intake.specs.inner.Read.{AreBooksOf};
 ghost use Rattle.dsr_intake.specs.inner.Ready.{AreReady};
 
-use crate::pipeline::collector::collect;
+use crate::pipeline::collector::collect_books;
 use crate::pipeline::errors::{CollectError, IntakeError};
 use crate::pipeline::options::{MOST_MESSAGES, Options, refusal};
 use crate::pipeline::threads::{Thread, start};
@@ -145,7 +145,7 @@ fn start_and_collect<
     ensures late { IfErr result IsLate }
 {
     start_all(rt, alloc, readers, options, threads, taps)?;
-    match collect(rt, alloc, taps) {
+    match collect_books(rt, alloc, taps) {
         Ok(books) => Ok(books),
         Err(error) => Err(collect_error(error)),
     }
