@@ -1,7 +1,7 @@
-//! Worked examples of the calls of dsr_cells, dsr_records and dsr_file.
+//! Worked examples of the calls of dsr_cells, and the examples of the three crates that read files.
 //!
-//! 1. `examples`: those that the lib.rt of each crate shows.
-//! 2. `cells`, `records`, `file`: the tests of each crate.
+//! 1. `examples`: those that the lib.rt of dsr_cells, dsr_records and dsr_file show.
+//! 2. `cells`: the tests of dsr_cells. Those of the other two are in dsr_records_tests and dsr_file_tests.
 //!
 //! They are a separate crate, since a crate with tests is proved a second time with them.
 #![tactic(auto)]
@@ -10,7 +10,3 @@
 mod cells;
 #[cfg(test)]
 mod examples;
-#[cfg(test)]
-mod file;
-#[cfg(test)]
-mod records;

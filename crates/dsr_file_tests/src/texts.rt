@@ -1,6 +1,6 @@
 //! The events of worked texts: each fault of a file, and next to it a text that differs in one
 //! point.
-use super::{FILE, comes_to, text};
+use crate::letters::{FILE, comes_to, text};
 use dsr_file::Ending;
 use std::alloc::{AllocError, Global};
 
@@ -77,7 +77,7 @@ fn rows_hold(rt: HostRuntime) {
 }
 
 /// The events and the end of a whole file that a failed read cuts at this byte or later.
-pub(super) const CUTS: [(usize, &str, &str); 9] = [
+const CUTS: [(usize, &str, &str); 9] = [
     (0, "E", "1 Read"),
     (38, "E", "2 Read"),
     (75, "E", "3 Read"),
@@ -90,7 +90,7 @@ pub(super) const CUTS: [(usize, &str, &str); 9] = [
 ];
 
 /// The events and the end of a whole file that a failed read cuts here.
-pub(super) fn cut_at(cut: usize) -> (&'static str, &'static str) {
+pub fn cut_at(cut: usize) -> (&'static str, &'static str) {
     let mut found = ("", "");
     for (from, letters, told) in &CUTS {
         if *from <= cut {

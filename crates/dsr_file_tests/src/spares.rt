@@ -1,7 +1,7 @@
 //! Blocks that are written over old ones.
 ghost use Rattle.std.specs.Prelude.{◌≡◌, ◌≤◌, [], IfSome, length};
 
-use super::{FILE, come_to, events_of, text};
+use crate::letters::{FILE, come_to, events_of, text};
 use dsr_file::{Ending, Event, EventList, EventPart, FileReader, FromRead, Sink, read_file};
 use dsr_records::{Block, Layout};
 use std::alloc::{AllocError, Global};

@@ -1,15 +1,11 @@
-//! Worked texts: how tests write them, and what events they give.
-mod limits;
-mod reading;
-mod spares;
-mod texts;
+//! Worked texts, written as letters: one for each line of a text, and one for each event that it gives.
 
 use dsr_file::{Ending, Event, EventList, EventPart, FileFault, Outcome, whole_events};
 use dsr_records::Layout;
 use std::alloc::{AllocError, Global};
 
 /// The eight lines of a whole file.
-const FILE: &str = "HYSWUOVF";
+pub const FILE: &str = "HYSWUOVF";
 
 /// The line for a letter; any other letter is for the other line.
 fn line<'t>(letter: u8, other: &'t str) -> &'t str {
@@ -29,7 +25,7 @@ fn line<'t>(letter: u8, other: &'t str) -> &'t str {
 }
 
 /// The lines for these letters, each with this end.
-fn text(alloc: Global, letters: &str, other: &str, end: &[u8]) -> Result<Vec<u8>, AllocError> {
+pub fn text(alloc: Global, letters: &str, other: &str, end: &[u8]) -> Result<Vec<u8>, AllocError> {
     let mut text = Vec::new(alloc);
     for letter in letters.as_bytes() {
         text.extend_from_slice(line(*letter, other).as_bytes())?;
@@ -39,7 +35,7 @@ fn text(alloc: Global, letters: &str, other: &str, end: &[u8]) -> Result<Vec<u8>
 }
 
 /// The events of a text by the standard layout.
-fn events_of(alloc: Global, bytes: &[u8], ending: Ending) -> Option<EventList> {
+pub fn events_of(alloc: Global, bytes: &[u8], ending: Ending) -> Option<EventList> {
     if bytes.len() > 1_000_000 {
         return None;
     }
@@ -47,7 +43,7 @@ fn events_of(alloc: Global, bytes: &[u8], ending: Ending) -> Option<EventList> {
 }
 
 /// The letter of an event: O for an opening, B for a block, E for the end.
-fn letter(event: &Event) -> u8 {
+pub fn letter(event: &Event) -> u8 {
     match &event.part {
         EventPart::Opened(_) => b'O',
         EventPart::Block(_) => b'B',
@@ -79,7 +75,7 @@ fn outcome_of(events: &EventList) -> Option<Outcome> {
 }
 
 /// Whether a fault is the one of this name; the name of its column follows a blank.
-fn is_named(fault: FileFault, name: &str) -> bool {
+pub fn is_named(fault: FileFault, name: &str) -> bool {
     match (fault.column(), name.split_once(' ')) {
         (None, None) => fault.name() == name,
         (Some(column), Some((of_fault, of_column))) => {
@@ -101,7 +97,7 @@ fn is_told(outcome: Outcome, told: &str) -> bool {
 }
 
 /// Whether the events are those of these letters, and the last one has this end.
-fn come_to(events: &EventList, letters: &str, told: &str) -> bool {
+pub fn come_to(events: &EventList, letters: &str, told: &str) -> bool {
     let Some(outcome) = outcome_of(events) else {
         return false;
     };
@@ -109,7 +105,7 @@ fn come_to(events: &EventList, letters: &str, told: &str) -> bool {
 }
 
 /// Whether a text gives the events of these letters, and the last one has this end.
-fn comes_to(alloc: Global, bytes: &[u8], ending: Ending, letters: &str, told: &str) -> bool {
+pub fn comes_to(alloc: Global, bytes: &[u8], ending: Ending, letters: &str, told: &str) -> bool {
     match events_of(alloc, bytes, ending) {
         Some(events) => come_to(&events, letters, told),
         None => false,

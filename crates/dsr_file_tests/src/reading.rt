@@ -2,9 +2,9 @@
 ghost use Rattle.std.specs.Prelude.{◌≡◌, ◌+◌, ◌<◌, ◌≤◌, ◌^◌, None, false, length};
 ghost use Rattle.dsr_file.specs.Standing.{bytes_used, ending_told};
 
-use super::limits::comment;
-use super::texts::cut_at;
-use super::{FILE, come_to, is_named, letter, text};
+use crate::letters::{FILE, come_to, is_named, letter, text};
+use crate::limits::comment;
+use crate::texts::cut_at;
 use dsr_file::{
     Ending, Event, EventList, Failed, FileReader, FromRead, Outcome, ReadCount, ReadFileError,
     Sink, Source, read_file, whole_events,

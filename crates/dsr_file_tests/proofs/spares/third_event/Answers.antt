@@ -1,5 +1,5 @@
 use Rattle.std.proofs.Common.{arith, length-take, length-drop}
-use Rattle.dsr_reader_tests.proofs.file.spares.third_event.Goals as goal
+use Rattle.dsr_file_tests.proofs.spares.third_event.Goals as goal
 
 pub take-event-requires-clause-room : goal.take-event-requires-clause-room
 take-event-requires-clause-room c =

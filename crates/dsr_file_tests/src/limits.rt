@@ -1,10 +1,10 @@
 //! The limits: the length of a line, the summaries of a file, the records of a block.
-use super::{comes_to, text};
+use crate::letters::{comes_to, text};
 use dsr_file::Ending;
 use std::alloc::{AllocError, Global};
 
 /// A line of `#` and `letters` letters.
-pub(super) fn comment(alloc: Global, letters: usize) -> Result<Vec<u8>, AllocError> {
+pub fn comment(alloc: Global, letters: usize) -> Result<Vec<u8>, AllocError> {
     let mut line = Vec::new(alloc);
     line.push(b'#')?;
     for _ in 0..letters {
