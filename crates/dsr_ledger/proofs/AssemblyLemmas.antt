@@ -15,8 +15,6 @@ use Rattle.dsr_ledger.specs.declared.file.summaries.Summaries.{Summaries}
 use Rattle.dsr_ledger.specs.declared.file.FileBooks.{FileBooks}
 use Rattle.dsr_ledger.specs.declared.kept.Kept.{Kept}
 use Rattle.dsr_ledger.specs.declared.closed.ClosedBooks.{ClosedBooks}
-use Rattle.dsr_ledger.specs.declared.key.Key.{Key}
-use Rattle.dsr_ledger.specs.declared.ledger.recordings.Ledger.{Ledger}
 use Rattle.dsr_ledger.specs.declared.report.ReportKey.{ReportKey}
 use Rattle.dsr_ledger.specs.Sums.{int_sum_by}
 use Rattle.dsr_ledger.specs.Files.{File, Filed, filed, filed_after, standing, summaries_of, first_head}
@@ -171,10 +169,6 @@ small_lines kept few r =
       small = bookings_small r.files (omega arith) (short_files r.files r.small);
     }
 
--- small bookings of a ledger are those of another one with the same tallies
-pub small_after : (old new : Ledger) → ((q : Key) → tally_at new q ≡ tally_at old q) → AreOfSmall old → AreOfSmall new
-small_after old new same o = record { bookings = o.bookings; stand = λ q. same q ∙ o.stand q; small = o.small }
-
 -- closed books, as they were made of the states
 pub record Assembled (kept : Kept) (numbers : BTreeSet ℕ) (c : ClosedBooks) : Type 0 where
   pub key : c.key ≡ option_map key_of (first_head (openings_of kept.files.items))
@@ -182,7 +176,7 @@ pub record Assembled (kept : Kept) (numbers : BTreeSet ℕ) (c : ClosedBooks) : 
   pub own : (n : ℕ) → contains nat_cmp numbers n ≡ list_any (is_number_kept n) kept.files.items
   pub missing : c.missing ≡ not_in c.key numbers
   pub differences : c.differences ≡ flat_map differences_kept kept.files.items
-  pub ledger : (q : Key) → tally_at c.ledger q ≡ tally_at kept.ledger q
+  pub ledger : c.ledger ≡ kept.ledger
   pub rejects : c.rejects ≡ flat_map (λ f. f.rejects.items) kept.files.items
 
 pub closed_is : (kept : Kept) (numbers : BTreeSet ℕ) (c : ClosedBooks) → Assembled kept numbers c → (files : List File) → Stands kept files → AreClosed c files
@@ -197,6 +191,6 @@ closed_is kept numbers c a files h =
       lines = a.lines ∙ map_stands line_kept file_line line_stands 1 [] fs files h.each;
       missing = a.missing ∙ ap (λ k. not_in k numbers) key ∙ not_in_is (report_head files) numbers (filed files) there;
       differences = a.differences ∙ flat_map_stands differences_kept differences_in differences_stand 1 [] fs files h.each;
-      ledger = λ q. a.ledger q ∙ h.ledger q;
+      ledger = λ q. ap (λ l. tally_at l q) a.ledger ∙ h.ledger q;
       rejects = a.rejects ∙ flat_map_stands (λ f. f.rejects.items) rejects_in (λ f d s. s.rejects) 1 [] fs files h.each;
     }

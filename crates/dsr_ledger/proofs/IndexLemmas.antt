@@ -1,8 +1,8 @@
 -- The index of a list of numbers: if they ascend, and with one more number.
-use Rattle.std.proofs.Common.{◌≡◌, ℕ, zero, suc, ◌+◌, ◌-◌, ◌<◌, ◌≤◌, Bool, true, false, true≢false, cond, List, [], ◌∷◌, ◌++◌, length, length-append, take}
+use Rattle.std.proofs.Common.{◌≡◌, ℕ, zero, suc, ◌+◌, ◌-◌, ◌<◌, ◌≤◌, Bool, true, false, true≢false, cond, List, [], ◌∷◌, ◌++◌, length, length-append, take, drop}
 use Rattle.std.proofs.Common.{get_or, nat_eq, Result, Ok, Err, refl, sym, ap, subst, ◌∙◌, arith}
-use Rattle.std.specs.Prelude.{Option, None, Some, map, slice_get, slice_index}
-use Rattle.std.specs.List.{position_from}
+use Rattle.std.specs.Prelude.{None, Some, map, slice_get, slice_index, ◌||◌}
+use Rattle.std.specs.List.{list_any, position_from}
 use Rattle.std.specs.List.Sorted.{IsSearchInRange, IsBinarySearchResult, IsNonDecreasingBy}
 use Rattle.std.specs.Option.{option_map}
 use Rattle.std.specs.Ordering.{nat_cmp, ordering_index}
@@ -11,10 +11,11 @@ use Rattle.std.proofs.lemmas.Bool.Decides.{nat_tests}
 use Rattle.std.proofs.lemmas.Cmp.{ranked}
 use Rattle.std.proofs.lemmas.Iterator.Adapters.{position_from-zero}
 use Rattle.std.proofs.lemmas.Option.{slice_get-map}
-use Rattle.std.proofs.lemmas.List.{take_more, get_or-map, get_or_append_left, get_or-append_right, length-map, length-take-le}
+use Rattle.std.proofs.lemmas.List.{drop_all, drop-append-le, take_more, get_or-map, get_or_append_left, get_or-append_right, length-map}
+use Rattle.indexmap.specs.IndexSet.{insert_key}
 use Rattle.dsr_ledger.specs.Indexes.{Rise}
 use Rattle.dsr_ledger.specs.Numbered.{place_in, AreApart}
-use Rattle.dsr_ledger.proofs.NumberedLemmas.{same_Some, not_Some, place_more, place_before, got_or}
+use Rattle.dsr_ledger.proofs.NumberedLemmas.{same_Some, not_Some, place_before, got_or}
 use Rattle.dsr_ledger.proofs.PlaceByLemmas.{same_number}
 
 -- the first element that passes, and none
@@ -129,23 +130,34 @@ module _ {X : Type 0} (number : X → ℕ) (n : ℕ) where
   searched [] rise (Err i) bound h = refl
   searched (x ∷ xs) rise r bound h = search_is (x ∷ xs) x rise r bound h
 
--- places of numbers, with one more number
-pub placed_more : (at new : ℕ → Option ℕ) (ns : List ℕ) (n : ℕ) → place_in ns n ≡ None → ((q : ℕ) → at q ≡ place_in ns q)
-    → ((q : ℕ) → new q ≡ cond (nat_eq n q) (Some (length ns)) (at q)) → (q : ℕ) → new q ≡ place_in (ns ++ n ∷ []) q
-placed_more at new ns n none all is q =
-    is q ∙ ap (cond (nat_eq n q) (Some (length ns))) (all q) ∙ sym (place_more nat_eq same_number ns n q none)
+none_any : (p : ℕ → Bool) (ns : List ℕ) (k : ℕ) → position_from p k ns ≡ None → list_any p ns ≡ false
+none_any p [] k e = refl
+none_any p (n ∷ ns) k e = by (p n) refl e (none_any p ns (k + 1))
+  where
+    by : (b : Bool) → p n ≡ b → cond b (Some k) (position_from p (k + 1) ns) ≡ None
+        → (position_from p (k + 1) ns ≡ None → list_any p ns ≡ false) → (p n || list_any p ns) ≡ false
+    by true t e rest = absurd (not_Some k (sym e))
+    by false f e rest = ap (λ b. b || list_any p ns) f ∙ rest e
 
--- places of the first of some ascending numbers, with the next one
-pub place_next : (ns : List ℕ) (i n : ℕ) → Rise ns → slice_get ns i ≡ Some n → (at new : ℕ → Option ℕ) → ((q : ℕ) → at q ≡ place_in (take i ns) q)
-    → ((q : ℕ) → new q ≡ cond (nat_eq n q) (Some i) (at q)) → (q : ℕ) → new q ≡ place_in (take (i + 1) ns) q
-place_next ns i n rise here at new all is q =
+-- a number that a list of numbers lacks goes last
+pub goes_last : (ns : List ℕ) (n : ℕ) → place_in ns n ≡ None → insert_key nat_eq ns n ≡ ns ++ n ∷ []
+goes_last ns n none = ap (λ b. cond b ns (ns ++ n ∷ [])) (none_any (nat_eq n) ns 0 (sym (position_from-zero (nat_eq n) ns) ∙ none))
+
+-- the first of some distinct numbers, with the next one
+pub next_number : (ns : List ℕ) (i n : ℕ) → AreApart ns → slice_get ns i ≡ Some n → insert_key nat_eq (take i ns) n ≡ take (i + 1) ns
+next_number ns i n apart here =
     let below = within ns i n here in
-    let long : length (take i ns) ≡ i = length-take-le i ns (omega arith) in
-    let more : take (i + 1) ns ≡ take i ns ++ n ∷ [] =
-    take_more ns i 0 below ∙ ap (λ m. take i ns ++ m ∷ []) (same_Some (get_or ns i 0) n (sym (got_or ns i 0 below) ∙ here)) in
-    placed_more at new (take i ns) n (place_before nat_eq same_number ns i n (rising_apart ns rise) here) all
-    (λ r. is r ∙ ap (λ k. cond (nat_eq n r) (Some k) (at r)) (sym long)) q
-    ∙ ap (λ l. place_in l q) (sym more)
+    goes_last (take i ns) n (place_before nat_eq same_number ns i n apart here)
+    ∙ sym (take_more ns i 0 below ∙ ap (λ m. take i ns ++ m ∷ []) (same_Some (get_or ns i 0) n (sym (got_or ns i 0 below) ∙ here)))
+
+-- one more number: of at most 16, or above the ones that ascend
+pub few_more : (ns : List ℕ) (n : ℕ) → length ns < 16 → Rise (drop 16 (ns ++ n ∷ []))
+few_more ns n few =
+    let long = length-append ns (n ∷ []) in
+    subst Rise (sym (drop_all 16 (ns ++ n ∷ []) (omega (arith, long, few)))) (λ i j less within. absurd (omega (arith, within)))
+
+pub more_rise : (ns : List ℕ) (n : ℕ) → 16 ≤ length ns → Rise (drop 16 ns ++ n ∷ []) → Rise (drop 16 (ns ++ n ∷ []))
+more_rise ns n many = subst Rise (sym (drop-append-le 16 ns (n ∷ []) many))
 
 -- the number of the item at a place
 pub at_place : {X : Type 0} (number : X → ℕ) (xs : List X) (i : ℕ) (x : X) (n : ℕ) → i < length xs → x ≡ get_or xs i x → n ≡ number x

@@ -32,6 +32,7 @@ pub mod IdsLemmas
 pub mod StandLemmas
 pub mod OpenLemmas
 pub mod PutLemmas
+pub mod RankLemmas
 pub mod FilesLemmas
 pub mod SmallLemmas
 pub mod CallerLemmas

@@ -6,7 +6,6 @@ use Rattle.std.specs.Option.{option_map_or, option_and_then}
 use Rattle.std.specs.List.{IsDistinct, position_from, AllByRecursion}
 use Rattle.std.specs.List.Sorted.{IsPermutation, IsSortedBy, IsStrictlySortedBy}
 use Rattle.std.specs.Bool.{Decides}
-use Rattle.std.specs.Borrow.{Bor}
 use Rattle.std.specs.Cmp.{IsEquivalence, IsTotalOrder}
 use Rattle.std.specs.Map.{keys_of, lookup}
 use Rattle.std.specs.Ordering.{is_eq, is_lt}
@@ -20,9 +19,43 @@ use Rattle.std.proofs.lemmas.Map.Keys.{IsDistinct-IsPermutation}
 use Rattle.std.proofs.lemmas.Option.{get_or_from_slice_get}
 use Rattle.indexmap.proofs.MapLemmas.{lookup_permutation}
 use Rattle.dsr_ledger.specs.Numbered.{place_in, place_by, AreApart}
-use Rattle.dsr_ledger.specs.Listed.{named_places, AreListed}
+use Rattle.dsr_ledger.specs.Listed.{AreListed}
 use Rattle.dsr_ledger.proofs.IndexMapLemmas.{number_at}
 use Rattle.dsr_ledger.proofs.OrderLemmas.{strictly_sorted}
+
+-- items by their names
+abbrev pub entries_by : {X K V : Type 0} → (X → K) → (X → V) → List X → List (K × V)
+entries_by name value xs = map (λ x. (name x, value x)) xs
+
+-- items with distinct names, put in order: the same is found
+module _ {K : Type 0} (eq : K → K → Bool) (laws : IsEquivalence eq) {R : K → K → Ordering} (total : IsTotalOrder R)
+    (ties : (a b : K) → is_eq (R a b) ≡ eq a b) {X V : Type 0} (name : X → K) (value : X → V) where
+  names_differ : (xs : List X) → IsDistinct eq (keys_of (entries_by name value xs)) → IsDistinct (λ a b. eq (name a) (name b)) xs
+  unfolding IsDistinct
+  names_differ [] h = tt
+  names_differ (x ∷ xs) h = (each xs h.0, names_differ xs h.1)
+    where
+      each : (ys : List X) → AllByRecursion (λ y. eq (name x) y ≡ false) (keys_of (entries_by name value ys)) → AllByRecursion (λ y. eq (name x) (name y) ≡ false) ys
+      each [] a = tt
+      each (y ∷ ys) a = (a.0, each ys a.1)
+
+  names_are : (xs : List X) → keys_of (entries_by name value xs) ≡ map name xs
+  names_are [] = refl
+  names_are (x ∷ xs) = ap (λ l. name x ∷ l) (names_are xs)
+
+  pub in_order : (xs ys : List X) → IsDistinct eq (keys_of (entries_by name value xs)) → IsPermutation xs ys
+      → IsSortedBy (λ a b. is_lt (R (name a) (name b))) ys
+      → IsStrictlySortedBy R (keys_of (entries_by name value ys))
+      × ((q : K) → lookup (eq q) (entries_by name value ys) ≡ lookup (eq q) (entries_by name value xs))
+  in_order xs ys differ moved sorted =
+      let was = entries_by name value xs in
+      let is = entries_by name value ys in
+      let alike : X → X → Bool = λ a b. eq (name a) (name b) in
+      let distinct_ys = IsDistinct-IsPermutation alike (λ a b. laws.symm (name a) (name b)) xs ys moved (names_differ xs differ) in
+      let order = strictly_sorted name total alike (λ a b. ties (name a) (name b)) ys sorted distinct_ys in
+      let places = IsPermutation-map (λ (x : X). (name x, value x)) xs ys moved in
+      let keys_differ = IsDistinct-IsPermutation eq laws.symm (keys_of was) (keys_of is) (IsPermutation-map (λ (e : K × V). e.0) was is places) differ in
+      (subst (IsStrictlySortedBy R) (sym (names_are ys)) order, λ q. lookup_permutation laws was is places keys_differ (eq q) (laws.congr q))
 
 -- items none of which equals an earlier one
 distinct_from_apart : {X : Type 0} (alike : X → X → Bool) (xs : List X)
@@ -136,40 +169,14 @@ module _ {K : Type 0} where
       find_is q [] = refl
       find_is q (e ∷ es) = λ i. cond (ties q e.0 i) (Some e.1) (find_is q es i)
 
-      abbrev name : Bor K × ℕ → K
-      name e = e.0.now
-
-      raw_distinct : (xs : List (Bor K × ℕ)) → IsDistinct eq (keys_of (named_places xs)) → IsDistinct (λ a b. eq (name a) (name b)) xs
-      unfolding IsDistinct
-      raw_distinct [] h = tt
-      raw_distinct (x ∷ xs) h = (each xs h.0, raw_distinct xs h.1)
-        where
-          each : (ys : List (Bor K × ℕ)) → AllByRecursion (λ y. eq (name x) y ≡ false) (keys_of (named_places ys))
-              → AllByRecursion (λ y. eq (name x) (name y) ≡ false) ys
-          each [] a = tt
-          each (y ∷ ys) a = (a.0, each ys a.1)
-
-      names_are : (xs : List (Bor K × ℕ)) → keys_of (named_places xs) ≡ map name xs
-      names_are [] = refl
-      names_are (x ∷ xs) = ap (λ l. name x ∷ l) (names_are xs)
-
-      -- names of numbers, put in order
-      pub listed : (ns : List ℕ) (xs ys : List (Bor K × ℕ)) → AreApart ns → AreNamedFrom ks 0 ns (named_places xs) → IsPermutation xs ys
-          → IsSortedBy (λ a b. is_lt (R (name a) (name b))) ys → AreListed R (place_by number ns) (named_places ys)
-      listed ns xs ys apart named moved sorted =
-          let was = named_places xs in
-          let is = named_places ys in
-          let differ = differ_from 0 ns was named (apart_distinct ns apart) in
-          let alike : Bor K × ℕ → Bor K × ℕ → Bool = λ a b. eq (name a) (name b) in
-          let distinct_ys = IsDistinct-IsPermutation alike (λ a b. laws.symm (name a) (name b)) xs ys moved (raw_distinct xs differ) in
-          let order = strictly_sorted name total alike (λ a b. ties (name a) (name b)) ys sorted distinct_ys in
-          let places = IsPermutation-map (λ (e : Bor K × ℕ). (e.0.now, e.1)) xs ys moved in
-          let keys_differ = IsDistinct-IsPermutation eq laws.symm (keys_of was) (keys_of is) (IsPermutation-map (λ (e : K × ℕ). e.0) was is places) differ in
+      -- items with the names of numbers, put in order
+      pub listed : {X : Type 0} (name : X → K) (value : X → ℕ) (ns : List ℕ) (xs ys : List X) → AreApart ns
+          → AreNamedFrom ks 0 ns (entries_by name value xs) → IsPermutation xs ys → IsSortedBy (λ a b. is_lt (R (name a) (name b))) ys
+          → AreListed R (place_by number ns) (entries_by name value ys)
+      listed name value ns xs ys apart named moved sorted =
+          let was = entries_by name value xs in
+          let ordered = in_order eq laws total ties name value xs ys (differ_from 0 ns was named (apart_distinct ns apart)) moved sorted in
           record {
-            order = subst (IsStrictlySortedBy R) (sym (names_are ys)) order;
-            found = λ q.
-                find_is q is
-                ∙ lookup_permutation laws was is places keys_differ (eq q) (laws.congr q)
-                ∙ found_from 0 ns was named q
-                ∙ place_is ns (number q);
+            order = ordered.0;
+            found = λ q. find_is q (entries_by name value ys) ∙ ordered.1 q ∙ found_from 0 ns was named q ∙ place_is ns (number q);
           }

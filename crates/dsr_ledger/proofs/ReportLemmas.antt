@@ -1,27 +1,28 @@
 -- The lines of the report, recording after recording.
-use Rattle.std.proofs.Common.{◌≡◌, ℕ, zero, suc, ◌+◌, ◌<◌, ◌≤◌, take, get_or, Bool, true, false, true≢false, cond, List, [], ◌∷◌, ◌++◌, append_assoc}
+use Rattle.std.proofs.Common.{◌≡◌, ℕ, zero, suc, ◌+◌, ◌<◌, ◌≤◌, take, drop, get_or, Bool, true, false, true≢false, cond, List, [], ◌∷◌, ◌++◌, append_assoc}
 use Rattle.std.proofs.Common.{append-nil, length, refl, sym, ap, ◌∙◌, subst, arith}
 use Rattle.std.specs.Prelude.{Option, None, Some, is_some, slice_get, map, filter, unwrap_or, nat_lt, ◌||◌, option_map}
 use Rattle.std.specs.Option.{option_map_or, option_and_then}
 use Rattle.std.specs.List.{AllByRecursion, list_any}
-use Rattle.std.specs.List.Sorted.{IsSorted, IsStrictlySortedBy}
+use Rattle.std.specs.List.Sorted.{IsStrictlySortedBy}
 use Rattle.std.specs.Borrow.{Bor}
 use Rattle.std.specs.Str.{bytes_eq}
 use Rattle.std.specs.Cmp.{IsTotalOrder, tied_itself, eq_by_cmp_equiv}
-use Rattle.std.specs.Cmp.Lexicographic.{nat_list_cmp_total, nat_list_eq_equiv}
+use Rattle.std.specs.Cmp.Lexicographic.{nat_list_cmp_total}
 use Rattle.std.specs.Map.{keys_of, lookup}
 use Rattle.std.specs.Ordering.{is_eq, eq_by_cmp, ordering_then, ordering_reverse}
 use Rattle.std.specs.declared.cmp.Ordering.{Ordering}
 use Rattle.std.specs.declared.cmp.Ordering.TheVariants.{Less}
 use Rattle.std.specs.FinMap.Entries.{find}
 use Rattle.std.proofs.lemmas.Bool.{lt-ltb}
-use Rattle.std.proofs.lemmas.List.{map-append, map-id, length-map, take_more}
+use Rattle.std.proofs.lemmas.List.{map-append, length-map, take_more, drop_more}
 use Rattle.std.proofs.lemmas.List.Elements.{filter-append}
 use Rattle.std.proofs.lemmas.Map.Entries.{lookup_from_place}
+use Rattle.std.proofs.lemmas.Map.Keys.{IsDistinct-from_sorted}
 use Rattle.std.proofs.lemmas.List.Quantifiers.{position-Some}
 use Rattle.std.proofs.lemmas.Option.{slice_get-map}
 use Rattle.std.proofs.lemmas.Simd.{map-map}
-use Rattle.indexmap.specs.IndexMap.{get, keys, IsUnique}
+use Rattle.indexmap.specs.IndexMap.{get, keys}
 use Rattle.dsr_ledger.specs.declared.key.Key.{Key}
 use Rattle.dsr_ledger.specs.declared.ledger.line.Line.{Line}
 use Rattle.dsr_ledger.specs.declared.ledger.summary_key.SummaryKey.{SummaryKey}
@@ -37,12 +38,13 @@ use Rattle.dsr_ledger.specs.Recordings.{tally_at, recording_tally, party_number,
 use Rattle.dsr_ledger.specs.Tallies.{no_tally, line_tally, lines_tally, line_keys, key_tally}
 use Rattle.dsr_ledger.specs.Stands.{LedgerStands}
 use Rattle.dsr_ledger.specs.Order.{IsSmall, AreSmall, AreOfSmall}
-use Rattle.dsr_ledger.specs.Listed.{named_places, booked_lines, entries_under, key_in, HasBookings, IsOfSmallAt, AddsLines, AreListed}
+use Rattle.dsr_ledger.specs.Listed.{named_places, booked_lines, entries_under, key_in, lent_recordings, HasBookings, IsOfSmallAt, AddsLines, AreInOrder, AreListed}
 use Rattle.dsr_ledger.proofs.KeyLemmas.{key_total, key_exact, key_ties}
 use Rattle.dsr_ledger.proofs.SummaryKeyLemmas.{summary_key_total}
 use Rattle.dsr_ledger.proofs.TextLemmas.{text_ties, same_text}
+use Rattle.dsr_ledger.proofs.EachLemmas.{each_append, each_filter}
 use Rattle.dsr_ledger.proofs.IndexMapLemmas.{each_at}
-use Rattle.dsr_ledger.proofs.OrderLemmas.{in_order_is, strictly_sorted}
+use Rattle.dsr_ledger.proofs.OrderLemmas.{in_order_is}
 
 pub all_at : {X : Type 0} (P : X → Type 0) (xs : List X) → ((i : ℕ) (x : X) → slice_get xs i ≡ Some x → P x) → AllByRecursion P xs
 all_at P [] h = tt
@@ -188,9 +190,9 @@ sorted_append {K} R (k ∷ ks) ls s t h = (above ks s.0, sorted_append R ks ls s
     above [] a = h.0
     above (m ∷ ms) a = (a.0, above ms a.1)
 
-pub all_append : {X : Type 0} (P : X → Type 0) (xs ys : List X) → AllByRecursion P xs → AllByRecursion P ys → AllByRecursion P (xs ++ ys)
-all_append P [] ys a b = b
-all_append P (x ∷ xs) ys a b = (a.0, all_append P xs ys a.1 b)
+lookup_by_cmp : {V : Type 0} (q : List ℕ) (es : List (List ℕ × V)) → lookup (bytes_eq q) es ≡ lookup (eq_by_cmp text_cmp q) es
+lookup_by_cmp q [] = refl
+lookup_by_cmp q (e ∷ es) = λ i. cond (sym (text_ties q e.0) i) (Some e.1) (lookup_by_cmp q es i)
 
 -- the recordings before these were written, for some keys in order: all that have a booking
 pub record IsWritten (books : Ledger) (rest : List (List ℕ × Recording)) (out : List LedgerLine) : Type 0 where
@@ -244,7 +246,7 @@ module _ (books : Ledger) where
         order =
             subst (IsStrictlySortedBy key_cmp) (sym (map-append (λ (e : Key × ℕ). e.0) es fs))
             (sorted_append key_cmp (keys_of es) (keys_of fs) was.order adds.order (cross es was.before));
-        before = all_append (λ (e : Key × ℕ). AllByRecursion (λ x. text_cmp e.0.isrc x.0 ≡ Less) rest) es fs (tails es was.before) (later fs adds.own);
+        before = each_append (λ (e : Key × ℕ). AllByRecursion (λ x. text_cmp e.0.isrc x.0 ≡ Less) rest) es fs (tails es was.before) (later fs adds.own);
         absent = λ q none missing.
             let parts = find_append key_cmp q es fs none in
             by q parts.0 parts.1 missing (bytes_eq q.isrc isrc) refl;
@@ -315,27 +317,33 @@ module _ (books : Ledger) where
       (λ q none. sym (ap (λ t. t.is_booked) (stand q)) ∙ w.absent q none refl))
 
   -- before any is written: the recordings, which are in order
-  pub rest_all : IsUnique bytes_eq books.recordings → IsSorted text_cmp (keys books.recordings) → AreRest books books.recordings.entries
-  rest_all unique sorted =
-      let m = books.recordings in
+  pub rest_all : (list : List (Bor (List ℕ) × Bor Recording)) → AreInOrder books.recordings list → AreRest books (lent_recordings list)
+  rest_all list h =
+      let es = lent_recordings list in
+      let total = nat_list_cmp_total in
+      let distinct = IsDistinct-from_sorted text_cmp (keys_of es) h.order in
       record {
-        order =
-            subst (IsStrictlySortedBy text_cmp) (map-id (keys m))
-            (strictly_sorted (λ (k : List ℕ). k) nat_list_cmp_total bytes_eq text_ties (keys m) sorted unique);
+        order = h.order;
         own =
-            all_at (λ x. get bytes_eq books.recordings x.0 ≡ Some x.1) m.entries
-            (λ i x at. lookup_from_place nat_list_eq_equiv m.entries i x.0 x.1 unique at);
+            all_at (λ x. get bytes_eq books.recordings x.0 ≡ Some x.1) es
+            (λ i x at. sym (h.found x.0) ∙ lookup_by_cmp x.0 es ∙ lookup_from_place (eq_by_cmp_equiv total) es i x.0 x.1 distinct at);
       }
 
-  pub written_none : IsWritten books books.recordings.entries []
+  pub written_none : (list : List (Bor (List ℕ) × Bor Recording)) → AreInOrder books.recordings list → IsWritten books (lent_recordings list) []
   unfolding IsStrictlySortedBy
-  written_none = record {
+  written_none list h = record {
     entries = [];
     order = tt;
     before = tt;
-    absent = λ q none missing. ap (λ o. (recording_tally (party_number books) (key_number books (summary_key_in q)) o).is_booked) missing;
+    absent = λ q none missing.
+        ap (λ o. (recording_tally (party_number books) (key_number books (summary_key_in q)) o).is_booked) (sym (h.found q.isrc) ∙ missing);
     lines = λ bs stand. refl;
   }
+
+-- the recordings from place i on begin with the one there
+pub next_recording : (list : List (Bor (List ℕ) × Bor Recording)) (i : ℕ) (x : Bor (List ℕ) × Bor Recording) → i < length list → x ≡ get_or list i x
+    → lent_recordings (drop i list) ≡ (x.0.now, x.1.now) ∷ lent_recordings (drop (i + 1) list)
+next_recording list i x below is = ap lent_recordings (drop_more list i x below ∙ ap (λ y. y ∷ drop (i + 1) list) (sym is))
 
 -- a recording is taken, and its lines are added
 pub lines_step : (books : Ledger) (isrc : List ℕ) (r : Recording) (all rest : List (List ℕ × Recording)) (ps : List (List ℕ)) (ks : List SummaryKey)
@@ -353,14 +361,9 @@ fewer p [] = omega arith
 fewer p (x ∷ xs) = let rest =
     fewer p xs in elim (p x) as (λ b. length (cond b (x ∷ filter p xs) (filter p xs)) ≤ suc (length xs)) [ true ↦ omega arith | false ↦ omega arith ]
 
-each_of : {X : Type 0} (P : X → Type 0) (p : X → Bool) (xs : List X) → AllByRecursion P xs → AllByRecursion P (filter p xs)
-each_of P p [] h = h
-each_of P p (x ∷ xs) h =
-    elim (p x) as (λ b. AllByRecursion P (cond b (x ∷ filter p xs) (filter p xs))) [ true ↦ (h.0, each_of P p xs h.1) | false ↦ each_of P p xs h.1 ]
-
 -- the bookings of a key are small if all are
 pub small_at : (key : Key) (bs : List Booking) → AreSmall bs → AreSmall (at_key key bs)
 small_at key bs h = record {
   few = let less = fewer (is_at_key key) bs in let few = h.few in omega arith;
-  each = each_of IsSmall (is_at_key key) bs h.each;
+  each = each_filter IsSmall (is_at_key key) bs h.each;
 }

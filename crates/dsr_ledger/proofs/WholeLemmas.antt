@@ -18,6 +18,7 @@ use Rattle.dsr_ledger.specs.Files.{File, Filed, filed, summaries_of}
 use Rattle.dsr_ledger.specs.Verdicts.{is_foreign, is_doubled, names_unknown, first_reason, verdict_by, judged, judged_in, share_total}
 use Rattle.dsr_ledger.specs.declared.ledger.summary_key.SummaryKey.{SummaryKey}
 use Rattle.dsr_ledger.specs.Bookings.{Booking, booked_under, block_bookings, place_named, verdict_bookings, filed_bookings, bookings}
+use Rattle.dsr_ledger.proofs.EachLemmas.{each_append}
 
 abbrev pub IsWhole : Booking → Type 0
 IsWhole b = share_total b.works ≤ 1000000
@@ -46,15 +47,11 @@ booked_whole stands seen known b h =
     ∷ []) h in
     ltb-false 1000000 (share_total b.works) none.1.1.1.1.1.1.0
 
-pub all_append : {X : Type 0} (P : X → Type 0) (xs ys : List X) → AllByRecursion P xs → AllByRecursion P ys → AllByRecursion P (xs ++ ys)
-all_append P [] ys h k = k
-all_append P (x ∷ xs) ys h k = (h.0, all_append P xs ys h.1 k)
-
 pub all_flat : {X Y : Type 0} (P : Y → Type 0) (Q : X → Type 0) (f : X → List Y) → ((x : X) → Q x → AllByRecursion P (f x)) → (xs : List X)
     → AllByRecursion Q xs → AllByRecursion P (flat_map f xs)
 all_flat P Q f each [] h = tt
 all_flat P Q f each (x ∷ xs) h =
-    subst (AllByRecursion P) (sym (flat_map-cons f x xs)) (all_append P (f x) (flat_map f xs) (each x h.0) (all_flat P Q f each xs h.1))
+    subst (AllByRecursion P) (sym (flat_map-cons f x xs)) (each_append P (f x) (flat_map f xs) (each x h.0) (all_flat P Q f each xs h.1))
 
 pub all_of : {X : Type 0} (P : X → Type 0) → ((x : X) → P x) → (xs : List X) → AllByRecursion P xs
 all_of P each [] = tt

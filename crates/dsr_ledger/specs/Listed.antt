@@ -1,10 +1,11 @@
 -- The parts of a line in the order of the parties' names, and the lines of a recording in key order.
-use Rattle.std.specs.Prelude.{◌≡◌, ℕ, List, ◌++◌, Option, None, position, map, filter}
+use Rattle.std.specs.Prelude.{◌≡◌, ℕ, List, ◌++◌, Option, None, Some, All, position, map, filter, length, slice_get, slice_index}
 use Rattle.std.specs.Str.{bytes_eq}
-use Rattle.std.specs.List.{AllByRecursion}
+use Rattle.std.specs.List.{AllByRecursion, Contains}
 use Rattle.std.specs.Borrow.{Bor}
 use Rattle.std.specs.List.Sorted.{IsStrictlySortedBy}
-use Rattle.std.specs.Map.{keys_of}
+use Rattle.std.specs.Map.{keys_of, lookup}
+use Rattle.indexmap.specs.IndexMap.{IndexMap, get}
 use Rattle.std.specs.FinMap.Entries.{find}
 use Rattle.std.specs.declared.cmp.Ordering.{Ordering}
 use Rattle.dsr_ledger.specs.declared.key.Key.{Key}
@@ -36,6 +37,28 @@ ArePartsOf place es = AreListed text_cmp place (named_places es)
 -- the summary keys of a recording in order, with the places of their lines
 abbrev pub AreLinesOf : (SummaryKey → Option ℕ) → List (Bor SummaryKey × ℕ) → Type 0
 AreLinesOf line es = AreListed summary_key_cmp line (named_places es)
+
+-- the summary keys, each once, in order, with their numbers
+pub record AreNumberedInOrder (keys : List SummaryKey) (es : List (Bor SummaryKey × ℕ)) : Type 0 where
+  pub order : IsStrictlySortedBy summary_key_cmp (keys_of (named_places es))
+  pub numbered : All (λ e. slice_get keys e.1 ≡ Some e.0) (named_places es)
+  pub all : (n : ℕ) (k : SummaryKey) → slice_get keys n ≡ Some k → Contains (named_places es) (k, n)
+
+-- the rank of each summary key, by its number: its place among all in order
+pub record AreRanks (keys : List SummaryKey) (ranks : List ℕ) : Type 0 where
+  pub sorted : List SummaryKey
+  pub order : IsStrictlySortedBy summary_key_cmp sorted
+  pub ranked : (n : ℕ) (k : SummaryKey) → slice_get keys n ≡ Some k → slice_get sorted (slice_index ranks n) ≡ Some k
+  pub all : length ranks ≡ length keys
+
+-- recordings with their ISRCs
+abbrev pub lent_recordings : List (Bor (List ℕ) × Bor Recording) → List (List ℕ × Recording)
+lent_recordings es = map (λ e. (e.0.now, e.1.now)) es
+
+-- the recordings, each once, in the order of their ISRCs
+pub record AreInOrder {S : Type 0} (recordings : IndexMap (List ℕ) Recording S) (list : List (Bor (List ℕ) × Bor Recording)) : Type 0 where
+  pub order : IsStrictlySortedBy text_cmp (keys_of (lent_recordings list))
+  pub found : (isrc : List ℕ) → lookup (bytes_eq isrc) (lent_recordings list) ≡ get bytes_eq recordings isrc
 
 -- the ledger lines of the keys that have a booking
 abbrev pub booked_lines : {V : Type 0} → List Booking → List (Key × V) → List LedgerLine

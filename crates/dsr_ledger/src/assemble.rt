@@ -11,6 +11,8 @@ ghost use Rattle.dsr_ledger.specs.Books.{IsReached, Stands};
 pub mod ledger;
 mod lines;
 mod listed;
+mod ranks;
+mod recordings;
 
 use crate::closed::ClosedBooks;
 use crate::differences::differences_of;
@@ -46,18 +48,17 @@ fn told_of(alloc: Global, files: &[FileBooks]) -> Result<Told, NoMemory>
     })
 }
 
-/// Closes the books of the files: puts the recordings in order, and makes the other parts of the report.
+/// Closes the books of the files: makes the parts of the report other than the lines of the ledger.
 pub fn close(alloc: Global, kept: Kept) -> Result<ClosedBooks, NoMemory>
     requires reached { ∥ IsReached kept ∥₁ }
     requires few { length kept.files.items ≤ 64 }
     ensures { (files : List File) → Stands kept files
         → IfOk result (λ books. AreClosed books files) }
 {
-    let Kept { files, mut ledger } = kept;
+    let Kept { files, ledger } = kept;
     let told = told_of(alloc, files.as_slice())?;
     let (key, rejects) = key_and_rejects(alloc, files)?;
     let missing = missing_numbers(alloc, &key, &told.numbers)?;
-    ledger.sort()?;
     Ok(ClosedBooks {
         alloc,
         key,

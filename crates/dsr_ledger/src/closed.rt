@@ -1,7 +1,4 @@
 //! Books whose files have all ended.
-ghost use Rattle.std.specs.List.Sorted.{IsSorted};
-ghost use Rattle.indexmap.specs.IndexMap.{keys};
-ghost use Rattle.dsr_ledger.specs.Keys.{text_cmp};
 ghost use Rattle.dsr_ledger.specs.Order.{AreOfSmall};
 
 use crate::assemble::ledger::ledger_lines;
@@ -11,8 +8,7 @@ use crate::report::{Differences, FileLines, Numbers, Rejects, Report, ReportKey}
 use dsr_cells::NoMemory;
 use std::alloc::Global;
 
-/// Books whose files have all ended: their report, but for the lines of the ledger, and the ledger with its recordings in
-/// order.
+/// Books whose files have all ended: their report, but for the lines of the ledger, and the ledger.
 #[derive(Drop)]
 pub struct ClosedBooks {
     pub(crate) alloc: Global,
@@ -22,7 +18,6 @@ pub struct ClosedBooks {
     pub(crate) differences: Differences,
     pub(crate) rejects: Rejects,
     pub(crate) ledger: Ledger,
-    ghost sorted: { IsSorted text_cmp (keys ledger.recordings) },
     ghost small: { ∥ AreOfSmall ledger ∥₁ },
 }
 

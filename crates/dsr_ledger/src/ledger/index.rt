@@ -1,17 +1,16 @@
 //! An index of the items of a list by their numbers.
 ghost use Rattle.std.specs.Prelude.{◌≡◌, ℕ, [], ◌∷◌, ◌++◌, None, true, OnOk, OnErr, IfOk};
 ghost use Rattle.std.specs.Prelude.{map, nat_eq, take, drop};
-ghost use Rattle.std.specs.BTreeMap.{get};
 ghost use Rattle.std.specs.List.{position};
-ghost use Rattle.std.specs.Ordering.{nat_cmp};
-ghost use Rattle.dsr_ledger.specs.Numbered.{place_in};
-ghost use Rattle.dsr_ledger.specs.Indexes.{Rise, Describes, AreIndexed};
+ghost use Rattle.dsr_ledger.specs.Numbered.{place_in, AreApart};
+ghost use Rattle.dsr_ledger.specs.Indexes.{Rise, AreIndexed};
 
+use crate::seeded::Seeded;
 use dsr_cells::NoMemory;
+use indexmap::IndexSet;
 use std::alloc::Global;
-use std::collections::BTreeMap;
 
-/// This many first items of a list are found by a linear search. The index is of those after them.
+/// This many first items of a list are found by a linear search.
 pub const FEW: usize = 16;
 
 /// An item that is found by its number.
@@ -31,12 +30,12 @@ impl Numbered for u32 {
     }
 }
 
-/// The places of items with distinct numbers. While the numbers ascend the index is empty, and an
-/// item is found by a binary search. The first number that does not ascend makes a tree of the
-/// places of all items.
+/// The places of items with distinct numbers. While the numbers after the first few ascend there is no set:
+/// an item is found by a linear search of the first few and a binary search of the others. The first
+/// number that does not ascend makes a set of the numbers of all items, in their order.
 #[derive(Drop)]
 pub struct Index {
-    pub places: Option<Box<BTreeMap<u32, usize>>>,
+    pub numbers: Option<Box<IndexSet<u32, Seeded>>>,
 }
 
 /// The place of a number among the first few items.
@@ -77,56 +76,42 @@ fn is_above<T: Numbered>(items: &[T], number: u32) -> bool
     }
 }
 
-/// The places of items whose numbers ascend.
-fn gather<T: Numbered>(alloc: Global, items: &[T]) -> Result<BTreeMap<u32, usize>, NoMemory>
-    requires { Rise (map T.number_of items.now) }
-    ensures { IfOk result (λ places. (n : ℕ) →
-        get nat_cmp places n ≡ place_in (map T.number_of items.now) n) }
+/// The numbers of items, in their order.
+#[cold]
+#[inline(never)]
+fn gather<T: Numbered>(
+    alloc: Global,
+    seeded: Seeded,
+    items: &[T],
+) -> Result<IndexSet<u32, Seeded>, NoMemory>
+    requires { AreApart (map T.number_of items.now) }
+    ensures { IfOk result (λ numbers. numbers.keys ≡ map T.number_of items.now) }
 {
-    let mut places = BTreeMap::new(alloc);
-    for (place, item) in items.iter().enumerate() {
-        places.insert(item.number(), place)?;
+    let mut numbers = IndexSet::with_hasher(alloc, seeded);
+    for item in items {
+        numbers.insert(item.number())?;
     }
-    Ok(places)
+    Ok(numbers)
+}
+
+/// The place of a number among items that have no set.
+fn search_all<T: Numbered>(items: &[T], number: u32) -> Option<usize>
+    requires { Rise (drop 16 (map T.number_of items.now)) }
+    ensures { result ≡ place_in (map T.number_of items.now) number }
+{
+    if let Some(place) = first_place(items, number) {
+        return Some(place);
+    }
+    let place = search(behind(items), number)?;
+    Some(place + FEW)
 }
 
 impl Index {
     /// No items.
     pub fn new() -> Index
-        ensures { Describes result [] }
+        ensures { AreIndexed [] result }
     {
-        Index { places: None }
-    }
-
-    /// The place of a number among the items that the index describes.
-    fn place<T: Numbered>(&self, items: &[T], number: u32) -> Option<usize>
-        requires { Describes self.now (map T.number_of items.now) }
-        ensures { result ≡ place_in (map T.number_of items.now) number }
-    {
-        match &self.places {
-            Some(places) => places.get(&number).copied(),
-            None => search(items, number),
-        }
-    }
-
-    /// Adds the number of the item that comes after those that the index describes.
-    fn put<T: Numbered>(&mut self, alloc: Global, items: &[T], number: u32) -> Result<(), NoMemory>
-        requires described { Describes self.old (map T.number_of items.now) }
-        requires absent { place_in (map T.number_of items.now) number ≡ None }
-        ensures ok { OnOk result (Describes self.new (map T.number_of items.now ++ number ∷ [])) }
-        ensures err { OnErr result (Describes self.new (map T.number_of items.now)) }
-    {
-        if let Some(places) = &mut self.places {
-            places.insert(number, items.len())?;
-            return Ok(());
-        }
-        if is_above(items, number) {
-            return Ok(());
-        }
-        let mut places = gather(alloc, items)?;
-        places.insert(number, items.len())?;
-        self.places = Some(Box::new(alloc, places)?);
-        Ok(())
+        Index { numbers: None }
     }
 
     /// The place of a number in a list. Callers mostly know the place, so the search stands out of line.
@@ -135,28 +120,36 @@ impl Index {
         requires { AreIndexed (map T.number_of items.now) self.now }
         ensures { result ≡ place_in (map T.number_of items.now) number }
     {
-        if let Some(place) = first_place(items, number) {
-            return Some(place);
+        match &self.numbers {
+            Some(numbers) => numbers.get_index_of(&number),
+            None => search_all(items, number),
         }
-        let place = self.place(behind(items), number)?;
-        Some(place + FEW)
     }
 
     /// Adds the number of the item that comes after those of a list, none of which has it.
     pub fn add<T: Numbered>(
         &mut self,
         alloc: Global,
+        seeded: Seeded,
         items: &[T],
         number: u32,
     ) -> Result<(), NoMemory>
+        requires apart { AreApart (map T.number_of items.now) }
         requires indexed { AreIndexed (map T.number_of items.now) self.old }
         requires absent { place_in (map T.number_of items.now) number ≡ None }
         ensures ok { OnOk result (AreIndexed (map T.number_of items.now ++ number ∷ []) self.new) }
         ensures err { OnErr result (AreIndexed (map T.number_of items.now) self.new) }
     {
-        if items.len() < FEW {
+        if let Some(numbers) = &mut self.numbers {
+            numbers.insert(number)?;
             return Ok(());
         }
-        self.put(alloc, behind(items), number)
+        if items.len() < FEW || is_above(behind(items), number) {
+            return Ok(());
+        }
+        let mut numbers = gather(alloc, seeded, items)?;
+        numbers.insert(number)?;
+        self.numbers = Some(Box::new(alloc, numbers)?);
+        Ok(())
     }
 }

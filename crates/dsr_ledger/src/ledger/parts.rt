@@ -12,6 +12,7 @@ ghost use Rattle.dsr_ledger.specs.Parts.{part_of};
 ghost use Rattle.dsr_ledger.specs.Seated.{HaveSeats, HasPart, HaveParts, AreSeatsBelow};
 
 use crate::ledger::index::{Index, Numbered};
+use crate::seeded::Seeded;
 use crate::wide::Wide;
 use dsr_cells::{Amount, NoMemory};
 use smallvec::SmallVec;
@@ -206,7 +207,7 @@ impl Parts {
 
     /// Adds a part for a seat that has none. Nothing is owed of it yet.
     #[inline(never)]
-    fn push(&mut self, alloc: Global, seat: u32) -> Result<(), NoMemory>
+    fn push(&mut self, alloc: Global, seeded: Seeded, seat: u32) -> Result<(), NoMemory>
         requires { part_in self.old.items.items seat ≡ None }
         ensures ok { OnOk result (PartsGrow self.old.items.items self.new.items.items) }
         ensures seats { OnOk result (part_seats self.new.items.items
@@ -214,14 +215,20 @@ impl Parts {
         ensures err { OnErr result (self.new.items.items ≡ self.old.items.items) }
     {
         self.items.reserve(1)?;
-        self.index.add(alloc, self.items.as_slice(), seat)?;
+        self.index.add(alloc, seeded, self.items.as_slice(), seat)?;
         self.items.push(SeatPart::new(seat))?;
         Ok(())
     }
 
     /// The place of a seat's part. If it has none, one is added, of which nothing is owed yet. The
     /// part at `hint` is tried first.
-    fn place(&mut self, alloc: Global, seat: u32, hint: usize) -> Result<usize, NoMemory>
+    fn place(
+        &mut self,
+        alloc: Global,
+        seeded: Seeded,
+        seat: u32,
+        hint: usize,
+    ) -> Result<usize, NoMemory>
         ensures grows { PartsGrow self.old.items.items self.new.items.items }
         ensures below { (n : ℕ) → seat < n → AreBelow n (part_seats self.old.items.items)
             → AreBelow n (part_seats self.new.items.items) }
@@ -231,7 +238,7 @@ impl Parts {
             return Ok(place);
         }
         let place = self.items.len();
-        self.push(alloc, seat)?;
+        self.push(alloc, seeded, seat)?;
         Ok(place)
     }
 
@@ -251,7 +258,12 @@ impl Parts {
 }
 
 /// Gives the seat of each share a part. What is owed is unchanged.
-pub fn widen(parts: &mut Parts, alloc: Global, shares: &[SeatShare]) -> Result<(), NoMemory>
+pub fn widen(
+    parts: &mut Parts,
+    alloc: Global,
+    seeded: Seeded,
+    shares: &[SeatShare],
+) -> Result<(), NoMemory>
     ensures grows { PartsGrow parts.old.items.items parts.new.items.items }
     ensures below { (n : ℕ) → AreSeatsBelow n shares.now
         → AreBelow n (part_seats parts.old.items.items) → AreBelow n (part_seats parts.new.items.items) }
@@ -262,7 +274,7 @@ pub fn widen(parts: &mut Parts, alloc: Global, shares: &[SeatShare]) -> Result<(
     }
     let mut next = 0;
     for share in shares {
-        let place = parts.place(alloc, share.seat, next)?;
+        let place = parts.place(alloc, seeded, share.seat, next)?;
         next = place.wrapping_add(1);
     }
     Ok(())

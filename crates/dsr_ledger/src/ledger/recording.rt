@@ -12,6 +12,7 @@ use crate::ledger::index::Index;
 use crate::ledger::line::Line;
 use crate::ledger::parts::{SeatShare, widen};
 use crate::ledger::seats::Seats;
+use crate::seeded::Seeded;
 use dsr_cells::NoMemory;
 use dsr_records::Usage;
 use std::alloc::Global;
@@ -77,20 +78,20 @@ impl Recording {
     }
 
     /// The seat of a party, which is given one if it has none. The lines are unchanged.
-    pub fn seat(&mut self, alloc: Global, party: u32) -> Result<usize, NoMemory>
+    pub fn seat(&mut self, alloc: Global, seeded: Seeded, party: u32) -> Result<usize, NoMemory>
         ensures lines { self.new.lines ≡ self.old.lines }
         ensures more { IsWithNumber (seat_numbers self.old.seats)
             (seat_numbers self.new.seats) party }
         ensures there { IfOk result (λ seat. place_in
             (seat_numbers self.new.seats) party ≡ Some seat) }
     {
-        self.seats.seat(alloc, party)
+        self.seats.seat(alloc, seeded, party)
     }
 
     /// Adds a line for a summary key that has none.
     #[cold]
     #[inline(never)]
-    fn add_line(&mut self, alloc: Global, key: u32) -> Result<usize, NoMemory>
+    fn add_line(&mut self, alloc: Global, seeded: Seeded, key: u32) -> Result<usize, NoMemory>
         requires { line_in self.old.lines.items key ≡ None }
         ensures seats { self.new.seats ≡ self.old.seats }
         ensures grows { LinesGrow self.old.lines.items self.new.lines.items }
@@ -100,13 +101,19 @@ impl Recording {
     {
         reserve_line(&mut self.lines)?;
         let number = self.lines.len();
-        self.index.add(alloc, self.lines.as_slice(), key)?;
+        self.index.add(alloc, seeded, self.lines.as_slice(), key)?;
         self.lines.push(Line::new(alloc, key))?;
         Ok(number)
     }
 
     /// Gives the seat of each share a part in a line.
-    fn widen(&mut self, alloc: Global, number: usize, shares: &[SeatShare]) -> Result<(), NoMemory>
+    fn widen(
+        &mut self,
+        alloc: Global,
+        seeded: Seeded,
+        number: usize,
+        shares: &[SeatShare],
+    ) -> Result<(), NoMemory>
         requires there { number < length self.old.lines.items }
         requires below { AreSeatsBelow (length (seat_numbers self.old.seats)) shares.now }
         ensures seats { self.new.seats ≡ self.old.seats }
@@ -114,12 +121,18 @@ impl Recording {
         ensures keys { line_keys self.new.lines.items ≡ line_keys self.old.lines.items }
         ensures wide { OnOk result (IsWide shares.now self.new.lines.items number) }
     {
-        widen(&mut self.lines[number].parts, alloc, shares)
+        widen(&mut self.lines[number].parts, alloc, seeded, shares)
     }
 
     /// The line of a summary key, which is added if there is none. The line at `hint` is tried
     /// first.
-    fn line_of(&mut self, alloc: Global, key: u32, hint: usize) -> Result<usize, NoMemory>
+    fn line_of(
+        &mut self,
+        alloc: Global,
+        seeded: Seeded,
+        key: u32,
+        hint: usize,
+    ) -> Result<usize, NoMemory>
         ensures seats { self.new.seats ≡ self.old.seats }
         ensures grows { LinesGrow self.old.lines.items self.new.lines.items }
         ensures keys { IsWithNumber (line_keys self.old.lines.items)
@@ -129,13 +142,14 @@ impl Recording {
         if let Some(number) = find_line(self.lines.as_slice(), &self.index, key, hint) {
             return Ok(number);
         }
-        self.add_line(alloc, key)
+        self.add_line(alloc, seeded, key)
     }
 
     /// The same, and the line has a part for the seat of each share.
     pub fn line(
         &mut self,
         alloc: Global,
+        seeded: Seeded,
         key: u32,
         hint: usize,
         shares: &[SeatShare],
@@ -148,8 +162,8 @@ impl Recording {
         ensures there { IfOk result (λ i. (line_in self.new.lines.items key ≡ Some i)
             × IsWide shares.now self.new.lines.items i) }
     {
-        let number = self.line_of(alloc, key, hint)?;
-        self.widen(alloc, number, shares)?;
+        let number = self.line_of(alloc, seeded, key, hint)?;
+        self.widen(alloc, seeded, number, shares)?;
         Ok(number)
     }
 

@@ -30,11 +30,9 @@ pub struct Ledger {
 
 impl Ledger {
     ghost use Rattle.std.specs.Prelude.{◌≤◌, ◌^◌, Option, IfOk, OnOk, IfSome, None, map, if◌then◌else◌};
-    ghost use Rattle.std.specs.List.Sorted.{IsSorted};
-    ghost use Rattle.indexmap.specs.IndexMap.{keys};
     ghost use Rattle.dsr_ledger.specs.declared.key.Key.{Key};
     ghost use Rattle.dsr_ledger.specs.Bookings.{key_under};
-    ghost use Rattle.dsr_ledger.specs.Keys.{key_eq, text_cmp};
+    ghost use Rattle.dsr_ledger.specs.Keys.{key_eq};
     ghost use Rattle.dsr_ledger.specs.Owed.{parts_size};
     ghost use Rattle.dsr_ledger.specs.Parts.{part_of};
     ghost use Rattle.dsr_ledger.specs.Ranges.{IsInRange};
@@ -51,15 +49,6 @@ impl Ledger {
             summary_keys: IndexSet::with_hasher(alloc, seeded),
             recordings: IndexMap::with_hasher(alloc, seeded),
         }
-    }
-
-    /// Puts the recordings in the order of their ISRCs. The sums of each key are unchanged.
-    pub fn sort(&mut self) -> Result<(), NoMemory>
-        ensures sorted { OnOk result (IsSorted text_cmp (keys self.new.recordings)) }
-        ensures same { (q : Key) → tally_at self.new q ≡ tally_at self.old q }
-    {
-        self.recordings.sort_unstable_keys()?;
-        Ok(())
     }
 
     /// The number of a recording, which is added if it is new, with room for this many lines. The sums of each key are
@@ -129,8 +118,9 @@ impl Ledger {
             return Ok(seat);
         }
         let party = self.party(alloc, name)?;
+        let seeded = *self.recordings.hasher();
         let (_, found) = self.recordings.pair_mut(recording);
-        found.seat(alloc, party)
+        found.seat(alloc, seeded, party)
     }
 
     /// The number of a summary key, which is given one if it has none. A number past 32 bits is reported as `NoMemory`.
@@ -168,8 +158,9 @@ impl Ledger {
             → key_number self.old key ≡ Some number
             → IfOk result (λ i. (line_at self.new isrc key ≡ Some i) × IsWideAt self.new isrc shares.now i) }
     {
+        let seeded = *self.recordings.hasher();
         let (_, found) = self.recordings.pair_mut(recording);
-        found.line(alloc, number, hint, shares)
+        found.line(alloc, seeded, number, hint, shares)
     }
 
     /// Adds a usage and its parts to a line, and to no other. This allocates nothing.

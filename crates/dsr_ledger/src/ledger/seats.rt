@@ -5,6 +5,7 @@ ghost use Rattle.dsr_ledger.specs.Indexes.{AreIndexed};
 ghost use Rattle.dsr_ledger.specs.Numbered.{place_in, AreApart};
 
 use crate::ledger::index::Index;
+use crate::seeded::Seeded;
 use dsr_cells::NoMemory;
 use smallvec::SmallVec;
 use std::alloc::Global;
@@ -60,19 +61,20 @@ impl Seats {
     }
 
     /// Gives the next seat to a party that has none.
-    fn add(&mut self, alloc: Global, party: u32) -> Result<(), NoMemory>
+    fn add(&mut self, alloc: Global, seeded: Seeded, party: u32) -> Result<(), NoMemory>
         requires { place_in (seat_numbers self.old) party ≡ None }
         ensures ok { OnOk result (seat_numbers self.new ≡ seat_numbers self.old ++ party ∷ []) }
         ensures err { OnErr result (seat_numbers self.new ≡ seat_numbers self.old) }
     {
         self.numbers.reserve(1)?;
-        self.index.add(alloc, self.numbers.as_slice(), party)?;
+        self.index
+            .add(alloc, seeded, self.numbers.as_slice(), party)?;
         self.numbers.push(party)?;
         Ok(())
     }
 
     /// The seat of a party, which is given one if it has none.
-    pub fn seat(&mut self, alloc: Global, party: u32) -> Result<usize, NoMemory>
+    pub fn seat(&mut self, alloc: Global, seeded: Seeded, party: u32) -> Result<usize, NoMemory>
         ensures more { IsWithNumber (seat_numbers self.old) (seat_numbers self.new) party }
         ensures there { IfOk result (λ seat. place_in (seat_numbers self.new) party ≡ Some seat) }
     {
@@ -80,7 +82,7 @@ impl Seats {
             return Ok(seat);
         }
         let seat = self.numbers.len();
-        self.add(alloc, party)?;
+        self.add(alloc, seeded, party)?;
         Ok(seat)
     }
 }

@@ -1,9 +1,9 @@
-use Rattle.std.proofs.Common.{◌≡◌, ◌∙◌, ap}
+use Rattle.std.proofs.Common.{◌≡◌, ◌∙◌, ap, refl}
 use Rattle.std.specs.Prelude.{map}
 use Rattle.std.specs.List.{flat_map, list_any}
 use Rattle.std.proofs.Math.Logic.{∥∥₁_map}
 use Rattle.dsr_ledger.specs.Assembly.{line_kept, is_number_kept, differences_kept}
-use Rattle.dsr_ledger.proofs.AssemblyLemmas.{closed_is, small_lines, small_after}
+use Rattle.dsr_ledger.proofs.AssemblyLemmas.{closed_is, small_lines}
 use Rattle.dsr_ledger.proofs.assemble.close.Goals as goal
 
 pub returns : goal.returns
@@ -15,12 +15,9 @@ returns c = λ files h.
       own = λ n. c.in_ok-told.ensures.own n ∙ ap (list_any (is_number_kept n)) same;
       missing = c.in_ok-missing.ensures;
       differences = c.in_ok-told.ensures.differences ∙ ap (flat_map differences_kept) same;
-      ledger = c.sort.ensures.same;
+      ledger = refl;
       rejects = c.in_ok-key.ensures.rejects;
     }) files h
 
 pub invariant_of-result : goal.invariant_of-result
-invariant_of-result c = record {
-  sorted = c.in_ok-sort.ensures.sorted;
-  small = ∥∥₁_map c.requires.reached (λ r. small_after c.args.kept.ledger _ c.sort.ensures.same (small_lines c.args.kept c.requires.few r));
-}
+invariant_of-result c = record { small = ∥∥₁_map c.requires.reached (small_lines c.args.kept c.requires.few) }

@@ -79,7 +79,7 @@ returns c =
     omega (arith, length-map ss (λ s. get_or c.args.numbers.now s 0), length-map c.args.parts.now (λ (p : SeatPart). p.seat)) in
     let named = subst (λ ms. AreNamedFrom ps 0 ms (named_places was)) (take_all c.loop-place.place ns long) c.loop-place.invariant in
     let all =
-    listed bytes_eq bytes_eq-Decides nat_list_eq_equiv ps c.requires.names nat_list_cmp_total text_ties ns was is
+    listed bytes_eq bytes_eq-Decides nat_list_eq_equiv ps c.requires.names nat_list_cmp_total text_ties (λ e. e.0.now) (λ e. e.1) ns was is
     (seats_apart c.args.numbers.now c.requires.apart ss within c.requires.seats_apart) named c.sort_unstable_by.ensures.permutation
     (c.sort_unstable_by.ensures.sorted _ (ranks_by nat_list_cmp_total (λ (e : Bor (List ℕ) × ℕ). e.0.now))
     (answers_always _ _ _ (λ f a r f' k. ap is_lt k.met))) in

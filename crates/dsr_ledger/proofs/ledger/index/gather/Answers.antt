@@ -1,19 +1,14 @@
-use Rattle.std.proofs.Common.{rules, ◌≡◌, ◌<◌, cond, length, map, ap, ◌∙◌}
+use Rattle.std.proofs.Common.{◌≡◌, map, nat_eq, ap, ◌∙◌}
 use Rattle.std.specs.Prelude.{Some, slice_get}
-use Rattle.std.specs.BTreeMap.{get}
-use Rattle.std.specs.Ordering.{nat_cmp}
-use Rattle.dsr_ledger.proofs.IndexLemmas.{at_place, place_next}
-use Rattle.dsr_ledger.proofs.TieLemmas.{number_ties}
+use Rattle.indexmap.specs.IndexSet.{insert_key}
+use Rattle.dsr_ledger.proofs.IndexLemmas.{at_place, next_number}
 use Rattle.dsr_ledger.proofs.ledger.index.gather.Goals as goal
 
-pub loop-place-preserved : goal.loop-place-preserved
-loop-place-preserved g c =
+pub loop-item-preserved : goal.loop-item-preserved
+loop-item-preserved g c =
     let number = g.T.Numbered.number_of in
     let xs = c.args.items.now in
-    let i = c.loop-place.place in
-    let x = c.index-items-place.result in
+    let i = c.loop-item.item-index in
     let n = c.number.result in
-    let below : i < length xs = search rules in
-    let at : slice_get (map number xs) i ≡ Some n = at_place number xs i x n below c.index-items-place.is c.number.ensures in
-    place_next (map number xs) i n c.requires at (get nat_cmp c.loop-place.places) (get nat_cmp c.insert.new.self) c.loop-place.invariant
-    (λ q. c.in_ok-insert.ensures.updates.0 q ∙ ap (λ b. cond b (Some i) (get nat_cmp c.loop-place.places q)) (number_ties n q))
+    let at : slice_get (map number xs) i ≡ Some n = at_place number xs i c.item-item.result n c.loop-item-test.true c.item-item.is c.number.ensures in
+    c.in_ok-insert.ensures.keys ∙ ap (λ ks. insert_key nat_eq ks n) c.loop-item.invariant ∙ next_number (map number xs) i n c.requires at

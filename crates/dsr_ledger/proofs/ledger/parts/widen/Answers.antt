@@ -6,7 +6,7 @@ use Rattle.dsr_ledger.specs.Seated.{HasPart, HaveParts}
 use Rattle.dsr_ledger.proofs.IndexMapLemmas.{each_at}
 use Rattle.dsr_ledger.proofs.NumberedLemmas.{got_or}
 use Rattle.dsr_ledger.proofs.PartLemmas.{parts_kept, parts_twice}
-use Rattle.dsr_ledger.proofs.ReportLemmas.{all_append}
+use Rattle.dsr_ledger.proofs.EachLemmas.{each_append}
 use Rattle.dsr_ledger.proofs.ledger.parts.widen.Goals as goal
 
 abbrev none : SeatShare
@@ -38,7 +38,7 @@ loop-share-preserved c =
       grows = parts_twice c.args.parts.now.items.items was is before.grows grows;
       below = λ n seats below. c.place.ensures.below n (each_at (λ (x : SeatShare). x.seat < n) ss i s seats at) (before.below n seats below);
       wide = subst (λ xs. HaveParts xs is) (sym (take_more ss i none c.loop-share-test.true)) (
-          all_append (HasPart is) (take i ss) (s ∷ []) (parts_kept (take i ss) was is grows.places before.wide) (one, tt));
+          each_append (HasPart is) (take i ss) (s ∷ []) (parts_kept (take i ss) was is grows.places before.wide) (one, tt));
     }
 
 pub returns-clause-wide : goal.returns-clause-wide

@@ -1,6 +1,7 @@
 use Rattle.std.proofs.Common.{rules, ◌≡◌, cond, length, nat_eq, inr, refl, sym, ap, ◌∙◌, subst}
 use Rattle.std.specs.Prelude.{None, Some}
 use Rattle.std.proofs.lemmas.List.{length-map}
+use Rattle.dsr_ledger.specs.Indexes.{AreIndexed}
 use Rattle.dsr_ledger.specs.Numbered.{AreBelow, place_in}
 use Rattle.dsr_ledger.specs.Owed.{part_in, part_seats, PartsGrow}
 use Rattle.dsr_ledger.proofs.NumberedLemmas.{place_more}
@@ -8,6 +9,12 @@ use Rattle.dsr_ledger.proofs.PartLemmas.{seat_of_part, parts_stay}
 use Rattle.dsr_ledger.proofs.PlaceByLemmas.{same_number}
 use Rattle.dsr_ledger.proofs.RecordingLemmas.{below_with}
 use Rattle.dsr_ledger.proofs.ledger.parts.Parts.place.Goals as goal
+
+pub find_part-requires-clause-indexed : goal.find_part-requires-clause-indexed
+find_part-requires-clause-indexed c =
+    let s = c.args.self.now in
+    let same : c.as_slice.result.now ≡ s.items.items = search rules in
+    subst (λ ps. AreIndexed (part_seats ps) s.index) (sym same) s.indexed
 
 pub returns-in-Some-clause-grows : goal.returns-in-Some-clause-grows
 returns-in-Some-clause-grows c = parts_stay c.args.self.now.items.items

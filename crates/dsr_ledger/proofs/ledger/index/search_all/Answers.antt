@@ -1,0 +1,9 @@
+use Rattle.std.proofs.Common.{map, sym, ap, ◌∙◌, subst}
+use Rattle.std.specs.List.{drop-map}
+use Rattle.dsr_ledger.specs.Indexes.{Rise}
+use Rattle.dsr_ledger.proofs.ledger.index.search_all.Goals as goal
+
+pub search-requires : goal.search-requires
+search-requires g c =
+    let number = g.T.Numbered.number_of in
+    subst Rise (drop-map number 16 c.args.items.now ∙ sym (ap (map number) c.behind.ensures)) c.requires
