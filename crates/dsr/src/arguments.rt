@@ -13,7 +13,7 @@ use std::alloc::{AllocError, Global};
 
 /// The program's version, and that of the toolchain that proved it.
 const VERSION: &str = "0.9.0
-rattle-kit-13b logic dac8208d650f15bf";
+rattle-kit-13f logic dac8208d650f15bf";
 
 /// The first lines of the help.
 const ABOUT: &str = "Reads the files of one sales report and prints its statement: \
