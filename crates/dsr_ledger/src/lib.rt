@@ -15,13 +15,14 @@
 //!    none.
 //! 4. `ledger` stores each party, summary key (`ledger/summary_key`) and recording once, interned in
 //!    maps with seeded hashers (`seeded`). A recording owns its seats and lines (`ledger/recording`,
-//!    `seats`, `line`), a line its sums and parts (`sums`, `parts`), whose numbers are `wide`. Items
-//!    after the first 16 are found by an index (`ledger/index`). `key` is the key of a ledger line,
-//!    which only specs use.
+//!    `seats`, `line`), a line its sums and parts (`sums`, `parts`), whose numbers are `wide`. A long
+//!    list whose numbers do not rise has an index of them (`ledger/index`). `key` is the key of a
+//!    ledger line, which only specs use.
 //! 5. `assemble` closes the books (`closed`): it makes the parts of the `report` that say how the files
-//!    did (`file_lines`, `missing`, `differences`, `rejects`) and puts the recordings in order. Closed
-//!    books make the lines of the ledger (`assemble/ledger`), which borrow their texts (`lent`) or
-//!    have copies of them, and their `parties`.
+//!    did (`file_lines`, `missing`, `differences`, `rejects`). Closed books make the lines of the
+//!    ledger (`assemble/ledger`) in the order of the recordings (`assemble/recordings`) and of the
+//!    summary keys (`assemble/ranks`). The lines borrow their texts (`lent`) or have copies of them,
+//!    and their `parties`.
 //!
 //! **Example**, compiled and proved in `crates/dsr_ledger_tests/src/example.rt`:
 //!
