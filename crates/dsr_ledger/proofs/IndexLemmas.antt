@@ -62,12 +62,6 @@ within [] i n at = absurd (not_Some n at)
 within (x ∷ ns) zero n at = omega arith
 within (x ∷ ns) (suc i) n at = let less = within ns i n at in omega arith
 
-pub rising_apart : (ns : List ℕ) → Rise ns → AreApart ns
-rising_apart ns rise i n at =
-    let below = within ns i n at in
-    let here = same_Some (get_or ns i 0) n (sym (got_or ns i 0 below) ∙ at) in
-    subst (λ m. place_in ns m ≡ Some i) here (placed_rising ns i rise below)
-
 -- one more number, above the last one
 pub rise_more : (ns : List ℕ) (n : ℕ) → Rise ns → ((last : ℕ) → slice_get ns (length ns - 1) ≡ Some last → last < n) → Rise (ns ++ n ∷ [])
 rise_more ns n rise above i j less within =
