@@ -18,8 +18,8 @@ use Rattle.dsr_file.specs.declared.event.EventPart.TheVariants.{Ended}
 use Rattle.dsr_file.specs.declared.grammar.Grammar.{Grammar}
 use Rattle.dsr_file.specs.declared.grammar.Step.{Step}
 use Rattle.dsr_file.specs.declared.grammar.Step.TheVariants.{Good, Faulty, NoMemory}
-use Rattle.dsr_file.specs.declared.reader.Phase.{Phase}
-use Rattle.dsr_file.specs.declared.reader.Phase.TheVariants as phases
+use Rattle.dsr_file.specs.declared.reader.phase.Phase.{Phase}
+use Rattle.dsr_file.specs.declared.reader.phase.Phase.TheVariants as phases
 use Rattle.dsr_file.specs.declared.reader.FileReader.{FileReader}
 use Rattle.dsr_file.specs.Placed.{Placed}
 use Rattle.dsr_file.specs.Orderly.{has_ended}

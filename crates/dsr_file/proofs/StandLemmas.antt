@@ -23,8 +23,8 @@ use Rattle.dsr_file.specs.declared.grammar.Step.{Step}
 use Rattle.dsr_file.specs.declared.grammar.Step.TheVariants.{Good, Faulty, NoMemory}
 use Rattle.dsr_file.specs.declared.cutter.Cut.{Cut}
 use Rattle.dsr_file.specs.declared.cutter.Cut.TheVariants.{More, Kept, Here, Long}
-use Rattle.dsr_file.specs.declared.reader.Phase.{Phase}
-use Rattle.dsr_file.specs.declared.reader.Phase.TheVariants as phases
+use Rattle.dsr_file.specs.declared.reader.phase.Phase.{Phase}
+use Rattle.dsr_file.specs.declared.reader.phase.Phase.TheVariants as phases
 use Rattle.dsr_file.specs.declared.reader.FileReader.{FileReader}
 use Rattle.dsr_file.specs.Placed.{Placed}
 use Rattle.dsr_file.specs.Orderly.{is_ended, has_ended}

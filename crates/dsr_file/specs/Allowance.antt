@@ -1,7 +1,7 @@
 -- How many events may come without a further byte.
 use Rattle.std.specs.Prelude.{ℕ, Bool, true, false}
-use Rattle.dsr_file.specs.declared.reader.Phase.{Phase}
-use Rattle.dsr_file.specs.declared.reader.Phase.TheVariants.{Reading, Waiting, Done}
+use Rattle.dsr_file.specs.declared.reader.phase.Phase.{Phase}
+use Rattle.dsr_file.specs.declared.reader.phase.Phase.TheVariants.{Reading, Waiting, Done}
 
 -- how many may have come
 abbrev pub allowance : Phase → ℕ

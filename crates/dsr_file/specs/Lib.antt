@@ -21,4 +21,5 @@ pub mod Grammars
 pub mod Cutting
 pub mod Allowance
 pub mod Standing
+pub mod ReaderSteps
 pub mod Feeding

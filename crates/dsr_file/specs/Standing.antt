@@ -4,8 +4,8 @@ use Rattle.dsr_records.specs.Records.{LayoutTable}
 use Rattle.dsr_file.specs.declared.fault.Ending.{Ending}
 use Rattle.dsr_file.specs.declared.fault.Outcome.{Outcome}
 use Rattle.dsr_file.specs.declared.event.EventPart.{EventPart}
-use Rattle.dsr_file.specs.declared.reader.Phase.{Phase}
-use Rattle.dsr_file.specs.declared.reader.Phase.TheVariants.{Reading, Waiting, Done}
+use Rattle.dsr_file.specs.declared.reader.phase.Phase.{Phase}
+use Rattle.dsr_file.specs.declared.reader.phase.Phase.TheVariants.{Reading, Waiting, Done}
 use Rattle.dsr_file.specs.declared.reader.FileReader.{FileReader}
 use Rattle.dsr_file.specs.Placed.{Placed}
 use Rattle.dsr_file.specs.Orderly.{has_ended}

@@ -37,7 +37,8 @@ impl Cutter {
 
     /// An empty cutter, with room for the longest line.
     pub(crate) fn new(alloc: Global) -> Result<Cutter, NoMemory>
-        ensures { IfOk result (λ c. CutsTo c.bytes.items c.fresh [] []) }
+        ensures cuts { IfOk result (λ c. CutsTo c.bytes.items c.fresh [] []) }
+        ensures empty { IfOk result (λ c. c.bytes.items ≡ []) }
     {
         let bytes = Vec::with_capacity(alloc, LINE_LIMIT)?;
         Ok(Cutter { bytes, fresh: true })
@@ -52,6 +53,7 @@ impl Cutter {
             → CutsTo self.old.bytes.items self.old.fresh b ps
             → CutSteps b (take result.0 piece.now) ps result.1 self.new }
         ensures fits { FitsCut result.1 (take result.0 piece.now) self.new }
+        ensures kept { length self.new.bytes.items ≤ length self.old.bytes.items + result.0 }
     {
         if self.fresh {
             (1, self.first(piece[0]))
@@ -67,6 +69,7 @@ impl Cutter {
             → CutsTo self.old.bytes.items self.old.fresh b ps
             → CutSteps b (byte ∷ []) ps result self.new }
         ensures fits { FitsCut result (byte ∷ []) self.new }
+        ensures kept { length self.new.bytes.items ≤ length self.old.bytes.items + 1 }
     {
         if byte == b'\n' {
             self.fresh = false;
@@ -85,6 +88,7 @@ impl Cutter {
         requires few { length self.old.bytes.items ≡ 3 }
         requires fresh { self.old.fresh ≡ false }
         ensures bytes { self.new.bytes.items ≡ without_mark self.old.bytes.items }
+        ensures kept { length self.new.bytes.items ≤ length self.old.bytes.items }
         ensures fresh { self.new.fresh ≡ false }
     {
         if self.bytes.as_slice() == [0xEF, 0xBB, 0xBF].as_slice() {
@@ -101,6 +105,7 @@ impl Cutter {
         ensures cut { (b : List ℕ) (ps : List (List ℕ)) → CutsTo self.old.bytes.items false b ps
             → CutSteps b (take result.0 piece.now) ps result.1 self.new }
         ensures fits { FitsCut result.1 (take result.0 piece.now) self.new }
+        ensures kept { length self.new.bytes.items ≤ length self.old.bytes.items + result.0 }
     {
         let end = line_end(piece);
         if end > LINE_LIMIT - self.bytes.len() {

@@ -10,7 +10,9 @@
 //!    A work or a usage is appended to the open block, and a resource is written over an old block.
 //!    What a line closes goes into a place that is lent to the stage (`closed`), with that old block.
 //! 4. [`FileReader`] (`reader`) gives the events (`event`), each with its place, and the [`Outcome`]
-//!    last: Whole, or the first fault (`fault`) with its line.
+//!    last: Whole, or the first fault (`fault`) with its line. It takes the lines of each piece
+//!    (`reader/lines`) and the last line (`reader/ending`), makes the events (`reader/events`), and
+//!    knows how far it has come (`reader/phase`).
 //! 5. [`read_file`] (`reading`) reads a [`Source`] (`source`) to its end, as often as its limit allows
 //!    (`read_count`), and puts the events into a [`Sink`] (`sink`), by the loop in `feeding`. A closed
 //!    block is exchanged for an old one of the sink ([`Sink::put_block`]), so that it is not moved and

@@ -8,5 +8,5 @@ returns-clause-stands c = record {
   layout_is = c.copy.ensures;
   given_is = refl;
   place_is = refl;
-  phase_is = ([], c.in_ok-new.ensures, c.new-2.ensures, refl, refl);
+  phase_is = ([], c.in_ok-new.ensures.cuts, c.new-2.ensures, refl, refl);
 }
