@@ -124,7 +124,7 @@ module _ {X : Type 0} (number : X → ℕ) (n : ℕ) where
   searched [] rise (Err i) bound h = refl
   searched (x ∷ xs) rise r bound h = search_is (x ∷ xs) x rise r bound h
 
-none_any : (p : ℕ → Bool) (ns : List ℕ) (k : ℕ) → position_from p k ns ≡ None → list_any p ns ≡ false
+pub none_any : (p : ℕ → Bool) (ns : List ℕ) (k : ℕ) → position_from p k ns ≡ None → list_any p ns ≡ false
 none_any p [] k e = refl
 none_any p (n ∷ ns) k e = by (p n) refl e (none_any p ns (k + 1))
   where

@@ -1,5 +1,5 @@
 -- The parts of a line: one more part, and parts by shares.
-use Rattle.std.proofs.Common.{◌≡◌, ℕ, zero, suc, ◌+◌, ◌≤◌, List, [], ◌∷◌, ◌++◌, length, take, refl, ap, subst, ◌∙◌, arith}
+use Rattle.std.proofs.Common.{◌≡◌, ℕ, zero, suc, ◌+◌, ◌<◌, ◌≤◌, List, [], ◌∷◌, ◌++◌, length, take, refl, ap, subst, ◌∙◌, arith}
 use Rattle.std.specs.Prelude.{ℤ, Option, None, Some, map, slice_get, unsigned_abs}
 use Rattle.std.proofs.lemmas.List.{length-map}
 use Rattle.std.proofs.lemmas.List.Sums.{sum_by-cons}
@@ -8,7 +8,7 @@ use Rattle.dsr_ledger.specs.declared.ledger.parts.SeatShare.{SeatShare}
 use Rattle.dsr_ledger.specs.Numbered.{IsNumbered, Grows, place_by}
 use Rattle.dsr_ledger.specs.Owed.{owed_kept, nothing_owed, part_in, part_seats, parts_size, PartsGrow}
 use Rattle.dsr_ledger.specs.Parts.{Part, part_of, rounded}
-use Rattle.dsr_ledger.specs.Seated.{HasPart, HaveParts}
+use Rattle.dsr_ledger.specs.Seated.{HasPart, HaveParts, AreSeatsBelow}
 use Rattle.dsr_ledger.proofs.ItemLemmas.{items_grow, items_pushed}
 use Rattle.dsr_ledger.proofs.NumberedLemmas.{same_Some, not_Some}
 use Rattle.dsr_ledger.proofs.PlaceByLemmas.{by_numbered}
@@ -41,6 +41,14 @@ part_kept old new s g h = record { place = h.place; there = g s.seat h.place h.t
 pub parts_kept : (ss : List SeatShare) (old new : List SeatPart) → Grows (part_in old) (part_in new) → HaveParts ss old → HaveParts ss new
 parts_kept [] old new g h = tt
 parts_kept (s ∷ ss) old new g h = (part_kept old new s g h.0, parts_kept ss old new g h.1)
+
+-- where each seat below n has a part, those of shares with such seats have
+pub parts_all : (ps : List SeatPart) (ss : List SeatShare) (n : ℕ) → ((s : ℕ) → s < n → (i : ℕ) × (part_in ps s ≡ Some i)) → AreSeatsBelow n ss
+    → HaveParts ss ps
+parts_all ps [] n all below = tt
+parts_all ps (s ∷ ss) n all below =
+    let p = all s.seat below.0 in
+    (record { place = p.0; there = p.1 }, parts_all ps ss n all below.1)
 
 -- the parts before one, and that one, are no more than all
 pub prefix_size : (a : ℤ) (es : List (List ℕ × ℕ)) (i : ℕ) (e : List ℕ × ℕ) → slice_get es i ≡ Some e

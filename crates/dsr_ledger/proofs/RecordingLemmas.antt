@@ -1,18 +1,23 @@
 -- The tallies of lines when a line is added, widened or changed, and when a seat is given.
-use Rattle.std.proofs.Common.{◌≡◌, ℕ, zero, suc, ◌<◌, ◌≤◌, Bool, true, false, cond, List, [], ◌∷◌, ◌++◌, length, length-append, set, get_or, nat_eq, ⊎_elim}
+use Rattle.std.proofs.Common.{◌≡◌, ℕ, zero, suc, ◌<◌, ◌≤◌, Bool, true, false, true≢false, cond, inr, List, [], ◌∷◌, ◌++◌, length, length-append, set, get_or, nat_eq, ⊎_elim}
 use Rattle.std.proofs.Common.{refl, sym, ap, subst, ◌∙◌, arith}
 use Rattle.std.specs.Prelude.{Option, None, Some, Result, Ok, Err, IfOk, slice_get}
+use Rattle.std.specs.List.{list_any, IsDistinct}
 use Rattle.std.specs.Option.{option_and_then, option_map_or}
 use Rattle.std.specs.Str.{bytes_eq}
 use Rattle.std.proofs.lemmas.Slice.Eq.{bytes_eq-Decides}
+use Rattle.std.proofs.lemmas.Iterator.Adapters.{position_from-zero}
+use Rattle.std.proofs.lemmas.Map.Keys.{IsDistinct-from_apart}
+use Rattle.std.proofs.lemmas.Map.Steps.{length-le_from_distinct_below}
 use Rattle.std.proofs.lemmas.Option.{slice_get_read}
 use Rattle.dsr_ledger.specs.declared.ledger.line.Line.{Line}
 use Rattle.dsr_ledger.specs.declared.ledger.parts.SeatShare.{SeatShare}
-use Rattle.dsr_ledger.specs.Numbered.{IsWithNumber, AreBelow, read_at, place_in}
+use Rattle.dsr_ledger.specs.Numbered.{IsWithNumber, AreApart, AreBelow, read_at, place_in}
 use Rattle.dsr_ledger.specs.Owed.{owed_at_place, part_seats}
 use Rattle.dsr_ledger.specs.Seated.{HaveParts}
 use Rattle.dsr_ledger.specs.Tallies.{Tally, no_tally, line_tally, line_in, lines_tally, AreWithin, IsWide, LinesGrow}
-use Rattle.dsr_ledger.proofs.NumberedLemmas.{same_Some, not_Some, place_more, read_changed}
+use Rattle.dsr_ledger.proofs.IndexLemmas.{none_any}
+use Rattle.dsr_ledger.proofs.NumberedLemmas.{same_Some, not_Some, got_or, place_more, apart_more, read_changed}
 use Rattle.dsr_ledger.proofs.PlaceByLemmas.{same_number, by_new_key}
 use Rattle.dsr_ledger.proofs.ItemLemmas.{numbers_kept, items_are_numbered, items_grow, items_pushed, items_written}
 
@@ -163,3 +168,32 @@ pub wide_here : (ss : List SeatShare) (ls : List Line) (i : ℕ) (l : Line) → 
 wide_here ss ls i l h is =
     let at = slice_get_read ls (length ls) i l refl (wide_below ss ls i h) is in
     subst (λ (x : Line). HaveParts ss x.parts.items.items) (same_Some h.line l (sym h.there ∙ at)) h.wide
+
+-- distinct numbers are distinct as keys
+apart_distinct : (ns : List ℕ) → AreApart ns → IsDistinct nat_eq ns
+apart_distinct ns apart = IsDistinct-from_apart nat_eq ns (λ i j d less short. by i j d less short (nat_eq (get_or ns i d) (get_or ns j d)) refl)
+  where
+    by : (i j d : ℕ) → i < j → j < length ns → (b : Bool) → nat_eq (get_or ns i d) (get_or ns j d) ≡ b → b ≡ false
+    by i j d less short true e =
+        let same = sym (apart i (get_or ns i d) (got_or ns i d (omega (arith, less, short))))
+        ∙ ap (place_in ns) ((same_number (get_or ns i d) (get_or ns j d)).0 e) ∙ apart j (get_or ns j d) (got_or ns j d short) in
+        absurd (omega (arith, less, same_Some i j same))
+    by i j d less short false e = refl
+
+-- n distinct numbers below n are all numbers below n
+pub all_there : (n : ℕ) (ns : List ℕ) → AreApart ns → AreBelow n ns → length ns ≡ n → (s : ℕ) → s < n → (i : ℕ) × (place_in ns s ≡ Some i)
+all_there n ns apart below long s less = by (place_in ns s) refl
+  where
+    more : List ℕ
+    more = ns ++ s ∷ []
+
+    member : place_in ns s ≡ None → (q : ℕ) → (o : Option ℕ) → place_in more q ≡ o → list_any (nat_eq q) more ≡ true → q < n
+    member none q (Some i) e any = below_with ns more s n (inr (none, refl)) less below q i e
+    member none q None e any = absurd (true≢false (sym any ∙ none_any (nat_eq q) more 0 (sym (position_from-zero (nat_eq q) more) ∙ e)))
+
+    by : (o : Option ℕ) → place_in ns s ≡ o → (i : ℕ) × (place_in ns s ≡ Some i)
+    by (Some i) e = (i, e)
+    by None e =
+        let most = length-le_from_distinct_below more n (apart_distinct more (apart_more nat_eq same_number ns s e apart)) (λ q. member e q (place_in more q) refl) in
+        let one = length-append ns (s ∷ []) in
+        absurd (omega (arith, most, one, long))

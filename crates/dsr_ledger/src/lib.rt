@@ -94,6 +94,7 @@ mod counting;
 mod differences;
 mod file;
 mod file_lines;
+mod hints;
 mod ids;
 mod judge;
 mod kept;

@@ -162,7 +162,7 @@ impl Plan {
     {
         self.shares.clear();
         self.lines.clear();
-        let recording = ledger.recording(alloc, isrc, self.summaries.len())?;
+        let recording = ledger.recording(alloc, isrc, self.summaries.len(), self.recording)?;
         self.recording = recording;
         plan_works(ledger, alloc, recording, works, &mut self.shares)?;
         plan_lines(

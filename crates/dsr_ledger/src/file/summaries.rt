@@ -3,12 +3,16 @@ ghost use Rattle.std.specs.Prelude.{◌≡◌};
 ghost use Rattle.dsr_ledger.specs.Ranges.{IsInRange, SumsFit};
 ghost use Rattle.dsr_ledger.specs.Summaries.{shown_plus, nothing_found};
 
+use crate::hints::Hints;
 use crate::seeded::Seeded;
 use crate::sums::Sums;
 use dsr_cells::{NoMemory, Text};
 use dsr_records::{Summary, Usage};
 use indexmap::IndexMap;
 use std::alloc::Global;
+
+/// Summaries have hints in this many groups, by the last two bytes of their identifiers.
+const SUMMARY_GROUPS: usize = 64;
 
 /// The state of a summary: the key under which its usages count, and the sums of the usages that name it.
 #[derive(Drop)]
@@ -43,6 +47,16 @@ impl SummaryState {
 #[derive(Drop)]
 pub struct Summaries {
     pub states: IndexMap<Text, SummaryState, Seeded>,
+    pub hints: Hints<SUMMARY_GROUPS>,
+}
+
+/// The group of hints of an identifier. Identifiers that end with different numbers are mostly in different groups.
+#[inline(always)]
+fn summary_group(id: &Text) -> usize {
+    match id.as_str().as_bytes() {
+        [.., tens, ones] => (*tens % 4) as usize * 16 + (*ones % 16) as usize,
+        _ => 0,
+    }
 }
 
 impl Summaries {
@@ -58,6 +72,7 @@ impl Summaries {
     {
         Summaries {
             states: IndexMap::with_hasher(alloc, seeded),
+            hints: Hints::new(),
         }
     }
 
@@ -67,6 +82,7 @@ impl Summaries {
     {
         Ok(Summaries {
             states: IndexMap::with_capacity_and_hasher(alloc, many, seeded)?,
+            hints: Hints::new(),
         })
     }
 
@@ -88,10 +104,14 @@ impl Summaries {
         self.states.get_index_of(id)
     }
 
-    /// The same, trying `hint` first. It may be any number; the right one saves the search.
+    /// The same, trying first the summary that the identifier's hint names, and then `hint`, which may be any number.
     pub fn index_near(&self, id: &Text, hint: usize) -> Option<usize>
         ensures { result ≡ index_at self.now id.now }
     {
+        let first = self.hints.get(summary_group(id));
+        if let Some(number) = self.hinted(first, id) {
+            return Some(number);
+        }
         if let Some(number) = self.hinted(hint, id) {
             return Some(number);
         }
@@ -134,7 +154,9 @@ impl Summaries {
             return Ok(());
         }
         let state = SummaryState::new(key);
+        let place = self.states.len();
         let _none = self.states.insert(summary.id.copy(alloc)?, state)?;
+        self.hints.set(summary_group(&summary.id), place);
         Ok(())
     }
 

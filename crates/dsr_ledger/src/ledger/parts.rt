@@ -120,16 +120,16 @@ fn rising_seats(shares: &[SeatShare]) -> usize {
 }
 
 /// Adds an amount to the part at a place.
-fn add_part(parts: &mut SmallVec<SeatPart, FEW_PARTS>, place: usize, amount: i128)
-    requires below { place < length parts.old.items }
-    requires fits { FitsSigned w128 ((owed_at_place parts.old.items (Some place)).amount +ℤ
+fn add_part(parts: &mut [SeatPart], place: usize, amount: i128)
+    requires below { place < length parts.old }
+    requires fits { FitsSigned w128 ((owed_at_place parts.old (Some place)).amount +ℤ
         amount) }
-    ensures seats { part_seats parts.new.items ≡ part_seats parts.old.items }
+    ensures seats { part_seats parts.new ≡ part_seats parts.old }
     ensures part { (place_of : List ℕ → Option ℕ) (party : List ℕ)
-        → IsNumbered place_of (length parts.old.items) → place_of party ≡ Some place
-        → (q : List ℕ) → owed_at_place parts.new.items (place_of q)
-        ≡ (if bytes_eq party q then owed_with amount (owed_at_place parts.old.items (place_of q))
-        else owed_at_place parts.old.items (place_of q)) }
+        → IsNumbered place_of (length parts.old) → place_of party ≡ Some place
+        → (q : List ℕ) → owed_at_place parts.new (place_of q)
+        ≡ (if bytes_eq party q then owed_with amount (owed_at_place parts.old (place_of q))
+        else owed_at_place parts.old (place_of q)) }
 {
     parts[place].add(amount);
 }
@@ -137,25 +137,25 @@ fn add_part(parts: &mut SmallVec<SeatPart, FEW_PARTS>, place: usize, amount: i12
 /// Adds the share of an amount to the part of its seat, and returns the place after that. The part at
 /// `hint` is tried first.
 fn add_share(
-    parts: &mut SmallVec<SeatPart, FEW_PARTS>,
+    parts: &mut [SeatPart],
     index: &Index,
     amount: Amount,
     share: &SeatShare,
     hint: usize,
 ) -> usize
-    requires apart { AreApart (part_seats parts.old.items) }
-    requires indexed { AreIndexed (part_seats parts.old.items) index.now }
-    requires has_part { HasPart parts.old.items share.now }
-    requires fits { FitsSigned w128 ((owed_in parts.old.items (Some share.now.seat)).amount
+    requires apart { AreApart (part_seats parts.old) }
+    requires indexed { AreIndexed (part_seats parts.old) index.now }
+    requires has_part { HasPart parts.old share.now }
+    requires fits { FitsSigned w128 ((owed_in parts.old (Some share.now.seat)).amount
         +ℤ int_div (amount *ℤ pos share.now.share) (pos 1000000)) }
-    ensures seats { part_seats parts.new.items ≡ part_seats parts.old.items }
+    ensures seats { part_seats parts.new ≡ part_seats parts.old }
     ensures part { (n : ℕ) (seat : List ℕ → Option ℕ) (party : List ℕ)
         → IsNumbered seat n → seat party ≡ Some share.now.seat
-        → (q : List ℕ) → owed_in parts.new.items (seat q) ≡ (if bytes_eq party q
-        then owed_with (int_div (amount *ℤ pos share.now.share) (pos 1000000)) (owed_in parts.old.items (seat q))
-        else owed_in parts.old.items (seat q)) }
+        → (q : List ℕ) → owed_in parts.new (seat q) ≡ (if bytes_eq party q
+        then owed_with (int_div (amount *ℤ pos share.now.share) (pos 1000000)) (owed_in parts.old (seat q))
+        else owed_in parts.old (seat q)) }
 {
-    let Some(place) = find_part(parts.as_slice(), index, share.seat, hint) else {
+    let Some(place) = find_part(parts, index, share.seat, hint) else {
         return hint;
     };
     add_part(parts, place, share_of(amount.units(), share.share));
@@ -163,22 +163,17 @@ fn add_share(
 }
 
 /// Adds the shares of an amount, each to the part of its seat.
-fn add_parts(
-    parts: &mut SmallVec<SeatPart, FEW_PARTS>,
-    index: &Index,
-    amount: Amount,
-    shares: &[SeatShare],
-)
-    requires apart { AreApart (part_seats parts.old.items) }
-    requires indexed { AreIndexed (part_seats parts.old.items) index.now }
-    requires wide { HaveParts shares.now parts.old.items }
+fn add_parts(parts: &mut [SeatPart], index: &Index, amount: Amount, shares: &[SeatShare])
+    requires apart { AreApart (part_seats parts.old) }
+    requires indexed { AreIndexed (part_seats parts.old) index.now }
+    requires wide { HaveParts shares.now parts.old }
     requires fits { (n : ℕ) × (seat : List ℕ → Option ℕ) × (es : List (List ℕ × ℕ))
         × HaveSeats seat n shares.now es × (parts_size (map (part_of amount) es) ≤ 10 ^ 22)
-        × ((q : List ℕ) → unsigned_abs (owed_in parts.old.items (seat q)).amount + 10 ^ 22 < 2 ^ 127) }
-    ensures seats { part_seats parts.new.items ≡ part_seats parts.old.items }
+        × ((q : List ℕ) → unsigned_abs (owed_in parts.old (seat q)).amount + 10 ^ 22 < 2 ^ 127) }
+    ensures seats { part_seats parts.new ≡ part_seats parts.old }
     ensures owed { (n : ℕ) (seat : List ℕ → Option ℕ) (es : List (List ℕ × ℕ))
-        → HaveSeats seat n shares.now es → (q : List ℕ) → owed_in parts.new.items (seat q)
-        ≡ owed_plus (owed_in parts.old.items (seat q)) (owed_for q (map (part_of amount) es)) }
+        → HaveSeats seat n shares.now es → (q : List ℕ) → owed_in parts.new (seat q)
+        ≡ owed_plus (owed_in parts.old (seat q)) (owed_for q (map (part_of amount) es)) }
 {
     let mut next = 0;
     for share in shares {
@@ -203,6 +198,13 @@ impl Parts {
         ensures apart { AreApart (part_seats self.now.items.items) }
     {
         self.items.as_slice()
+    }
+
+    /// How many seats have a part.
+    pub fn len(&self) -> usize
+        ensures { result ≡ length self.now.items.items }
+    {
+        self.items.len()
     }
 
     /// Adds a part for a seat that has none. Nothing is owed of it yet.
@@ -253,7 +255,7 @@ impl Parts {
             → HaveSeats seat n shares.now es → (q : List ℕ) → owed_in self.new.items.items (seat q)
             ≡ owed_plus (owed_in self.old.items.items (seat q)) (owed_for q (map (part_of amount) es)) }
     {
-        add_parts(&mut self.items, &self.index, amount, shares);
+        add_parts(self.items.as_mut_slice(), &self.index, amount, shares);
     }
 }
 

@@ -1,5 +1,5 @@
 //! A recording: the seats of its parties, and its lines.
-ghost use Rattle.std.specs.Prelude.{◌≡◌, ◌<◌, OnOk, nat_eq, take, length};
+ghost use Rattle.std.specs.Prelude.{◌≡◌, ◌<◌, true, OnOk, Some, nat_eq, take, length};
 ghost use Rattle.std.specs.Vec.{vec_len, vec_capacity};
 ghost use Rattle.std.specs.List.{position};
 ghost use Rattle.std.proofs.Props.{props};
@@ -8,6 +8,7 @@ ghost use Rattle.dsr_ledger.specs.Numbered.{AreApart, place_in};
 ghost use Rattle.dsr_ledger.specs.Seats.{seat_numbers};
 ghost use Rattle.dsr_ledger.specs.Tallies.{line_in, line_keys, AreWithin};
 
+use crate::hints::Hints;
 use crate::ledger::index::Index;
 use crate::ledger::line::Line;
 use crate::ledger::parts::{SeatShare, widen};
@@ -17,6 +18,9 @@ use dsr_cells::NoMemory;
 use dsr_records::Usage;
 use std::alloc::Global;
 
+/// The lines of a recording have hints in this many groups, by the numbers of their summary keys.
+const LINE_GROUPS: usize = 16;
+
 /// The parties of a recording, each at its seat, and its lines: one for each summary key, in the order
 /// in which they were added.
 #[derive(Drop)]
@@ -25,21 +29,44 @@ pub struct Recording {
     pub lines: Vec<Line>,
     /// By the numbers of the lines' summary keys.
     pub index: Index,
+    pub hints: Hints<LINE_GROUPS>,
+    /// The number of the recording whose block came next, when a block of this one last came before another. It may be
+    /// any number.
+    pub next: u32,
     ghost apart: { AreApart (line_keys lines.items) },
     ghost indexed: { AreIndexed (line_keys lines.items) index } by { Prim.hlevel props },
     ghost within: { AreWithin (length (seat_numbers seats)) lines.items },
 }
 
-/// The line of a summary key. The line at `hint` is tried first.
-fn find_line(lines: &[Line], index: &Index, key: u32, hint: usize) -> Option<usize>
+/// The group of hints of a summary key.
+#[inline(always)]
+fn line_group(key: u32) -> usize {
+    key as usize % LINE_GROUPS
+}
+
+/// Whether the line at a place is that of a summary key.
+#[inline(always)]
+fn is_line(lines: &[Line], place: usize, key: u32) -> bool
+    requires { AreApart (line_keys lines.now) }
+    ensures { result ≡ true → line_in lines.now key ≡ Some place }
+{
+    match lines.get(place) {
+        Some(line) => line.key == key,
+        None => false,
+    }
+}
+
+/// The line of a summary key. The lines at these two places are tried first.
+fn find_line(lines: &[Line], index: &Index, key: u32, first: usize, second: usize) -> Option<usize>
     requires apart { AreApart (line_keys lines.now) }
     requires indexed { AreIndexed (line_keys lines.now) index.now }
     ensures { result ≡ line_in lines.now key }
 {
-    if let Some(line) = lines.get(hint) {
-        if line.key == key {
-            return Some(hint);
-        }
+    if is_line(lines, first, key) {
+        return Some(first);
+    }
+    if is_line(lines, second, key) {
+        return Some(second);
     }
     index.find(lines, key)
 }
@@ -74,7 +101,17 @@ impl Recording {
             seats: Seats::new(alloc),
             lines: Vec::with_capacity(alloc, lines)?,
             index: Index::new(),
+            hints: Hints::new(),
+            next: u32::MAX,
         })
+    }
+
+    /// Notes that a block of the recording with this number came after one of this recording.
+    pub fn set_next(&mut self, next: u32)
+        ensures seats { self.new.seats ≡ self.old.seats }
+        ensures lines { self.new.lines ≡ self.old.lines }
+    {
+        self.next = next;
     }
 
     /// The seat of a party, which is given one if it has none. The lines are unchanged.
@@ -103,7 +140,18 @@ impl Recording {
         let number = self.lines.len();
         self.index.add(alloc, seeded, self.lines.as_slice(), key)?;
         self.lines.push(Line::new(alloc, key))?;
+        self.hints.set(line_group(key), number);
         Ok(number)
+    }
+
+    /// Whether each seat has a part in a line, so that the line needs no further ones.
+    fn is_full(&self, number: usize) -> bool
+        requires { number < length self.now.lines.items }
+        ensures { result ≡ true → (shares : List SeatShare)
+            → AreSeatsBelow (length (seat_numbers self.now.seats)) shares
+            → IsWide shares self.now.lines.items number }
+    {
+        self.lines[number].parts.len() == self.seats.len()
     }
 
     /// Gives the seat of each share a part in a line.
@@ -121,11 +169,14 @@ impl Recording {
         ensures keys { line_keys self.new.lines.items ≡ line_keys self.old.lines.items }
         ensures wide { OnOk result (IsWide shares.now self.new.lines.items number) }
     {
+        if self.is_full(number) {
+            return Ok(());
+        }
         widen(&mut self.lines[number].parts, alloc, seeded, shares)
     }
 
-    /// The line of a summary key, which is added if there is none. The line at `hint` is tried
-    /// first.
+    /// The line of a summary key, which is added if there is none. The line that the key's hint names and the line at
+    /// `hint` are tried first.
     fn line_of(
         &mut self,
         alloc: Global,
@@ -139,7 +190,8 @@ impl Recording {
             (line_keys self.new.lines.items) key }
         ensures there { IfOk result (λ i. line_in self.new.lines.items key ≡ Some i) }
     {
-        if let Some(number) = find_line(self.lines.as_slice(), &self.index, key, hint) {
+        let first = self.hints.get(line_group(key));
+        if let Some(number) = find_line(self.lines.as_slice(), &self.index, key, first, hint) {
             return Ok(number);
         }
         self.add_line(alloc, seeded, key)

@@ -51,9 +51,58 @@ impl Ledger {
         }
     }
 
+    /// The number of a recording, if its block came next after one of recording `last` before.
+    fn following(&self, last: usize, isrc: &Isrc) -> Option<usize>
+        ensures { IfSome result (λ number. recording_number self.now isrc.now ≡ Some number) }
+    {
+        let recordings = self.recordings.as_slice();
+        let (_, found) = recordings.get_index(last)?;
+        let next = found.next as usize;
+        let (own, _) = recordings.get_index(next)?;
+        if *own == *isrc {
+            return Some(next);
+        }
+        None
+    }
+
+    /// Notes that a block of recording `next` came after one of recording `last`.
+    fn follow(&mut self, last: usize, next: usize)
+        ensures { KeepsSeats self.old self.new }
+    {
+        let Ok(next) = u32::try_from(next) else {
+            return;
+        };
+        if last < self.recordings.len() {
+            let (_, found) = self.recordings.pair_mut(last);
+            found.set_next(next);
+        }
+    }
+
+    /// The number of a recording, which is added if it is new, with room for this many lines. The sums of each key are
+    /// unchanged. The recording whose block came after one of `last` before is tried first: the files of a report
+    /// often have their recordings in the same order.
+    pub fn recording(
+        &mut self,
+        alloc: Global,
+        isrc: Isrc,
+        lines: usize,
+        last: usize,
+    ) -> Result<usize, NoMemory>
+        ensures same { (q : Key) → tally_at self.new q ≡ tally_at self.old q }
+        ensures keys { self.new.summary_keys ≡ self.old.summary_keys }
+        ensures there { IfOk result (λ number. recording_number self.new isrc ≡ Some number) }
+    {
+        if let Some(number) = self.following(last, &isrc) {
+            return Ok(number);
+        }
+        let number = self.recording_of(alloc, isrc, lines)?;
+        self.follow(last, number);
+        Ok(number)
+    }
+
     /// The number of a recording, which is added if it is new, with room for this many lines. The sums of each key are
     /// unchanged.
-    pub fn recording(&mut self, alloc: Global, isrc: Isrc, lines: usize) -> Result<usize, NoMemory>
+    fn recording_of(&mut self, alloc: Global, isrc: Isrc, lines: usize) -> Result<usize, NoMemory>
         ensures same { (q : Key) → tally_at self.new q ≡ tally_at self.old q }
         ensures keys { self.new.summary_keys ≡ self.old.summary_keys }
         ensures there { IfOk result (λ number. recording_number self.new isrc ≡ Some number) }

@@ -30,9 +30,9 @@ pub add_share-next-requires-clause-has_part : goal.add_share-next-requires-claus
 add_share-next-requires-clause-has_part c =
     let i = c.loop-share.share-index in
     let s = get_or c.args.shares.now i none in
-    let old = c.args.parts.now.items in
+    let old = c.args.parts.now in
     let at : slice_get c.args.shares.now i ≡ Some s = got_or c.args.shares.now i none c.loop-share-test.true in
-    part_kept old c.loop-share.parts.items s (λ q p e. ap (λ ns. place_in ns q) c.loop-share.invariant.seats ∙ e)
+    part_kept old c.loop-share.parts s (λ q p e. ap (λ ns. place_in ns q) c.loop-share.invariant.seats ∙ e)
     (each_at (HasPart old) c.args.shares.now i s c.requires.wide at)
 
 pub add_share-next-requires-clause-fits : goal.add_share-next-requires-clause-fits
@@ -48,10 +48,10 @@ add_share-next-requires-clause-fits c =
     let size = prefix_size a p.2 i z.other z.there in
     let most = p.4 in
     let fits =
-    part_fits (owed_in c.loop-share.parts.items (p.1 q)) (owed_in c.args.parts.now.items (p.1 q)) q (map (part_of a) (take i p.2)) (rounded x) (10 ^ 22)
+    part_fits (owed_in c.loop-share.parts (p.1 q)) (owed_in c.args.parts.now (p.1 q)) q (map (part_of a) (take i p.2)) (rounded x) (10 ^ 22)
     (c.loop-share.invariant.owed p.0 p.1 p.2 p.3 q) (omega arith) (p.5 q) in
-    subst (λ n. FitsSigned w128 ((owed_in c.loop-share.parts.items (Some s.seat)).amount +ℤ rounded (part_of a (q, n)))) (sym z.related.1) (
-    subst (λ o. FitsSigned w128 ((owed_in c.loop-share.parts.items o).amount +ℤ rounded x)) z.related.0 fits)
+    subst (λ n. FitsSigned w128 ((owed_in c.loop-share.parts (Some s.seat)).amount +ℤ rounded (part_of a (q, n)))) (sym z.related.1) (
+    subst (λ o. FitsSigned w128 ((owed_in c.loop-share.parts o).amount +ℤ rounded x)) z.related.0 fits)
 
 pub loop-share-preserved : goal.loop-share-preserved
 loop-share-preserved c =
@@ -66,12 +66,12 @@ loop-share-preserved c =
       owed = λ n seat es have q.
           let z = zip_step (IsSeated seat) c.args.shares.now es i s have.seated at in
           let x = part_of a z.other in
-          let old = owed_in c.loop-share.parts.items (seat q) in
-          owed_more old (owed_in c.add_share-next.new.parts.items (seat q)) (owed_in c.args.parts.now.items (seat q)) q (map (part_of a) (take i es)) x
+          let old = owed_in c.loop-share.parts (seat q) in
+          owed_more old (owed_in c.add_share-next.new.parts (seat q)) (owed_in c.args.parts.now (seat q)) q (map (part_of a) (take i es)) x
           (before.owed n seat es have q)
           (c.add_share-next.ensures.part n seat z.other.0 have.numbered z.related.0 q
           ∙ ap (λ m. cond (bytes_eq z.other.0 q) (owed_with (rounded (part_of a (z.other.0, m))) old) old) z.related.1)
-          ∙ ap (λ ps. owed_plus (owed_in c.args.parts.now.items (seat q)) (owed_for q ps))
+          ∙ ap (λ ps. owed_plus (owed_in c.args.parts.now (seat q)) (owed_for q ps))
           (sym (ap (λ m. map (part_of a) (take m es)) next ∙ ap (map (part_of a)) z.more ∙ map-append (part_of a) (take i es) (z.other ∷ [])));
     }
 
@@ -80,5 +80,5 @@ returns-clause-owed c = λ n seat es have q.
     let long = zip_long (IsSeated seat) c.args.shares.now es have.seated in
     let done = c.loop-share-test.false in
     c.loop-share.invariant.owed n seat es have q
-    ∙ ap (λ l. owed_plus (owed_in c.args.parts.now.items (seat q)) (owed_for q (map (part_of c.args.amount) l)))
+    ∙ ap (λ l. owed_plus (owed_in c.args.parts.now (seat q)) (owed_for q (map (part_of c.args.amount) l)))
     (take_all c.loop-share.share-index es (omega arith))

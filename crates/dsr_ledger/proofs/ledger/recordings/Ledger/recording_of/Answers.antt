@@ -17,7 +17,7 @@ use Rattle.dsr_ledger.specs.Recordings.{party_number, key_number}
 use Rattle.dsr_ledger.proofs.NumberedLemmas.{place_more}
 use Rattle.dsr_ledger.proofs.TextLemmas.{text_itself}
 use Rattle.dsr_ledger.proofs.LedgerLemmas.{none_below, unchanged, each_inserted, made_tally}
-use Rattle.dsr_ledger.proofs.ledger.recordings.Ledger.recording.Goals as goal
+use Rattle.dsr_ledger.proofs.ledger.recordings.Ledger.recording_of.Goals as goal
 
 pub invariant_of-self : goal.invariant_of-self
 invariant_of-self c =
