@@ -15,11 +15,11 @@ use Rattle.std.proofs.lemmas.Option.{slice_get-map, slice_get-get_or, slice_get_
 use Rattle.dsr_ledger.specs.declared.ledger.line.Line.{Line}
 use Rattle.dsr_ledger.specs.declared.ledger.summary_key.SummaryKey.{SummaryKey}
 use Rattle.dsr_ledger.specs.SummaryKeys.{summary_key_eq, summary_key_cmp}
-use Rattle.dsr_ledger.specs.Listed.{AreListed, AreRanks, key_in}
+use Rattle.dsr_ledger.specs.Listed.{AreListed, AreOrdered, AreRanks, key_in}
 use Rattle.dsr_ledger.proofs.IndexMapLemmas.{number_at}
 use Rattle.dsr_ledger.proofs.ListedLemmas.{all_there, key_there, mapped, place_order}
 use Rattle.dsr_ledger.proofs.NumberedLemmas.{same_Some}
-use Rattle.dsr_ledger.proofs.SummaryKeyLemmas.{same_summary_key}
+use Rattle.dsr_ledger.proofs.SummaryKeyLemmas.{same_summary_key, summary_key_total}
 
 module _ {K : Type 0} (eq : K → K → Bool) (decides : (a b : K) → Decides (eq a b) (a ≡ b)) {R : K → K → Ordering} (total : IsTotalOrder R) (keys : List K)
     (distinct : IsDistinct eq keys) (es : List (K × ℕ)) (listed : AreListed R (λ k. position (eq k) keys) es) where
@@ -53,19 +53,20 @@ module _ {K : Type 0} (eq : K → K → Bool) (decides : (a b : K) → Decides (
             get_or-set_other ranks e.1 f.1 i 0 other ∙ written j f (omega (arith, less, apart)) there
       ] refl
 
-  -- once all are written, the ranks are in the order of the keys
-  pub ranks_compare : (ranks : List ℕ) → AreWritten ranks (length es) → (n m : ℕ) (a b : K) → slice_get keys n ≡ Some a → slice_get keys m ≡ Some b
-      → nat_cmp (slice_index ranks n) (slice_index ranks m) ≡ R a b
-  ranks_compare ranks written n m a b e f = place_order total (keys_of es) _ _ a b listed.order (ranked n a e) (ranked m b f)
-    where
-      ranked : (i : ℕ) (k : K) → slice_get keys i ≡ Some k → slice_get (keys_of es) (slice_index ranks i) ≡ Some k
-      ranked i k e =
-          let c = listed.all k i (number_at eq decides keys i k distinct e) in
-          let at : slice_get (keys_of es) c.0 ≡ Some k = slice_get-get_or (keys_of es) c.0 k c.1 ∙ ap Some c.2 in
-          let x = mapped (λ (y : K × ℕ). y.0) (slice_get es c.0) k (sym (slice_get-map (λ (y : K × ℕ). y.0) es c.0) ∙ at) in
-          let own = all_there (λ (y : K × ℕ). position (eq y.0) keys ≡ Some y.1) es c.0 x.0 listed.own x.1 in
-          let same : x.0.1 ≡ i = same_Some x.0.1 i (sym own ∙ ap (λ q. position (eq q) keys) x.2 ∙ number_at eq decides keys i k distinct e) in
-          ap (slice_get (keys_of es)) (ap (slice_index ranks) (sym same) ∙ written c.0 x.0 (slice_get_within es c.0 x.0 x.1) x.1) ∙ at
+  -- once all are written, the key of each number is at its rank
+  pub all_ranked : (ranks : List ℕ) → AreWritten ranks (length es) → (i : ℕ) (k : K) → slice_get keys i ≡ Some k
+      → slice_get (keys_of es) (slice_index ranks i) ≡ Some k
+  all_ranked ranks written i k e =
+      let c = listed.all k i (number_at eq decides keys i k distinct e) in
+      let at : slice_get (keys_of es) c.0 ≡ Some k = slice_get-get_or (keys_of es) c.0 k c.1 ∙ ap Some c.2 in
+      let x = mapped (λ (y : K × ℕ). y.0) (slice_get es c.0) k (sym (slice_get-map (λ (y : K × ℕ). y.0) es c.0) ∙ at) in
+      let own = all_there (λ (y : K × ℕ). position (eq y.0) keys ≡ Some y.1) es c.0 x.0 listed.own x.1 in
+      let same : x.0.1 ≡ i = same_Some x.0.1 i (sym own ∙ ap (λ q. position (eq q) keys) x.2 ∙ number_at eq decides keys i k distinct e) in
+      ap (slice_get (keys_of es)) (ap (slice_index ranks) (sym same) ∙ written c.0 x.0 (slice_get_within es c.0 x.0 x.1) x.1) ∙ at
+
+-- ranks are in the order of their summary keys
+pub ranks_ordered : (keys : List SummaryKey) (ranks : List ℕ) → AreRanks keys ranks → AreOrdered keys ranks
+ranks_ordered keys ranks h n m a b e f = ap is_lt (place_order summary_key_total h.sorted _ _ a b h.order (h.ranked n a e) (h.ranked m b f))
 
 -- an item has the number and the rank of its summary key
 pub record IsRanked (keys : List SummaryKey) (ranks : List ℕ) (e : ℕ × (Bor SummaryKey × Bor Line)) : Type 0 where
@@ -73,7 +74,7 @@ pub record IsRanked (keys : List SummaryKey) (ranks : List ℕ) (e : ℕ × (Bor
   pub rank : e.0 ≡ slice_index ranks e.1.1.now.key
 
 -- items sorted by rank are sorted by summary key
-pub sorted_by_rank : (keys : List SummaryKey) (ranks : List ℕ) (es : List (ℕ × (Bor SummaryKey × Bor Line))) → AreRanks keys ranks
+pub sorted_by_rank : (keys : List SummaryKey) (ranks : List ℕ) (es : List (ℕ × (Bor SummaryKey × Bor Line))) → AreOrdered keys ranks
     → All (IsRanked keys ranks) es → IsSortedBy (λ a b. is_lt (nat_cmp a.0 b.0)) es
     → IsSortedBy (λ a b. is_lt (summary_key_cmp a.1.0.now b.1.0.now)) es
 sorted_by_rank keys ranks es ranked own sorted k d from within =

@@ -68,9 +68,16 @@ keyed es = map (λ e. (e.1.0.now, e.1.1.now)) es
 abbrev pub named_places : {K : Type 0} → List (Bor K × ℕ) → List (K × ℕ)
 named_places es = map (λ e. (e.0.now, e.1)) es
 
+-- the rank of each summary key, by its number: its place among all in order
+pub record AreRanks (keys : List SummaryKey) (ranks : List ℕ) : Type 0 where
+  pub sorted : List SummaryKey
+  pub order : IsStrictlySortedBy summary_key_cmp sorted
+  pub ranked : (n : ℕ) (k : SummaryKey) → slice_get keys n ≡ Some k → slice_get sorted (slice_index ranks n) ≡ Some k
+  pub all : length ranks ≡ length keys
+
 -- a lower rank for a lesser summary key
-abbrev pub AreRanks : List SummaryKey → List ℕ → Type 0
-AreRanks keys ranks = (n m : ℕ) (a b : SummaryKey) → slice_get keys n ≡ Some a → slice_get keys m ≡ Some b
+abbrev pub AreOrdered : List SummaryKey → List ℕ → Type 0
+AreOrdered keys ranks = (n m : ℕ) (a b : SummaryKey) → slice_get keys n ≡ Some a → slice_get keys m ≡ Some b
     → is_lt (nat_cmp (slice_index ranks n) (slice_index ranks m)) ≡ is_lt (summary_key_cmp a b)
 
 -- the ledger lines of the keys that have a booking

@@ -36,8 +36,7 @@ fn sorted_keys<'a>(
 /// The rank of each summary key, by its number.
 pub fn ranks_of(alloc: Global, keys: &[SummaryKey]) -> Result<Vec<usize>, NoMemory>
     requires { IsDistinct summary_key_eq keys.now }
-    ensures order { IfOk result (λ ranks. AreRanks keys.now ranks.items) }
-    ensures all { IfOk result (λ ranks. length ranks.items ≡ length keys.now) }
+    ensures { IfOk result (λ ranks. AreRanks keys.now ranks.items) }
 {
     let order = sorted_keys(alloc, keys)?;
     let mut ranks = Vec::new(alloc);

@@ -3,7 +3,7 @@ ghost use Rattle.std.specs.Prelude.{◌≡◌, length};
 ghost use Rattle.std.specs.List.{IsDistinct, IsDistinct-prop};
 ghost use Rattle.std.specs.Str.{bytes_eq};
 ghost use Rattle.dsr_ledger.specs.SummaryKeys.{summary_key_eq as key_eq};
-ghost use Rattle.dsr_ledger.specs.Listed.{AreRanks};
+ghost use Rattle.dsr_ledger.specs.Listed.{AreOrdered};
 
 use crate::ledger::summary_key::SummaryKey;
 use dsr_cells::Text;
@@ -18,6 +18,6 @@ pub struct Tables<'a> {
     pub ranks: Vec<usize>,
     ghost distinct: { IsDistinct bytes_eq parties.now } by { IsDistinct-prop bytes_eq parties.now },
     ghost keys_distinct: { IsDistinct key_eq keys.now } by { IsDistinct-prop key_eq keys.now },
-    ghost ranked: { AreRanks keys.now ranks.items },
+    ghost ordered: { AreOrdered keys.now ranks.items },
     ghost all_ranked: { length ranks.items ≡ length keys.now },
 }

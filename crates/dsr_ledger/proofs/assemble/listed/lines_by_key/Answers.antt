@@ -78,4 +78,4 @@ returns c =
     (places_are_numbered summary_key_eq same_summary_key ks).apart (λ (l : Line). l.key) ls c.requires.apart was is
     (c.loop-line.invariant.all ∙ take_all c.loop-line.line-index ls c.loop-line-test.false)
     (All-weaker (IsRanked ks ranks) (λ e. key_in ks (name e) ≡ Some (line e).key) (λ e h. h.number) was own) moved
-    (sorted_by_rank ks ranks is c.args.tables.now.ranked (All-permutation (IsRanked ks ranks) was is moved own) by_rank)
+    (sorted_by_rank ks ranks is c.args.tables.now.ordered (All-permutation (IsRanked ks ranks) was is moved own) by_rank)

@@ -1,14 +1,14 @@
 use Rattle.std.proofs.Common.{rules, ◌≡◌, ℕ, ◌<◌, List, length, get_or, sym, ap, ◌∙◌, subst, arith, Bor}
 use Rattle.std.specs.Prelude.{Some, slice_get, option_map}
 use Rattle.std.specs.List.{IsDistinct}
-use Rattle.std.specs.Ordering.{is_lt}
+use Rattle.std.specs.Map.{keys_of}
 use Rattle.std.proofs.lemmas.List.{length-map, length-set}
 use Rattle.std.proofs.lemmas.Option.{slice_get-get_or, slice_get-map, slice_get_within}
 use Rattle.dsr_ledger.specs.declared.ledger.summary_key.SummaryKey.{SummaryKey}
 use Rattle.dsr_ledger.specs.SummaryKeys.{summary_key_eq, summary_key_cmp}
 use Rattle.dsr_ledger.specs.Listed.{AreListed, key_in, named_places}
 use Rattle.dsr_ledger.proofs.SummaryKeyLemmas.{same_summary_key, summary_key_total}
-use Rattle.dsr_ledger.proofs.RankLemmas.{own_key, write_next, ranks_compare}
+use Rattle.dsr_ledger.proofs.RankLemmas.{own_key, write_next, all_ranked}
 use Rattle.dsr_ledger.proofs.assemble.ranks.ranks_of.Goals as goal
 
 abbrev Entry : Type 0
@@ -55,11 +55,18 @@ loop-rank-preserved c =
           (subst (λ n. e.1 < n) (sym all) within) c.loop-rank.invariant.written;
     }
 
-pub returns-clause-order : goal.returns-clause-order
-returns-clause-order c = λ n m a b e f.
+pub returns : goal.returns
+returns c =
+    let ks = c.args.keys.now in
     let es = c.deref-entry-items.result.now in
-    let listed = subst (AreKeys c.args.keys.now) (sym c.deref-entry-items.ensures.value) c.in_ok-order.ensures in
+    let listed = subst (AreKeys ks) (sym c.deref-entry-items.ensures.value) c.in_ok-order.ensures in
     let end = c.loop-rank-test.false in
     let long = length-map {B = SummaryKey × ℕ} es (λ (x : Entry). (x.0.now, x.1)) in
-    ap is_lt (ranks_compare summary_key_eq same_summary_key summary_key_total c.args.keys.now c.requires (named_places es) listed c.loop-rank.ranks.items
-    (λ j x less there. c.loop-rank.invariant.written j x (omega (arith, less, end, long)) there) n m a b e f)
+    record {
+      sorted = keys_of (named_places es);
+      order = listed.order;
+      ranked =
+          all_ranked summary_key_eq same_summary_key summary_key_total ks c.requires (named_places es) listed c.loop-rank.ranks.items
+          (λ j x less there. c.loop-rank.invariant.written j x (omega (arith, less, end, long)) there);
+      all = c.loop-rank.invariant.all;
+    }
