@@ -151,10 +151,6 @@ key_step (Some k) o os = refl
 key_step None (Some o) os = refl
 key_step None None os = refl
 
-pub key_last : (key : Option ReportKey) → first_of key None ≡ key
-key_last (Some k) = refl
-key_last None = refl
-
 short_files : (files : List File) → AllByRecursion IsSmallFile files → AllByRecursion (IsShort (2 ^ 37)) files
 short_files [] h = tt
 short_files (f ∷ files) h = (record { few = h.0.few; range = h.0.range }, short_files files h.1)

@@ -20,7 +20,6 @@ pub mod ShareLemmas
 pub mod OrderLemmas
 pub mod ListedLemmas
 pub mod ReportLemmas
-pub mod PartyPlaceLemmas
 pub mod PartyLineLemmas
 pub mod PartyLemmas
 pub mod WholeLemmas

@@ -1,182 +1,181 @@
--- Names with the places of their numbers, and in order.
-use Rattle.std.proofs.Common.{◌≡◌, ℕ, suc, ◌+◌, ◌<◌, Bool, true, false, true≢false, cond, List, [], ◌∷◌, ◌++◌, length, get_or, nat_eq, refl, sym}
-use Rattle.std.proofs.Common.{ap, ◌∙◌, subst, arith}
-use Rattle.std.specs.Prelude.{Option, None, Some, slice_get, position, map}
-use Rattle.std.specs.Option.{option_map_or, option_and_then}
-use Rattle.std.specs.List.{IsDistinct, position_from, AllByRecursion}
-use Rattle.std.specs.List.Sorted.{IsPermutation, IsSortedBy, IsStrictlySortedBy}
+-- Items put in the order of their names.
+use Rattle.std.proofs.Common.{◌≡◌, ℕ, zero, suc, ◌+◌, ◌<◌, Bool, true, false, true≢false, List, [], ◌∷◌, length, get_or, nat_eq, refl, sym, ap, ◌∙◌}
+use Rattle.std.proofs.Common.{subst, arith}
+use Rattle.std.specs.Prelude.{All, Option, None, Some, map, option_map, slice_get, position}
+use Rattle.std.specs.Option.{option_and_then}
 use Rattle.std.specs.Bool.{Decides}
-use Rattle.std.specs.Cmp.{IsEquivalence, IsTotalOrder}
-use Rattle.std.specs.Map.{keys_of, lookup}
-use Rattle.std.specs.Ordering.{is_eq, is_lt}
+use Rattle.std.specs.List.{Contains, IsDistinct}
+use Rattle.std.specs.List.Sorted.{IsPermutation, IsSortedBy, IsStrictlySortedBy}
+use Rattle.std.specs.Cmp.{IsTotalOrder, tied_itself}
+use Rattle.std.specs.Map.{keys_of}
+use Rattle.std.specs.Ordering.{is_eq, is_lt, nat_cmp, ordering_reverse}
 use Rattle.std.specs.declared.cmp.Ordering.{Ordering}
-use Rattle.std.specs.FinMap.Entries.{find}
-use Rattle.std.proofs.lemmas.Bool.Decides.{Decides-eqb}
-use Rattle.std.proofs.lemmas.Iterator.Adapters.{position_from-zero}
+use Rattle.std.specs.declared.cmp.Ordering.TheVariants.{Less, Equal, Greater}
+use Rattle.std.proofs.lemmas.Bool.Decides.{Decides-eqb, nat_tests}
+use Rattle.std.proofs.lemmas.List.{get_or-map, length-map}
+use Rattle.std.proofs.lemmas.List.Elements.{All-map}
 use Rattle.std.proofs.lemmas.List.Quantifiers.{position-Some}
-use Rattle.std.proofs.lemmas.List.Sorted.{IsPermutation-map}
-use Rattle.std.proofs.lemmas.Map.Keys.{IsDistinct-IsPermutation}
-use Rattle.std.proofs.lemmas.Option.{get_or_from_slice_get}
-use Rattle.indexmap.proofs.MapLemmas.{lookup_permutation}
+use Rattle.std.proofs.lemmas.List.Sorted.{All-permutation, Contains-permutation, IsPermutation-map}
+use Rattle.std.proofs.lemmas.Map.Keys.{IsDistinct-IsPermutation, IsDistinct-from_apart, apart_from_distinct, sorted_from_all_adjacent}
+use Rattle.std.proofs.lemmas.Option.{slice_get-map, slice_get-get_or, slice_get_within, get_or_from_slice_get}
+use Rattle.std.proofs.lemmas.Simd.{map-map}
 use Rattle.dsr_ledger.specs.Numbered.{place_in, place_by, AreApart}
-use Rattle.dsr_ledger.specs.Listed.{AreListed}
-use Rattle.dsr_ledger.proofs.IndexMapLemmas.{number_at}
-use Rattle.dsr_ledger.proofs.OrderLemmas.{strictly_sorted}
+use Rattle.dsr_ledger.specs.Listed.{AreListed, AreDistinctBelow, numbered_by}
+use Rattle.dsr_ledger.proofs.IndexMapLemmas.{each_at}
+use Rattle.dsr_ledger.proofs.NumberedLemmas.{same_Some}
 
--- items by their names
+-- items with their names and values
 abbrev pub entries_by : {X K V : Type 0} → (X → K) → (X → V) → List X → List (K × V)
 entries_by name value xs = map (λ x. (name x, value x)) xs
 
--- items with distinct names, put in order: the same is found
-module _ {K : Type 0} (eq : K → K → Bool) (laws : IsEquivalence eq) {R : K → K → Ordering} (total : IsTotalOrder R)
-    (ties : (a b : K) → is_eq (R a b) ≡ eq a b) {X V : Type 0} (name : X → K) (value : X → V) where
-  names_differ : (xs : List X) → IsDistinct eq (keys_of (entries_by name value xs)) → IsDistinct (λ a b. eq (name a) (name b)) xs
-  unfolding IsDistinct
-  names_differ [] h = tt
-  names_differ (x ∷ xs) h = (each xs h.0, names_differ xs h.1)
-    where
-      each : (ys : List X) → AllByRecursion (λ y. eq (name x) y ≡ false) (keys_of (entries_by name value ys)) → AllByRecursion (λ y. eq (name x) (name y) ≡ false) ys
-      each [] a = tt
-      each (y ∷ ys) a = (a.0, each ys a.1)
+-- what is at a place of a list has what all have
+pub all_there : {X : Type 0} (P : X → Type 0) (xs : List X) (i : ℕ) (x : X) → All P xs → slice_get xs i ≡ Some x → P x
+all_there P xs i x all at = subst P (get_or_from_slice_get xs i x x at) (all i x (slice_get_within xs i x at))
 
-  names_are : (xs : List X) → keys_of (entries_by name value xs) ≡ map name xs
-  names_are [] = refl
-  names_are (x ∷ xs) = ap (λ l. name x ∷ l) (names_are xs)
+pub there : {X : Type 0} (xs : List X) (i : ℕ) (x : X) → slice_get xs i ≡ Some x → Contains xs x
+there xs i x e = (i, slice_get_within xs i x e, get_or_from_slice_get xs i x x e)
 
-  pub in_order : (xs ys : List X) → IsDistinct eq (keys_of (entries_by name value xs)) → IsPermutation xs ys
-      → IsSortedBy (λ a b. is_lt (R (name a) (name b))) ys
-      → IsStrictlySortedBy R (keys_of (entries_by name value ys))
-      × ((q : K) → lookup (eq q) (entries_by name value ys) ≡ lookup (eq q) (entries_by name value xs))
-  in_order xs ys differ moved sorted =
-      let was = entries_by name value xs in
-      let is = entries_by name value ys in
-      let alike : X → X → Bool = λ a b. eq (name a) (name b) in
-      let distinct_ys = IsDistinct-IsPermutation alike (λ a b. laws.symm (name a) (name b)) xs ys moved (names_differ xs differ) in
-      let order = strictly_sorted name total alike (λ a b. ties (name a) (name b)) ys sorted distinct_ys in
-      let places = IsPermutation-map (λ (x : X). (name x, value x)) xs ys moved in
-      let keys_differ = IsDistinct-IsPermutation eq laws.symm (keys_of was) (keys_of is) (IsPermutation-map (λ (e : K × V). e.0) was is places) differ in
-      (subst (IsStrictlySortedBy R) (sym (names_are ys)) order, λ q. lookup_permutation laws was is places keys_differ (eq q) (laws.congr q))
+pub taken : {A B : Type 0} (f : A → Option B) (o : Option A) (y : B) → option_and_then f o ≡ Some y → (x : A) × (o ≡ Some x) × (f x ≡ Some y)
+taken f None y e = absurd (cc)
+taken f (Some x) y e = (x, refl, e)
 
--- items none of which equals an earlier one
-distinct_from_apart : {X : Type 0} (alike : X → X → Bool) (xs : List X)
-    → ((i j : ℕ) (x y : X) → i < j → slice_get xs i ≡ Some x → slice_get xs j ≡ Some y → alike x y ≡ false) → IsDistinct alike xs
-unfolding IsDistinct
-distinct_from_apart alike [] h = tt
-distinct_from_apart {X} alike (x ∷ xs) h =
-    (each xs (λ j y e. h 0 (suc j) x y (omega arith) refl e), distinct_from_apart alike xs (λ i j y z below e f. h (suc i) (suc j) y z (omega arith) e f))
-  where
-    each : (ys : List X) → ((j : ℕ) (y : X) → slice_get ys j ≡ Some y → alike x y ≡ false) → AllByRecursion (λ y. alike x y ≡ false) ys
-    each [] k = tt
-    each (y ∷ ys) k = (k 0 y refl, each ys (λ j z e. k (suc j) z e))
+pub mapped : {A B : Type 0} (f : A → B) (o : Option A) (y : B) → option_map f o ≡ Some y → (x : A) × (o ≡ Some x) × (f x ≡ y)
+mapped f None y e = absurd (cc)
+mapped f (Some x) y e = (x, refl, same_Some (f x) y e)
 
-nat_symm : (a b : ℕ) → nat_eq a b ≡ false → nat_eq b a ≡ false
-nat_symm a b h = by (nat_eq b a) refl
-  where
-    by : (c : Bool) → nat_eq b a ≡ c → c ≡ false
-    by true e = absurd (true≢false (sym ((Decides-eqb a b).1 (sym ((Decides-eqb b a).0 e))) ∙ h))
-    by false e = refl
+pub own_below : (ns : List ℕ) (n : ℕ) → AreDistinctBelow n ns → (i : ℕ) → i < length ns → get_or ns i 0 < n
+own_below ns n numbers i below = numbers.below (get_or ns i 0) i (numbers.apart i (get_or ns i 0) (slice_get-get_or ns i 0 below))
 
--- distinct numbers
-apart_distinct : (ns : List ℕ) → AreApart ns → IsDistinct nat_eq ns
-apart_distinct ns apart =
-    distinct_from_apart nat_eq ns (λ i j x y below e f.
-    nat_symm y x (ap (nat_eq y) (sym (get_or_from_slice_get ns i x x e)) ∙ (position-Some (nat_eq y) ns j x (apart j y f)).2 i below))
+module _ {V : Type 0} (read : V → ℕ) (vs : List V) (n : ℕ) (numbers : AreDistinctBelow n (map read vs)) where
+  -- the number of the value at a place is one of the numbers, and below n
+  pub below_number : (i : ℕ) (v : V) → i < length vs → v ≡ get_or vs i v → read v < n
+  below_number i v below is =
+      let here = slice_get-get_or vs i v below ∙ ap Some (sym is) in
+      numbers.below (read v) i (numbers.apart i (read v) (slice_get-map read vs i ∙ ap (option_map read) here))
 
-module _ {K : Type 0} where
-  -- each entry has the name of a number and its place, from place k on
-  abbrev pub AreNamedFrom : List K → ℕ → List ℕ → List (K × ℕ) → Type 0
-  AreNamedFrom ks k [] [] = Unit {0}
-  AreNamedFrom ks k [] (e ∷ es) = ⊥
-  AreNamedFrom ks k (n ∷ ns) [] = ⊥
-  AreNamedFrom ks k (n ∷ ns) (e ∷ es) = ((slice_get ks n ≡ Some e.0) × (e.1 ≡ k)) × AreNamedFrom ks (k + 1) ns es
+module _ {K : Type 0} (eq : K → K → Bool) (decides : (a b : K) → Decides (eq a b) (a ≡ b)) where
+  -- the key that has this number
+  pub key_there : (ks : List K) (k : K) (n : ℕ) → position (eq k) ks ≡ Some n → slice_get ks n ≡ Some k
+  key_there ks k n e =
+      let is = position-Some (eq k) ks n k e in
+      slice_get-get_or ks n k is.0 ∙ ap Some (sym ((decides k (get_or ks n k)).0 is.1))
 
-  -- one more entry
-  pub named_push : (ks : List K) (k : ℕ) (ns : List ℕ) (es : List (K × ℕ)) (n : ℕ) (e : K × ℕ) → slice_get ks n ≡ Some e.0 → e.1 ≡ k + length ns
-      → AreNamedFrom ks k ns es → AreNamedFrom ks k (ns ++ n ∷ []) (es ++ e ∷ [])
-  named_push ks k [] [] n e at is h = ((at, is ∙ omega arith), tt)
-  named_push ks k [] (x ∷ es) n e at is h = absurd h
-  named_push ks k (m ∷ ns) [] n e at is h = absurd h
-  named_push ks k (m ∷ ns) (x ∷ es) n e at is h = (h.0, named_push ks (k + 1) ns es n e at (is ∙ omega arith) h.1)
+  apart_if : (a b : K) → (a ≡ b → ⊥) → eq a b ≡ false
+  apart_if a b not = elim (eq a b) as (λ t. eq a b ≡ t → t ≡ false) [ true ↦ λ e. absurd (not ((decides a b).0 e)) | false ↦ λ _. refl ] refl
 
-  module _ (eq : K → K → Bool) (decides : (a b : K) → Decides (eq a b) (a ≡ b)) (laws : IsEquivalence eq) (ks : List K) (distinct : IsDistinct eq ks) where
-    abbrev pub number : K → Option ℕ
-    number q = position (eq q) ks
+  eq_symm : (a b : K) → eq a b ≡ eq b a
+  eq_symm a b =
+      elim (eq b a) as (λ t. eq b a ≡ t → eq a b ≡ t) [
+        | true ↦ λ e. (decides a b).1 (sym ((decides b a).0 e))
+        | false ↦ λ e. apart_if a b (λ s. absurd (true≢false (sym ((decides b a).1 (sym s)) ∙ e)))
+      ] refl
 
-    -- a name is that of a number if it has the number
-    same_number : (n : ℕ) (x q : K) → slice_get ks n ≡ Some x → eq q x ≡ option_map_or (λ m. nat_eq m n) (number q) false
-    same_number n x q at = by (eq q x) refl
-      where
-        other : eq q x ≡ false → (o : Option ℕ) → number q ≡ o → false ≡ option_map_or (λ m. nat_eq m n) o false
-        other f None e = refl
-        other f (Some m) e = apart (nat_eq m n) refl
-          where
-            apart : (b : Bool) → nat_eq m n ≡ b → false ≡ b
-            apart false h = refl
-            apart true h =
-                let is : m ≡ n = (Decides-eqb m n).0 h in
-                let here = (position-Some (eq q) ks m x e).1 in
-                absurd (true≢false (sym here ∙ ap (eq q) (ap (λ i. get_or ks i x) is ∙ get_or_from_slice_get ks n x x at) ∙ f))
+  module _ {R : K → K → Ordering} (total : IsTotalOrder R) (ties : (a b : K) → is_eq (R a b) ≡ eq a b) {V X : Type 0} (name : X → K) (value : X → V) where
+    less_than : (a : Ordering) → is_lt (ordering_reverse a) ≡ false → is_eq a ≡ false → a ≡ Less
+    less_than Less h k = refl
+    less_than Equal h k = absurd (cc)
+    less_than Greater h k = absurd (cc)
 
-        by : (b : Bool) → eq q x ≡ b → b ≡ option_map_or (λ m. nat_eq m n) (number q) false
-        by true e =
-            let has : number q ≡ Some n = ap number ((decides q x).0 e) ∙ number_at eq decides ks n x distinct at in
-            sym (ap (λ o. option_map_or (λ m. nat_eq m n) o false) has ∙ (Decides-eqb n n).1 refl)
-        by false e = other e (number q) refl
+    -- items sorted by distinct names are in strict order
+    strictly_sorted : (xs : List X) → IsSortedBy (λ a b. is_lt (R (name a) (name b))) xs → IsDistinct eq (map name xs) → IsStrictlySortedBy R (map name xs)
+    unfolding IsStrictlySortedBy
+    strictly_sorted [] sorted distinct = tt
+    strictly_sorted (x ∷ xs) sorted distinct =
+        let ys = x ∷ xs in
+        let names = map name ys in
+        sorted_from_all_adjacent total names (name x) (λ k within.
+        let long : k + 1 < length ys = omega (arith, length-map ys name) in
+        let a = get_or names k (name x) in
+        let b = get_or names (k + 1) (name x) in
+        let down : is_lt (R b a) ≡ false =
+        (λ i. is_lt (R (get_or-map name ys (k + 1) x (name x) long i) (get_or-map name ys k x (name x) (omega arith) i))) ∙ sorted k x (omega arith) long in
+        less_than (R a b) (ap is_lt (sym (total.antisymm b a)) ∙ down)
+        (ties a b ∙ apart_from_distinct eq names k (k + 1) (name x) distinct (omega arith) within))
 
-    abbrev place_from : ℕ → List ℕ → Option ℕ → Option ℕ
-    place_from k ns o = option_and_then (λ m. position_from (nat_eq m) k ns) o
+    -- items with distinct names, put in order
+    pub put_in_order : (at : K → Option V) (xs ys : List X) → IsDistinct eq (map name xs) → All (λ x. at (name x) ≡ Some (value x)) xs
+        → ((q : K) (v : V) → at q ≡ Some v → Contains (map name xs) q) → IsPermutation xs ys → IsSortedBy (λ a b. is_lt (R (name a) (name b))) ys
+        → AreListed R at (entries_by name value ys)
+    put_in_order at xs ys distinct own all moved sorted =
+        let es = entries_by name value ys in
+        let names = IsPermutation-map name xs ys moved in
+        let keys : keys_of es ≡ map name ys = map-map (λ (e : K × V). e.0) (λ x. (name x, value x)) ys in
+        record {
+          order =
+              subst (IsStrictlySortedBy R) (sym keys) (
+              strictly_sorted ys sorted (IsDistinct-IsPermutation eq eq_symm (map name xs) (map name ys) names distinct));
+          own = All-map (λ (e : K × V). at e.0 ≡ Some e.1) (λ x. (name x, value x)) ys (All-permutation (λ x. at (name x) ≡ Some (value x)) xs ys moved own);
+          all = λ q v e. subst (λ ks. Contains ks q) (sym keys) (Contains-permutation (map name xs) (map name ys) q names (all q v e));
+        }
 
-    no_place : (k : ℕ) (o : Option ℕ) → None ≡ place_from k [] o
-    no_place k None = refl
-    no_place k (Some m) = refl
+    -- items with the numbers of their names, put in order
+    module _ (number : K → Option ℕ) (apart : (a b : K) (n : ℕ) → number a ≡ Some n → number b ≡ Some n → a ≡ b) (read : V → ℕ) (vs : List V)
+        (numbers : AreApart (map read vs)) where
+      own_value : (i : ℕ) (v : V) (k : K) → slice_get vs i ≡ Some v → number k ≡ Some (read v) → numbered_by number read vs k ≡ Some v
+      own_value i v k here is =
+          ap (λ o. option_and_then (slice_get vs) (option_and_then (place_in (map read vs)) o)) is
+          ∙ ap (option_and_then (slice_get vs)) (numbers i (read v) (slice_get-map read vs i ∙ ap (option_map read) here))
+          ∙ here
 
-    next_place : (k n : ℕ) (ns : List ℕ) (o : Option ℕ) → cond (option_map_or (λ m. nat_eq m n) o false) (Some k) (place_from (k + 1) ns o)
-        ≡ place_from k (n ∷ ns) o
-    next_place k n ns None = refl
-    next_place k n ns (Some m) = refl
+      value_there : (zs : List X) → map value zs ≡ vs → (i : ℕ) (d : X) → i < length zs → slice_get vs i ≡ Some (value (get_or zs i d))
+      value_there zs e i d below = ap (λ l. slice_get l i) (sym e) ∙ slice_get-map value zs i ∙ ap (option_map value) (slice_get-get_or zs i d below)
 
-    found_from : (k : ℕ) (ns : List ℕ) (es : List (K × ℕ)) → AreNamedFrom ks k ns es → (q : K) → lookup (eq q) es ≡ place_from k ns (number q)
-    found_from k [] [] h q = no_place k (number q)
-    found_from k [] (e ∷ es) h q = absurd h
-    found_from k (n ∷ ns) [] h q = absurd h
-    found_from k (n ∷ ns) (e ∷ es) h q =
-        (λ i. cond (same_number n e.0 q h.0.0 i) (Some (h.0.1 i)) (found_from (k + 1) ns es h.1 q i))
-        ∙ next_place k n ns (number q)
+      differ : (zs : List X) → map value zs ≡ vs → All (λ x. number (name x) ≡ Some (read (value x))) zs → IsDistinct eq (map name zs)
+      unfolding IsDistinct
+      differ [] e h = tt
+      differ (z ∷ zs) e h =
+          IsDistinct-from_apart eq (map name (z ∷ zs)) (λ i j d less within.
+          let long : j < length (z ∷ zs) = omega (arith, length-map (z ∷ zs) name) in
+          let a = get_or (z ∷ zs) i z in
+          let b = get_or (z ∷ zs) j z in
+          let place = λ (k : ℕ) (below : k < length (z ∷ zs)).
+          numbers k _ (slice_get-map read vs k ∙ ap (option_map read) (value_there (z ∷ zs) e k z below)) in
+          (λ t. eq (get_or-map name (z ∷ zs) i z d (omega arith) t) (get_or-map name (z ∷ zs) j z d long t))
+          ∙ apart_if (name a) (name b) (λ s.
+          let same : read (value a) ≡ read (value b) = same_Some _ _ (sym (h i z (omega arith)) ∙ ap number s ∙ h j z long) in
+          let one = same_Some i j (sym (place i (omega arith)) ∙ ap (place_in (map read vs)) same ∙ place j long) in
+          omega arith))
 
-    place_is : (ns : List ℕ) (o : Option ℕ) → place_from 0 ns o ≡ option_and_then (place_in ns) o
-    place_is ns None = refl
-    place_is ns (Some m) = sym (position_from-zero (nat_eq m) ns)
+      pub listed : (xs ys : List X) → map value xs ≡ vs → All (λ x. number (name x) ≡ Some (read (value x))) xs → IsPermutation xs ys
+          → IsSortedBy (λ a b. is_lt (R (name a) (name b))) ys → AreListed R (numbered_by number read vs) (entries_by name value ys)
+      listed xs ys all own moved sorted =
+          put_in_order (numbered_by number read vs) xs ys (differ xs all own) (λ i d below. own_value i _ _ (here i d below) (own i d below)) each moved sorted
+        where
+          here : (i : ℕ) (d : X) → i < length xs → slice_get vs i ≡ Some (value (get_or xs i d))
+          here = value_there xs all
 
-    differ_from : (k : ℕ) (ns : List ℕ) (es : List (K × ℕ)) → AreNamedFrom ks k ns es → IsDistinct nat_eq ns → IsDistinct eq (keys_of es)
-    unfolding IsDistinct
-    differ_from k [] [] h d = tt
-    differ_from k [] (e ∷ es) h d = absurd h
-    differ_from k (n ∷ ns) [] h d = absurd h
-    differ_from k (n ∷ ns) (e ∷ es) h d = (each (k + 1) ns es h.1 d.0, differ_from (k + 1) ns es h.1 d.1)
-      where
-        each : (j : ℕ) (ms : List ℕ) (fs : List (K × ℕ)) → AreNamedFrom ks j ms fs → AllByRecursion (λ m. nat_eq n m ≡ false) ms
-            → AllByRecursion (λ y. eq e.0 y ≡ false) (keys_of fs)
-        each j [] [] g a = tt
-        each j [] (f ∷ fs) g a = absurd g
-        each j (m ∷ ms) [] g a = absurd g
-        each j (m ∷ ms) (f ∷ fs) g a = (
-          same_number m f.0 e.0 g.0.0 ∙ ap (λ o. option_map_or (λ i. nat_eq i m) o false) (number_at eq decides ks n e.0 distinct h.0.0) ∙ a.0,
-          each (j + 1) ms fs g.1 a.1,
-        )
+          each : (q : K) (v : V) → numbered_by number read vs q ≡ Some v → Contains (map name xs) q
+          each q v e =
+              let at = taken (slice_get vs) (place_by number (map read vs) q) v e in
+              let i = at.0 in
+              let n = taken (place_in (map read vs)) (number q) i at.1 in
+              let x = mapped value (slice_get xs i) v (sym (slice_get-map value xs i) ∙ ap (λ l. slice_get l i) all ∙ at.2) in
+              let is : number (name x.0) ≡ Some (read (value x.0)) = all_there (λ y. number (name y) ≡ Some (read (value y))) xs i x.0 own x.1 in
+              let ns = map read vs in
+              let held : get_or ns i 0 ≡ n.0 = sym ((Decides-eqb n.0 (get_or ns i 0)).0 (position-Some (nat_eq n.0) ns i 0 n.2).1) in
+              let of : get_or ns i 0 ≡ read v = get_or_from_slice_get ns i (read v) 0 (slice_get-map read vs i ∙ ap (option_map read) at.2) in
+              let same : name x.0 ≡ q = apart (name x.0) q n.0 (is ∙ ap Some (ap read x.2 ∙ sym of ∙ held)) n.1 in
+              there (map name xs) i q (slice_get-map name xs i ∙ ap (option_map name) x.1 ∙ ap Some same)
 
-    module _ {R : K → K → Ordering} (total : IsTotalOrder R) (ties : (a b : K) → is_eq (R a b) ≡ eq a b) where
-      find_is : (q : K) (es : List (K × ℕ)) → find R q es ≡ lookup (eq q) es
-      find_is q [] = refl
-      find_is q (e ∷ es) = λ i. cond (ties q e.0 i) (Some e.1) (find_is q es i)
+-- places in strict order
+up : (j : ℕ) → nat_cmp 0 (suc j) ≡ Less
+up j = grind (arith, nat_tests)
 
-      -- items with the names of numbers, put in order
-      pub listed : {X : Type 0} (name : X → K) (value : X → ℕ) (ns : List ℕ) (xs ys : List X) → AreApart ns
-          → AreNamedFrom ks 0 ns (entries_by name value xs) → IsPermutation xs ys → IsSortedBy (λ a b. is_lt (R (name a) (name b))) ys
-          → AreListed R (place_by number ns) (entries_by name value ys)
-      listed name value ns xs ys apart named moved sorted =
-          let was = entries_by name value xs in
-          let ordered = in_order eq laws total ties name value xs ys (differ_from 0 ns was named (apart_distinct ns apart)) moved sorted in
-          record {
-            order = ordered.0;
-            found = λ q. find_is q (entries_by name value ys) ∙ ordered.1 q ∙ found_from 0 ns was named q ∙ place_is ns (number q);
-          }
+down : (i : ℕ) → nat_cmp (suc i) 0 ≡ Greater
+down i = grind (arith, nat_tests)
+
+step : (i j : ℕ) → nat_cmp (suc i) (suc j) ≡ nat_cmp i j
+step i j = grind (arith, nat_tests)
+
+module _ {K : Type 0} {R : K → K → Ordering} (total : IsTotalOrder R) where
+  pub place_order : (ks : List K) (i j : ℕ) (a b : K) → IsStrictlySortedBy R ks → slice_get ks i ≡ Some a → slice_get ks j ≡ Some b → nat_cmp i j ≡ R a b
+  unfolding IsStrictlySortedBy
+  place_order [] i j a b sorted e f = absurd (cc)
+  place_order (x ∷ ks) zero zero a b sorted e f =
+      subst (λ y. Equal ≡ R a y) (sym (same_Some x a e) ∙ same_Some x b f) (sym (tied_itself total a))
+  place_order (x ∷ ks) zero (suc j) a b sorted e f =
+      up j ∙ sym (subst (λ y. R y b ≡ Less) (same_Some x a e) (each_at (λ y. R x y ≡ Less) ks j b sorted.0 f))
+  place_order (x ∷ ks) (suc i) zero a b sorted e f =
+      let above = subst (λ y. R y a ≡ Less) (same_Some x b f) (each_at (λ y. R x y ≡ Less) ks i a sorted.0 e) in
+      down i ∙ sym (total.antisymm a b ∙ ap ordering_reverse above)
+  place_order (x ∷ ks) (suc i) (suc j) a b sorted e f = step i j ∙ place_order ks i j a b sorted.1 e f

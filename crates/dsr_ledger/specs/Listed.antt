@@ -1,48 +1,72 @@
 -- The parts of a line in the order of the parties' names, and the lines of a recording in key order.
-use Rattle.std.specs.Prelude.{◌≡◌, ℕ, List, ◌++◌, Option, None, Some, All, position, map, filter, length, slice_get, slice_index}
+use Rattle.std.specs.Prelude.{◌≡◌, ℕ, List, ◌++◌, Option, Some, All, position, map, filter, length, slice_get, slice_index}
+use Rattle.std.specs.Option.{option_and_then}
+use Rattle.std.specs.Ordering.{is_lt, nat_cmp}
 use Rattle.std.specs.Str.{bytes_eq}
 use Rattle.std.specs.List.{AllByRecursion, Contains}
 use Rattle.std.specs.Borrow.{Bor}
 use Rattle.std.specs.List.Sorted.{IsStrictlySortedBy}
-use Rattle.std.specs.Map.{keys_of, lookup}
-use Rattle.indexmap.specs.IndexMap.{IndexMap, get}
-use Rattle.std.specs.FinMap.Entries.{find}
+use Rattle.std.specs.Map.{keys_of}
 use Rattle.std.specs.declared.cmp.Ordering.{Ordering}
 use Rattle.dsr_ledger.specs.declared.key.Key.{Key}
+use Rattle.dsr_ledger.specs.declared.ledger.line.Line.{Line}
+use Rattle.dsr_ledger.specs.declared.ledger.parts.SeatPart.{SeatPart}
 use Rattle.dsr_ledger.specs.declared.ledger.summary_key.SummaryKey.{SummaryKey}
 use Rattle.dsr_ledger.specs.declared.report.LedgerLine.{LedgerLine}
-use Rattle.dsr_ledger.specs.Keys.{text_cmp, key_cmp}
+use Rattle.dsr_ledger.specs.Keys.{key_cmp}
 use Rattle.dsr_ledger.specs.SummaryKeys.{summary_key_eq, summary_key_cmp, summary_key_in}
 use Rattle.dsr_ledger.specs.declared.ledger.recording.Recording.{Recording}
-use Rattle.dsr_ledger.specs.Numbered.{place_by}
+use Rattle.dsr_ledger.specs.Numbered.{place_by, AreApart, AreBelow}
+use Rattle.dsr_ledger.specs.Owed.{part_seats}
 use Rattle.dsr_ledger.specs.Recordings.{seat_of}
-use Rattle.dsr_ledger.specs.Order.{AreSmall}
+use Rattle.dsr_ledger.specs.Seats.{seat_numbers}
+use Rattle.dsr_ledger.specs.Order.{AreSmall, IsOfSmall}
 use Rattle.dsr_ledger.specs.Bookings.{Booking, key_under}
 use Rattle.dsr_ledger.specs.Ledger.{at_key, line_of}
 use Rattle.dsr_ledger.specs.Tallies.{key_tally, line_keys, lines_tally}
 
--- the names, with their places
+-- a map's entries in the order of the keys: each key that has a value once, with the value
+pub record AreListed {K V : Type 0} (cmp : K → K → Ordering) (at : K → Option V) (es : List (K × V)) : Type 0 where
+  pub order : IsStrictlySortedBy cmp (keys_of es)
+  pub own : All (λ e. at e.0 ≡ Some e.1) es
+  pub all : (q : K) (v : V) → at q ≡ Some v → Contains (keys_of es) q
+
+-- the value whose number, by `read`, is that of a key
+abbrev pub numbered_by : {K V : Type 0} → (K → Option ℕ) → (V → ℕ) → List V → K → Option V
+numbered_by number read vs q = option_and_then (slice_get vs) (place_by number (map read vs) q)
+
+-- distinct numbers below n
+pub record AreDistinctBelow (n : ℕ) (ns : List ℕ) : Type 0 where
+  pub apart : AreApart ns
+  pub below : AreBelow n ns
+
+-- the number of a party: its place among the names
+abbrev pub party_in : List (List ℕ) → List ℕ → Option ℕ
+party_in parties q = position (bytes_eq q) parties
+
+-- the number of a summary key
+abbrev pub key_in : List SummaryKey → SummaryKey → Option ℕ
+key_in keys k = position (summary_key_eq k) keys
+
+-- the part of a party, where the numbers of the parties are at their seats
+abbrev pub part_for : List (List ℕ) → List ℕ → List SeatPart → List ℕ → Option SeatPart
+part_for parties numbers parts = numbered_by (place_by (party_in parties) numbers) (λ p. p.seat) parts
+
+-- the line of a summary key
+abbrev pub line_for : List SummaryKey → List Line → SummaryKey → Option Line
+line_for keys ls = numbered_by (key_in keys) (λ l. l.key) ls
+
+-- borrowed names with borrowed values
+abbrev pub lent : {K V : Type 0} → List (Bor K × Bor V) → List (K × V)
+lent es = map (λ e. (e.0.now, e.1.now)) es
+
+-- the lines without their ranks
+abbrev pub keyed : List (ℕ × (Bor SummaryKey × Bor Line)) → List (SummaryKey × Line)
+keyed es = map (λ e. (e.1.0.now, e.1.1.now)) es
+
+-- borrowed names with their places
 abbrev pub named_places : {K : Type 0} → List (Bor K × ℕ) → List (K × ℕ)
 named_places es = map (λ e. (e.0.now, e.1)) es
-
--- all names that have a place, each once, in order, with their places
-pub record AreListed {K : Type 0} (cmp : K → K → Ordering) (place : K → Option ℕ) (es : List (K × ℕ)) : Type 0 where
-  pub order : IsStrictlySortedBy cmp (keys_of es)
-  pub found : (q : K) → find cmp q es ≡ place q
-
--- the parties of a line in the byte order of their names, with the places of their parts
-abbrev pub ArePartsOf : (List ℕ → Option ℕ) → List (Bor (List ℕ) × ℕ) → Type 0
-ArePartsOf place es = AreListed text_cmp place (named_places es)
-
--- the summary keys of a recording in order, with the places of their lines
-abbrev pub AreLinesOf : (SummaryKey → Option ℕ) → List (Bor SummaryKey × ℕ) → Type 0
-AreLinesOf line es = AreListed summary_key_cmp line (named_places es)
-
--- the summary keys, each once, in order, with their numbers
-pub record AreNumberedInOrder (keys : List SummaryKey) (es : List (Bor SummaryKey × ℕ)) : Type 0 where
-  pub order : IsStrictlySortedBy summary_key_cmp (keys_of (named_places es))
-  pub numbered : All (λ e. slice_get keys e.1 ≡ Some e.0) (named_places es)
-  pub all : (n : ℕ) (k : SummaryKey) → slice_get keys n ≡ Some k → Contains (named_places es) (k, n)
 
 -- the rank of each summary key, by its number: its place among all in order
 pub record AreRanks (keys : List SummaryKey) (ranks : List ℕ) : Type 0 where
@@ -51,29 +75,18 @@ pub record AreRanks (keys : List SummaryKey) (ranks : List ℕ) : Type 0 where
   pub ranked : (n : ℕ) (k : SummaryKey) → slice_get keys n ≡ Some k → slice_get sorted (slice_index ranks n) ≡ Some k
   pub all : length ranks ≡ length keys
 
--- recordings with their ISRCs
-abbrev pub lent_recordings : List (Bor (List ℕ) × Bor Recording) → List (List ℕ × Recording)
-lent_recordings es = map (λ e. (e.0.now, e.1.now)) es
-
--- the recordings, each once, in the order of their ISRCs
-pub record AreInOrder {S : Type 0} (recordings : IndexMap (List ℕ) Recording S) (list : List (Bor (List ℕ) × Bor Recording)) : Type 0 where
-  pub order : IsStrictlySortedBy text_cmp (keys_of (lent_recordings list))
-  pub found : (isrc : List ℕ) → lookup (bytes_eq isrc) (lent_recordings list) ≡ get bytes_eq recordings isrc
+-- a lower rank for a lesser summary key
+abbrev pub AreOrdered : List SummaryKey → List ℕ → Type 0
+AreOrdered keys ranks = (n m : ℕ) (a b : SummaryKey) → slice_get keys n ≡ Some a → slice_get keys m ≡ Some b
+    → is_lt (nat_cmp (slice_index ranks n) (slice_index ranks m)) ≡ is_lt (summary_key_cmp a b)
 
 -- the ledger lines of the keys that have a booking
 abbrev pub booked_lines : {V : Type 0} → List Booking → List (Key × V) → List LedgerLine
 booked_lines bs es = map (λ e. line_of e.0 (at_key e.0 bs)) (filter (λ e. (key_tally bs e.0).is_booked) es)
 
--- the entries of a recording's lines, by the ledger's keys
-abbrev pub entries_under : List ℕ → List (Bor SummaryKey × ℕ) → List (Key × ℕ)
-entries_under isrc es = map (λ e. (key_under isrc e.0.now, e.1)) es
-
--- the number of a party: its place among the names
-abbrev pub party_in : List (List ℕ) → List ℕ → Option ℕ
-party_in parties q = position (bytes_eq q) parties
-
-abbrev pub key_in : List SummaryKey → SummaryKey → Option ℕ
-key_in keys k = position (summary_key_eq k) keys
+-- the lines of a recording, by the ledger's keys
+abbrev pub entries_under : List ℕ → List (SummaryKey × Line) → List (Key × Line)
+entries_under isrc es = map (λ e. (key_under isrc e.0, e.1)) es
 
 -- each summary key has in a recording the tally of these bookings
 abbrev pub HasBookings : List (List ℕ) → List SummaryKey → List ℕ → Recording → List Booking → Type 0
@@ -86,10 +99,22 @@ pub record IsOfSmallAt (parties : List (List ℕ)) (keys : List SummaryKey) (isr
   pub has : HasBookings parties keys isrc r bookings
   pub small : AreSmall bookings
 
+-- a recording of a ledger with these parties and summary keys, whose sums fit
+pub record IsRecordingOf (parties : List (List ℕ)) (keys : List SummaryKey) (isrc : List ℕ) (r : Recording) : Type 0 where
+  pub seated : AreBelow (length parties) (seat_numbers r.seats)
+  pub lined : AreBelow (length keys) (line_keys r.lines.items)
+  pub small : ∥ IsOfSmallAt parties keys isrc r ∥₁
+
+-- the parts of a line are at seats of these parties, and its sums fit
+pub record IsSeatedLine (parties : List (List ℕ)) (numbers : List ℕ) (line : Line) : Type 0 where
+  pub numbers_are : AreDistinctBelow (length parties) numbers
+  pub within : AreBelow (length numbers) (part_seats line.parts.items.items)
+  pub small : ∥ IsOfSmall (place_by (party_in parties) numbers) line ∥₁
+
 -- the ledger lines of a recording were appended, in the order of their keys
 pub record AddsLines (parties : List (List ℕ)) (keys : List SummaryKey) (isrc : List ℕ) (r : Recording) (old new : List LedgerLine) : Type 0 where
-  pub entries : List (Key × ℕ)
+  pub entries : List (Key × Line)
   pub order : IsStrictlySortedBy key_cmp (keys_of entries)
   pub own : AllByRecursion (λ e. e.0.isrc ≡ isrc) entries
-  pub absent : (q : Key) → q.isrc ≡ isrc → find key_cmp q entries ≡ None → place_by (key_in keys) (line_keys r.lines.items) (summary_key_in q) ≡ None
+  pub all : (q : Key) (l : Line) → isrc ≡ q.isrc → line_for keys r.lines.items (summary_key_in q) ≡ Some l → Contains (keys_of entries) q
   pub lines : (bs : List Booking) → HasBookings parties keys isrc r bs → new ≡ old ++ booked_lines bs entries

@@ -13,6 +13,7 @@ mod lines;
 mod listed;
 mod ranks;
 mod recordings;
+mod tables;
 
 use crate::closed::ClosedBooks;
 use crate::differences::differences_of;

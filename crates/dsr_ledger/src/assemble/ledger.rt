@@ -1,59 +1,44 @@
 //! The ledger's lines in their order.
-ghost use Rattle.std.specs.Prelude.{◌≡◌, List, IfOk, OnOk, length};
-ghost use Rattle.std.specs.List.{IsDistinct};
-ghost use Rattle.std.specs.Str.{bytes_eq};
+ghost use Rattle.std.specs.Prelude.{◌≡◌, List, IfOk, OnOk};
 ghost use Rattle.dsr_ledger.specs.Bookings.{Booking};
 ghost use Rattle.dsr_ledger.specs.Ledger.{ledger};
-ghost use Rattle.dsr_ledger.specs.Numbered.{AreBelow};
-ghost use Rattle.dsr_ledger.specs.Seats.{seat_numbers};
-ghost use Rattle.dsr_ledger.specs.SummaryKeys.{summary_key_eq};
-ghost use Rattle.dsr_ledger.specs.Tallies.{line_keys};
 ghost use Rattle.dsr_ledger.specs.Stands.{LedgerStands};
 ghost use Rattle.dsr_ledger.specs.Order.{AreOfSmall};
-ghost use Rattle.dsr_ledger.specs.Listed.{IsOfSmallAt, AddsLines, AreRanks};
+ghost use Rattle.dsr_ledger.specs.Listed.{IsRecordingOf, AddsLines};
 
-use crate::assemble::lines::push_line;
+use crate::assemble::lines::{Lines, push_line};
 use crate::assemble::listed::lines_by_key;
 use crate::assemble::ranks::ranks_of;
 use crate::assemble::recordings::sorted_recordings;
+use crate::assemble::tables::Tables;
+use crate::ledger::line::Line;
 use crate::ledger::recording::Recording;
 use crate::ledger::recordings::Ledger;
 use crate::ledger::summary_key::SummaryKey;
 use crate::lent::LentLines;
 use crate::seeded::Seeded;
-use dsr_cells::{Isrc, Items, NoMemory, Text};
+use dsr_cells::{Isrc, Items, NoMemory};
 use indexmap::IndexMap;
 use std::alloc::Global;
 
-/// Adds the lines of a recording that have a booking, in the order of their summary keys. `order` and
-/// `names` are filled anew for each recording and line, so that their memory is taken once.
+/// Adds the lines of a recording that have a booking, in the order of their summary keys. `order`
+/// is filled anew for each recording, so that its memory is taken once.
 fn add_recording<'a>(
-    report: &mut LentLines<'a>,
-    alloc: Global,
-    parties: &'a [Text],
-    keys: &'a [SummaryKey],
-    ranks: &[usize],
+    lines: &mut Lines<'a>,
+    order: &mut Vec<(usize, (&'a SummaryKey, &'a Line))>,
+    tables: &Tables<'a>,
     isrc: &'a Isrc,
-    recording: &Recording,
-    order: &mut Vec<(usize, (&'a SummaryKey, usize))>,
-    names: &mut Vec<(&'a Text, usize)>,
+    recording: &'a Recording,
 ) -> Result<(), NoMemory>
-    requires names { IsDistinct bytes_eq parties.now }
-    requires keys { IsDistinct summary_key_eq keys.now }
-    requires ranks { AreRanks keys.now ranks.now }
-    requires seated { AreBelow (length parties.now) (seat_numbers recording.now.seats) }
-    requires keyed { AreBelow (length keys.now) (line_keys recording.now.lines.items) }
-    requires small { ∥ IsOfSmallAt parties.now keys.now isrc.now recording.now ∥₁ }
-    ensures { OnOk result (AddsLines parties.now keys.now isrc.now recording.now report.old
-        report.new) }
+    requires { IsRecordingOf tables.now.parties.now tables.now.keys.now isrc.now recording.now }
+    ensures { OnOk result (AddsLines tables.now.parties.now tables.now.keys.now isrc.now
+        recording.now lines.old.report lines.new.report) }
 {
     let numbers = recording.seats.as_slice();
-    lines_by_key(keys, ranks, recording.lines.as_slice(), order)?;
+    lines_by_key(tables, recording.lines.as_slice(), order)?;
     for entry in order.as_slice() {
-        let (key, place) = entry.1;
-        let line = &recording.lines[place];
-        if line.is_booked {
-            push_line(report, alloc, isrc, key, line, parties, numbers, names)?;
+        if entry.1.1.is_booked {
+            push_line(lines, tables, isrc, numbers, &entry.1)?;
         }
     }
     Ok(())
@@ -74,26 +59,23 @@ pub fn ledger_lines(alloc: Global, books: &Ledger) -> Result<LentLines<'_>, NoMe
     ensures { (bs : List Booking) → LedgerStands books.now bs
         → IfOk result (λ l. l ≡ ledger bs) }
 {
-    let names = books.parties.as_slice();
+    let mut lines = Lines {
+        report: Items::from(Vec::with_capacity(alloc, count_lines(&books.recordings))?),
+        names: Vec::new(alloc),
+    };
     let keys = books.summary_keys.as_slice();
-    let mut report = Items::from(Vec::with_capacity(alloc, count_lines(&books.recordings))?);
-    let ranks = ranks_of(alloc, keys)?;
+    let tables = Tables {
+        alloc,
+        parties: books.parties.as_slice(),
+        keys,
+        ranks: ranks_of(alloc, keys)?,
+    };
     let recordings = sorted_recordings(alloc, &books.recordings)?;
     let mut order = Vec::new(alloc);
-    let mut listed = Vec::new(alloc);
     for named in recordings.as_slice() {
         let (isrc, recording) = *named;
-        add_recording(
-            &mut report,
-            alloc,
-            names,
-            keys,
-            ranks.as_slice(),
-            isrc,
-            recording,
-            &mut order,
-            &mut listed,
-        )?;
+        add_recording(&mut lines, &mut order, &tables, isrc, recording)?;
     }
+    let Lines { report, .. } = lines;
     Ok(report)
 }

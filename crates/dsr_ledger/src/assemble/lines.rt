@@ -1,18 +1,19 @@
 //! A ledger line of the report, from the state of its line in the ledger.
-ghost use Rattle.std.specs.Prelude.{◌≡◌, ◌+◌, ◌++◌, ◌∷◌, [], ◌^◌, ◌<◌, ◌-ℤ◌, ℕ, List, Option, Some, IfOk, OnOk, length, sum_by, unsigned_abs};
-ghost use Rattle.std.specs.List.{IsDistinct};
-ghost use Rattle.std.specs.Str.{bytes_eq};
+ghost use Rattle.std.specs.Prelude.{◌≡◌, ◌+◌, ◌++◌, ◌∷◌, [], ◌^◌, ◌<◌, ◌-ℤ◌, ℕ, List, Option, IfOk, OnOk, sum_by, unsigned_abs};
+ghost use Rattle.std.specs.Option.{option_map_or};
+ghost use Rattle.dsr_ledger.specs.declared.ledger.parts.SeatPart.{SeatPart as SeatPartValue};
+ghost use Rattle.dsr_ledger.specs.Keys.{text_cmp};
 ghost use Rattle.dsr_ledger.specs.Sums.{int_sum_by};
 ghost use Rattle.dsr_ledger.specs.Bookings.{Booking, key_under};
 ghost use Rattle.dsr_ledger.specs.Parts.{all_parts};
 ghost use Rattle.dsr_ledger.specs.Ledger.{party_lines, line_of};
-ghost use Rattle.dsr_ledger.specs.Numbered.{place_by, AreApart, AreBelow};
-ghost use Rattle.dsr_ledger.specs.Owed.{owed_at_place, owed_for, part_seats};
+ghost use Rattle.dsr_ledger.specs.Numbered.{place_by};
+ghost use Rattle.dsr_ledger.specs.Owed.{owed_kept, nothing_owed, owed_for};
 ghost use Rattle.dsr_ledger.specs.Tallies.{line_tally, tally_of};
-ghost use Rattle.dsr_ledger.specs.Order.{IsOfSmall};
-ghost use Rattle.dsr_ledger.specs.Listed.{ArePartsOf, party_in};
+ghost use Rattle.dsr_ledger.specs.Listed.{AreListed, IsSeatedLine, lent, party_in};
 
 use crate::assemble::listed::parts_by_name;
+use crate::assemble::tables::Tables;
 use crate::ledger::line::Line;
 use crate::ledger::parts::SeatPart;
 use crate::ledger::summary_key::SummaryKey;
@@ -22,34 +23,30 @@ use dsr_cells::{Isrc, NoMemory, Text};
 use smallvec::SmallVec;
 use std::alloc::Global;
 
-/// Whether there is a part at a place, and its amount; past the last place there is none.
-fn part_at(parts: &[SeatPart], place: usize) -> (bool, i128)
-    ensures has_part { result.0 ≡ (owed_at_place parts.now (Some place)).has_part }
-    ensures amount { result.1 ≡ (owed_at_place parts.now (Some place)).amount }
-{
-    match parts.get(place) {
-        Some(part) => (part.has_part, part.amount.get()),
-        None => (false, 0),
-    }
+/// The lines so far, and a list that is filled anew for each, so that its memory is taken once.
+#[derive(Drop)]
+pub struct Lines<'a> {
+    pub report: LentLines<'a>,
+    pub names: Vec<(&'a Text, &'a SeatPart)>,
 }
 
 /// The lines of the parties that have a part, in the byte order of their names.
 fn party_lines<'a>(
     alloc: Global,
-    names: &[(&'a Text, usize)],
-    parts: &[SeatPart],
+    names: &[(&'a Text, &SeatPart)],
 ) -> Result<SmallVec<LentParty<'a>, FEW>, NoMemory>
-    ensures { (bs : List Booking) (place : List ℕ → Option ℕ) → ArePartsOf place names.now
-        → ((q : List ℕ) → owed_at_place parts.now (place q) ≡ owed_for q (all_parts bs))
+    ensures { (bs : List Booking) (part : List ℕ → Option SeatPartValue)
+        → AreListed text_cmp part (lent names.now)
+        → ((q : List ℕ) → option_map_or owed_kept (part q) nothing_owed ≡ owed_for q (all_parts bs))
         → IfOk result (λ lines. lines.items ≡ party_lines bs) }
 {
     let mut lines = SmallVec::with_capacity(alloc, names.len())?;
-    for (party, place) in names {
-        let (has_part, amount) = part_at(parts, *place);
-        if has_part {
+    for entry in names {
+        let (party, part) = *entry;
+        if part.has_part {
             lines.push(LentParty {
-                party: Some(*party),
-                part: Wide::of(amount),
+                party: Some(party),
+                part: Wide::of(part.amount.get()),
             })?;
         }
     }
@@ -69,32 +66,28 @@ fn unclaimed(amount: i128, parties: &[LentParty<'_>]) -> i128
 }
 
 /// Appends the line of a recording and a summary key to the report, with its parties in the byte order of their names.
-/// `numbers` has the number of the party at each seat of the recording. `names` is filled anew.
+/// `numbers` has the number of the party at each seat of the recording.
 pub fn push_line<'a>(
-    report: &mut LentLines<'a>,
-    alloc: Global,
+    lines: &mut Lines<'a>,
+    tables: &Tables<'a>,
     isrc: &'a Isrc,
-    key: &'a SummaryKey,
-    line: &Line,
-    parties: &'a [Text],
     numbers: &[u32],
-    names: &mut Vec<(&'a Text, usize)>,
+    entry: &(&'a SummaryKey, &'a Line),
 ) -> Result<(), NoMemory>
-    requires names { IsDistinct bytes_eq parties.now }
-    requires apart { AreApart numbers.now }
-    requires below { AreBelow (length parties.now) numbers.now }
-    requires within { AreBelow (length numbers.now) (part_seats line.now.parts.items.items) }
-    requires small { ∥ IsOfSmall (place_by (party_in parties.now) numbers.now) line.now ∥₁ }
+    requires { IsSeatedLine tables.now.parties.now numbers.now entry.now.1.now }
     ensures { (bs : List Booking) → line_tally
-        (place_by (party_in parties.now) numbers.now) line.now ≡ tally_of bs
-        → OnOk result (report.new ≡ report.old ++ line_of (key_under isrc.now key.now) bs ∷ []) }
+        (place_by (party_in tables.now.parties.now) numbers.now) entry.now.1.now ≡ tally_of bs
+        → OnOk result (lines.new.report ≡ lines.old.report
+        ++ line_of (key_under isrc.now entry.now.0.now) bs ∷ []) }
 {
+    let (key, line) = *entry;
     let parts = line.parts.as_slice();
-    parts_by_name(parties, numbers, parts, names)?;
-    let parties = party_lines(alloc, names.as_slice(), parts)?;
+    parts_by_name(tables, numbers, parts, &mut lines.names)?;
+    let parties = party_lines(tables.alloc, lines.names.as_slice())?;
     let amount = line.sums.amount.get();
     let left = unclaimed(amount, parties.as_slice());
-    report
+    lines
+        .report
         .push(LentLine {
             isrc,
             territory: &key.territory,

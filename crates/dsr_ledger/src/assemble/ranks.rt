@@ -2,7 +2,7 @@
 ghost use Rattle.std.specs.Prelude.{◌≡◌, IfOk, length};
 ghost use Rattle.std.specs.List.{IsDistinct};
 ghost use Rattle.dsr_ledger.specs.SummaryKeys.{summary_key_eq, summary_key_cmp};
-ghost use Rattle.dsr_ledger.specs.Listed.{AreNumberedInOrder, AreRanks};
+ghost use Rattle.dsr_ledger.specs.Listed.{AreListed, AreRanks, key_in, named_places};
 
 use crate::ledger::summary_key::SummaryKey;
 use dsr_cells::NoMemory;
@@ -22,7 +22,8 @@ fn sorted_keys<'a>(
     keys: &'a [SummaryKey],
 ) -> Result<Vec<(&'a SummaryKey, usize)>, NoMemory>
     requires { IsDistinct summary_key_eq keys.now }
-    ensures { IfOk result (λ order. AreNumberedInOrder keys.now order.items) }
+    ensures { IfOk result (λ order. AreListed summary_key_cmp (key_in keys.now)
+        (named_places order.items)) }
 {
     let mut order = Vec::with_capacity(alloc, keys.len())?;
     for (number, key) in keys.iter().enumerate() {

@@ -1,7 +1,9 @@
 //! The recordings in the order of their ISRCs.
 ghost use Rattle.std.specs.Prelude.{◌≡◌, IfOk};
+ghost use Rattle.std.specs.Str.{bytes_eq};
+ghost use Rattle.indexmap.specs.IndexMap.{get};
 ghost use Rattle.dsr_ledger.specs.Keys.{text_cmp};
-ghost use Rattle.dsr_ledger.specs.Listed.{AreInOrder};
+ghost use Rattle.dsr_ledger.specs.Listed.{AreListed, lent};
 
 use crate::ledger::recording::Recording;
 use crate::seeded::Seeded;
@@ -23,7 +25,8 @@ pub fn sorted_recordings<'a>(
     alloc: Global,
     recordings: &'a IndexMap<Isrc, Recording, Seeded>,
 ) -> Result<Vec<(&'a Isrc, &'a Recording)>, NoMemory>
-    ensures { IfOk result (λ list. AreInOrder recordings.now list.items) }
+    ensures { IfOk result (λ list. AreListed text_cmp (get bytes_eq recordings.now)
+        (lent list.items)) }
 {
     let mut list = Vec::with_capacity(alloc, recordings.len())?;
     for (isrc, recording) in recordings.iter() {

@@ -1,86 +1,76 @@
-use Rattle.std.proofs.Common.{◌≡◌, ℕ, ◌+◌, ◌<◌, ◌≤◌, List, [], ◌∷◌, ◌++◌, take, length, get_or, sym, ap, ◌∙◌, subst, arith, Bor}
-use Rattle.std.specs.Prelude.{Option, Some, slice_get, option_map}
-use Rattle.std.specs.List.{position}
-use Rattle.std.specs.Str.{bytes_eq}
+use Rattle.std.proofs.Common.{◌≡◌, ℕ, ◌<◌, List, [], ◌∷◌, ◌++◌, map, take, get_or, length, sym, ap, ◌∙◌, subst, Bor}
+use Rattle.std.specs.Prelude.{All, Some}
+use Rattle.std.specs.Option.{option_and_then}
 use Rattle.std.specs.Ordering.{is_lt}
-use Rattle.std.specs.Cmp.Lexicographic.{nat_list_cmp_total, nat_list_eq_equiv}
+use Rattle.std.specs.Str.{bytes_eq}
+use Rattle.std.specs.Cmp.Lexicographic.{nat_list_cmp_total}
 use Rattle.std.proofs.lemmas.Slice.Eq.{bytes_eq-Decides}
-use Rattle.std.proofs.lemmas.List.{take_more, take_all, length-take, length-map, map-append}
+use Rattle.std.proofs.lemmas.List.{map_push, take_more, take_all}
+use Rattle.std.proofs.lemmas.List.Elements.{All-push}
 use Rattle.std.proofs.lemmas.List.MinMax.{ranks_by}
 use Rattle.std.proofs.lemmas.List.Sorted.{answers_always}
-use Rattle.std.proofs.lemmas.Option.{slice_get-get_or, slice_get-map, slice_get_within, get_or_from_slice_get}
+use Rattle.std.proofs.lemmas.Option.{slice_get-get_or}
 use Rattle.dsr_ledger.specs.declared.ledger.parts.SeatPart.{SeatPart}
-use Rattle.dsr_ledger.specs.Listed.{named_places}
+use Rattle.dsr_ledger.specs.Numbered.{place_in, place_by}
 use Rattle.dsr_ledger.specs.Owed.{part_seats}
+use Rattle.dsr_ledger.specs.Listed.{AreDistinctBelow, party_in}
 use Rattle.dsr_ledger.proofs.TextLemmas.{text_ties}
-use Rattle.dsr_ledger.proofs.PartLemmas.{seat_of_part}
-use Rattle.dsr_ledger.proofs.PartyPlaceLemmas.{at_seats, seats_within, seats_apart, party_places}
-use Rattle.dsr_ledger.proofs.ListedLemmas.{AreNamedFrom, named_push, listed}
+use Rattle.dsr_ledger.proofs.IndexMapLemmas.{number_at}
+use Rattle.dsr_ledger.proofs.NumberedLemmas.{places_are_numbered}
+use Rattle.dsr_ledger.proofs.PlaceByLemmas.{by_numbered}
+use Rattle.dsr_ledger.proofs.ListedLemmas.{below_number, own_below, listed}
 use Rattle.dsr_ledger.proofs.assemble.listed.parts_by_name.Goals as goal
 
-seat_at_place : (ps : List SeatPart) (i : ℕ) (p : SeatPart) → i < length ps → p ≡ get_or ps i p → slice_get (part_seats ps) i ≡ Some p.seat
-seat_at_place ps i p below is = slice_get-map seat_of_part ps i ∙ ap (option_map seat_of_part) (slice_get-get_or ps i p below ∙ ap Some (sym is))
+abbrev Entry : Type 0
+Entry = Bor (List ℕ) × Bor SeatPart
+
+abbrev part : Entry → SeatPart
+part e = e.1.now
+
+seat_below : (parts : List SeatPart) (n : ℕ) → AreDistinctBelow n (part_seats parts) → (i : ℕ) (p : SeatPart) → i < length parts
+    → p ≡ get_or parts i p → p.seat < n
+seat_below parts = below_number (λ (p : SeatPart). p.seat) parts
 
 pub bounds-numbers-part : goal.bounds-numbers-part
-bounds-numbers-part c =
-    let i = c.loop-place.place in
-    let p = c.index-parts-place.result in
-    let at = seat_at_place c.args.parts.now i p c.loop-place-test.true c.index-parts-place.is in
-    c.requires.seats_below p.seat i (c.requires.seats_apart i p.seat at)
+bounds-numbers-part c = seat_below c.args.parts.now _ c.requires.seats c.loop-part.part-index c.part-item.result c.loop-part-test.true c.part-item.is
 
-pub bounds-parties-number : goal.bounds-parties-number
-bounds-parties-number c =
-    let ns = c.args.numbers.now in
-    let i = c.loop-place.place in
-    let p = c.index-parts-place.result in
-    let s = p.seat in
-    let n = get_or ns s 0 in
-    let seat = seat_at_place c.args.parts.now i p c.loop-place-test.true c.index-parts-place.is in
-    let below = c.requires.seats_below s i (c.requires.seats_apart i s seat) in
-    c.requires.below n s (c.requires.apart s n (slice_get-get_or ns s 0 below))
+pub bounds-tables-number : goal.bounds-tables-number
+bounds-tables-number c =
+    own_below c.args.numbers.now _ c.requires.numbers c.part-item.result.seat (
+    seat_below c.args.parts.now _ c.requires.seats c.loop-part.part-index c.part-item.result c.loop-part-test.true c.part-item.is)
 
-pub loop-place-preserved : goal.loop-place-preserved
-loop-place-preserved c =
-    let ps = c.args.parties.now in
+pub loop-part-preserved : goal.loop-part-preserved
+loop-part-preserved c =
+    let ps = c.args.tables.now.parties.now in
     let ns = c.args.numbers.now in
-    let ss = part_seats c.args.parts.now in
-    let ms = at_seats ns ss in
-    let i = c.loop-place.place in
-    let p = c.index-parts-place.result in
+    let parts = c.args.parts.now in
+    let i = c.loop-part.part-index in
+    let p = c.part-item.result in
     let n = get_or ns p.seat 0 in
-    let old = c.loop-place.names.items in
-    let x = c.index-parties-number.result in
-    let seat = seat_at_place c.args.parts.now i p c.loop-place-test.true c.index-parts-place.is in
-    let below = c.requires.seats_below p.seat i (c.requires.seats_apart i p.seat seat) in
-    let here : slice_get ms i ≡ Some n = slice_get-map (λ s. get_or ns s 0) ss i ∙ ap (option_map (λ s. get_or ns s 0)) seat in
-    let within = slice_get_within ms i n here in
-    let at : slice_get ps n ≡ Some x =
-    slice_get-get_or ps n x (c.requires.below n p.seat (c.requires.apart p.seat n (slice_get-get_or ns p.seat 0 below)))
-    ∙ ap Some (sym c.index-parties-number.is) in
-    let more : take (i + 1) ms ≡ take i ms ++ n ∷ [] = take_more ms i n within ∙ ap (λ m. take i ms ++ m ∷ []) (get_or_from_slice_get ms i n n here) in
-    let all : named_places c.push.new.self.items ≡ named_places old ++ (x, i) ∷ [] =
-    ap named_places c.in_ok-push.ensures.items ∙ map-append (λ (e : Bor (List ℕ) × ℕ). (e.0.now, e.1)) old (_ ∷ []) in
-    let place : i ≡ 0 + length (take i ms) = omega (arith, length-take i ms) in
-    subst (λ xs. AreNamedFrom ps 0 xs (named_places c.push.new.self.items)) (sym more) (
-    subst (λ es. AreNamedFrom ps 0 (take i ms ++ n ∷ []) es) (sym all)
-    (named_push ps 0 (take i ms) (named_places old) n (x, i) at place c.loop-place.invariant))
+    let old = c.loop-part.names.items in
+    let below = seat_below parts _ c.requires.seats i p c.loop-part-test.true c.part-item.is in
+    let at = slice_get-get_or ps n c.index-tables-number.result (own_below ns _ c.requires.numbers p.seat below) in
+    let P = λ (e : Entry). place_by (party_in ps) ns e.0.now ≡ Some e.1.now.seat in
+    record {
+      all =
+          ap (map part) c.in_ok-push.ensures.items
+          ∙ map_push part old _
+          ∙ ap (λ zs. zs ++ p ∷ []) c.loop-part.invariant.all
+          ∙ ap (λ y. take i parts ++ y ∷ []) c.part-item.is
+          ∙ sym (take_more parts i p c.loop-part-test.true);
+      own =
+          subst (All P) (sym c.in_ok-push.ensures.items) (All-push P old _ c.loop-part.invariant.own (
+          ap (option_and_then (place_in ns)) (number_at bytes_eq bytes_eq-Decides ps n _ c.args.tables.now.distinct at)
+          ∙ c.requires.numbers.apart p.seat n (slice_get-get_or ns p.seat 0 below)));
+    }
 
 pub returns : goal.returns
 returns c =
-    let ps = c.args.parties.now in
-    let ss = part_seats c.args.parts.now in
-    let ns = at_seats c.args.numbers.now ss in
-    let party : List ℕ → Option ℕ = λ q. position (bytes_eq q) ps in
-    let was = c.loop-place.names.items in
-    let is = c.sort_unstable_by.new.self.items in
-    let within = seats_within (length c.args.numbers.now) ss c.requires.seats_apart c.requires.seats_below in
-    let end = c.loop-place-test.false in
-    let long : length ns ≤ c.loop-place.place =
-    omega (arith, length-map ss (λ s. get_or c.args.numbers.now s 0), length-map c.args.parts.now (λ (p : SeatPart). p.seat)) in
-    let named = subst (λ ms. AreNamedFrom ps 0 ms (named_places was)) (take_all c.loop-place.place ns long) c.loop-place.invariant in
-    let all =
-    listed bytes_eq bytes_eq-Decides nat_list_eq_equiv ps c.requires.names nat_list_cmp_total text_ties (λ e. e.0.now) (λ e. e.1) ns was is
-    (seats_apart c.args.numbers.now c.requires.apart ss within c.requires.seats_apart) named c.sort_unstable_by.ensures.permutation
-    (c.sort_unstable_by.ensures.sorted _ (ranks_by nat_list_cmp_total (λ (e : Bor (List ℕ) × ℕ). e.0.now))
-    (answers_always _ _ _ (λ f a r f' k. ap is_lt k.met))) in
-    record { order = all.order; found = λ q. all.found q ∙ party_places c.args.numbers.now c.requires.apart party ss within q }
+    let ps = c.args.tables.now.parties.now in
+    let ns = c.args.numbers.now in
+    let parts = c.args.parts.now in
+    listed bytes_eq bytes_eq-Decides nat_list_cmp_total text_ties (λ (e : Entry). e.0.now) part (place_by (party_in ps) ns)
+    (by_numbered (party_in ps) (length ps) ns (places_are_numbered bytes_eq bytes_eq-Decides ps)).apart (λ (p : SeatPart). p.seat) parts c.requires.seats.apart
+    c.loop-part.names.items c.sort_unstable_by.new.self.items
+    (c.loop-part.invariant.all ∙ take_all c.loop-part.part-index parts c.loop-part-test.false) c.loop-part.invariant.own c.sort_unstable_by.ensures.permutation
+    (c.sort_unstable_by.ensures.sorted _ (ranks_by nat_list_cmp_total (λ (e : Entry). e.0.now)) (answers_always _ _ _ (λ f a r f' k. ap is_lt k.met)))

@@ -1,9 +1,11 @@
-use Rattle.std.proofs.Common.{take}
-use Rattle.dsr_ledger.specs.Listed.{named_places}
-use Rattle.dsr_ledger.specs.Owed.{part_seats}
-use Rattle.dsr_ledger.proofs.ListedLemmas.{AreNamedFrom}
-use Rattle.dsr_ledger.proofs.PartyPlaceLemmas.{at_seats}
+use Rattle.std.proofs.Common.{◌≡◌, map, take}
+use Rattle.std.specs.Prelude.{All, Some}
+use Rattle.dsr_ledger.specs.Numbered.{place_by}
+use Rattle.dsr_ledger.specs.Listed.{party_in}
 use Rattle.dsr_ledger.proofs.assemble.listed.parts_by_name.Given as goal
 
-abbrev pub invariant-loop-place : goal.invariant-loop-place
-invariant-loop-place l = AreNamedFrom l.parties 0 (take l.place (at_seats l.numbers (part_seats l.parts))) (named_places l.names.items)
+abbrev pub invariant-loop-part : goal.invariant-loop-part
+invariant-loop-part l = record {
+  all : map (λ e. e.1.now) l.names.items ≡ take l.part-index l.parts;
+  own : All (λ e. place_by (party_in l.tables.parties.now) l.numbers e.0.now ≡ Some e.1.now.seat) l.names.items;
+}

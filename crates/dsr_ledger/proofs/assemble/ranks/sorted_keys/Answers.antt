@@ -1,25 +1,31 @@
-use Rattle.std.proofs.Common.{◌≡◌, ℕ, ◌+◌, ◌∷◌, [], ◌++◌, take, length, sym, ap, ◌∙◌, subst, arith, Bor}
-use Rattle.std.specs.Prelude.{Some, slice_get}
-use Rattle.std.specs.List.{AllByRecursion, IsDistinct}
-use Rattle.std.specs.Map.{keys_of}
+use Rattle.std.proofs.Common.{◌≡◌, ℕ, ◌∷◌, [], ◌++◌, map, take, sym, ap, ◌∙◌, subst, Bor}
+use Rattle.std.specs.Prelude.{All, Some}
+use Rattle.std.specs.List.{Contains, IsDistinct}
 use Rattle.std.specs.Ordering.{is_lt}
-use Rattle.std.proofs.lemmas.List.{take_more, take_all, length-take-le, map-append}
-use Rattle.std.proofs.lemmas.List.Elements.{All-from_recursion}
+use Rattle.std.proofs.lemmas.List.{map_push, take_more, take_all}
+use Rattle.std.proofs.lemmas.List.Elements.{All-nil, All-push}
 use Rattle.std.proofs.lemmas.List.MinMax.{ranks_by}
-use Rattle.std.proofs.lemmas.List.Sorted.{All-permutation, Contains-permutation, IsPermutation-map, answers_always}
+use Rattle.std.proofs.lemmas.List.Sorted.{answers_always}
+use Rattle.std.proofs.lemmas.Option.{slice_get-get_or}
 use Rattle.dsr_ledger.specs.declared.ledger.summary_key.SummaryKey.{SummaryKey}
 use Rattle.dsr_ledger.specs.SummaryKeys.{summary_key_eq}
-use Rattle.dsr_ledger.specs.Listed.{named_places}
-use Rattle.dsr_ledger.proofs.SummaryKeyLemmas.{summary_key_equiv, summary_key_total, summary_key_ties}
-use Rattle.dsr_ledger.proofs.ListedLemmas.{in_order}
-use Rattle.dsr_ledger.proofs.RankLemmas.{numbered_from, numbered_push, numbered_keys, numbered_at, numbered_own, there}
+use Rattle.dsr_ledger.specs.Listed.{key_in}
+use Rattle.dsr_ledger.proofs.IndexMapLemmas.{number_at}
+use Rattle.dsr_ledger.proofs.SummaryKeyLemmas.{same_summary_key, summary_key_total, summary_key_ties}
+use Rattle.dsr_ledger.proofs.ListedLemmas.{key_there, put_in_order, there}
 use Rattle.dsr_ledger.proofs.assemble.ranks.sorted_keys.Goals as goal
 
 abbrev Entry : Type 0
 Entry = Bor SummaryKey × ℕ
 
+abbrev name : Entry → SummaryKey
+name e = e.0.now
+
 pub loop-number-init : goal.loop-number-init
-loop-number-init c = ap named_places c.in_ok-order.ensures.items
+loop-number-init c = record {
+  names = ap (map name) c.in_ok-order.ensures.items;
+  own = subst (All (λ (e : Entry). key_in c.args.keys.now (name e) ≡ Some e.1)) (sym c.in_ok-order.ensures.items) (All-nil _);
+}
 
 pub loop-number-preserved : goal.loop-number-preserved
 loop-number-preserved c =
@@ -27,38 +33,27 @@ loop-number-preserved c =
     let i = c.loop-number.number in
     let x = c.index-keys-number.result in
     let old = c.loop-number.order.items in
-    let more : take (i + 1) ks ≡ take i ks ++ x ∷ [] =
-    take_more ks i x c.loop-number-test.true ∙ ap (λ y. take i ks ++ y ∷ []) (sym c.index-keys-number.is) in
-    let long = length-take-le i ks (omega (arith, c.loop-number-test.true)) in
-    ap named_places c.in_ok-push.ensures.items
-    ∙ map-append (λ (e : Entry). (e.0.now, e.1)) old (_ ∷ [])
-    ∙ ap (λ l. l ++ (x, i) ∷ []) c.loop-number.invariant
-    ∙ ap (λ n. numbered_from 0 (take i ks) ++ (x, n) ∷ []) {x = i} {y = 0 + length (take i ks)} (omega (arith, long))
-    ∙ sym (numbered_push 0 (take i ks) x)
-    ∙ ap (numbered_from 0) (sym more)
+    let at = slice_get-get_or ks i x c.loop-number-test.true ∙ ap Some (sym c.index-keys-number.is) in
+    let P = λ (e : Entry). key_in ks (name e) ≡ Some e.1 in
+    record {
+      names =
+          ap (map name) c.in_ok-push.ensures.items
+          ∙ map_push name old _
+          ∙ ap (λ l. l ++ x ∷ []) c.loop-number.invariant.names
+          ∙ ap (λ y. take i ks ++ y ∷ []) c.index-keys-number.is
+          ∙ sym (take_more ks i x c.loop-number-test.true);
+      own =
+          subst (All P) (sym c.in_ok-push.ensures.items) (All-push P old _ c.loop-number.invariant.own
+          (number_at summary_key_eq same_summary_key ks i x c.requires at));
+    }
 
 pub returns : goal.returns
 returns c =
     let ks = c.args.keys.now in
     let was = c.loop-number.order.items in
-    let is = c.sort_unstable_by.new.self.items in
-    let moved = c.sort_unstable_by.ensures.permutation in
-    let places = IsPermutation-map (λ (e : Entry). (e.0.now, e.1)) was is moved in
-    let all : named_places was ≡ numbered_from 0 ks =
-    c.loop-number.invariant ∙ ap (numbered_from 0) (take_all c.loop-number.number ks c.loop-number-test.false) in
-    let differ = subst (IsDistinct summary_key_eq) (sym (ap keys_of all ∙ numbered_keys 0 ks)) c.requires in
-    let by_key = c.sort_unstable_by.ensures.sorted _ (ranks_by summary_key_total (λ (e : Entry). e.0.now)) (answers_always _ _ _ (λ f a r f' k. ap is_lt k.met)) in
-    let ordered = in_order summary_key_eq summary_key_equiv summary_key_total summary_key_ties (λ (e : Entry). e.0.now) (λ (e : Entry). e.1) was is differ moved by_key in
-    let own : SummaryKey × ℕ → Type 0 = λ e. slice_get ks e.1 ≡ Some e.0 in
-    record {
-      order = ordered.0;
-      numbered =
-          All-permutation own (named_places was) (named_places is) places (
-          All-from_recursion own (named_places was) (
-          subst (AllByRecursion own) (sym all)
-          (numbered_own ks 0 ks (λ i x e. subst (λ n. slice_get ks n ≡ Some x) {x = i} {y = 0 + i} (omega arith) e))));
-      all = λ n k at.
-          Contains-permutation (named_places was) (named_places is) (k, n) places (
-          there (named_places was) n (k, n)
-          (ap (λ es. slice_get es n) all ∙ numbered_at 0 ks n k at ∙ ap (λ m. Some (k, m)) {x = 0 + n} {y = n} (omega arith)));
-    }
+    let names : map name was ≡ ks = c.loop-number.invariant.names ∙ take_all c.loop-number.number ks c.loop-number-test.false in
+    put_in_order summary_key_eq same_summary_key summary_key_total summary_key_ties name (λ (e : Entry). e.1) (key_in ks) was c.sort_unstable_by.new.self.items
+    (subst (IsDistinct summary_key_eq) (sym names) c.requires) c.loop-number.invariant.own
+    (λ q n e. subst (λ l. Contains l q) (sym names) (there ks n q (key_there summary_key_eq same_summary_key ks q n e)))
+    c.sort_unstable_by.ensures.permutation
+    (c.sort_unstable_by.ensures.sorted _ (ranks_by summary_key_total name) (answers_always _ _ _ (λ f a r f' k. ap is_lt k.met)))

@@ -1,7 +1,10 @@
-use Rattle.std.proofs.Common.{◌≡◌, take}
-use Rattle.dsr_ledger.specs.Listed.{named_places}
-use Rattle.dsr_ledger.proofs.RankLemmas.{numbered_from}
+use Rattle.std.proofs.Common.{◌≡◌, map, take}
+use Rattle.std.specs.Prelude.{All, Some}
+use Rattle.dsr_ledger.specs.Listed.{key_in}
 use Rattle.dsr_ledger.proofs.assemble.ranks.sorted_keys.Given as goal
 
 abbrev pub invariant-loop-number : goal.invariant-loop-number
-invariant-loop-number l = named_places l.order.items ≡ numbered_from 0 (take l.number l.keys)
+invariant-loop-number l = record {
+  names : map (λ e. e.0.now) l.order.items ≡ take l.number l.keys;
+  own : All (λ e. key_in l.keys e.0.now ≡ Some e.1) l.order.items;
+}
