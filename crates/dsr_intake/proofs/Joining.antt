@@ -39,10 +39,6 @@ module _ {R H : Type 0} (told : R → Told) (options : Options) (reader : H → 
     pub untouched : All (λ t. t.taken ≡ []) ts
     pub fresh : All (λ r. (told r).failed ≡ false) left
 
-  pub starting_none : (all : List R) → All (λ r. (told r).failed ≡ false) all → Starting all [] [] all
-  starting_none all h =
-      record { readers = refl; names = refl; terms_are = All-nil _; untouched = All-nil _; fresh = h }
-
   pub starting_more : (all : List R) (hs : List H) (ts : List TapView) (r : R) (left : List R) (h : H) (t : TapView) → Starting all hs ts (r ∷ left)
       → reader h ≡ r → name h ≡ t.name → terms h ≡ options → t.taken ≡ [] → Starting all (hs ++ h ∷ []) (ts ++ t ∷ []) left
   starting_more all hs ts r left h t s same named granted none =
@@ -69,14 +65,6 @@ module _ {R H : Type 0} (told : R → Told) (options : Options) (reader : H → 
       → Joining (map reader hs) (map (λ t. t.taken) ts) hs ts []
   joining_none hs ts names terms_are drained =
       record { names = names; terms_are = terms_are; drained = drained; texts = []; before = []; gave = tt; readers = refl; taken = refl }
-
-  -- each thread that still runs has its tap
-  pub joining_tap : (all : List R) (lists : List (List Placed)) (h : H) (hs : List H) (news : List R) → Joining all lists (h ∷ hs) [] news → ⊥
-  joining_tap all lists h hs news j = let e = j.names in cc
-
-  pub joining_name : (all : List R) (lists : List (List Placed)) (h : H) (hs : List H) (t : TapView) (ts : List TapView) (news : List R)
-      → Joining all lists (h ∷ hs) (t ∷ ts) news → name h ≡ t.name
-  joining_name all lists h hs t ts news j = let e = j.names in cc
 
   -- the result of joining one thread
   pub record Settled (h : H) (t : TapView) (new : R) : Type 0 where

@@ -104,15 +104,6 @@ pub record Opening (all now : List TapView) (k : ℕ) (books : Books) : Type 0 w
   pub fresh : (j : ℕ) (t : TapView) → k ≤ j → slice_get now j ≡ Some t → t.taken ≡ []
   pub stands : Stands books (map (λ t. file_of t.taken) (take k now))
 
-pub opening_none : (all : List TapView) (books : Books) → All (λ t. t.taken ≡ []) all → Stands books [] → Opening all all 0 books
-opening_none all books h s =
-    record {
-      names = refl;
-      tapped = λ j t low at. absurd (omega arith);
-      fresh = λ j t low at. subst (λ x. x.taken ≡ []) (get_or_from_slice_get all j t t at) (h j t (slice_get_within all j t at));
-      stands = s;
-    }
-
 pub opening_more : (all now : List TapView) (k : ℕ) (books new : Books) (t u : TapView) → Opening all now k books → slice_get now k ≡ Some t
     → u.name ≡ t.name → IsTapped u → Opens books new k (file_of u.taken) → Opening all (set now k u) (k + 1) new
 opening_more all now k books new t u o at name tapped opens =

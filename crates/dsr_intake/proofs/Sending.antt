@@ -13,18 +13,6 @@ use Rattle.dsr_intake.specs.declared.statements.pieces.Pieces.{Pieces}
 pub count_after : (w k n v : ℕ) → IsCount w n → v ≡ min (w + k) (2 ^ 64 - 1) → IsCount v (n + k)
 count_after w k n v h e = (omega (arith, h.0, e), λ low. omega (arith, h.0, h.1, e, low))
 
-pub out_after : (sent bytes : List ℕ) (w v : ℕ) (a b c : Written)
-    → IsSent false sent w a b → IsTaken bytes b c → v ≡ min (w + length bytes) (2 ^ 64 - 1) → IsSent false (sent ++ bytes) v a c
-out_after sent bytes w v a b c h t e =
-    record {
-      taken = record {
-        added = Appends-trans a.contents b.contents c.contents sent bytes h.taken.added t.added;
-        sound = t.sound ∙ h.taken.sound;
-        flushes = t.flushes ∙ h.taken.flushes;
-      };
-      count = rw (length-append sent bytes) (count_after w (length bytes) (length sent) v h.count e);
-    }
-
 pub cut_after : (sent bytes : List ℕ) (w k v : ℕ) (a b c : Written)
     → IsSent false sent w a b → (k ≤ length bytes) × IsCut (take k bytes) b c → v ≡ min (w + k) (2 ^ 64 - 1) → IsSent true (sent ++ bytes) v a c
 cut_after sent bytes w k v a b c h t e = (

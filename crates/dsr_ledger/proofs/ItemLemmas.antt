@@ -1,13 +1,12 @@
 -- Items that have numbers: one more, or one replaced.
-use Rattle.std.proofs.Common.{◌≡◌, ℕ, ◌<◌, cond, List, [], ◌∷◌, ◌++◌, length, take, set, get_or, nat_eq, refl, sym, ap, subst, ◌∙◌}
+use Rattle.std.proofs.Common.{◌≡◌, ℕ, ◌<◌, cond, List, [], ◌∷◌, ◌++◌, length, set, get_or, nat_eq, refl, ap, subst, ◌∙◌}
 use Rattle.std.specs.Prelude.{Option, None, Some, map, slice_get}
 use Rattle.std.specs.Option.{option_map, option_and_then}
-use Rattle.std.specs.List.{position}
-use Rattle.std.proofs.lemmas.List.{length-map, map-append, take-map}
+use Rattle.std.proofs.lemmas.List.{length-map, map-append}
 use Rattle.std.proofs.Math.Seq.{map-set_same}
 use Rattle.std.proofs.lemmas.Option.{slice_get-map, slice_get_read}
 use Rattle.dsr_ledger.specs.Numbered.{IsNumbered, Grows, read_at, place_in}
-use Rattle.dsr_ledger.proofs.NumberedLemmas.{place_more, grows_more, read_pushed, read_set_same, position-map, places_are_numbered}
+use Rattle.dsr_ledger.proofs.NumberedLemmas.{place_more, grows_more, read_pushed, read_set_same, places_are_numbered}
 use Rattle.dsr_ledger.proofs.PlaceByLemmas.{same_number}
 
 module _ {X : Type 0} (number : X → ℕ) where
@@ -44,10 +43,6 @@ module _ {X : Type 0} (number : X → ℕ) where
 
   pub number_at_place : (xs : List X) (i : ℕ) (x : X) → i < length xs → x ≡ get_or xs i x → slice_get (numbers xs) i ≡ Some (number x)
   number_at_place xs i x below is = slice_get-map number xs i ∙ ap (option_map number) (slice_get_read xs (length xs) i x refl below is)
-
-  -- the first of the first few
-  pub place_among : (n q : ℕ) (xs : List X) → position (λ x. nat_eq q (number x)) (take n xs) ≡ place_in (take n (numbers xs)) q
-  place_among n q xs = position-map (nat_eq q) number (take n xs) ∙ ap (λ ns. place_in ns q) (sym (take-map number n xs))
 
   module _ {W : Type 0} (read : X → W) (none : W) where
     -- one more item, of which nothing is read

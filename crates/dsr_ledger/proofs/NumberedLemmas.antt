@@ -1,13 +1,13 @@
 -- Numbered keys: one more key, and one more value.
 use Rattle.std.proofs.Common.{◌≡◌, ℕ, zero, suc, ◌+◌, ◌<◌, ◌≤◌, Bool, true, false, cond, true≢false, List, [], ◌∷◌, ◌++◌, length, take, set, get_or, ◌⊎◌, inl}
 use Rattle.std.proofs.Common.{inr, ⊎_elim, refl, sym, ap, ◌∙◌, arith}
-use Rattle.std.specs.Prelude.{Option, None, Some, map, slice_get, unwrap_or}
+use Rattle.std.specs.Prelude.{Option, None, Some, slice_get, unwrap_or}
 use Rattle.std.specs.List.{position, position_from}
-use Rattle.std.specs.Option.{option_map, option_map_or}
+use Rattle.std.specs.Option.{option_map_or}
 use Rattle.std.specs.Bool.{Decides}
 use Rattle.std.proofs.lemmas.Iterator.Adapters.{position_from-zero}
 use Rattle.std.proofs.lemmas.List.Quantifiers.{position-Some}
-use Rattle.dsr_ledger.specs.Numbered.{IsNumbered, Grows, AreNamed, read_at}
+use Rattle.dsr_ledger.specs.Numbered.{IsNumbered, Grows, read_at}
 
 pub same_Some : {X : Type 0} (x y : X) → Some x ≡ Some y → x ≡ y
 same_Some x y e = ap (λ o. unwrap_or o x) e
@@ -21,19 +21,6 @@ either true x y o e = inl (refl, same_Some x y e)
 either false x y o e = inr (refl, e)
 
 module _ {K : Type 0} (same : K → K → Bool) (decides : (a b : K) → Decides (same a b) (a ≡ b)) where
-  pub numbered_more : (old new : K → Option ℕ) (k : K) (n : ℕ) → IsNumbered old n → ((q : K) → new q ≡ cond (same k q) (Some n) (old q))
-      → IsNumbered new (n + 1)
-  numbered_more old new k n h is = record {
-    below = λ q i e. ⊎_elim (λ s. let m = s.1 in omega arith) (λ s. let b = h.below q i s.1 in omega arith) (either (same k q) n i (old q) (sym (is q) ∙ e));
-    apart = λ q r i e f.
-        ⊎_elim
-        (λ s. ⊎_elim (λ t. sym ((decides k q).0 s.0) ∙ (decides k r).0 t.0) (λ t. absurd (let b = h.below r i t.1 in let m = s.1 in omega arith))
-        (either (same k r) n i (old r) (sym (is r) ∙ f)))
-        (λ s. ⊎_elim (λ t. absurd (let b = h.below q i s.1 in let m = t.1 in omega arith)) (λ t. h.apart q r i s.1 t.1)
-        (either (same k r) n i (old r) (sym (is r) ∙ f)))
-        (either (same k q) n i (old q) (sym (is q) ∙ e));
-  }
-
   pub grows_more : (old new : K → Option ℕ) (k : K) (n : ℕ) → old k ≡ None → ((q : K) → new q ≡ cond (same k q) (Some n) (old q)) → Grows old new
   grows_more old new k n none is q i e =
       is q
@@ -41,42 +28,6 @@ module _ {K : Type 0} (same : K → K → Bool) (decides : (a b : K) → Decides
         | true ↦ λ s. absurd (not_Some i (sym none ∙ ap old ((decides k q).0 s) ∙ e))
         | false ↦ λ _. e
       ] refl
-
-  -- one more key gets no number that another had
-  pub fresh_more : (old new : K → Option ℕ) (k : K) (n : ℕ) → ((q : K) → new q ≡ cond (same k q) (Some n) (old q)) → (q : K) (i : ℕ) → new q ≡ Some i → i < n
-      → old q ≡ Some i
-  fresh_more old new k n is q i e below =
-      ⊎_elim (λ s. absurd (let m = s.1 in omega arith)) (λ s. s.1) (either (same k q) n i (old q) (sym (is q) ∙ e))
-
-  module _ {V : Type 0} (name : V → K) where
-    value_pushed : (vs : List V) (v w : V) (i : ℕ) → slice_get (vs ++ v ∷ []) i ≡ Some w → (slice_get vs i ≡ Some w) ⊎ ((i ≡ length vs) × (v ≡ w))
-    value_pushed [] v w zero e = inr (refl, same_Some v w e)
-    value_pushed [] v w (suc i) e = absurd (cc)
-    value_pushed (x ∷ vs) v w zero e = inl e
-    value_pushed (x ∷ vs) v w (suc i) e = ⊎_elim (λ s. inl s) (λ s. inr (ap suc s.0, s.1)) (value_pushed vs v w i e)
-
-    -- one more value, whose name has its number
-    pub named_more : (old new : K → Option ℕ) (k : K) (vs : List V) (v : V) → AreNamed old name vs → old k ≡ None → k ≡ name v
-        → ((q : K) → new q ≡ cond (same k q) (Some (length vs)) (old q)) → AreNamed new name (vs ++ v ∷ [])
-    named_more old new k vs v h none named is i w e =
-        ⊎_elim
-        (λ s. grows_more old new k (length vs) none is (name w) i (h i w s))
-        (λ s. is (name w) ∙ ap (λ b. cond b (Some (length vs)) (old (name w))) ((decides k (name w)).1 (named ∙ ap name s.1)) ∙ ap Some (sym s.0))
-        (value_pushed vs v w i e)
-
-    value_set : (vs : List V) (v w x : V) (i j : ℕ) → slice_get vs i ≡ Some v → slice_get (set vs i w) j ≡ Some x
-        → (slice_get vs j ≡ Some x) ⊎ ((j ≡ i) × (w ≡ x))
-    value_set [] v w x i j at e = inl e
-    value_set (y ∷ vs) v w x zero zero at e = inr (refl, same_Some w x e)
-    value_set (y ∷ vs) v w x zero (suc j) at e = inl e
-    value_set (y ∷ vs) v w x (suc i) zero at e = inl e
-    value_set (y ∷ vs) v w x (suc i) (suc j) at e = ⊎_elim (λ s. inl s) (λ s. inr (ap suc s.0, s.1)) (value_set vs v w x i j at e)
-
-    -- a value is replaced by one with the same name
-    pub named_set : (number : K → Option ℕ) (vs : List V) (i : ℕ) (v w : V) → AreNamed number name vs → slice_get vs i ≡ Some v → name w ≡ name v
-        → AreNamed number name (set vs i w)
-    named_set number vs i v w h at kept j x e =
-        ⊎_elim (λ s. h j x s) (λ s. ap number (ap name (sym s.1) ∙ kept) ∙ h i v at ∙ ap Some (sym s.0)) (value_set vs v w x i j at e)
 
   module _ {V W : Type 0} (read : V → W) (none : W) where
     push_last : (vs : List V) (v : V) → option_map_or read (slice_get (vs ++ v ∷ []) (length vs)) none ≡ read v
@@ -91,17 +42,6 @@ module _ {K : Type 0} (same : K → K → Bool) (decides : (a b : K) → Decides
     read_before : (vs : List V) (v : V) (o : Option ℕ) → ((i : ℕ) → o ≡ Some i → i < length vs) → read_at read none (vs ++ v ∷ []) o ≡ read_at read none vs o
     read_before vs v None h = refl
     read_before vs v (Some i) h = ap (λ o. option_map_or read o none) (push_before vs v i (h i refl))
-
-    -- a new key with a value: it is read there, and the other keys read as before
-    pub read_added : (old new : K → Option ℕ) (k : K) (vs : List V) (v : V) → IsNumbered old (length vs)
-        → ((q : K) → new q ≡ cond (same k q) (Some (length vs)) (old q)) → (q : K)
-        → read_at read none (vs ++ v ∷ []) (new q) ≡ cond (same k q) (read v) (read_at read none vs (old q))
-    read_added old new k vs v h is q =
-        ap (read_at read none (vs ++ v ∷ [])) (is q)
-        ∙ elim (same k q) as (λ b. read_at read none (vs ++ v ∷ []) (cond b (Some (length vs)) (old q)) ≡ cond b (read v) (read_at read none vs (old q))) [
-          | true ↦ push_last vs v
-          | false ↦ read_before vs v (old q) (λ i e. h.below q i e)
-        ]
 
     -- a new key with a value of which nothing is read: nothing that is read changes
     pub read_pushed : (old new : K → Option ℕ) (k : K) (vs : List V) (v : V) → IsNumbered old (length vs) → old k ≡ None
@@ -176,31 +116,7 @@ module _ {K : Type 0} (same : K → K → Bool) (decides : (a b : K) → Decides
         by (x ∷ vs) (suc i) zero at = refl
         by (x ∷ vs) (suc i) (suc j) at = by vs i j at
 
--- the place of a key among keys
-
--- over a function's values
-position_from-map : {X Y : Type 0} (p : Y → Bool) (f : X → Y) (xs : List X) (n : ℕ) → position_from (λ x. p (f x)) n xs ≡ position_from p n (map f xs)
-position_from-map p f [] n = refl
-position_from-map p f (x ∷ xs) n = ap (cond (p (f x)) (Some n)) (position_from-map p f xs (n + 1))
-
-pub position-map : {X Y : Type 0} (p : Y → Bool) (f : X → Y) (xs : List X) → position (λ x. p (f x)) xs ≡ position p (map f xs)
-position-map p f xs = position_from-zero (λ x. p (f x)) xs ∙ position_from-map p f xs 0 ∙ sym (position_from-zero p (map f xs))
-
--- of a first element and further ones
-position_from-later : {X : Type 0} (p : X → Bool) (xs : List X) (n : ℕ) → position_from p (n + 1) xs ≡ option_map suc (position_from p n xs)
-position_from-later p [] n = refl
-position_from-later p (x ∷ xs) n =
-    elim (p x) as (λ b. cond b (Some (n + 1)) (position_from p (n + 1 + 1) xs) ≡ option_map suc (cond b (Some n) (position_from p (n + 1) xs))) [
-      | true ↦ ap Some (omega arith)
-      | false ↦ position_from-later p xs (n + 1)
-    ]
-
-pub position-cons : {X : Type 0} (p : X → Bool) (x : X) (xs : List X) → position p (x ∷ xs) ≡ cond (p x) (Some 0) (option_map suc (position p xs))
-position-cons p x xs =
-    position_from-zero p (x ∷ xs)
-    ∙ ap (cond (p x) (Some 0)) (position_from-later p xs 0 ∙ ap (option_map suc) (sym (position_from-zero p xs)))
-
--- one more element
+-- the place of a key among keys: one more element
 position_from-push : {X : Type 0} (p : X → Bool) (xs : List X) (y : X) (n : ℕ) → (p y ≡ true → position_from p n xs ≡ None)
     → position_from p n (xs ++ y ∷ []) ≡ cond (p y) (Some (n + length xs)) (position_from p n xs)
 position_from-push p [] y n h = ap (λ m. cond (p y) (Some m) None) (omega arith)

@@ -6,7 +6,6 @@ use Rattle.std.specs.Str.{bytes_eq}
 use Rattle.std.proofs.lemmas.Slice.Eq.{bytes_eq-Decides}
 use Rattle.std.proofs.lemmas.Bool.{and_from}
 use Rattle.std.proofs.lemmas.Bool.Decides.{Decides-eqb}
-use mathlib.Core.Bool.{false≢true}
 use Rattle.dsr_cells.specs.Days.{CivilDay}
 use Rattle.dsr_records.specs.declared.record.Head.{Head}
 use Rattle.dsr_records.specs.declared.record.Summary.{Summary}
@@ -52,10 +51,6 @@ sums_added (Some s) n p = refl
 sums_added None n None = refl
 sums_added None n (Some s) = refl
 
-first_there : {X : Type 0} (o p : Option X) → is_some o ≡ true → o ≡ first_of o p
-first_there None p e = absurd (false≢true e)
-first_there (Some x) p e = refl
-
 first_absent : {X : Type 0} (o p : Option X) → is_some o ≡ false → p ≡ first_of o p
 first_absent None p e = refl
 first_absent (Some x) p e = absurd (true≢false e)
@@ -63,15 +58,6 @@ first_absent (Some x) p e = absurd (true≢false e)
 first_alone : {X : Type 0} (o : Option X) → o ≡ first_of o None
 first_alone None = refl
 first_alone (Some x) = refl
-
--- a name that is there already
-pub added_none : {X : Type 0} (at : List ℕ → Option X) (k : List ℕ) (x : X) → is_some (at k) ≡ true → (id : List ℕ)
-    → at id ≡ first_of (at id) (cond (bytes_eq id k) (Some x) None)
-added_none at k x there id =
-    elim (bytes_eq id k) as (λ b. bytes_eq id k ≡ b → at id ≡ first_of (at id) (cond b (Some x) None)) [
-      | true ↦ λ e. first_there (at id) (Some x) (ap (λ n. is_some (at n)) (same_text id k e) ∙ there)
-      | false ↦ λ _. first_alone (at id)
-    ] refl
 
 -- a new name
 pub added_one : {X : Type 0} (was is : List ℕ → Option X) (k : List ℕ) (x : X) → is_some (was k) ≡ false

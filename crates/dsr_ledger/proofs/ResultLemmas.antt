@@ -5,10 +5,6 @@ pub ok_both : {A E : Type 0} (P Q R : A → Type 0) (r : Result A E) → ((x : A
 ok_both P Q R (Ok x) f p q = f x p q
 ok_both P Q R (Err e) f p q = tt
 
-pub on_err : {A E : Type 0} (P Q : Type 0) (r : Result A E) → (P → Q) → OnErr r P → OnErr r Q
-on_err P Q (Ok x) f p = tt
-on_err P Q (Err e) f p = f p
-
 pub if_err : {A E : Type 0} (P : Type 0) (r : Result A E) → P → OnErr r P
 if_err P (Ok x) p = tt
 if_err P (Err e) p = p

@@ -1,9 +1,9 @@
 -- The equality and the order of summary keys.
-use Rattle.std.proofs.Common.{◌≡◌, true, refl, sym, ap, subst}
+use Rattle.std.proofs.Common.{◌≡◌, true, refl, ap, subst}
 use Rattle.std.specs.Bool.{Decides}
 use Rattle.std.specs.Ordering.{is_eq}
 use Rattle.std.specs.declared.cmp.Ordering.TheVariants.{Equal}
-use Rattle.std.specs.Cmp.{IsTotalOrder, IsEquivalence, Equal-is, on_total, then_total, tied_itself}
+use Rattle.std.specs.Cmp.{IsTotalOrder, Equal-is, on_total, then_total, tied_itself}
 use Rattle.std.specs.Cmp.Lexicographic.{nat_list_cmp_total}
 use Rattle.std.proofs.lemmas.Slice.Eq.{bytes_eq-Decides}
 use Rattle.std.proofs.lemmas.Bool.{and_from, and_parts}
@@ -55,10 +55,3 @@ same_summary_key a b = (summary_key_eq-is a b, λ e. subst (λ k. summary_key_eq
 
 pub summary_key_ties : (a b : SummaryKey) → is_eq (summary_key_cmp a b) ≡ summary_key_eq a b
 summary_key_ties a b = same_from_decides _ _ (summary_key_tie a b) (same_summary_key a b)
-
-pub summary_key_equiv : IsEquivalence summary_key_eq
-summary_key_equiv = record {
-  refl = summary_key_eq-itself;
-  symm = λ a b. same_from_decides _ _ (same_summary_key a b) (λ t. sym (summary_key_eq-is b a t), λ e. (same_summary_key b a).1 (sym e));
-  congr = λ a b c e. ap (λ k. summary_key_eq k c) (summary_key_eq-is a b e);
-}

@@ -16,8 +16,9 @@
 //! 4. `ledger` stores each party, summary key (`ledger/summary_key`) and recording once, interned in
 //!    maps with seeded hashers (`seeded`). A recording owns its seats and lines (`ledger/recording`,
 //!    `seats`, `line`), a line its sums and parts (`sums`, `parts`), whose numbers are `wide`. A long
-//!    list whose numbers do not rise has an index of them (`ledger/index`). `key` is the key of a
-//!    ledger line, which only specs use.
+//!    list whose numbers do not rise has an index of them (`ledger/index`); in a short one, `hints`
+//!    have the probable places of lines and summaries. `key` is the key of a ledger line, which only
+//!    specs use.
 //! 5. `assemble` closes the books (`closed`): it makes the parts of the `report` that say how the files
 //!    did (`file_lines`, `missing`, `differences`, `rejects`). Closed books make the lines of the
 //!    ledger (`assemble/ledger`) in the order of the recordings (`assemble/recordings`) and of the

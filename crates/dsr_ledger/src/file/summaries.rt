@@ -104,15 +104,21 @@ impl Summaries {
         self.states.get_index_of(id)
     }
 
-    /// The same, trying first the summary that the identifier's hint names, and then `hint`, which may be any number.
-    pub fn index_near(&self, id: &Text, hint: usize) -> Option<usize>
+    /// Where a summary probably is: if there are few, at the identifier's hint, and otherwise at `next`.
+    #[inline(always)]
+    fn hint(&self, id: &Text, next: usize) -> usize {
+        if self.states.len() > SUMMARY_GROUPS {
+            next
+        } else {
+            self.hints.get(summary_group(id))
+        }
+    }
+
+    /// The same. Of many summaries, the one at `next`, which may be any number, is tried first.
+    pub fn index_near(&self, id: &Text, next: usize) -> Option<usize>
         ensures { result ≡ index_at self.now id.now }
     {
-        let first = self.hints.get(summary_group(id));
-        if let Some(number) = self.hinted(first, id) {
-            return Some(number);
-        }
-        if let Some(number) = self.hinted(hint, id) {
+        if let Some(number) = self.hinted(self.hint(id, next), id) {
             return Some(number);
         }
         self.index(id)

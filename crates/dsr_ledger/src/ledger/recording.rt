@@ -1,5 +1,5 @@
 //! A recording: the seats of its parties, and its lines.
-ghost use Rattle.std.specs.Prelude.{◌≡◌, ◌<◌, true, OnOk, Some, nat_eq, take, length};
+ghost use Rattle.std.specs.Prelude.{◌≡◌, ◌<◌, true, OnOk, nat_eq, take, length};
 ghost use Rattle.std.specs.Vec.{vec_len, vec_capacity};
 ghost use Rattle.std.specs.List.{position};
 ghost use Rattle.std.proofs.Props.{props};
@@ -44,29 +44,16 @@ fn line_group(key: u32) -> usize {
     key as usize % LINE_GROUPS
 }
 
-/// Whether the line at a place is that of a summary key.
-#[inline(always)]
-fn is_line(lines: &[Line], place: usize, key: u32) -> bool
-    requires { AreApart (line_keys lines.now) }
-    ensures { result ≡ true → line_in lines.now key ≡ Some place }
-{
-    match lines.get(place) {
-        Some(line) => line.key == key,
-        None => false,
-    }
-}
-
-/// The line of a summary key. The lines at these two places are tried first.
-fn find_line(lines: &[Line], index: &Index, key: u32, first: usize, second: usize) -> Option<usize>
+/// The line of a summary key. The line at `hint` is tried first.
+fn find_line(lines: &[Line], index: &Index, key: u32, hint: usize) -> Option<usize>
     requires apart { AreApart (line_keys lines.now) }
     requires indexed { AreIndexed (line_keys lines.now) index.now }
     ensures { result ≡ line_in lines.now key }
 {
-    if is_line(lines, first, key) {
-        return Some(first);
-    }
-    if is_line(lines, second, key) {
-        return Some(second);
+    if let Some(line) = lines.get(hint) {
+        if line.key == key {
+            return Some(hint);
+        }
     }
     index.find(lines, key)
 }
@@ -175,14 +162,23 @@ impl Recording {
         widen(&mut self.lines[number].parts, alloc, seeded, shares)
     }
 
-    /// The line of a summary key, which is added if there is none. The line that the key's hint names and the line at
-    /// `hint` are tried first.
+    /// Where the line of a summary key probably is: while there are few lines, at the key's hint, and later at `next`.
+    #[inline(always)]
+    fn line_hint(&self, key: u32, next: usize) -> usize {
+        if self.lines.len() > LINE_GROUPS {
+            next
+        } else {
+            self.hints.get(line_group(key))
+        }
+    }
+
+    /// The line of a summary key, which is added if there is none. Of many lines, the one at `next` is tried first.
     fn line_of(
         &mut self,
         alloc: Global,
         seeded: Seeded,
         key: u32,
-        hint: usize,
+        next: usize,
     ) -> Result<usize, NoMemory>
         ensures seats { self.new.seats ≡ self.old.seats }
         ensures grows { LinesGrow self.old.lines.items self.new.lines.items }
@@ -190,8 +186,8 @@ impl Recording {
             (line_keys self.new.lines.items) key }
         ensures there { IfOk result (λ i. line_in self.new.lines.items key ≡ Some i) }
     {
-        let first = self.hints.get(line_group(key));
-        if let Some(number) = find_line(self.lines.as_slice(), &self.index, key, first, hint) {
+        let hint = self.line_hint(key, next);
+        if let Some(number) = find_line(self.lines.as_slice(), &self.index, key, hint) {
             return Ok(number);
         }
         self.add_line(alloc, seeded, key)
@@ -203,7 +199,7 @@ impl Recording {
         alloc: Global,
         seeded: Seeded,
         key: u32,
-        hint: usize,
+        next: usize,
         shares: &[SeatShare],
     ) -> Result<usize, NoMemory>
         requires { AreSeatsBelow (length (seat_numbers self.old.seats)) shares.now }
@@ -214,7 +210,7 @@ impl Recording {
         ensures there { IfOk result (λ i. (line_in self.new.lines.items key ≡ Some i)
             × IsWide shares.now self.new.lines.items i) }
     {
-        let number = self.line_of(alloc, seeded, key, hint)?;
+        let number = self.line_of(alloc, seeded, key, next)?;
         self.widen(alloc, seeded, number, shares)?;
         Ok(number)
     }
