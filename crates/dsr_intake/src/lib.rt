@@ -5,8 +5,8 @@
 //! 1. `pipeline/options`: the options, and what is refused before anything is read.
 //! 2. `pipeline/gather`: opens a relay for each file and starts a thread for it.
 //! 3. `pipeline/threads`: each thread reads its file, and `pipeline/feed_sink` sends its events into the relay.
-//! 4. `pipeline/collector`: takes the events of all relays, a message of each in turn, books them, and
-//!    closes the books. `pipeline/seed`: the seed of the hashes in the books.
+//! 4. `pipeline/collector`: takes the events of all relays, in rounds a message of each that has one,
+//!    books them, and closes the books. `pipeline/seed`: the seed of the hashes in the books.
 //! 5. `pipeline/gather` again: joins the threads, and returns the readers and the closed books. `intake`
 //!    makes their report; the statement of a run is put from lines that borrow their texts from them.
 //! 6. `statements/room`: allocates all memory that writing the statement needs, before its first byte is written.

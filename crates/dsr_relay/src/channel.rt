@@ -51,11 +51,13 @@ pub fn send_out<R: Wait>(
     }
 }
 
-/// Takes the message at the front of the channel; None if there is none and the feed is gone.
+/// Takes the message at the front of the channel. If there is none, the call waits for one, unless `waits` is false. None if
+/// there is none and the feed is gone, or if the call does not wait.
 pub fn take_next<R: Wait>(
     rt: &R,
     receiver: &RuledReceiver<Batch, Log, InOrder>,
     pass: &mut Pass<Batch, Log>,
+    waits: bool,
 ) -> Option<Batch>
     requires seat { IsSeatAt (receives_on receiver.now) pass.old }
     requires knows { view pass.old ≡ Takes (received_of (view pass.old)) }
@@ -66,5 +68,9 @@ pub fn take_next<R: Wait>(
     ensures orderly { OnSome result (IsOrderly (events_of (received_of (view pass.new)))
         × AreMessages (received_of (view pass.new))) }
 {
-    receiver.recv_as::<Received, R>(rt, pass).ok()
+    if waits {
+        receiver.recv_as::<Received, R>(rt, pass).ok()
+    } else {
+        receiver.try_recv_as::<Received, R>(rt, pass).ok()
+    }
 }

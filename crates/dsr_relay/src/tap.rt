@@ -95,7 +95,7 @@ impl Tap {
         ensures closed { OnErr result (self.new ≡ self.old) }
         ensures orderly { IsOrderly self.new.taken }
     {
-        let Some(batch) = take_next(rt, &self.receiver, &mut self.pass) else {
+        let Some(batch) = take_next(rt, &self.receiver, &mut self.pass, true) else {
             return Err(Closed);
         };
         self.held = batch;
@@ -137,9 +137,28 @@ impl Tap {
     {
         if self.held.events().is_empty() {
             self.let_go(rt);
-            self.take_message(rt)
+            self.take_message(rt, true).ok_or(Closed)
         } else {
             Ok(self.take_rest())
+        }
+    }
+
+    /// Takes the held events of the last message, or else the next message. The call does not wait: if there is no
+    /// message, yet or at all, the batch is empty.
+    pub fn take_ready<R: Wait>(&mut self, rt: &R) -> Batch
+        requires { has_ended self.old.taken ≡ false }
+        ensures taken { self.new ≡ record self.old { taken = self.old.taken ++ result; held = [] } }
+        ensures held { 0 < length self.old.held → result ≡ self.old.held }
+        ensures few { length result ≤ 32 }
+        ensures orderly { IsOrderly self.new.taken }
+    {
+        if !self.held.events().is_empty() {
+            return self.take_rest();
+        }
+        self.let_go(rt);
+        match self.take_message(rt, false) {
+            Some(message) => message,
+            None => self.returns.none(),
         }
     }
 
@@ -161,28 +180,26 @@ impl Tap {
         batch
     }
 
-    /// Receives a message and takes all its events.
-    fn take_message<R: Wait>(&mut self, rt: &R) -> Result<Batch, Closed>
+    /// Receives a message and takes all its events. If there is none, the call waits for one, unless `waits` is false.
+    fn take_message<R: Wait>(&mut self, rt: &R, waits: bool) -> Option<Batch>
         requires going { has_ended self.old.taken ≡ false }
         requires none_held { self.old.held ≡ [] }
-        ensures taken { IfOk result (λ b. self.new ≡ record self.old {
+        ensures taken { IfSome result (λ b. self.new ≡ record self.old {
           taken = self.old.taken ++ b;
           held = [];
         }) }
-        ensures some { IfOk result (λ b. 0 < length b) }
-        ensures few { IfOk result (λ b. length b ≤ 32) }
-        ensures closed { OnErr result (self.new ≡ self.old) }
+        ensures some { IfSome result (λ b. 0 < length b) }
+        ensures few { IfSome result (λ b. length b ≤ 32) }
+        ensures none { IfNone result (self.new ≡ self.old) }
         ensures orderly { IsOrderly self.new.taken }
     {
-        let Some(batch) = take_next(rt, &self.receiver, &mut self.pass) else {
-            return Err(Closed);
-        };
+        let batch = take_next(rt, &self.receiver, &mut self.pass, waits)?;
         let Some((last, _)) = batch.events().split_last() else {
             unreachable!()
         };
         self.count = last.place + 1;
         self.ended = last.part.is_ended();
-        Ok(batch)
+        Some(batch)
     }
 
     /// Gives back a batch that was taken and is no longer needed: the feed's thread frees its events and reuses its

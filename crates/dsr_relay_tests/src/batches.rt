@@ -1,6 +1,6 @@
 //! Batches: up to 32 events and the bytes that they hold.
 use crate::sending::{flushes, relay, send_blocks};
-use crate::taking::{takes_batch, takes_opened};
+use crate::taking::{takes_batch, takes_opened, takes_ready};
 use std::alloc::Global;
 use std::test::Fail;
 
@@ -35,6 +35,24 @@ fn batches_of_forty(rt: HostRuntime) -> Result<(), Fail> {
     assert_eq!(rt; takes_batch(&rt, &mut tap), Some(31));
     assert!(rt; !tap.ended());
     assert_eq!(rt; takes_batch(&rt, &mut tap), Some(8));
+    let settled = tap.take_in(feed);
+    assert_eq!(rt; (settled.taken, settled.left), (40, 0));
+    Ok(())
+}
+
+/// What is there is taken without waiting. Before it is sent, and after it was taken, there is nothing.
+#[test]
+fn what_is_there_is_taken(rt: HostRuntime) -> Result<(), Fail> {
+    let (mut feed, mut tap) = relay(rt.alloc(), 2)?;
+    assert_eq!(rt; takes_ready(&rt, &mut tap), 0);
+    assert!(rt; send_blocks(&rt, rt.alloc(), &mut feed, 39));
+    assert!(rt; !tap.ended());
+    assert_eq!(rt; takes_ready(&rt, &mut tap), 32);
+    assert!(rt; !tap.ended());
+    assert_eq!(rt; takes_ready(&rt, &mut tap), 0);
+    assert!(rt; flushes(&rt, &mut feed));
+    assert!(rt; !tap.ended());
+    assert_eq!(rt; takes_ready(&rt, &mut tap), 8);
     let settled = tap.take_in(feed);
     assert_eq!(rt; (settled.taken, settled.left), (40, 0));
     Ok(())

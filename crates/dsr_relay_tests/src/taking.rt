@@ -51,6 +51,17 @@ pub fn takes_batch<R: Wait>(rt: &R, tap: &mut Tap) -> Option<usize>
     Some(count)
 }
 
+/// Takes what is there without waiting and gives it back, and returns the number of its events.
+pub fn takes_ready<R: Wait>(rt: &R, tap: &mut Tap) -> usize
+    requires { has_ended tap.old.taken ≡ false }
+    ensures { tap.new.name ≡ tap.old.name }
+{
+    let batch = tap.take_ready(rt);
+    let count = batch.events().len();
+    tap.give_back(rt, batch);
+    count
+}
+
 /// Takes the events of a file of blocks, and returns how many were right, up to the first that was not.
 pub fn take_file<R: Wait>(rt: &R, tap: &mut Tap) -> u64
     ensures { tap.new.name ≡ tap.old.name }

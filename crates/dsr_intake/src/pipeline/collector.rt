@@ -1,8 +1,8 @@
 //! The collector: it takes the events of all files, books them, and closes the books or makes their report.
-ghost use Rattle.std.specs.Prelude.{◌≡◌, ◌+◌, ◌<◌, ◌≤◌, true, false, List, [], map, All, OnOk, IfOk, IfErr};
+ghost use Rattle.std.specs.Prelude.{◌≡◌, ◌+◌, ◌<◌, ◌≤◌, ◌++◌, true, false, List, [], length, map, All, OnOk, OnErr, IfOk, IfErr};
 ghost use Rattle.std.specs.Prelude.{vec_len};
 ghost use Rattle.dsr_file.specs.Placed.{Placed};
-ghost use Rattle.dsr_file.specs.Orderly.{is_ended, has_ended, MayStandAt};
+ghost use Rattle.dsr_file.specs.Orderly.{IsOrderly, is_ended, has_ended, MayStandAt};
 ghost use Rattle.dsr_ledger.specs.BooksWords.{Stands, files_count};
 ghost use Rattle.dsr_ledger.specs.Closed.{AreClosed};
 ghost use Rattle.dsr_ledger.specs.Reports.{report_of};
@@ -19,7 +19,7 @@ use crate::pipeline::seed::random_seed;
 use dsr_cells::NoMemory;
 use dsr_file::{Event, EventPart, FileFault, Outcome};
 use dsr_ledger::{Books, ClosedBooks, Report};
-use dsr_relay::Tap;
+use dsr_relay::{Batch, Closed, Tap};
 use std::alloc::Global;
 use std::random::RandomSource;
 use std::sync::Wait;
@@ -80,13 +80,34 @@ fn book_events(books: &mut Books, k: u32, events: &[Event]) -> Result<(), NoMemo
     Ok(())
 }
 
-/// Takes a message of file k, or the rest of one, and books it.
+/// Takes a message, or the rest of one. If there is none, the call waits for one, unless `waits` is false; then the batch is
+/// empty.
+fn take_batch<H: Wait>(rt: &H, tap: &mut Tap, waits: bool) -> Result<Batch, Closed>
+    requires { has_ended tap.old.taken ≡ false }
+    ensures taken { IfOk result (λ b. tap.new ≡ record tap.old {
+      taken = tap.old.taken ++ b;
+      held = [];
+    }) }
+    ensures few { IfOk result (λ b. length b ≤ 32) }
+    ensures closed { OnErr result ((tap.new ≡ tap.old) × (tap.old.held ≡ [])) }
+    ensures orderly { IsOrderly tap.new.taken }
+{
+    if waits {
+        tap.take_batch(rt)
+    } else {
+        Ok(tap.take_ready(rt))
+    }
+}
+
+/// Takes a message of file k, or the rest of one, and books it. If there is none, the call waits for one, unless `waits`
+/// is false. Returns whether there was one.
 fn take_message<H: Wait>(
     rt: &H,
     books: &mut Books,
     k: u32,
     tap: &mut Tap,
-) -> Result<(), CollectError>
+    waits: bool,
+) -> Result<bool, CollectError>
     requires tapped { IsTapped tap.old }
     requires running { has_ended tap.old.taken ≡ false }
     requires number { k < MOST_FILES }
@@ -98,19 +119,27 @@ fn take_message<H: Wait>(
         (file_of tap.new.taken)) }
     ensures stopped { IfErr result (IsStoppedAt k tap.new) }
 {
-    let Ok(batch) = tap.take_batch(rt) else {
+    let Ok(batch) = take_batch(rt, tap, waits) else {
         return Err(closed(k));
     };
+    let is_some = !batch.events().is_empty();
     let answer = book_events(books, k, batch.events());
     tap.give_back(rt, batch);
     match answer {
-        Ok(()) => Ok(()),
+        Ok(()) => Ok(is_some),
         Err(NoMemory) => Err(CollectError::Memory),
     }
 }
 
-/// Takes a message of file k if it has not ended.
-fn go_on<H: Wait>(rt: &H, books: &mut Books, k: u32, tap: &mut Tap) -> Result<(), CollectError>
+/// Takes a message of file k if it has not ended. If there is none, the call waits for one, unless `waits` is false.
+/// Returns whether a message was taken.
+fn go_on<H: Wait>(
+    rt: &H,
+    books: &mut Books,
+    k: u32,
+    tap: &mut Tap,
+    waits: bool,
+) -> Result<bool, CollectError>
     requires tapped { IsTapped tap.old }
     requires number { k < MOST_FILES }
     requires file { Knows books.old k (file_of tap.old.taken) }
@@ -122,9 +151,9 @@ fn go_on<H: Wait>(rt: &H, books: &mut Books, k: u32, tap: &mut Tap) -> Result<()
     ensures stopped { IfErr result (IsStoppedAt k tap.new) }
 {
     if tap.ended() {
-        return Ok(());
+        return Ok(false);
     }
-    take_message(rt, books, k, tap)
+    take_message(rt, books, k, tap, waits)
 }
 
 /// Opens file k by its first part.
@@ -191,8 +220,14 @@ fn open_all<H: Wait>(rt: &H, books: &mut Books, taps: &mut Vec<Tap>) -> Result<(
     Ok(())
 }
 
-/// Takes a message of each file that has not ended.
-fn go_round<H: Wait>(rt: &H, books: &mut Books, taps: &mut Vec<Tap>) -> Result<(), CollectError>
+/// Takes a message of each file that has one. If `waits` is true, the call first waits for a message of the first file that
+/// has not ended. Returns whether a message was taken.
+fn go_round<H: Wait>(
+    rt: &H,
+    books: &mut Books,
+    taps: &mut Vec<Tap>,
+    waits: bool,
+) -> Result<bool, CollectError>
     requires most { vec_len taps.old ≤ MOST_FILES }
     requires tapped { All IsTapped taps.old.items }
     requires stands { Stands books.old (map (λ t. file_of t.taken) taps.old.items) }
@@ -202,11 +237,14 @@ fn go_round<H: Wait>(rt: &H, books: &mut Books, taps: &mut Vec<Tap>) -> Result<(
     ensures stands { OnOk result (Stands books.new (map (λ t. file_of t.taken) taps.new.items)) }
     ensures stopped { IfErr result (IsStopped taps.new.items) }
 {
+    let mut any = false;
     for k in 0..taps.len() {
         let tap = &mut taps[k];
-        go_on(rt, books, k as u32, tap)?;
+        if go_on(rt, books, k as u32, tap, waits && !any)? {
+            any = true;
+        }
     }
-    Ok(())
+    Ok(any)
 }
 
 /// Whether every file has ended.
@@ -221,7 +259,7 @@ fn have_ended(taps: &Vec<Tap>) -> bool
     true
 }
 
-/// Takes messages round by round until every file has ended.
+/// Takes messages round by round until every file has ended. After a round without a message the next one waits for one.
 fn take_all<H: Wait>(rt: &H, books: &mut Books, taps: &mut Vec<Tap>) -> Result<(), CollectError>
     requires most { vec_len taps.old ≤ MOST_FILES }
     requires tapped { All IsTapped taps.old.items }
@@ -233,11 +271,12 @@ fn take_all<H: Wait>(rt: &H, books: &mut Books, taps: &mut Vec<Tap>) -> Result<(
     ensures stands { OnOk result (Stands books.new (map (λ t. file_of t.taken) taps.new.items)) }
     ensures stopped { IfErr result (IsStopped taps.new.items) }
 {
+    let mut waits = false;
     for _ in rt.forever() {
         if have_ended(taps) {
             return Ok(());
         }
-        go_round(rt, books, taps)?;
+        waits = !go_round(rt, books, taps, waits)?;
     }
     unreachable!()
 }
