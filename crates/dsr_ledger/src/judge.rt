@@ -11,7 +11,7 @@ use dsr_records::{Block, Usage, Work};
 
 /// Finds the numbers of the summaries that usages name. Returns whether each usage names one.
 ///
-/// Usages mostly name summaries in file order, so the one after the last one found is tried first.
+/// Usages mostly name summaries in file order, so of many summaries the one after the last one found is tried first.
 #[inline(never)]
 fn find_summaries(
     summaries: &Summaries,

@@ -188,7 +188,7 @@ impl Ledger {
     }
 
     /// The line of the summary key with this number in a recording, which is added if there is none, and has a part for
-    /// the seat of each share. The sums of each key are unchanged. The line `hint` is tried first.
+    /// the seat of each share. The sums of each key are unchanged. If the recording has many lines, `hint` is tried first.
     pub fn line(
         &mut self,
         alloc: Global,
