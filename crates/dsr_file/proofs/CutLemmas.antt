@@ -87,17 +87,6 @@ unmarked_short (x ∷ y ∷ []) h =
     ≡ x ∷ y ∷ []) [ true ↦ elim (eqb 187 y) as (λ b. (if b && false then [] else x ∷ y ∷ []) ≡ x ∷ y ∷ []) [ true ↦ refl | false ↦ refl ] | false ↦ refl ]
 unmarked_short (x ∷ y ∷ z ∷ bytes) h = absurd (omega arith)
 
-unmarked_lf : (bytes : List ℕ) → length bytes < 3 → without_mark (bytes ++ 10 ∷ []) ≡ bytes ++ 10 ∷ []
-unmarked_lf [] h = refl
-unmarked_lf (x ∷ []) h = elim (eqb 239 x) as (λ b. (if b && false then drop 3 (x ∷ 10 ∷ []) else x ∷ 10 ∷ []) ≡ x ∷ 10 ∷ []) [ true ↦ refl | false ↦ refl ]
-unmarked_lf (x ∷ y ∷ []) h =
-    elim (eqb 239 x) as (λ b. (if b && (eqb 187 y && false) then [] else x ∷ y ∷ 10 ∷ [])
-    ≡ x ∷ y ∷ 10 ∷ []) [
-      | true ↦ elim (eqb 187 y) as (λ b. (if b && false then [] else x ∷ y ∷ 10 ∷ []) ≡ x ∷ y ∷ 10 ∷ []) [ true ↦ refl | false ↦ refl ]
-      | false ↦ refl
-    ]
-unmarked_lf (x ∷ y ∷ z ∷ bytes) h = absurd (omega arith)
-
 -- bytes without a line feed
 pub more_bytes : (kept b ys : List ℕ) (ps : List (List ℕ)) → CutsTo kept false b ps → list_any is_line_feed ys ≡ false → CutsTo (kept ++ ys) false (b ++ ys) ps
 more_bytes kept b ys ps k n = record {
@@ -121,69 +110,6 @@ line_feed kept b ps k = record {
       ∙ ap (λ xs. xs ++ more) (sym (k.settled refl (10 ∷ [])));
   start = λ e. absurd (not_both e);
 }
-  where
-    not_both : false ≡ true → ⊥
-    not_both e = cc
-
--- at the start of a text: a line feed
-pub start_lf : (kept b : List ℕ) (ps : List (List ℕ)) → CutsTo kept true b ps → CutsTo [] false (b ++ 10 ∷ []) (ps ++ kept ∷ [])
-start_lf kept b ps k =
-    let few : length b < 3 = rw (k.start refl).0 ((k.start refl).1) in
-    record {
-      pieces_are =
-          ap (slice_split is_line_feed) (unmarked_lf b few ∙ ap (λ xs. xs ++ 10 ∷ []) (sym (unmarked_short b few)))
-          ∙ split_open is_line_feed (without_mark b) 10 refl ∙ ap (λ qs. qs ++ [] ∷ []) k.pieces_are;
-      settled = λ e. settled_lf b few;
-      start = λ e. absurd (not_both e);
-    }
-  where
-    not_both : false ≡ true → ⊥
-    not_both e = cc
-
-start_pieces : (kept b : List ℕ) (ps : List (List ℕ)) (c : ℕ) → CutsTo kept true b ps → is_line_feed c ≡ false
-    → slice_split is_line_feed (b ++ c ∷ []) ≡ ps ++ (kept ++ c ∷ []) ∷ []
-start_pieces kept b ps c k n =
-    let few : length b < 3 = rw (k.start refl).0 ((k.start refl).1) in
-    split_front is_line_feed (c ∷ []) b ps kept (ap (slice_split is_line_feed) (sym (unmarked_short b few)) ∙ k.pieces_are) (rw n refl)
-
--- another byte, before the third
-pub start_more : (kept b : List ℕ) (ps : List (List ℕ)) (c : ℕ) → CutsTo kept true b ps → is_line_feed c ≡ false → length (kept ++ c ∷ []) < 3
-    → CutsTo (kept ++ c ∷ []) true (b ++ c ∷ []) ps
-start_more kept b ps c k n few =
-    let same : b ++ c ∷ [] ≡ kept ++ c ∷ [] = ap (λ xs. xs ++ c ∷ []) (k.start refl).0 in
-    let short : length (b ++ c ∷ []) < 3 = rw same few in
-    record {
-      pieces_are = ap (slice_split is_line_feed) (unmarked_short (b ++ c ∷ []) short) ∙ start_pieces kept b ps c k n;
-      settled = λ e. absurd (not_both e);
-      start = λ e. (same, few, (k.start refl).2);
-    }
-  where
-    not_both : true ≡ false → ⊥
-    not_both e = cc
-
-three_pieces : (xs : List ℕ) → length xs ≡ 3 → slice_split is_line_feed xs ≡ xs ∷ [] → slice_split is_line_feed (without_mark xs) ≡ without_mark xs ∷ []
-three_pieces [] h e = absurd (omega arith)
-three_pieces (x ∷ []) h e = absurd (omega arith)
-three_pieces (x ∷ y ∷ []) h e = absurd (omega arith)
-three_pieces (x ∷ y ∷ z ∷ []) h e =
-    elim (starts_with nat_eq (x ∷ y ∷ z ∷ []) byte_order_mark) as (λ b. slice_split is_line_feed (if b then [] else x ∷ y ∷ z ∷ [])
-    ≡ (if b then [] else x ∷ y ∷ z ∷ []) ∷ []) [ true ↦ refl | false ↦ e ]
-three_pieces (x ∷ y ∷ z ∷ w ∷ xs) h e = absurd (omega arith)
-
--- the third byte
-pub start_third : (kept b : List ℕ) (ps : List (List ℕ)) (c : ℕ) → CutsTo kept true b ps → is_line_feed c ≡ false → length (kept ++ c ∷ []) ≡ 3
-    → CutsTo (without_mark (kept ++ c ∷ [])) false (b ++ c ∷ []) ps
-start_third kept b ps c k n three =
-    let same : b ++ c ∷ [] ≡ kept ++ c ∷ [] = ap (λ xs. xs ++ c ∷ []) (k.start refl).0 in
-    let none = (k.start refl).2 in
-    record {
-      pieces_are =
-          ap pieces same ∙ three_pieces (kept ++ c ∷ []) three
-          (ap (slice_split is_line_feed) (sym same) ∙ start_pieces kept b ps c k n ∙ ap (λ qs. qs ++ (kept ++ c ∷ []) ∷ []) none)
-          ∙ ap (λ qs. qs ++ without_mark (kept ++ c ∷ []) ∷ []) (sym none);
-      settled = λ e. settled_three (b ++ c ∷ []) (rw (same, three) (omega arith));
-      start = λ e. absurd (not_both e);
-    }
   where
     not_both : false ≡ true → ⊥
     not_both e = cc

@@ -10,9 +10,6 @@ onto_last x [] = (x ∷ []) ∷ []
 onto_last x (p ∷ []) = (p ++ x ∷ []) ∷ []
 onto_last x (p ∷ q ∷ ps) = p ∷ onto_last x (q ∷ ps)
 
-onto_first-append : {X : Type 0} (x : X) (ps qs : List (List X)) (p : List X) → onto_first x ((p ∷ ps) ++ qs) ≡ onto_first x (p ∷ ps) ++ qs
-onto_first-append x ps qs p = refl
-
 pub onto_first-last : {X : Type 0} (x r : X) (ps : List (List X)) → onto_first x (onto_last r ps) ≡ onto_last r (onto_first x ps)
 onto_first-last x r [] = refl
 onto_first-last x r (p ∷ []) = refl

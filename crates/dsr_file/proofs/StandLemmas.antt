@@ -22,7 +22,7 @@ use Rattle.dsr_file.specs.declared.event.EventPart.TheVariants.{Ended}
 use Rattle.dsr_file.specs.declared.grammar.Step.{Step}
 use Rattle.dsr_file.specs.declared.grammar.Step.TheVariants.{Good, Faulty, NoMemory}
 use Rattle.dsr_file.specs.declared.cutter.Cut.{Cut}
-use Rattle.dsr_file.specs.declared.cutter.Cut.TheVariants.{More, Kept, Here, Long}
+use Rattle.dsr_file.specs.declared.cutter.Cut.TheVariants.{Kept, Here, Long}
 use Rattle.dsr_file.specs.declared.reader.phase.Phase.{Phase}
 use Rattle.dsr_file.specs.declared.reader.phase.Phase.TheVariants as phases
 use Rattle.dsr_file.specs.declared.reader.FileReader.{FileReader}
@@ -33,7 +33,7 @@ use Rattle.dsr_file.specs.Readings as of
 use Rattle.dsr_file.specs.Parts.{events_of}
 use Rattle.dsr_file.specs.Faults.{fault_of}
 use Rattle.dsr_file.specs.Texts.{AllGood, first_from, events_so_far, placed, readings, so_far}
-use Rattle.dsr_file.specs.Runs.{ended, known_events, known_lines, BeginsEvents, HasEvents, IsCutOff, EndsWith}
+use Rattle.dsr_file.specs.Runs.{ended, known_events, known_lines, BeginsEvents, IsCutOff, EndsWith}
 use Rattle.dsr_file.specs.Grammars.{Keeps, LineSteps, TakesMemory}
 use Rattle.dsr_file.specs.Cutting.{CutsTo, CutSteps}
 use Rattle.dsr_file.specs.Standing.{Stands, StandsAt, SameText, AtLine, AtAnswer, AtCut, FaultyGives, IsDone}
@@ -234,22 +234,6 @@ at_cut layout old new cut b es piece used s r h cuts gr la g p n =
       open_is = n ∙ at.4;
     }
 
--- no line is complete
-pub more_stands : (layout : LayoutTable) (r : FileReader) (b used : List ℕ) (es : List Placed) (cut : Cut) → AtCut layout r cut b used es → cut ≡ More
-    → r.phase ≡ phases.Reading → Stands layout r (b ++ used) (es ++ [])
-more_stands layout r b used es cut a is ph = record {
-  layout_is = a.layout_is;
-  given_is = a.given_is;
-  place_is = a.place_is ∙ ap length (sym (append-nil es));
-  phase_is = subst (λ x. StandsAt layout x r (b ++ used) (es ++ [])) (sym ph) (
-    a.whole,
-    subst (λ x. CutSteps b used a.whole x r.cutter) is a.cuts,
-    a.keeps,
-    append-nil es ∙ a.events_are,
-    a.open_is,
-  );
-}
-
 pub at_kept : (layout : LayoutTable) (r : FileReader) (b used : List ℕ) (es : List Placed) (cut : Cut) → AtCut layout r cut b used es → cut ≡ Kept
     → AtLine layout r r.cutter.bytes.items (b ++ used) es
 at_kept layout r b used es cut a is = record {
@@ -339,13 +323,6 @@ first_given layout r b es told s n = by_phase r.phase refl s.phase_is
     by_phase (phases.Waiting o) e at = inl (_, sym at.0 ∙ ap (known_events layout b) n)
     by_phase (phases.Done o) e (inl h, l) = inl ([], append-nil es ∙ h ∙ ap (known_events layout b) n)
     by_phase (phases.Done o) e (inr h, l) = inr (subst (λ x. IsCutOff (known_lines layout b x) es) n h)
-
--- once Ended is given, the events given are all
-pub all_given : (layout : LayoutTable) (r : FileReader) (b : List ℕ) (es : List Placed) (told : Option Ending) (o : Outcome) → Stands layout r b es
-    → r.ending ≡ told → r.phase ≡ phases.Done o → HasEvents layout b told es
-all_given layout r b es told o s n d =
-    let at : StandsAt layout (phases.Done o) r b es = subst (λ x. StandsAt layout x r b es) d s.phase_is in
-    subst (λ x. HasEvents layout b x es) n at.0
 
 -- a reader is done exactly if Ended was given
 pub done_ended : (layout : LayoutTable) (r : FileReader) (b : List ℕ) (es : List Placed) → Stands layout r b es

@@ -9,7 +9,6 @@ use Rattle.std.proofs.lemmas.List.Elements.{filter_map-append}
 use Rattle.std.proofs.lemmas.List.Folds.{list_all-append, list_any-append}
 use Rattle.std.specs.List.{onto_first, filter_map, list_any, list_all}
 use Rattle.std.specs.Str.{bytes_eq}
-use Rattle.dsr_records.specs.Reads.{id_of_record, kind_of_record}
 use Rattle.dsr_records.specs.Records.{or_else}
 use Rattle.dsr_records.specs.declared.kinds.Kind.{Kind}
 use Rattle.dsr_records.specs.declared.kinds.Kind.TheVariants as kinds
@@ -31,7 +30,7 @@ use Rattle.dsr_file.specs.declared.stage.Stage.TheVariants.{Start, Front, Open, 
 use Rattle.dsr_file.specs.Parts.{parts, opens, but_last, closed, block_limit, has_id, summaries, works, usages, works_then_usages, is_usage, block_of}
 use Rattle.dsr_file.specs.Parts.{opening_of, opened, events_of}
 use Rattle.dsr_file.specs.Faults.{column, place, fault_if, summary_fault, member_fault, early_fault}
-use Rattle.dsr_file.specs.Stages.{column_at, block_length, stage_fault, given_by, stage_after, records_of, IsOpen, KeepsStage, IsFree}
+use Rattle.dsr_file.specs.Stages.{column_at, block_length, stage_fault, given_by, stage_after, records_of, IsOpen, KeepsStage}
 use Rattle.dsr_file.specs.Grammars.{IsRecord}
 use Rattle.dsr_file.specs.Counting.{block_count}
 use Rattle.dsr_file.proofs.StageLemmas.{column_kept, fault_agrees}
@@ -390,22 +389,3 @@ step_record stage rs (the.Work w) i k e = step_work stage rs w k (fault_agrees s
 step_record stage rs (the.Usage u) i k e = step_usage stage rs u k (fault_agrees stage rs (the.Usage u) k ∙ e)
 step_record stage rs (the.Foot f) i k e = step_foot stage rs f k (sym (ap (λ c. place c kinds.Foot) (column_kept stage rs k)) ∙ e)
 step_record stage rs the.Skipped i k e = absurd i
-
--- there is room for a record with no early fault
-pub free_record : (stage : Stage) (r : Record) → stage_fault stage (kind_of_record r) (id_of_record r) ≡ None → IsFree stage r
-free_record Start (the.Work w) e = tt
-free_record (Front o) (the.Work w) e = tt
-free_record (Open b) (the.Work w) e = below_limit _ (member_ok b.id w.block_id _ (or_else_second (place (column_at (Open b)) kinds.Work) _ e)).1
-free_record Closed (the.Work w) e = tt
-free_record Start (the.Usage w) e = tt
-free_record (Front o) (the.Usage w) e = tt
-free_record (Open b) (the.Usage w) e = below_limit _ (member_ok b.id w.block_id _ (or_else_second (place (column_at (Open b)) kinds.Usage) _ e)).1
-free_record Closed (the.Usage w) e = tt
-free_record stage (the.Head h) e = tt
-free_record Start (the.Summary s) e = tt
-free_record (Open b) (the.Summary s) e = tt
-free_record Closed (the.Summary s) e = tt
-free_record (Front o) (the.Summary s) e = fault_if_false _ _ (or_else_first _ _ e)
-free_record stage (the.Resource r) e = tt
-free_record stage (the.Foot f) e = tt
-free_record stage the.Skipped e = tt

@@ -1,6 +1,6 @@
 -- The opening of files.
-use Rattle.std.proofs.Common.{◌≡◌, ℕ, zero, suc, ◌<◌, Bool, List, [], ◌∷◌, ◌++◌, length, get_or, true, false, cond, refl, sym, ◌∙◌, ap, true≢false, arith}
-use Rattle.std.specs.Prelude.{Option, None, Some, option_map, is_some, find, ◌||◌}
+use Rattle.std.proofs.Common.{◌≡◌, ℕ, zero, suc, ◌<◌, Bool, List, [], ◌∷◌, ◌++◌, length, get_or, true, false, cond, refl, sym, ◌∙◌, ap, arith}
+use Rattle.std.specs.Prelude.{Option, None, Some, option_map, find, ◌||◌}
 use Rattle.std.specs.List.{list_any}
 use Rattle.std.specs.Str.{bytes_eq}
 use Rattle.std.proofs.lemmas.Slice.Eq.{bytes_eq-Decides}
@@ -17,7 +17,6 @@ use Rattle.dsr_ledger.specs.Files.{is_same_report, same_day, has_number_of, firs
 use Rattle.dsr_ledger.specs.Summaries.{found_in, no_sums, nothing_found}
 use Rattle.dsr_ledger.specs.Openings.{first_of, named, openings_of}
 use Rattle.dsr_ledger.specs.declared.file.FileBooks.{FileBooks}
-use Rattle.dsr_ledger.proofs.TextLemmas.{same_text}
 
 same_day-itself : (d : CivilDay) → same_day d d ≡ true
 same_day-itself d =
@@ -50,24 +49,6 @@ pub sums_added : (o : Option SummaryState) (n : ℕ) (p : Option Summary)
 sums_added (Some s) n p = refl
 sums_added None n None = refl
 sums_added None n (Some s) = refl
-
-first_absent : {X : Type 0} (o p : Option X) → is_some o ≡ false → p ≡ first_of o p
-first_absent None p e = refl
-first_absent (Some x) p e = absurd (true≢false e)
-
-first_alone : {X : Type 0} (o : Option X) → o ≡ first_of o None
-first_alone None = refl
-first_alone (Some x) = refl
-
--- a new name
-pub added_one : {X : Type 0} (was is : List ℕ → Option X) (k : List ℕ) (x : X) → is_some (was k) ≡ false
-    → ((q : List ℕ) → is q ≡ cond (bytes_eq q k) (Some x) (was q)) → (id : List ℕ) → is id ≡ first_of (was id) (cond (bytes_eq id k) (Some x) None)
-added_one was is k x absent put id =
-    put id
-    ∙ elim (bytes_eq id k) as (λ b. bytes_eq id k ≡ b → cond b (Some x) (was id) ≡ first_of (was id) (cond b (Some x) None)) [
-      | true ↦ λ e. first_absent (was id) (Some x) (ap (λ n. is_some (was n)) (same_text id k e) ∙ absent)
-      | false ↦ λ _. first_alone (was id)
-    ] refl
 
 -- the number of file i is taken
 pub taken_here : (h : Head) (fs : List FileBooks) (i : ℕ) (f : FileBooks) → i < length fs → f ≡ get_or fs i f → has_number_of h f.opening ≡ true

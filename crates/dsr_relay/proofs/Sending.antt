@@ -24,9 +24,6 @@ sent_out v w n m batch rest e same none =
 pub has_room : (batch : List Placed) (e : Placed) → goes_out batch e ≡ false → length batch ≤ 31 → length batch ≤ 30
 has_room batch e h most = grind arith
 
-pub batch_stays : (batch : List Placed) (e : Placed) → goes_out batch e ≡ false → batch_after batch e ≡ batch ++ e ∷ []
-batch_stays batch e h = rw h refl
-
 pub batch_goes : (batch : List Placed) (e : Placed) → goes_out batch e ≡ true → batch_after batch e ≡ []
 batch_goes batch e h = rw h refl
 
