@@ -16,7 +16,7 @@ use Rattle.dsr_file.specs.declared.event.EventPart.{EventPart}
 use Rattle.dsr_file.specs.declared.grammar.Grammar.{Grammar}
 use Rattle.dsr_file.specs.Readings.{Reading, Holds, kept, records, is_skipped_line, is_skipped_record}
 use Rattle.dsr_file.specs.Parts.{closed, summaries, events_of}
-use Rattle.dsr_file.specs.Faults.{fault_of, early_fault, count_fault}
+use Rattle.dsr_file.specs.Faults.{fault_if, fault_of, early_fault, count_fault}
 use Rattle.dsr_records.specs.Records.{or_else}
 use Rattle.dsr_file.specs.Texts.{counts_fault}
 use Rattle.dsr_file.specs.Stages.{KeepsStage, IsMember, stage_after, given_by}
@@ -83,6 +83,15 @@ module _ (old new : Grammar) where
   resource_has_no_counts (Foot h) e = cc
   resource_has_no_counts Skipped e = refl
 
+summary_added : (item : Record) → length (summaries (item ∷ [])) ≡ summary_count item
+summary_added (Summary s) = refl
+summary_added (Head h) = refl
+summary_added (Resource r) = refl
+summary_added (Work w) = refl
+summary_added (Usage u) = refl
+summary_added (Foot f) = refl
+summary_added Skipped = refl
+
 -- a record that is not of a skipped type is kept
 kept_record : (item : Record) → IsRecord item → kept (Holds item) ≡ item ∷ []
 kept_record (Summary s) i = refl
@@ -92,6 +101,15 @@ kept_record (Work w) i = refl
 kept_record (Usage u) i = refl
 kept_record (Foot f) i = refl
 kept_record Skipped i = absurd i
+
+unskipped : (item : Record) → IsRecord item → is_skipped_record (Holds item) ≡ false
+unskipped (Summary s) i = refl
+unskipped (Head h) i = refl
+unskipped (Resource r) i = refl
+unskipped (Work w) i = refl
+unskipped (Usage u) i = refl
+unskipped (Foot f) i = refl
+unskipped Skipped i = absurd i
 
 -- the records after a line that holds the item
 pub with_item : (ls : List Reading) (item : Record) → IsRecord item → records (ls ++ Holds item ∷ []) ≡ records ls ++ item ∷ []
@@ -105,6 +123,23 @@ count_by_push_yes p xs x e = sum_by-append (λ y. cond (p y) 1 0) xs (x ∷ []) 
 
 some_same : (f g : FileFault) → Some f ≡ Some g → f ≡ g
 some_same f g e = cc
+
+one_of_three : (a b c : Bool) (f : FileFault) → or_else (fault_if a faults.FootLines) (or_else (fault_if b faults.FootSummaries) (fault_if c faults.FootBlocks))
+    ≡ Some f → counts_fault f ≡ true
+one_of_three true b c f e = ap counts_fault (some_same _ _ (sym e))
+one_of_three false true c f e = ap counts_fault (some_same _ _ (sym e))
+one_of_three false false true f e = ap counts_fault (some_same _ _ (sym e))
+one_of_three false false false f e = cc
+
+-- a fault of the counts is one of the three
+count_faults : (g : Grammar) (item : Record) (f : FileFault) → option_and_then (kept_count_fault g) (foot_in item) ≡ Some f → counts_fault f ≡ true
+count_faults g (Foot t) f e = one_of_three _ _ _ f e
+count_faults g (Head h) f e = cc
+count_faults g (Summary s) f e = cc
+count_faults g (Resource r) f e = cc
+count_faults g (Work w) f e = cc
+count_faults g (Usage u) f e = cc
+count_faults g Skipped f e = cc
 
 module _ (old new : Grammar) (ls : List Reading) (item : Record) (part : Option EventPart) (k : Keeps old ls) (e : early_fault (records ls) item ≡ None)
     (i : IsRecord item) (a : Adds old new item part) where

@@ -19,6 +19,9 @@ use Rattle.dsr_file.proofs.LawLemmas.{so_far_begins_lem}
 use Rattle.dsr_file.proofs.RunLemmas.{cut_off_run, cut_off_later}
 use Rattle.dsr_file.proofs.StandLemmas.{stands_joined}
 
+pub prefix_self : {A : Type 0} (xs : List A) → IsPrefix xs xs
+prefix_self xs = ([], append-nil xs)
+
 pub prefix_more : {A : Type 0} (xs ys zs : List A) → IsPrefix xs ys → IsPrefix ys zs → IsPrefix xs zs
 prefix_more xs ys zs p q = (p.0 ++ q.0, sym (append_assoc xs p.0 q.0) ∙ ap (λ l. l ++ q.0) p.1 ∙ q.1)
 

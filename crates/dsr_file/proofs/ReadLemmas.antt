@@ -28,13 +28,28 @@ use Rattle.dsr_file.specs.Standing.{Stands, StandsAt, IsDone}
 use Rattle.dsr_file.specs.Feeding.{Fed, FedSome, Reads}
 use Rattle.dsr_file.proofs.LawLemmas.{fault_is_final_lem}
 use Rattle.dsr_file.proofs.RunLemmas.{cut_off_is, cut_off_later}
-use Rattle.dsr_file.proofs.StandLemmas.{ends_has_ended, done_ended}
+use Rattle.dsr_file.proofs.StandLemmas.{ended_last, ends_has_ended, done_ended}
 use Rattle.dsr_file.proofs.EndLemmas.{events_later}
 use Rattle.dsr_file.proofs.PartLemmas.{last_of_push}
 use Rattle.dsr_file.proofs.FeedLemmas.{prefix_self, prefix_more, begins_later, begins_run}
 
 not_both : true ≡ false → ⊥
 not_both e = cc
+
+pub consumes_more : (old mid new : Option (List ℕ)) (x y : List ℕ) → Consumes old mid x → Consumes mid new y → Consumes old new (x ++ y)
+consumes_more None mid new x y p q = tt
+consumes_more (Some a) None new x y p q = absurd p
+consumes_more (Some a) (Some b) None x y p q = absurd q
+consumes_more (Some a) (Some b) (Some c) x y p q = p ∙ ap (λ z. x ++ z) q ∙ sym (append_assoc x y c)
+
+pub consumes_kept : (old mid new : Option (List ℕ)) (x : List ℕ) → Consumes old mid x → Keeps mid new → Consumes old new x
+consumes_kept None mid new x p q = tt
+consumes_kept (Some a) None new x p q = absurd p
+consumes_kept (Some a) (Some b) None x p q = absurd q
+consumes_kept (Some a) (Some b) (Some c) x p q = p ∙ ap (λ z. x ++ z) (sym q)
+
+pub consumes_none : (old mid new : Option (List ℕ)) (x : List ℕ) → Consumes old mid x → Consumes mid new [] → Consumes old new x
+consumes_none old mid new x p q = subst (Consumes old new) (append-nil x) (consumes_more old mid new x [] p q)
 
 consumes_self : (x : Option (List ℕ)) → Consumes x x []
 consumes_self None = tt
@@ -52,6 +67,25 @@ nothing_known layout = refl
 none_before : (reads : ReadCount) → before_last reads [] ≡ []
 none_before reads = take-nil (0 - reads.last)
 
+-- the events of the bytes given before the last read stay at the front
+earlier_more : (layout : LayoutTable) (reads : ReadCount) (given : List ℕ) (es fs : List Placed)
+    → HasEarlier layout reads given es → IsPrefix es fs → HasEarlier layout reads given fs
+earlier_more layout reads given es fs h grows = prefix_more _ es fs h grows
+
+-- the last read gave nothing
+earlier_all : (layout : LayoutTable) (reads : ReadCount) (given : List ℕ) (es : List Placed)
+    → reads.last ≡ 0 → IsPrefix (so_far layout given) es → HasEarlier layout reads given es
+earlier_all layout reads given es none h =
+    subst (λ b. IsPrefix (so_far layout b) es) (sym (ap (λ n. take (length given - n) given) none ∙ take_all (length given - 0) given (omega arith))) h
+
+-- reads, and then more reads
+answered_more : (old mid new : ReadCount) (reads filled more some : ℕ) → Answered old mid reads filled → Answered mid new more some
+    → Answered old new (reads + more) (filled + some)
+answered_more old mid new reads filled more some a b = (
+  λ less. omega (arith, a.0 (omega arith), b.0 (omega (arith, a.0 (omega arith)))),
+  λ less. omega (arith, a.1 (omega arith), b.1 (omega (arith, a.1 (omega arith)))),
+)
+
 -- before the first read
 pub no_reads : (layout : LayoutTable) (told : Told) (r : FileReader) (es : List Placed) → Stands layout r [] es → Reads layout told told 0 r es
 no_reads layout told r es s = record {
@@ -66,6 +100,31 @@ no_reads layout told r es s = record {
   going = nothing_ended layout;
   kept = refl;
 }
+
+-- the text ends
+end_read : (layout : LayoutTable) (limit : ℕ) (before after : Told) (given : List ℕ) (ending : Ending) (es : List Placed)
+    → Stopped layout limit before after given (Some ending) → HasEarlier layout after.reads given es → HasEvents layout given (Some ending) es
+    → IsRead layout limit before after es
+end_read layout limit before after given ending es s first (inl h) = inl (record { bytes = given; ending = ending }, inl s, h)
+end_read layout limit before after given ending es s first (inr h) = inr (given, Some ending, s, h, first)
+
+end_refused : (layout : LayoutTable) (limit : ℕ) (before after : Told) (given : List ℕ) (ending : Ending) (es : List Placed) (e : Placed)
+    → (gave : Gave limit before after given) → gave.reads ≤ gave.filled + 1 → HasEarlier layout after.reads given es
+    → BeginsEvents layout given (Some ending) (es ++ e ∷ []) → IsRefused layout limit before after es e
+end_refused layout limit before after given ending es e g once first h =
+    let text : FileText = record { bytes = given; ending = ending } in
+    (text, given, g, ([], append-nil given), begins_run layout text (es ++ e ∷ []) h, once, first)
+
+cut_off_ended : (layout : LayoutTable) (b : List ℕ) (es : List Placed) → HasEvents layout b None es → has_ended es ≡ false → es ≡ so_far layout b
+cut_off_ended layout b es (inl h) n = h
+cut_off_ended layout b es (inr c) n =
+    let front = placed 0 (events_of (records c.before)) in
+    absurd (not_both (sym (ap has_ended (cut_off_is (readings layout b endings.Read) es c)
+    ∙ ended_last front (length front) (outcomes.Fault (length c.before + 1) faults.Memory)) ∙ n))
+
+ended_not : (b : Bool) → (b ≡ true → ⊥) → b ≡ false
+ended_not true n = absurd (n refl)
+ended_not false n = refl
 
 -- a read gave this piece, after `reads` reads that each gave bytes
 module _ (layout : LayoutTable) (before mid after : Told) (reads limit : ℕ) (file new : FileReader) (es fs : List Placed)

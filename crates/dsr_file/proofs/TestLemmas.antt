@@ -24,7 +24,7 @@ use Rattle.dsr_file.specs.declared.grammar.Step.TheVariants.{Good, Faulty}
 use Rattle.dsr_file.specs.declared.stage.Before.{Before}
 use Rattle.dsr_file.specs.declared.stage.Before.TheVariants as columns
 use Rattle.dsr_file.specs.declared.stage.Stage.{Stage}
-use Rattle.dsr_file.specs.Readings.{Reading, Holds, SkippedLine, reading, of_text, of_utf8, of_record, is_skipped_text, records, is_skipped_line}
+use Rattle.dsr_file.specs.Readings.{Reading, Holds, SkippedLine, reading, of_text, of_utf8, of_record, is_skipped_text, kept, records, is_skipped_line}
 use Rattle.dsr_file.specs.Readings.{is_skipped_record, file_fault}
 use Rattle.dsr_file.specs.Readings as line
 use Rattle.dsr_file.specs.Parts.{closed, summaries, events_of, last_of}

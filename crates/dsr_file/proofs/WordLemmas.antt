@@ -5,7 +5,7 @@ use Rattle.std.specs.Str.{bytes_eq}
 use Rattle.std.specs.Cmp.{both_ways, first_so, second_so}
 use Rattle.std.specs.Cmp.Derive.{both_true}
 use Rattle.std.proofs.lemmas.Bool.Decides.{Decides-eqb}
-use Rattle.std.proofs.lemmas.List.{length-take, length-drop}
+use Rattle.std.proofs.lemmas.List.{drop-drop, take-append-drop, length-take, length-drop, take_all}
 use Rattle.std.proofs.lemmas.Nat.{le_bytes_4, le_bytes_8}
 use Rattle.std.proofs.lemmas.Slice.Eq.{bytes_eq-Decides}
 use Rattle.dsr_cells.specs.Order.{AreBytes}
@@ -20,6 +20,17 @@ told_by_4 xs ys l l' small small' e = sym (le_bytes_4 xs (from_le_bytes w32 xs) 
 
 told_by_8 : IsInjective 8 (from_le_bytes w64)
 told_by_8 xs ys l l' small small' e = sym (le_bytes_8 xs (from_le_bytes w64 xs) l small refl) ∙ le_bytes_8 ys (from_le_bytes w64 xs) l' small' e
+
+-- a run consists of its first bytes and of what its last ones have behind them
+in_halves : (half : ℕ) (xs : List ℕ) → half ≤ length xs → length xs ≤ half + half
+    → xs ≡ take half xs ++ drop (half + half - length xs) (take half (drop (length xs - half) xs))
+in_halves half xs long short =
+    let last = length xs - half in
+    let behind : last + (half + half - length xs) ≡ half = omega (arith, long, short) in
+    let back : drop (half + half - length xs) (take half (drop last xs)) ≡ drop half xs =
+    ap (drop (half + half - length xs)) (take_all half (drop last xs) (omega (arith, long, length-drop last xs)))
+    ∙ drop-drop (half + half - length xs) last xs ∙ ap (λ k. drop k xs) behind in
+    sym (ap (λ t. take half xs ++ t) back ∙ take-append-drop half xs)
 
 module _ (half : ℕ) (read : List ℕ → ℕ) (told : IsInjective half read) (xs ys : List ℕ) (same : length xs ≡ length ys) (long : half ≤ length xs)
     (short : length xs ≤ half + half) (small : AreBytes xs) (small' : AreBytes ys) where

@@ -1,11 +1,11 @@
 -- What holds while the threads are started, and while they are joined.
 use Rattle.std.proofs.Common.{◌≡◌, false, List, [], ◌∷◌, ◌++◌, map, All, refl, sym, ap, subst, ◌∙◌, append_assoc}
 use Rattle.std.proofs.lemmas.List.{append-nil, map-append}
-use Rattle.std.proofs.lemmas.List.Elements.{All-head, All-tail, All-append}
+use Rattle.std.proofs.lemmas.List.Elements.{All-head, All-tail, All-cons, All-append, All-nil}
 use Rattle.dsr_file.specs.Placed.{Placed}
 use Rattle.dsr_file.specs.Orderly.{IsOrderly}
 use Rattle.dsr_file.specs.Runs.{FileText, events_of_text}
-use Rattle.dsr_file.specs.Sources.{Told}
+use Rattle.dsr_file.specs.Sources.{Told, GaveText}
 use Rattle.dsr_relay.specs.declared.name.Name.{Name}
 use Rattle.dsr_relay.specs.Views.{TapView}
 use Rattle.dsr_records.specs.Records.{LayoutTable}
@@ -15,6 +15,19 @@ use Rattle.dsr_intake.specs.inner.Collecting.{IsDrained}
 use Rattle.dsr_intake.specs.inner.Given.{IsGiven}
 use Rattle.dsr_intake.specs.meaning.Texts.{GaveEach, file_of}
 use Rattle.dsr_intake.proofs.EndLemmas.{clean_is_whole}
+
+All-one : {A : Type 0} (P : A → Type 0) (x : A) → P x → All P (x ∷ [])
+All-one P x h = All-cons P x [] h (All-nil P)
+
+gave_more : {R : Type 0} (told : R → Told) (options : Options) (rs ss : List R) (ts : List FileText) (r s : R) (t : FileText)
+    → GaveEach told options rs ss ts → GaveText options.layout options.max_reads (told r) (told s) t
+    → GaveEach told options (rs ++ r ∷ []) (ss ++ s ∷ []) (ts ++ t ∷ [])
+gave_more told options [] [] [] r s t h new = (new, tt)
+gave_more told options (x ∷ rs) (y ∷ ss) (z ∷ ts) r s t h new = (h.0, gave_more told options rs ss ts r s t h.1 new)
+gave_more told options [] [] (z ∷ ts) r s t h new = absurd h
+gave_more told options [] (y ∷ ss) ts r s t h new = absurd h
+gave_more told options (x ∷ rs) [] ts r s t h new = absurd h
+gave_more told options (x ∷ rs) (y ∷ ss) [] r s t h new = absurd h
 
 -- `H` is a handle of a thread; `reader`, `name` and `terms` give what the thread was given
 module _ {R H : Type 0} (told : R → Told) (options : Options) (reader : H → R) (name : H → Name) (terms : H → Options) where

@@ -3,7 +3,7 @@ use Rattle.std.proofs.Common.{arith, ◌≡◌, ℕ, ◌+◌, ◌-◌, ◌^◌, 
 use Rattle.std.proofs.Common.{Result, Ok, Err, IfErr}
 use Rattle.std.specs.Result.{OnOk}
 use Rattle.std.proofs.Math.Seq.{take-append-add}
-use Rattle.std.proofs.lemmas.List.{append-nil}
+use Rattle.std.proofs.lemmas.List.{append-nil, take-append-le}
 use Rattle.std.proofs.KnownBytes.{Appends-trans}
 use Rattle.dsr_intake.specs.meaning.Written.{Written, IsCut}
 use Rattle.dsr_intake.specs.inner.Pieces.{IsCount, IsBroken, IsSent, Holds, Carries}
@@ -27,6 +27,15 @@ cut_after sent bytes w k v a b c h t e = (
     };
   },
 )
+
+-- once the outlet has failed, more may count as sent
+broken_more : (sent bytes : List ℕ) (w n : ℕ) (a b : Written) → IsBroken sent w n a b → IsBroken (sent ++ bytes) w n a b
+broken_more sent bytes w n a b h =
+    record {
+      part = omega (arith, h.part, length-append sent bytes);
+      count = h.count;
+      cut = rw (take-append-le n sent bytes h.part) h.cut;
+    }
 
 module _ {W : Type 0} (told : W → Written) where
   pub carry_nothing : (p : Pieces W) → Carries told p p []

@@ -2,9 +2,10 @@
 use Rattle.std.proofs.Common.{◌≡◌, ℕ, zero, suc, ◌+◌, ◌<◌, ◌≤◌, Bool, true, false, cond, true≢false, List, [], ◌∷◌, ◌++◌, length, take, set, get_or, ◌⊎◌, inl}
 use Rattle.std.proofs.Common.{inr, ⊎_elim, refl, sym, ap, ◌∙◌, arith}
 use Rattle.std.specs.Prelude.{Option, None, Some, slice_get, unwrap_or}
-use Rattle.std.specs.List.{position}
+use Rattle.std.specs.List.{position, position_from}
 use Rattle.std.specs.Option.{option_map_or}
 use Rattle.std.specs.Bool.{Decides}
+use Rattle.std.proofs.lemmas.Iterator.Adapters.{position_from-zero}
 use Rattle.std.proofs.lemmas.List.Quantifiers.{position-Some}
 use Rattle.dsr_ledger.specs.Numbered.{IsNumbered, Grows, read_at}
 
@@ -114,6 +115,49 @@ module _ {K : Type 0} (same : K → K → Bool) (decides : (a b : K) → Decides
         by (x ∷ vs) zero (suc j) at = refl
         by (x ∷ vs) (suc i) zero at = refl
         by (x ∷ vs) (suc i) (suc j) at = by vs i j at
+
+-- the place of a key among keys: one more element
+position_from-push : {X : Type 0} (p : X → Bool) (xs : List X) (y : X) (n : ℕ) → (p y ≡ true → position_from p n xs ≡ None)
+    → position_from p n (xs ++ y ∷ []) ≡ cond (p y) (Some (n + length xs)) (position_from p n xs)
+position_from-push p [] y n h = ap (λ m. cond (p y) (Some m) None) (omega arith)
+position_from-push p (x ∷ xs) y n h =
+    elim (p x) as (λ b. (p y ≡ true → cond b (Some n) (position_from p (n + 1) xs) ≡ None)
+    → cond b (Some n) (position_from p (n + 1) (xs ++ y ∷ [])) ≡ cond (p y) (Some (n + suc (length xs))) (cond b (Some n) (position_from p (n + 1) xs))) [
+      | true ↦ λ k. elim (p y) as (λ b. p y ≡ b → Some n ≡ cond b (Some (n + suc (length xs))) (Some n)) [
+        | true ↦ λ e. absurd (not_Some n (sym (k e)))
+        | false ↦ λ _. refl
+      ] refl
+      | false ↦ λ k. position_from-push p xs y (n + 1) k ∙ ap (λ m. cond (p y) (Some m) (position_from p (n + 1) xs)) (omega arith)
+    ] h
+
+pub position-push : {X : Type 0} (p : X → Bool) (xs : List X) (y : X) → (p y ≡ true → position p xs ≡ None)
+    → position p (xs ++ y ∷ []) ≡ cond (p y) (Some (length xs)) (position p xs)
+position-push p xs y h =
+    position_from-zero p (xs ++ y ∷ [])
+    ∙ position_from-push p xs y 0 (λ e. sym (position_from-zero p xs) ∙ h e)
+    ∙ ap (λ m. cond (p y) (Some m) (position_from p 0 xs)) (omega arith)
+    ∙ ap (cond (p y) (Some (length xs))) (sym (position_from-zero p xs))
+
+-- if none of the first i elements passes
+position_from-taken : {X : Type 0} (p : X → Bool) (xs : List X) (i n : ℕ) (d : X) → i ≤ length xs → ((k : ℕ) → k < i → p (get_or xs k d) ≡ false)
+    → position_from p n (take i xs) ≡ None
+position_from-taken p xs zero n d le h = refl
+position_from-taken p [] (suc i) n d le h = absurd (omega arith)
+position_from-taken p (x ∷ xs) (suc i) n d le h =
+    ap (λ b. cond b (Some n) (position_from p (n + 1) (take i xs))) (h zero (omega arith))
+    ∙ position_from-taken p xs i (n + 1) d (omega arith) (λ k l. h (suc k) (omega arith))
+
+-- the elements before the first that passes
+pub position-before : {X : Type 0} (p : X → Bool) (xs : List X) (i : ℕ) (d : X) → position p xs ≡ Some i → position p (take i xs) ≡ None
+position-before p xs i d e =
+    let first = position-Some p xs i d e in
+    position_from-zero p (take i xs) ∙ position_from-taken p xs i 0 d (let within = first.0 in omega arith) first.2
+
+pushed_at : {X : Type 0} (xs : List X) (y : X) (i : ℕ) (x : X) → slice_get (xs ++ y ∷ []) i ≡ Some x → (slice_get xs i ≡ Some x) ⊎ ((i ≡ length xs) × (y ≡ x))
+pushed_at [] y zero x e = inr (refl, same_Some y x e)
+pushed_at [] y (suc i) x e = absurd (not_Some x e)
+pushed_at (z ∷ xs) y zero x e = inl e
+pushed_at (z ∷ xs) y (suc i) x e = ⊎_elim (λ before. inl before) (λ last. inr (ap suc last.0, last.1)) (pushed_at xs y i x e)
 
 module _ {K : Type 0} (same : K → K → Bool) (decides : (a b : K) → Decides (same a b) (a ≡ b)) where
   abbrev place : List K → K → Option ℕ

@@ -5,7 +5,7 @@ use Rattle.std.specs.Option.{option_and_then}
 use Rattle.std.specs.Bool.{Decides}
 use Rattle.std.proofs.lemmas.Bool.Decides.{Decides-eqb}
 use Rattle.dsr_ledger.specs.Numbered.{IsNumbered, place_in, place_by, AreBelow}
-use Rattle.dsr_ledger.proofs.NumberedLemmas.{same_Some, not_Some, place_more}
+use Rattle.dsr_ledger.proofs.NumberedLemmas.{same_Some, not_Some, place_more, places_are_numbered}
 
 pub same_number : (a b : ℕ) → Decides (nat_eq a b) (a ≡ b)
 same_number a b = Decides-eqb a b
@@ -14,6 +14,9 @@ same_number a b = Decides-eqb a b
 pub by_number : (ns : List ℕ) (o : Option ℕ) (i : ℕ) → option_and_then (place_in ns) o ≡ Some i → (n : ℕ) × (o ≡ Some n) × (place_in ns n ≡ Some i)
 by_number ns None i e = absurd (not_Some i e)
 by_number ns (Some n) i e = (n, refl, e)
+
+pub numbers_are_numbered : (ns : List ℕ) → IsNumbered (place_in ns) (length ns)
+numbers_are_numbered ns = places_are_numbered nat_eq same_number ns
 
 module _ {K : Type 0} where
   pub by_numbered : (number : K → Option ℕ) (m : ℕ) (ns : List ℕ) → IsNumbered number m → IsNumbered (place_by number ns) (length ns)

@@ -12,6 +12,7 @@ use Rattle.std.specs.Cmp.{tied_itself, eq_by_cmp_equiv}
 use Rattle.std.specs.Cmp.Lexicographic.{nat_list_cmp_total}
 use Rattle.std.specs.Map.{keys_of}
 use Rattle.std.specs.Ordering.{eq_by_cmp, ordering_then}
+use Rattle.std.specs.declared.cmp.Ordering.{Ordering}
 use Rattle.std.specs.declared.cmp.Ordering.TheVariants.{Less}
 use Rattle.std.proofs.lemmas.Bool.{lt-ltb}
 use Rattle.std.proofs.lemmas.List.{map-append, map_more, drop_more}
@@ -29,16 +30,16 @@ use Rattle.dsr_ledger.specs.Keys.{text_cmp, key_cmp, key_eq}
 use Rattle.dsr_ledger.specs.SummaryKeys.{summary_key_cmp, summary_key_in}
 use Rattle.dsr_ledger.specs.Numbered.{AreApart, read_at, place_by}
 use Rattle.dsr_ledger.specs.Bookings.{Booking, key_under}
-use Rattle.dsr_ledger.specs.Ledger.{at_key, line_of, ledger}
+use Rattle.dsr_ledger.specs.Ledger.{is_at_key, at_key, line_of, ledger}
 use Rattle.dsr_ledger.specs.Recordings.{tally_at, recording_tally, party_number, key_number, seat_of}
 use Rattle.dsr_ledger.specs.Seats.{seat_numbers}
 use Rattle.dsr_ledger.specs.Tallies.{no_tally, line_tally, lines_tally, line_keys, key_tally}
 use Rattle.dsr_ledger.specs.Stands.{LedgerStands}
-use Rattle.dsr_ledger.specs.Order.{AreOfSmall}
+use Rattle.dsr_ledger.specs.Order.{IsSmall, AreSmall, AreOfSmall}
 use Rattle.dsr_ledger.specs.Listed.{AreListed, AddsLines, HasBookings, IsRecordingOf, IsSeatedLine, booked_lines, entries_under, key_in, party_in}
 use Rattle.dsr_ledger.specs.Listed.{line_for, lent}
 use Rattle.dsr_ledger.proofs.KeyLemmas.{key_total, key_exact, key_ties}
-use Rattle.dsr_ledger.proofs.EachLemmas.{each_append}
+use Rattle.dsr_ledger.proofs.EachLemmas.{each_append, each_filter}
 use Rattle.dsr_ledger.proofs.ListedLemmas.{mapped, taken, there}
 use Rattle.dsr_ledger.proofs.OrderLemmas.{in_order_is}
 
@@ -51,6 +52,9 @@ module _ {X Y : Type 0} (f : X → Y) (p : X → Bool) (xs : List X) (x : X) whe
   pub more_left : p x ≡ false → map f (filter p (xs ++ x ∷ [])) ≡ map f (filter p xs)
   more_left h =
       ap (map f) (filter-append p xs (x ∷ []) ∙ ap (λ b. filter p xs ++ cond b (x ∷ []) []) h ∙ append-nil (filter p xs))
+
+both_kept : {X Y : Type 0} (f : X → Y) (p : X → Bool) (xs ys : List X) → map f (filter p (xs ++ ys)) ≡ map f (filter p xs) ++ map f (filter p ys)
+both_kept f p xs ys = ap (map f) (filter-append p xs ys) ∙ map-append f (filter p xs) (filter p ys)
 
 -- what is read of the value at a place
 pub read_is : {V W : Type 0} (read : V → W) (none : W) (vs : List V) (o : Option ℕ)
@@ -94,6 +98,13 @@ fewer : {X : Type 0} (p : X → Bool) (xs : List X) → length (filter p xs) ≤
 fewer p [] = omega arith
 fewer p (x ∷ xs) = let rest =
     fewer p xs in elim (p x) as (λ b. length (cond b (x ∷ filter p xs) (filter p xs)) ≤ suc (length xs)) [ true ↦ omega arith | false ↦ omega arith ]
+
+-- the bookings of a key are small if all are
+pub small_at : (key : Key) (bs : List Booking) → AreSmall bs → AreSmall (at_key key bs)
+small_at key bs h = record {
+  few = let less = fewer (is_at_key key) bs in let few = h.few in omega arith;
+  each = each_filter IsSmall (is_at_key key) bs h.each;
+}
 
 -- a line of a recording that is listed
 module _ (ps : List (List ℕ)) (ks : List SummaryKey) (isrc : List ℕ) (r : Recording) (is : IsRecordingOf ps ks isrc r) (k : SummaryKey) (l : Line)
@@ -146,6 +157,8 @@ module _ (bs : List Booking) (isrc : List ℕ) (items : List (SummaryKey × Line
       (own_key, item.1) has))
       ∙ ap (λ es. old ++ booked_lines bs es) (sym one_more)
 
+sorted_append : {K : Type 0} (R : K → K → Ordering) (ks ls : List K) → IsStrictlySortedBy R ks → IsStrictlySortedBy R ls
+    → AllByRecursion (λ k. AllByRecursion (λ l. R k l ≡ Less) ls) ks → IsStrictlySortedBy R (ks ++ ls)
 unfolding IsStrictlySortedBy
 sorted_append R [] ls s t h = t
 sorted_append {K} R (k ∷ ks) ls s t h = (above ks s.0, sorted_append R ks ls s.1 t h.1)

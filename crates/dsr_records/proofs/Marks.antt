@@ -1,7 +1,7 @@
 -- Lemmas on the TABs of bytes as a bit mask.
 use Rattle.std.proofs.Common.{◌≡◌, ◌+◌, ◌-◌, ◌*◌, ◌/◌, ◌%◌, ◌^◌, ◌<◌, ◌≤◌, ℕ, zero, suc, Bool, List, [], ◌∷◌, length, map, take, drop, get_or, cond, true}
 use Rattle.std.proofs.Common.{false, eqb, refl, sym, ap, subst, ◌∙◌, arith, inl, inr, bit_or, min, w64, pow_mono, pow-suc, mul_comm, div-one}
-use Rattle.std.proofs.Common.{mod-eq_of_lt, ◌++◌, count_by, length-append}
+use Rattle.std.proofs.Common.{mod-eq_of_lt, mul-lt-mul_of_pos_right, ◌++◌, count_by, length-append}
 use Rattle.std.specs.Int.{bit_at, from_bool}
 use Rattle.std.specs.List.{filter, position_or_len}
 use Rattle.std.specs.Simd.Lanes.{chunk, mask_l}
@@ -11,7 +11,8 @@ use Rattle.std.proofs.lemmas.List.{take-append-drop}
 use Rattle.std.proofs.lemmas.List.Elements.{filter-append}
 use Rattle.std.proofs.lemmas.List.Splits.{length-slice_split}
 use Rattle.std.proofs.lemmas.List.Sums.{count_by-le-length, length-filter, position_or_len_is}
-use Rattle.std.proofs.lemmas.Nat.Bits.{bit_at-trailing_zeros, bit_at_or, same_from_bits}
+use Rattle.std.proofs.lemmas.Nat.{pow-add, pow_pos}
+use Rattle.std.proofs.lemmas.Nat.Bits.{bit_at-trailing_zeros, bit_at_or, bit_at_cat_low, bit_at_cat_high, same_from_bits}
 use Rattle.std.proofs.lemmas.Simd.{bit_mask_l, mask_l-lt, ones-mask_l, get_or-chunk, length-chunk}
 use Rattle.std.proofs.Math.ListN.{get_or-map}
 use Rattle.std.proofs.Math.Nat.{zero-div, div-div-eq-div-mul}
@@ -66,6 +67,22 @@ tab_bits-behind text seen place within =
     ∙ ap tab_bits (drop-drop 1 place known)
     ∙ ap (λ n. tab_bits (drop (place + 1) (take n text))) (sym rest)
     ∙ ap tab_bits (drop-take (place + 1) (seen - (place + 1)) text)
+
+-- the bits of 16 bytes from an offset, shifted left by it
+shifted_below : (n place i : ℕ) → i < place → bit_at (n * 2 ^ place) i ≡ 0
+shifted_below n place i low = ap (λ m. bit_at m i) (omega arith) ∙ bit_at_cat_low n place 0 i low ∙ zero_bit
+  where
+    zero_bit : bit_at 0 i ≡ 0
+    zero_bit = bit_at-past [] i (omega arith)
+
+shifted_from : (n place i : ℕ) → place ≤ i → bit_at (n * 2 ^ place) i ≡ bit_at n (i - place)
+shifted_from n place i high = ap (λ m. bit_at m i) (omega arith) ∙ bit_at_cat_high n place 0 i (pow_pos place) high
+
+shifted_fits : (run : List ℕ) (place : ℕ) → length run ≡ 16 → place ≤ 48 → tab_bits run * 2 ^ place < 2 ^ 64
+shifted_fits run place long near =
+    let small : tab_bits run < 2 ^ 16 = subst (λ n. tab_bits run < 2 ^ n) (length-map run is_tab ∙ long) (mask_l-lt (map is_tab run)) in
+    let shift : 2 ^ (16 + place) ≡ 2 ^ 16 * 2 ^ place = pow-add 2 16 place in
+    omega (arith, shift, pow_mono {i = 16 + place} {j = 64} (omega arith), mul-lt-mul_of_pos_right small (pow_pos place))
 
 module _ (bytes : List ℕ) (place seen : ℕ) (within : place + 16 ≤ length bytes) (from : place ≤ seen) (to : seen ≤ place + 16) where
   known_bit : (i : ℕ) → i < seen → bit_at (tab_bits (take seen bytes)) i ≡ mark (get_or bytes i 0)
