@@ -30,8 +30,10 @@ pub mod Openings
 pub mod Books
 pub mod BooksWords
 pub mod Order
+pub mod Taking
 pub mod Listed
 pub mod Assembly
-pub mod LentTexts
+pub mod Booked
+pub mod BookedLines
 pub mod Lent
 pub mod Closed

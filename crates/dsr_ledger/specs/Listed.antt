@@ -24,6 +24,7 @@ use Rattle.dsr_ledger.specs.Order.{AreSmall, IsOfSmall}
 use Rattle.dsr_ledger.specs.Bookings.{Booking, key_under}
 use Rattle.dsr_ledger.specs.Ledger.{at_key, line_of}
 use Rattle.dsr_ledger.specs.Tallies.{key_tally, line_keys, lines_tally}
+use Rattle.dsr_ledger.specs.Taking.{Takes}
 
 -- a map's entries in the order of the keys: each key that has a value once, with the value
 pub record AreListed {K V : Type 0} (cmp : K → K → Ordering) (at : K → Option V) (es : List (K × V)) : Type 0 where
@@ -111,10 +112,11 @@ pub record IsSeatedLine (parties : List (List ℕ)) (numbers : List ℕ) (line :
   pub within : AreBelow (length numbers) (part_seats line.parts.items.items)
   pub small : ∥ IsOfSmall (place_by (party_in parties) numbers) line ∥₁
 
--- the ledger lines of a recording were appended, in the order of their keys
-pub record AddsLines (parties : List (List ℕ)) (keys : List SummaryKey) (isrc : List ℕ) (r : Recording) (old new : List LedgerLine) : Type 0 where
+-- the ledger lines of a recording were taken, in the order of their keys
+pub record AddsLines {T : Type 0} (took : T → T → List LedgerLine → Type 0) (parties : List (List ℕ)) (keys : List SummaryKey) (isrc : List ℕ)
+    (r : Recording) (old new : T) : Type 0 where
   pub entries : List (Key × Line)
   pub order : IsStrictlySortedBy key_cmp (keys_of entries)
   pub own : AllByRecursion (λ e. e.0.isrc ≡ isrc) entries
   pub all : (q : Key) (l : Line) → isrc ≡ q.isrc → line_for keys r.lines.items (summary_key_in q) ≡ Some l → Contains (keys_of entries) q
-  pub lines : (bs : List Booking) → HasBookings parties keys isrc r bs → new ≡ old ++ booked_lines bs entries
+  pub lines : (bs : List Booking) → HasBookings parties keys isrc r bs → Takes took old new (booked_lines bs entries)

@@ -11,6 +11,7 @@ ghost use Rattle.dsr_ledger.specs.Books.{IsReached, Stands};
 pub mod ledger;
 mod lines;
 mod listed;
+mod lists;
 mod ranks;
 mod recordings;
 mod tables;

@@ -1,9 +1,9 @@
 //! Books whose files have all ended.
 ghost use Rattle.dsr_ledger.specs.Order.{AreOfSmall};
 
-use crate::assemble::ledger::ledger_lines;
+use crate::assemble::ledger::BookedLines;
 use crate::ledger::recordings::Ledger;
-use crate::lent::{LentReport, copy_lines};
+use crate::lent::{Copies, LentLedger, LentReport};
 use crate::report::{Differences, FileLines, Numbers, Rejects, Report, ReportKey};
 use dsr_cells::NoMemory;
 use std::alloc::Global;
@@ -25,24 +25,25 @@ impl ClosedBooks {
     ghost use Rattle.std.specs.Prelude.{◌≡◌, IfOk, List};
     ghost use Rattle.dsr_ledger.specs.Closed.{AreClosed};
     ghost use Rattle.dsr_ledger.specs.Files.{File};
-    ghost use Rattle.dsr_ledger.specs.Lent.{report_lent};
+    ghost use Rattle.dsr_ledger.specs.Lent.{IsReady, IsLent};
     ghost use Rattle.dsr_ledger.specs.Reports.{report_of};
 
     /// The report of the files. The texts of its ledger are those of the books.
     ///
     /// # Errors
     ///
-    /// `NoMemory`: out of memory for the lines of the ledger.
+    /// `NoMemory`: out of memory for making the lines of the ledger.
     pub fn report(&self) -> Result<LentReport<'_>, NoMemory>
-        ensures { (files : List File) → AreClosed self.now files
-            → IfOk result (λ r. report_lent r ≡ report_of files) }
+        ensures ready { IfOk result (λ r. IsReady r.ledger) }
+        ensures report { (files : List File) → AreClosed self.now files
+            → IfOk result (λ r. IsLent r (report_of files)) }
     {
         Ok(LentReport {
             key: &self.key,
             files: self.files.as_slice(),
             missing: self.missing.as_slice(),
             differences: self.differences.as_slice(),
-            ledger: ledger_lines(self.alloc, &self.ledger)?,
+            ledger: LentLedger::Booked(BookedLines::of(self.alloc, &self.ledger)?),
             rejects: self.rejects.as_slice(),
         })
     }
@@ -56,7 +57,11 @@ impl ClosedBooks {
         ensures { (files : List File) → AreClosed self files
             → IfOk result (λ r. r ≡ report_of files) }
     {
-        let lines = copy_lines(self.alloc, self.report()?.ledger.as_slice())?;
+        let mut copies = Copies::new(self.alloc);
+        self.report()?.ledger.give(&mut copies);
+        if copies.refused {
+            return Err(NoMemory);
+        }
         let ClosedBooks {
             key,
             files,
@@ -70,7 +75,7 @@ impl ClosedBooks {
             files,
             missing,
             differences,
-            ledger: lines,
+            ledger: copies.lines,
             rejects,
         })
     }

@@ -1,35 +1,31 @@
 //! A report whose ledger lines borrow their texts.
-ghost use Rattle.std.specs.Prelude.{◌≡◌, IfOk};
-ghost use Rattle.dsr_ledger.specs.Lent.{report_lent};
+ghost use Rattle.std.specs.Prelude.{◌≡◌, ◌≤◌, ◌++◌, ◌∷◌, [], false, All, IfOk, OnOk, length, vec_capacity};
+ghost use Rattle.dsr_ledger.specs.Taking.{Takes};
 
+use crate::assemble::ledger::BookedLines;
 use crate::parties::Parties;
 use crate::report::{
     Difference, FileLine, LedgerLine, LedgerLines, PartyLine, Reject, Report, ReportKey,
 };
+use crate::taking::TakeLines;
 use crate::wide::Wide;
 use dsr_cells::{Isrc, Items, NoMemory, Text};
-use smallvec::SmallVec;
 use std::alloc::Global;
 use std::marker::Model;
 
-/// This many parties are stored in a line itself, more on the heap.
-pub const FEW: usize = 2;
-
 /// A party's part of a ledger line's amount. Contracts see it as a `PartyLine`.
-#[derive(Default, Drop)]
+#[derive(Drop)]
 pub struct LentParty<'a> {
-    /// None only in an unused place of a line.
-    pub(crate) party: Option<&'a Text>,
+    pub(crate) party: &'a Text,
     pub(crate) part: Wide,
 }
 
 impl<'a> Model for LentParty<'a> {
     ghost use Rattle.dsr_ledger.specs.declared.report.PartyLine.{PartyLine as PartyLineValue};
-    ghost use Rattle.dsr_ledger.specs.LentTexts.{text_lent};
 
     ghost Value = { PartyLineValue };
 
-    ghost view = { λ lent. record { party = text_lent lent.party; amount = lent.part } };
+    ghost view = { λ lent. record { party = lent.party.now; amount = lent.part } };
 }
 
 impl<'a> LentParty<'a> {
@@ -38,10 +34,7 @@ impl<'a> LentParty<'a> {
     pub fn party(&self) -> &'a str
         ensures { result.now ≡ self.now.party }
     {
-        match self.party {
-            Some(party) => party.as_str(),
-            None => "",
-        }
+        self.party.as_str()
     }
 
     /// What the party is owed, in units of 10^-10 of the line's currency.
@@ -63,7 +56,7 @@ pub struct LentLine<'a> {
     pub(crate) usages: i128,
     pub(crate) amount: i128,
     pub(crate) unclaimed: i128,
-    pub(crate) parties: SmallVec<LentParty<'a>, FEW>,
+    pub(crate) parties: &'a [LentParty<'a>],
 }
 
 impl<'a> Model for LentLine<'a> {
@@ -78,7 +71,7 @@ impl<'a> Model for LentLine<'a> {
       currency = lent.currency.now;
       usages = lent.usages;
       amount = lent.amount;
-      parties = lent.parties.items;
+      parties = lent.parties.now;
       unclaimed = lent.unclaimed;
     } };
 }
@@ -142,15 +135,128 @@ impl<'a> LentLine<'a> {
 
     /// The parties that have a part, by the bytes of their names.
     #[inline(always)]
-    pub fn parties(&self) -> &[LentParty<'a>]
+    pub fn parties(&self) -> &'a [LentParty<'a>]
         ensures { result.now ≡ self.now.parties }
     {
-        self.parties.as_slice()
+        self.parties
     }
 }
 
-/// The ledger's lines, by the bytes of ISRC, territory, use type and currency.
-pub type LentLines<'a> = Items<LentLine<'a>>;
+/// The lines of a report, and all memory that lending them one after another needs.
+#[derive(Drop)]
+pub struct ReportedLines<'a> {
+    lines: &'a [LedgerLine],
+    /// The parties of a line. It is filled anew for each line.
+    parties: Vec<LentParty<'a>>,
+}
+
+/// The number of parties of the line that has most.
+fn most_parties(lines: &[LedgerLine]) -> usize
+    ensures { All (λ l. length l.parties ≤ result) lines.now }
+{
+    let mut most = 0;
+    for line in lines {
+        most = line.parties.len().max(most);
+    }
+    most
+}
+
+/// Fills a list with the parties of a line. This allocates nothing.
+fn lend_parties<'a>(parties: &'a [PartyLine], lent: &mut Vec<LentParty<'a>>)
+    requires room { length parties.now ≤ vec_capacity lent.old }
+    ensures parties { lent.new.items ≡ parties.now }
+    ensures room { vec_capacity lent.new ≡ vec_capacity lent.old }
+{
+    lent.clear();
+    for party in parties {
+        lent.push_reserved(LentParty {
+            party: &party.party,
+            part: Wide::of(party.amount),
+        });
+    }
+}
+
+/// Gives a line of a report. This allocates nothing.
+fn give_line<'a, T: TakeLines>(
+    taker: &mut T,
+    parties: &mut Vec<LentParty<'a>>,
+    line: &'a LedgerLine,
+)
+    requires room { length line.now.parties ≤ vec_capacity parties.old }
+    ensures line { Takes T.took taker.old taker.new (line.now ∷ []) }
+    ensures room { vec_capacity parties.new ≡ vec_capacity parties.old }
+{
+    lend_parties(line.parties.as_slice(), parties);
+    taker.take_line(&LentLine {
+        isrc: &line.isrc,
+        territory: &line.territory,
+        use_type: &line.use_type,
+        currency: &line.currency,
+        usages: line.usages,
+        amount: line.amount,
+        unclaimed: line.unclaimed,
+        parties: parties.as_slice(),
+    });
+}
+
+impl<'a> ReportedLines<'a> {
+    ghost use Rattle.dsr_ledger.specs.Lent.{AreRoomy};
+
+    /// These lines.
+    ///
+    /// # Errors
+    ///
+    /// `NoMemory`: out of memory for lending them.
+    fn of(alloc: Global, lines: &'a [LedgerLine]) -> Result<ReportedLines<'a>, NoMemory>
+        ensures room { IfOk result AreRoomy }
+        ensures lines { IfOk result (λ lent. lent.lines.now ≡ lines.now) }
+    {
+        let parties = Vec::with_capacity(alloc, most_parties(lines))?;
+        Ok(ReportedLines { lines, parties })
+    }
+
+    /// Gives the lines. This allocates nothing.
+    fn give<T: TakeLines>(&mut self, taker: &mut T)
+        requires { AreRoomy self.old }
+        ensures room { AreRoomy self.new }
+        ensures same { self.new.lines.now ≡ self.old.lines.now }
+        ensures lines { Takes T.took taker.old taker.new self.old.lines.now }
+    {
+        for line in self.lines {
+            give_line(taker, &mut self.parties, line);
+        }
+    }
+}
+
+/// The lines of a ledger, by the bytes of ISRC, territory, use type and currency. They are given one after another, and
+/// giving them allocates nothing.
+#[derive(Drop)]
+pub enum LentLedger<'a> {
+    /// Those of books.
+    Booked(BookedLines<'a>),
+    /// Those of a report.
+    Reported(ReportedLines<'a>),
+}
+
+impl<'a> LentLedger<'a> {
+    ghost use Rattle.std.specs.Prelude.{List};
+    ghost use Rattle.dsr_ledger.specs.declared.report.LedgerLine.{LedgerLine as LedgerLineValue};
+    ghost use Rattle.dsr_ledger.specs.Lent.{IsReady, LinesLent};
+
+    /// Gives the lines, in their order. This allocates nothing.
+    pub fn give<T: TakeLines>(&mut self, taker: &mut T)
+        requires { IsReady self.old }
+        ensures ready { IsReady self.new }
+        ensures same { (lines : List LedgerLineValue) → LinesLent self.old lines → LinesLent self.new lines }
+        ensures lines { (lines : List LedgerLineValue) → LinesLent self.old lines
+            → Takes T.took taker.old taker.new lines }
+    {
+        match self {
+            LentLedger::Booked(lines) => lines.give(taker),
+            LentLedger::Reported(lines) => lines.give(taker),
+        }
+    }
+}
 
 /// A report whose ledger lines borrow their texts, and whose other parts are borrowed.
 #[derive(Drop)]
@@ -164,74 +270,32 @@ pub struct LentReport<'a> {
     /// The summaries whose numbers are not those of their usages.
     pub differences: &'a [Difference],
     /// The ledger: the booked usages and amounts, and each party's part.
-    pub ledger: LentLines<'a>,
+    pub ledger: LentLedger<'a>,
     /// The rejected blocks.
     pub rejects: &'a [Reject],
 }
 
 impl<'a> LentReport<'a> {
+    ghost use Rattle.dsr_ledger.specs.Lent.{IsReady, IsLent};
+
     /// Lends a report.
     ///
     /// # Errors
     ///
-    /// `NoMemory`: out of memory for the lines, which do not copy their texts.
+    /// `NoMemory`: out of memory for lending its lines.
     pub fn of(alloc: Global, report: &'a Report) -> Result<LentReport<'a>, NoMemory>
-        ensures { IfOk result (λ lent. report_lent lent ≡ report.now) }
+        ensures ready { IfOk result (λ lent. IsReady lent.ledger) }
+        ensures lent { IfOk result (λ lent. IsLent lent report.now) }
     {
         Ok(LentReport {
             key: &report.key,
             files: report.files.as_slice(),
             missing: report.missing.as_slice(),
             differences: report.differences.as_slice(),
-            ledger: lend_lines(alloc, report.ledger.as_slice())?,
+            ledger: LentLedger::Reported(ReportedLines::of(alloc, report.ledger.as_slice())?),
             rejects: report.rejects.as_slice(),
         })
     }
-}
-
-/// Lends the parties of a line.
-fn lend_parties<'a>(
-    alloc: Global,
-    parties: &'a [PartyLine],
-) -> Result<SmallVec<LentParty<'a>, FEW>, NoMemory>
-    ensures { IfOk result (λ lent. lent.items ≡ parties.now) }
-{
-    let mut lent = SmallVec::with_capacity(alloc, parties.len())?;
-    for party in parties {
-        lent.push(LentParty {
-            party: Some(&party.party),
-            part: Wide::of(party.amount),
-        })?;
-    }
-    Ok(lent)
-}
-
-/// Lends a line.
-fn lend_line<'a>(alloc: Global, line: &'a LedgerLine) -> Result<LentLine<'a>, NoMemory>
-    ensures { IfOk result (λ lent. lent ≡ line.now) }
-{
-    Ok(LentLine {
-        isrc: &line.isrc,
-        territory: &line.territory,
-        use_type: &line.use_type,
-        currency: &line.currency,
-        usages: line.usages,
-        amount: line.amount,
-        unclaimed: line.unclaimed,
-        parties: lend_parties(alloc, line.parties.as_slice())?,
-    })
-}
-
-/// Lends lines.
-fn lend_lines<'a>(alloc: Global, lines: &'a [LedgerLine]) -> Result<LentLines<'a>, NoMemory>
-    ensures { IfOk result (λ lent. lent ≡ lines.now) }
-{
-    let mut lent = Items::new(alloc);
-    for line in lines {
-        lent.push(lend_line(alloc, line)?)
-            .map_err(|_line| NoMemory)?;
-    }
-    Ok(lent)
 }
 
 /// Copies the parties of a line.
@@ -261,19 +325,48 @@ fn copy_line(alloc: Global, lent: &LentLine<'_>) -> Result<LedgerLine, NoMemory>
         usages: lent.usages,
         amount: lent.amount,
         unclaimed: lent.unclaimed,
-        parties: copy_parties(alloc, lent.parties.as_slice())?,
+        parties: copy_parties(alloc, lent.parties)?,
     })
 }
 
-/// Copies lines.
-pub fn copy_lines(alloc: Global, lent: &[LentLine<'_>]) -> Result<LedgerLines, NoMemory>
-    ensures { IfOk result (λ lines. lines ≡ lent.now) }
-{
-    let mut lines = Items::new(alloc);
-    for line in lent {
-        lines
-            .push(copy_line(alloc, line)?)
-            .map_err(|_line| NoMemory)?;
+/// The copies of the lines that were taken.
+#[derive(Drop)]
+pub struct Copies {
+    alloc: Global,
+    pub lines: LedgerLines,
+    /// Whether memory was refused for one of them.
+    pub refused: bool,
+}
+
+impl Copies {
+    /// No copies.
+    pub fn new(alloc: Global) -> Copies
+        ensures lines { result.lines ≡ [] }
+        ensures refused { result.refused ≡ false }
+    {
+        Copies {
+            alloc,
+            lines: Items::new(alloc),
+            refused: false,
+        }
     }
-    Ok(lines)
+
+    /// Appends a copy of a line.
+    fn push(&mut self, line: &LentLine<'_>) -> Result<(), NoMemory>
+        ensures { OnOk result (self.new.lines ≡ self.old.lines ++ line.now ∷ []) }
+    {
+        let copy = copy_line(self.alloc, line)?;
+        self.lines.push(copy).map_err(|_line| NoMemory)
+    }
+}
+
+impl TakeLines for Copies {
+    ghost use Rattle.std.specs.Prelude.{◌≡◌, ◌++◌, false};
+
+    /// If no memory is refused, these lines were appended.
+    ghost took = { λ start now lines. now.refused ≡ false → now.lines ≡ start.lines ++ lines };
+
+    fn take_line(&mut self, line: &LentLine<'_>) {
+        self.refused = self.refused || self.push(line).is_err();
+    }
 }

@@ -110,15 +110,17 @@ mod rejects;
 mod report;
 mod seeded;
 mod sums;
+mod taking;
 mod verdict;
 mod wide;
 
 pub use books::Books;
 pub use closed::ClosedBooks;
-pub use lent::{LentLine, LentParty, LentReport};
+pub use lent::{LentLedger, LentLine, LentParty, LentReport};
 pub use parties::Parties;
 pub use report::{
     Difference, Differences, FileLine, FileLines, LedgerLine, LedgerLines, Numbers, PartyLine,
     Reject, Rejects, Report, ReportKey,
 };
+pub use taking::TakeLines;
 pub use verdict::{Reason, Standing, Verdict};

@@ -54,13 +54,13 @@ pub fn run<
         Ok(books) => books,
         Err(error) => return Err(RunError::Intake(error)),
     };
-    let Ok(report) = books.report() else {
+    let Ok(mut report) = books.report() else {
         return Err(RunError::Intake(IntakeError::Memory));
     };
-    let Ok(room) = room_for(alloc, &report) else {
+    let Ok(room) = room_for(alloc, &mut report) else {
         return Err(RunError::Memory);
     };
-    match write_statement(room, &report, out) {
+    match write_statement(room, &mut report, out) {
         Ok(()) => Ok(lent_status(&report)),
         Err(written) => Err(RunError::Write { written }),
     }

@@ -1,7 +1,8 @@
 //! Whether a statement has remarks.
 ghost use Rattle.std.specs.Prelude.{◌≡◌, ◌&&◌, is_some, if◌then◌else◌};
 ghost use Rattle.std.specs.List.{list_all};
-ghost use Rattle.dsr_ledger.specs.Lent.{report_lent};
+ghost use Rattle.dsr_ledger.specs.declared.report.Report.{Report as ReportValue};
+ghost use Rattle.dsr_ledger.specs.Lent.{IsLent};
 ghost use Rattle.dsr_intake.specs.declared.statements.verdict.Status.TheVariants.{Clean, Remarks};
 ghost use Rattle.dsr_intake.specs.meaning.Status.{status_of, is_clean_file, is_nil};
 
@@ -24,7 +25,7 @@ pub fn status(report: &Report) -> Status
 
 /// The same of a report that is lent.
 pub(crate) fn lent_status(report: &LentReport<'_>) -> Status
-    ensures { result ≡ status_of (report_lent report.now) }
+    ensures { (r : ReportValue) → IsLent report.now r → result ≡ status_of r }
 {
     status_by(
         report.key,

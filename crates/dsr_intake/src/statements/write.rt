@@ -1,8 +1,9 @@
 //! The statement of a report.
 ghost use Rattle.std.specs.Prelude.{◌≡◌, ◌<◌, ◌≤◌, true, length, take, IfSome, OnOk, IfOk, IfErr};
 ghost use Rattle.std.specs.List.{flat_map};
-ghost use Rattle.dsr_intake.specs.meaning.Statement.{statement_of, file_lines, missing_line, difference_line, ledger_lines, reject_line};
-ghost use Rattle.dsr_ledger.specs.Lent.{report_lent};
+ghost use Rattle.dsr_intake.specs.meaning.Statement.{statement_of, file_lines, missing_line, difference_line, reject_line};
+ghost use Rattle.dsr_ledger.specs.declared.report.Report.{Report as ReportValue};
+ghost use Rattle.dsr_ledger.specs.Lent.{IsReady, IsLent};
 ghost use Rattle.dsr_intake.specs.meaning.Written.{IsFlushed, IsCut};
 ghost use Rattle.dsr_intake.specs.inner.Pieces.{Carries, MOST};
 ghost use Rattle.dsr_intake.specs.inner.Puts.{Puts};
@@ -11,15 +12,14 @@ ghost use Rattle.dsr_intake.specs.inner.Laid.{day_cells};
 
 use crate::outlet::Outlet;
 use crate::statements::bound::Bound;
-use crate::statements::lines::{
-    put_difference, put_file, put_head, put_ledger, put_missing, put_reject,
-};
+use crate::statements::ledger_put::LedgerPut;
+use crate::statements::lines::{put_difference, put_file, put_head, put_missing, put_reject};
 use crate::statements::pieces::Pieces;
 use crate::statements::put::Put;
 use crate::statements::room::Room;
 use crate::to_write::ToWrite;
 use dsr_cells::NoMemory;
-use dsr_ledger::{Difference, FileLine, LentLine, LentReport, Reject, Report};
+use dsr_ledger::{Difference, FileLine, LentReport, Reject, Report};
 use std::alloc::Global;
 
 /// The bytes of the statement.
@@ -30,10 +30,10 @@ use std::alloc::Global;
 pub fn statement(alloc: Global, report: &Report) -> Result<Vec<u8>, NoMemory>
     ensures { IfOk result (λ v. v.items ≡ statement_of report.now) }
 {
-    let lent = LentReport::of(alloc, report)?;
+    let mut lent = LentReport::of(alloc, report)?;
     let room = Room::new(alloc, lent.key)?;
     let mut out = ToWrite::new(Vec::new(alloc));
-    match write_statement(room, &lent, &mut out) {
+    match write_statement(room, &mut lent, &mut out) {
         Ok(()) => Ok(out.into_writer()),
         Err(_written) => Err(NoMemory),
     }
@@ -41,10 +41,12 @@ pub fn statement(alloc: Global, report: &Report) -> Result<Vec<u8>, NoMemory>
 
 /// All memory that writing the statement needs. It is refused also if the statement may have
 /// 2^64 - 1 bytes or more, since no error could say how much of it was written.
-pub(crate) fn room_for(alloc: Global, report: &LentReport<'_>) -> Result<Room, NoMemory>
-    ensures days { IfOk result (λ r.
-        IfSome (report_lent report.now).key (λ k. r.days.items ≡ day_cells k)) }
-    ensures short { OnOk result (length (statement_of (report_lent report.now)) < MOST) }
+pub(crate) fn room_for(alloc: Global, report: &mut LentReport<'_>) -> Result<Room, NoMemory>
+    requires ready { IsReady report.old.ledger }
+    ensures ready { IsReady report.new.ledger }
+    ensures same { (r : ReportValue) → IsLent report.old r → IsLent report.new r }
+    ensures days { IfOk result (λ room. IfSome report.new.key.now (λ k. room.days.items ≡ day_cells k)) }
+    ensures short { (r : ReportValue) → IsLent report.old r → OnOk result (length (statement_of r) < MOST) }
 {
     let mut room = Room::new(alloc, report.key)?;
     if statement_bound(&room.days, &mut room.key, report) < u64::MAX {
@@ -56,68 +58,87 @@ pub(crate) fn room_for(alloc: Global, report: &LentReport<'_>) -> Result<Room, N
 
 /// An upper bound of the statement's bytes, or `u64::MAX`. `days` has the cells of the report's
 /// days, `key` is room for those of a key.
-fn statement_bound(days: &[u8], key: &mut Vec<u8>, report: &LentReport<'_>) -> u64
-    requires { IfSome (report_lent report.now).key (λ k. days.now ≡ day_cells k) }
-    ensures { IsUpTo result (length (statement_of (report_lent report.now))) }
+fn statement_bound(days: &[u8], key: &mut Vec<u8>, report: &mut LentReport<'_>) -> u64
+    requires days { IfSome report.old.key.now (λ k. days.now ≡ day_cells k) }
+    requires ready { IsReady report.old.ledger }
+    ensures ready { IsReady report.new.ledger }
+    ensures key { report.new.key ≡ report.old.key }
+    ensures same { (r : ReportValue) → IsLent report.old r → IsLent report.new r }
+    ensures bound { (r : ReportValue) → IsLent report.old r → IsUpTo result (length (statement_of r)) }
 {
-    let mut bound = Bound { most: 0 };
-    put_statement(&mut bound, days, key, report);
-    bound.most
+    let mut put = LedgerPut {
+        out: Bound { most: 0 },
+        key,
+    };
+    put_statement(&mut put, days, report);
+    put.out.most
 }
 
 /// Writes the statement in pieces, and then flushes. The error is how many of its bytes were
 /// written.
 pub(crate) fn write_statement<W: Outlet>(
     room: Room,
-    report: &LentReport<'_>,
+    report: &mut LentReport<'_>,
     out: &mut W,
 ) -> Result<(), u64>
-    requires { IfSome (report_lent report.now).key (λ k. room.days.items ≡ day_cells k) }
-    ensures whole { OnOk result (IsFlushed (statement_of (report_lent report.now))
-        (W.told out.old) (W.told out.new)) }
-    ensures part { length (statement_of (report_lent report.now)) < MOST → IfErr result (λ n.
-        (n ≤ length (statement_of (report_lent report.now)))
-        × IsCut (take n (statement_of (report_lent report.now)))
-        (W.told out.old) (W.told out.new)) }
+    requires days { IfSome report.old.key.now (λ k. room.days.items ≡ day_cells k) }
+    requires ready { IsReady report.old.ledger }
+    ensures same { (r : ReportValue) → IsLent report.old r → IsLent report.new r }
+    ensures whole { (r : ReportValue) → IsLent report.old r → OnOk result
+        (IsFlushed (statement_of r) (W.told out.old) (W.told out.new)) }
+    ensures part { (r : ReportValue) → IsLent report.old r → length (statement_of r) < MOST
+        → IfErr result (λ n. (n ≤ length (statement_of r))
+        × IsCut (take n (statement_of r)) (W.told out.old) (W.told out.new)) }
 {
     let Room {
         days,
         mut key,
         mut waiting,
     } = room;
-    let mut pieces = Pieces::new(out, &mut waiting);
-    send_statement(&mut pieces, &days, &mut key, report);
+    let mut put = LedgerPut {
+        out: Pieces::new(out, &mut waiting),
+        key: &mut key,
+    };
+    send_statement(&mut put, &days, report);
+    let LedgerPut {
+        out: mut pieces,
+        ..
+    } = put;
     let answer = pieces.finish();
     pieces.into_outlet();
     answer
 }
 
-/// Puts the statement into the pieces. `days` has the cells of the report's days, `key` is room for
-/// those of a key.
+/// Puts the statement into the pieces. `days` has the cells of the report's days.
 fn send_statement<W: Outlet>(
-    out: &mut Pieces<'_, W>,
+    put: &mut LedgerPut<'_, Pieces<'_, W>>,
     days: &[u8],
-    key: &mut Vec<u8>,
-    report: &LentReport<'_>,
+    report: &mut LentReport<'_>,
 )
-    requires { IfSome (report_lent report.now).key (λ k. days.now ≡ day_cells k) }
-    ensures same_outlet { out.new.sender.out.ghost_name ≡ out.old.sender.out.ghost_name }
-    ensures put { Carries W.told out.old out.new (statement_of (report_lent report.now)) }
+    requires days { IfSome report.old.key.now (λ k. days.now ≡ day_cells k) }
+    requires ready { IsReady report.old.ledger }
+    ensures same_outlet { put.new.out.sender.out.ghost_name ≡ put.old.out.sender.out.ghost_name }
+    ensures same { (r : ReportValue) → IsLent report.old r → IsLent report.new r }
+    ensures put { (r : ReportValue) → IsLent report.old r → Carries W.told put.old.out put.new.out (statement_of r) }
 {
-    put_statement(out, days, key, report);
+    put_statement(put, days, report);
 }
 
-/// Puts the statement. `days` has the cells of the report's days, `key` is room for those of a key.
-fn put_statement<P: Put>(out: &mut P, days: &[u8], key: &mut Vec<u8>, report: &LentReport<'_>)
-    requires { IfSome (report_lent report.now).key (λ k. days.now ≡ day_cells k) }
-    ensures { Puts P.after out.old out.new (statement_of (report_lent report.now)) }
+/// Puts the statement. `days` has the cells of the report's days.
+fn put_statement<P: Put>(put: &mut LedgerPut<'_, P>, days: &[u8], report: &mut LentReport<'_>)
+    requires days { IfSome report.old.key.now (λ k. days.now ≡ day_cells k) }
+    requires ready { IsReady report.old.ledger }
+    ensures ready { IsReady report.new.ledger }
+    ensures key { report.new.key ≡ report.old.key }
+    ensures same { (r : ReportValue) → IsLent report.old r → IsLent report.new r }
+    ensures put { (r : ReportValue) → IsLent report.old r → Puts P.after put.old.out put.new.out (statement_of r) }
 {
-    put_head(out, report.key, days);
-    put_files(out, report.files);
-    put_numbers(out, report.missing);
-    put_differences(out, report.differences);
-    put_ledgers(out, key, report.ledger.as_slice());
-    put_rejects(out, report.rejects);
+    put_head(&mut put.out, report.key, days);
+    put_files(&mut put.out, report.files);
+    put_numbers(&mut put.out, report.missing);
+    put_differences(&mut put.out, report.differences);
+    report.ledger.give(put);
+    put_rejects(&mut put.out, report.rejects);
 }
 
 /// Puts the lines of the files.
@@ -146,18 +167,6 @@ fn put_differences<P: Put>(out: &mut P, differences: &[Difference])
 {
     for difference in differences {
         put_difference(out, difference);
-    }
-}
-
-/// Puts the lines of the ledger. It stops once the outlet has failed.
-fn put_ledgers<P: Put>(out: &mut P, key: &mut Vec<u8>, lines: &[LentLine<'_>])
-    ensures { Puts P.after out.old out.new (flat_map ledger_lines lines.now) }
-{
-    for line in lines {
-        if out.is_closed() {
-            return;
-        }
-        put_ledger(out, key, line);
     }
 }
 

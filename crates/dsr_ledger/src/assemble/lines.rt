@@ -1,5 +1,5 @@
 //! A ledger line of the report, from the state of its line in the ledger.
-ghost use Rattle.std.specs.Prelude.{◌≡◌, ◌+◌, ◌++◌, ◌∷◌, [], ◌^◌, ◌<◌, ◌-ℤ◌, ℕ, List, Option, IfOk, OnOk, sum_by, unsigned_abs};
+ghost use Rattle.std.specs.Prelude.{◌≡◌, ◌≤◌, ◌+◌, ◌∷◌, [], ◌^◌, ◌<◌, ◌-ℤ◌, ℕ, List, Option, length, sum_by, unsigned_abs, vec_capacity};
 ghost use Rattle.std.specs.Option.{option_map_or};
 ghost use Rattle.dsr_ledger.specs.declared.ledger.parts.SeatPart.{SeatPart as SeatPartValue};
 ghost use Rattle.dsr_ledger.specs.Keys.{text_cmp};
@@ -11,46 +11,39 @@ ghost use Rattle.dsr_ledger.specs.Numbered.{place_by};
 ghost use Rattle.dsr_ledger.specs.Owed.{owed_kept, nothing_owed, owed_for};
 ghost use Rattle.dsr_ledger.specs.Tallies.{line_tally, tally_of};
 ghost use Rattle.dsr_ledger.specs.Listed.{AreListed, IsSeatedLine, lent, party_in};
+ghost use Rattle.dsr_ledger.specs.Booked.{HasPartRoom, SamePartRoom};
+ghost use Rattle.dsr_ledger.specs.Taking.{Takes};
 
 use crate::assemble::listed::parts_by_name;
+use crate::assemble::lists::PartLists;
 use crate::assemble::tables::Tables;
 use crate::ledger::line::Line;
 use crate::ledger::parts::SeatPart;
 use crate::ledger::summary_key::SummaryKey;
-use crate::lent::{FEW, LentLine, LentLines, LentParty};
+use crate::lent::{LentLine, LentParty};
+use crate::taking::TakeLines;
 use crate::wide::Wide;
-use dsr_cells::{Isrc, NoMemory, Text};
-use smallvec::SmallVec;
-use std::alloc::Global;
+use dsr_cells::{Isrc, Text};
 
-/// The lines so far, and a list that is filled anew for each, so that its memory is taken once.
-#[derive(Drop)]
-pub struct Lines<'a> {
-    pub report: LentLines<'a>,
-    pub names: Vec<(&'a Text, &'a SeatPart)>,
-}
-
-/// The lines of the parties that have a part, in the byte order of their names.
-fn party_lines<'a>(
-    alloc: Global,
-    names: &[(&'a Text, &SeatPart)],
-) -> Result<SmallVec<LentParty<'a>, FEW>, NoMemory>
-    ensures { (bs : List Booking) (part : List ℕ → Option SeatPartValue)
+/// Fills a list with the parties that have a part, in the byte order of their names. This allocates nothing.
+fn party_lines<'a>(names: &[(&'a Text, &SeatPart)], parties: &mut Vec<LentParty<'a>>)
+    requires room { length names.now ≤ vec_capacity parties.old }
+    ensures lines { (bs : List Booking) (part : List ℕ → Option SeatPartValue)
         → AreListed text_cmp part (lent names.now)
         → ((q : List ℕ) → option_map_or owed_kept (part q) nothing_owed ≡ owed_for q (all_parts bs))
-        → IfOk result (λ lines. lines.items ≡ party_lines bs) }
+        → parties.new.items ≡ party_lines bs }
+    ensures room { vec_capacity parties.new ≡ vec_capacity parties.old }
 {
-    let mut lines = SmallVec::with_capacity(alloc, names.len())?;
+    parties.clear();
     for entry in names {
         let (party, part) = *entry;
         if part.has_part {
-            lines.push(LentParty {
-                party: Some(party),
+            parties.push_reserved(LentParty {
+                party,
                 part: Wide::of(part.amount.get()),
-            })?;
+            });
         }
     }
-    Ok(lines)
 }
 
 /// An amount minus the amounts of the parties.
@@ -65,39 +58,36 @@ fn unclaimed(amount: i128, parties: &[LentParty<'_>]) -> i128
     left
 }
 
-/// Appends the line of a recording and a summary key to the report, with its parties in the byte order of their names.
-/// `numbers` has the number of the party at each seat of the recording.
-pub fn push_line<'a>(
-    lines: &mut Lines<'a>,
+/// Gives the line of a recording and a summary key, with its parties in the byte order of their names. `numbers` has
+/// the number of the party at each seat of the recording. This allocates nothing.
+pub fn give_line<'a, T: TakeLines>(
+    taker: &mut T,
+    lists: &mut PartLists<'a>,
     tables: &Tables<'a>,
     isrc: &'a Isrc,
     numbers: &[u32],
     entry: &(&'a SummaryKey, &'a Line),
-) -> Result<(), NoMemory>
-    requires { IsSeatedLine tables.now.parties.now numbers.now entry.now.1.now }
-    ensures { (bs : List Booking) → line_tally
+)
+    requires seated { IsSeatedLine tables.now.parties.now numbers.now entry.now.1.now }
+    requires room { HasPartRoom lists.old entry.now.1.now }
+    ensures line { (bs : List Booking) → line_tally
         (place_by (party_in tables.now.parties.now) numbers.now) entry.now.1.now ≡ tally_of bs
-        → OnOk result (lines.new.report ≡ lines.old.report
-        ++ line_of (key_under isrc.now entry.now.0.now) bs ∷ []) }
+        → Takes T.took taker.old taker.new (line_of (key_under isrc.now entry.now.0.now) bs ∷ []) }
+    ensures room { SamePartRoom lists.old lists.new }
 {
     let (key, line) = *entry;
-    let parts = line.parts.as_slice();
-    parts_by_name(tables, numbers, parts, &mut lines.names)?;
-    let parties = party_lines(tables.alloc, lines.names.as_slice())?;
+    parts_by_name(tables, numbers, line.parts.as_slice(), &mut lists.names);
+    party_lines(lists.names.as_slice(), &mut lists.parties);
+    let parties = lists.parties.as_slice();
     let amount = line.sums.amount.get();
-    let left = unclaimed(amount, parties.as_slice());
-    lines
-        .report
-        .push(LentLine {
-            isrc,
-            territory: &key.territory,
-            use_type: &key.use_type,
-            currency: &key.currency,
-            usages: line.sums.usages.get(),
-            amount,
-            unclaimed: left,
-            parties,
-        })
-        .map_err(|_line| NoMemory)?;
-    Ok(())
+    taker.take_line(&LentLine {
+        isrc,
+        territory: &key.territory,
+        use_type: &key.use_type,
+        currency: &key.currency,
+        usages: line.sums.usages.get(),
+        amount,
+        unclaimed: unclaimed(amount, parties),
+        parties,
+    });
 }

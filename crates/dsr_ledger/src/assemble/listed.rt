@@ -1,5 +1,5 @@
 //! The parts of a line in the order of their parties' names, and the lines of a recording in key order.
-ghost use Rattle.std.specs.Prelude.{◌≡◌, OnOk, length};
+ghost use Rattle.std.specs.Prelude.{◌≡◌, ◌≤◌, length, vec_capacity};
 ghost use Rattle.std.specs.Ordering.{nat_cmp};
 ghost use Rattle.dsr_ledger.specs.Keys.{text_cmp};
 ghost use Rattle.dsr_ledger.specs.SummaryKeys.{summary_key_cmp};
@@ -11,7 +11,7 @@ use crate::assemble::tables::Tables;
 use crate::ledger::line::Line;
 use crate::ledger::parts::SeatPart;
 use crate::ledger::summary_key::SummaryKey;
-use dsr_cells::{NoMemory, Text};
+use dsr_cells::Text;
 use std::cmp::Ordering;
 
 /// The order of two parties: the byte order of their names.
@@ -29,44 +29,47 @@ fn by_rank(one: &(usize, (&SummaryKey, &Line)), other: &(usize, (&SummaryKey, &L
 }
 
 /// Fills a list with the names of the parties that have these parts, in byte order, with the parts.
-/// `numbers` has the number of the party at each seat.
+/// `numbers` has the number of the party at each seat. This allocates nothing.
 pub fn parts_by_name<'a>(
     tables: &Tables<'a>,
     numbers: &[u32],
     parts: &'a [SeatPart],
     names: &mut Vec<(&'a Text, &'a SeatPart)>,
-) -> Result<(), NoMemory>
+)
     requires numbers { AreDistinctBelow (length tables.now.parties.now) numbers.now }
     requires seats { AreDistinctBelow (length numbers.now) (part_seats parts.now) }
-    ensures { OnOk result (AreListed text_cmp
-        (part_for tables.now.parties.now numbers.now parts.now) (lent names.new.items)) }
+    requires room { length parts.now ≤ vec_capacity names.old }
+    ensures listed { AreListed text_cmp
+        (part_for tables.now.parties.now numbers.now parts.now) (lent names.new.items) }
+    ensures many { length names.new.items ≡ length parts.now }
+    ensures room { vec_capacity names.new ≡ vec_capacity names.old }
 {
     names.clear();
     for part in parts {
         let number = numbers[part.seat as usize];
-        names.push((&tables.parties[number as usize], part))?;
+        names.push_reserved((&tables.parties[number as usize], part));
     }
     names.sort_unstable_by(by_name);
-    Ok(())
 }
 
 /// Fills a list with the summary keys of a recording's lines, sorted, with the lines. The rank of
-/// the summary key is the first value of each item.
+/// the summary key is the first value of each item. This allocates nothing.
 pub fn lines_by_key<'a>(
     tables: &Tables<'a>,
     lines: &'a [Line],
     order: &mut Vec<(usize, (&'a SummaryKey, &'a Line))>,
-) -> Result<(), NoMemory>
-    requires { AreDistinctBelow (length tables.now.keys.now) (line_keys lines.now) }
-    ensures { OnOk result (AreListed summary_key_cmp (line_for tables.now.keys.now lines.now)
-        (keyed order.new.items)) }
+)
+    requires keys { AreDistinctBelow (length tables.now.keys.now) (line_keys lines.now) }
+    requires room { length lines.now ≤ vec_capacity order.old }
+    ensures listed { AreListed summary_key_cmp (line_for tables.now.keys.now lines.now)
+        (keyed order.new.items) }
+    ensures room { vec_capacity order.new ≡ vec_capacity order.old }
 {
     let ranks = tables.ranks.as_slice();
     order.clear();
     for line in lines {
         let number = line.key as usize;
-        order.push((ranks[number], (&tables.keys[number], line)))?;
+        order.push_reserved((ranks[number], (&tables.keys[number], line)));
     }
     order.sort_unstable_by(by_rank);
-    Ok(())
 }

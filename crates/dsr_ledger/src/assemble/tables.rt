@@ -7,12 +7,10 @@ ghost use Rattle.dsr_ledger.specs.Listed.{AreOrdered};
 
 use crate::ledger::summary_key::SummaryKey;
 use dsr_cells::Text;
-use std::alloc::Global;
 
 /// The parties and the summary keys of a ledger, by their numbers, and the ranks of the keys.
 #[derive(Drop)]
 pub struct Tables<'a> {
-    pub alloc: Global,
     pub parties: &'a [Text],
     pub keys: &'a [SummaryKey],
     pub ranks: Vec<usize>,
