@@ -19,6 +19,8 @@ pub mod SummaryLemmas
 pub mod ShareLemmas
 pub mod OrderLemmas
 pub mod ListedLemmas
+pub mod TakingLemmas
+pub mod RoomLemmas
 pub mod ReportLemmas
 pub mod PartyLineLemmas
 pub mod PartyLemmas

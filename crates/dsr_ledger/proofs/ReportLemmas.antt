@@ -1,6 +1,6 @@
 -- The lines of the report, recording after recording.
 use Rattle.std.proofs.Math.Logic.{∥∥₁_map}
-use Rattle.std.proofs.Common.{◌≡◌, ℕ, zero, suc, ◌+◌, ◌<◌, ◌≤◌, take, drop, get_or, Bool, true, false, cond, List, [], ◌∷◌, ◌++◌, append_assoc, ◌⊎◌, inl, inr}
+use Rattle.std.proofs.Common.{◌≡◌, ℕ, zero, suc, ◌+◌, ◌<◌, ◌≤◌, take, drop, get_or, Bool, true, false, cond, List, [], ◌∷◌, ◌++◌, ◌⊎◌, inl, inr}
 use Rattle.std.proofs.Common.{⊎_elim, append-nil, length, refl, sym, ap, ◌∙◌, subst, arith}
 use Rattle.std.specs.Prelude.{Option, None, Some, slice_get, map, filter, nat_lt, ◌||◌, option_map}
 use Rattle.std.specs.Option.{option_map_or, option_and_then}
@@ -38,6 +38,8 @@ use Rattle.dsr_ledger.specs.Stands.{LedgerStands}
 use Rattle.dsr_ledger.specs.Order.{IsSmall, AreSmall, AreOfSmall}
 use Rattle.dsr_ledger.specs.Listed.{AreListed, AddsLines, HasBookings, IsRecordingOf, IsSeatedLine, booked_lines, entries_under, key_in, party_in}
 use Rattle.dsr_ledger.specs.Listed.{line_for, lent}
+use Rattle.dsr_ledger.specs.Taking.{Takes}
+use Rattle.dsr_ledger.proofs.TakingLemmas.{takes_none, takes_then, takes_same}
 use Rattle.dsr_ledger.proofs.KeyLemmas.{key_total, key_exact, key_ties}
 use Rattle.dsr_ledger.proofs.EachLemmas.{each_append, each_filter}
 use Rattle.dsr_ledger.proofs.ListedLemmas.{mapped, taken, there}
@@ -127,7 +129,8 @@ module _ (ps : List (List ℕ)) (ks : List SummaryKey) (isrc : List ℕ) (r : Re
 
 -- one more line of a recording
 module _ (bs : List Booking) (isrc : List ℕ) (items : List (SummaryKey × Line)) (i : ℕ) (item : SummaryKey × Line) (below : i < length items)
-    (is : item ≡ get_or items i item) (old out new : List LedgerLine) (so_far : out ≡ old ++ booked_lines bs (entries_under isrc (take i items))) where
+    (is : item ≡ get_or items i item) {T : Type 0} (took : T → T → List LedgerLine → Type 0) (old out new : T)
+    (so_far : Takes took old out (booked_lines bs (entries_under isrc (take i items)))) where
   abbrev own_key : Key
   own_key = key_under isrc item.0
 
@@ -138,24 +141,19 @@ module _ (bs : List Booking) (isrc : List ℕ) (items : List (SummaryKey × Line
   one_more = map_more (λ (e : SummaryKey × Line). (key_under isrc e.0, e.1)) items i item below ∙ ap (λ e. passed ++ (key_under isrc e.0, e.1) ∷ []) (sym is)
 
   -- that has a booking
-  pub line_added : new ≡ out ++ line_of own_key (at_key own_key bs) ∷ [] → (key_tally bs own_key).is_booked ≡ true
-      → new ≡ old ++ booked_lines bs (entries_under isrc (take (i + 1) items))
+  pub line_added : Takes took out new (line_of own_key (at_key own_key bs) ∷ []) → (key_tally bs own_key).is_booked ≡ true
+      → Takes took old new (booked_lines bs (entries_under isrc (take (i + 1) items)))
   line_added added has =
-      added
-      ∙ (λ j. so_far j ++ line_of own_key (at_key own_key bs) ∷ [])
-      ∙ append_assoc old (booked_lines bs passed) (line_of own_key (at_key own_key bs) ∷ [])
-      ∙ ap (λ ls. old ++ ls) (sym (more_kept (λ (e : Key × Line). line_of e.0 (at_key e.0 bs)) (λ (e : Key × Line). (key_tally bs e.0).is_booked) passed
-      (own_key, item.1) has))
-      ∙ ap (λ es. old ++ booked_lines bs es) (sym one_more)
+      takes_same (takes_then so_far added)
+      (sym (more_kept (λ (e : Key × Line). line_of e.0 (at_key e.0 bs)) (λ (e : Key × Line). (key_tally bs e.0).is_booked) passed (own_key, item.1) has)
+      ∙ ap (booked_lines bs) (sym one_more))
 
   -- that has none
-  pub line_passed : new ≡ out → (key_tally bs own_key).is_booked ≡ false → new ≡ old ++ booked_lines bs (entries_under isrc (take (i + 1) items))
+  pub line_passed : new ≡ out → (key_tally bs own_key).is_booked ≡ false → Takes took old new (booked_lines bs (entries_under isrc (take (i + 1) items)))
   line_passed same has =
-      same
-      ∙ so_far
-      ∙ ap (λ ls. old ++ ls) (sym (more_left (λ (e : Key × Line). line_of e.0 (at_key e.0 bs)) (λ (e : Key × Line). (key_tally bs e.0).is_booked) passed
-      (own_key, item.1) has))
-      ∙ ap (λ es. old ++ booked_lines bs es) (sym one_more)
+      takes_same (subst (λ t. Takes took old t (booked_lines bs passed)) (sym same) so_far)
+      (sym (more_left (λ (e : Key × Line). line_of e.0 (at_key e.0 bs)) (λ (e : Key × Line). (key_tally bs e.0).is_booked) passed (own_key, item.1) has)
+      ∙ ap (booked_lines bs) (sym one_more))
 
 sorted_append : {K : Type 0} (R : K → K → Ordering) (ks ls : List K) → IsStrictlySortedBy R ks → IsStrictlySortedBy R ls
     → AllByRecursion (λ k. AllByRecursion (λ l. R k l ≡ Less) ls) ks → IsStrictlySortedBy R (ks ++ ls)
@@ -167,17 +165,18 @@ sorted_append {K} R (k ∷ ks) ls s t h = (above ks s.0, sorted_append R ks ls s
     above [] a = h.0
     above (m ∷ ms) a = (a.0, above ms a.1)
 
--- the recordings before these were written, for some keys in order: all that have a booking
-pub record IsWritten (books : Ledger) (rest : List (List ℕ × Recording)) (out : List LedgerLine) : Type 0 where
+-- the lines of the recordings before these were taken since a start, for some keys in order: all that have a booking
+pub record IsWritten {T : Type 0} (took : T → T → List LedgerLine → Type 0) (start : T) (books : Ledger) (rest : List (List ℕ × Recording)) (out : T)
+    : Type 0 where
   pub ahead : IsStrictlySortedBy text_cmp (keys_of rest)
   pub ours : AllByRecursion (λ x. get bytes_eq books.recordings x.0 ≡ Some x.1) rest
   pub entries : List (Key × Line)
   pub order : IsStrictlySortedBy key_cmp (keys_of entries)
   pub before : AllByRecursion (λ e. AllByRecursion (λ x. text_cmp e.0.isrc x.0 ≡ Less) rest) entries
   pub all : (q : Key) → (tally_at books q).is_booked ≡ true → Contains (keys_of rest) q.isrc ⊎ Contains (keys_of entries) q
-  pub lines : (bs : List Booking) → LedgerStands books bs → out ≡ booked_lines bs entries
+  pub lines : (bs : List Booking) → LedgerStands books bs → Takes took start out (booked_lines bs entries)
 
-module _ (books : Ledger) where
+module _ {T : Type 0} (took : T → T → List LedgerLine → Type 0) (start : T) (books : Ledger) where
   abbrev parties : List (List ℕ)
   parties = books.parties.keys
 
@@ -207,8 +206,8 @@ module _ (books : Ledger) where
       by (Some l) e h = (l, e)
 
   -- one more recording
-  pub written_step : (isrc : List ℕ) (r : Recording) (rest : List (List ℕ × Recording)) (out new : List LedgerLine) → IsWritten books ((isrc, r) ∷ rest) out
-      → AddsLines parties summary_keys isrc r out new → IsWritten books rest new
+  pub written_step : (isrc : List ℕ) (r : Recording) (rest : List (List ℕ × Recording)) (out new : T)
+      → IsWritten took start books ((isrc, r) ∷ rest) out → AddsLines took parties summary_keys isrc r out new → IsWritten took start books rest new
   unfolding IsStrictlySortedBy
   written_step isrc r rest out new was adds =
       let es = was.entries in
@@ -225,9 +224,8 @@ module _ (books : Ledger) where
             (λ c. inr (subst (λ ks. Contains ks q) (sym keys) (Contains-append_left (keys_of es) (keys_of fs) q c)))
             (was.all q booked);
         lines = λ bs stand.
-            adds.lines bs (has_bookings isrc r bs was.ours.0 stand)
-            ∙ ap (λ l. l ++ booked_lines bs fs) (was.lines bs stand)
-            ∙ sym (both_kept (λ (e : Key × Line). line_of e.0 (at_key e.0 bs)) (λ (e : Key × Line). (key_tally bs e.0).is_booked) es fs);
+            takes_same (takes_then (was.lines bs stand) (adds.lines bs (has_bookings isrc r bs was.ours.0 stand)))
+            (sym (both_kept (λ (e : Key × Line). line_of e.0 (at_key e.0 bs)) (λ (e : Key × Line). (key_tally bs e.0).is_booked) es fs));
       }
     where
       here : (q : Key) → (tally_at books q).is_booked ≡ true → (i : ℕ) → i < length (isrc ∷ keys_of rest) → get_or (isrc ∷ keys_of rest) i q.isrc ≡ q.isrc
@@ -280,20 +278,20 @@ module _ (books : Ledger) where
       ∙ ap (λ t. t || list_any (eq_by_cmp key_cmp q) (map (λ x. x.key) bs)) tie
 
   -- once all recordings are written, the lines are the ledger
-  pub written_all : (out : List LedgerLine) (bs : List Booking) → IsWritten books [] out → LedgerStands books bs → out ≡ ledger bs
+  pub written_all : (out : T) (bs : List Booking) → IsWritten took start books [] out → LedgerStands books bs → Takes took start out (ledger bs)
   unfolding ledger
   written_all out bs w stand =
       let f : Key → LedgerLine = λ key. line_of key (at_key key bs) in
-      w.lines bs stand
-      ∙ sym (map-map (λ (e : Key × LedgerLine). e.1) (λ (e : Key × Line). (e.0, f e.0)) (filter (λ (e : Key × Line). (key_tally bs e.0).is_booked) w.entries))
+      takes_same (w.lines bs stand) (
+      sym (map-map (λ (e : Key × LedgerLine). e.1) (λ (e : Key × Line). (e.0, f e.0)) (filter (λ (e : Key × Line). (key_tally bs e.0).is_booked) w.entries))
       ∙ ap (map (λ e. e.1)) (
       in_order_is key_cmp key_total key_exact f (map (λ b. b.key) bs) (λ q. nat_lt 0 (length (at_key q bs))) w.entries w.order
       (λ q. some_at q bs)
-      (λ q booked. ⊎_elim (λ c. absurd (let no = c.1 in omega arith)) (λ c. c) (w.all q (ap (λ t. t.is_booked) (stand q) ∙ booked))))
+      (λ q booked. ⊎_elim (λ c. absurd (let no = c.1 in omega arith)) (λ c. c) (w.all q (ap (λ t. t.is_booked) (stand q) ∙ booked)))))
 
   -- before any is written
   pub written_none : (list : List (Bor (List ℕ) × Bor Recording)) → AreListed text_cmp (get bytes_eq books.recordings) (lent list)
-      → IsWritten books (lent list) []
+      → IsWritten took start books (lent list) start
   unfolding IsStrictlySortedBy
   written_none list h = record {
     ahead = h.order;
@@ -302,7 +300,7 @@ module _ (books : Ledger) where
     order = tt;
     before = tt;
     all = λ q booked. by q (get bytes_eq books.recordings q.isrc) refl booked;
-    lines = λ bs stand. refl;
+    lines = λ bs stand. takes_none start;
   }
     where
       by : (q : Key) (o : Option Recording) → get bytes_eq books.recordings q.isrc ≡ o
@@ -324,15 +322,15 @@ module _ (books : Ledger) where
 
   -- the recordings from place i on begin with the one there, whose lines are added
   module _ (list : List (Bor (List ℕ) × Bor Recording)) (i : ℕ) (x : Bor (List ℕ) × Bor Recording) (below : i < length list) (is : x ≡ get_or list i x)
-      (out : List LedgerLine) (was : IsWritten books (lent (drop i list)) out) where
-    next : IsWritten books ((x.0.now, x.1.now) ∷ lent (drop (i + 1) list)) out
-    next = subst (λ es. IsWritten books es out) (ap lent (drop_more list i x below ∙ ap (λ y. y ∷ drop (i + 1) list) (sym is))) was
+      (out : T) (was : IsWritten took start books (lent (drop i list)) out) where
+    next : IsWritten took start books ((x.0.now, x.1.now) ∷ lent (drop (i + 1) list)) out
+    next = subst (λ es. IsWritten took start books es out) (ap lent (drop_more list i x below ∙ ap (λ y. y ∷ drop (i + 1) list) (sym is))) was
 
     pub own_recording : get bytes_eq books.recordings x.0.now ≡ Some x.1.now
     own_recording = next.ours.0
 
-    pub lines_step : (ps : List (List ℕ)) (ks : List SummaryKey) (new : List LedgerLine) → ps ≡ parties → ks ≡ summary_keys
-        → AddsLines ps ks x.0.now x.1.now out new → IsWritten books (lent (drop (i + 1) list)) new
+    pub lines_step : (ps : List (List ℕ)) (ks : List SummaryKey) (new : T) → ps ≡ parties → ks ≡ summary_keys
+        → AddsLines took ps ks x.0.now x.1.now out new → IsWritten took start books (lent (drop (i + 1) list)) new
     lines_step ps ks new p k adds =
         written_step x.0.now x.1.now (lent (drop (i + 1) list)) out new next (
-        subst (λ xs. AddsLines parties xs x.0.now x.1.now out new) k (subst (λ xs. AddsLines xs ks x.0.now x.1.now out new) p adds))
+        subst (λ xs. AddsLines took parties xs x.0.now x.1.now out new) k (subst (λ xs. AddsLines took xs ks x.0.now x.1.now out new) p adds))

@@ -22,7 +22,7 @@ IsReady (Reported lines) = AreRoomy lines
 
 -- these lines are lent
 abbrev pub LinesLent : LentLedger → List LedgerLine → Type 0
-LinesLent (Booked lent) lines = (bs : List Booking) × LedgerStands lent.books.now bs × (lines ≡ ledger bs)
+LinesLent (Booked lent) lines = (bs : List Booking) × LedgerStands lent.sorted.books.now bs × (lines ≡ ledger bs)
 LinesLent (Reported lent) lines = lines ≡ lent.lines.now
 
 -- this report is lent

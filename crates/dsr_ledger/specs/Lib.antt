@@ -34,6 +34,7 @@ pub mod Taking
 pub mod Listed
 pub mod Assembly
 pub mod Booked
+pub mod SortedLedgers
 pub mod BookedLines
 pub mod Lent
 pub mod Closed

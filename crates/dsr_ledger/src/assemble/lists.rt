@@ -33,8 +33,8 @@ fn most_lines(recordings: &[(&Isrc, &Recording)]) -> usize
     ensures { All (λ e. length e.1.now.lines.items ≤ result) recordings.now }
 {
     let mut most = 0;
-    for (_isrc, recording) in recordings {
-        most = recording.lines.len().max(most);
+    for named in recordings {
+        most = named.1.lines.len().max(most);
     }
     most
 }
@@ -57,8 +57,8 @@ fn most_parts_of_all(recordings: &[(&Isrc, &Recording)]) -> usize
         recordings.now }
 {
     let mut most = 0;
-    for (_isrc, recording) in recordings {
-        most = most_parts(recording.lines.as_slice(), most);
+    for named in recordings {
+        most = most_parts(named.1.lines.as_slice(), most);
     }
     most
 }

@@ -4,8 +4,8 @@ use Rattle.dsr_ledger.specs.Listed.{lent}
 use Rattle.dsr_ledger.proofs.PartyLineLemmas.{seat_lines, party_lines_are}
 use Rattle.dsr_ledger.proofs.assemble.lines.party_lines.Goals as goal
 
-pub returns : goal.returns
-returns c = λ bs part listed is.
-    c.loop-entry.invariant
+pub returns-clause-lines : goal.returns-clause-lines
+returns-clause-lines c = λ bs part listed is.
+    c.loop-entry.invariant.lines
     ∙ ap (λ es. seat_lines (lent es)) (take_all c.loop-entry.entry-index c.args.names.now c.loop-entry-test.false)
     ∙ party_lines_are part (lent c.args.names.now) bs listed is

@@ -1,7 +1,12 @@
-use Rattle.std.proofs.Common.{◌≡◌, take}
+use Rattle.std.proofs.Common.{◌≡◌, ◌≤◌, take}
+use Rattle.std.specs.Prelude.{vec_capacity, vec_len}
 use Rattle.dsr_ledger.specs.Listed.{lent}
 use Rattle.dsr_ledger.proofs.PartyLineLemmas.{seat_lines}
 use Rattle.dsr_ledger.proofs.assemble.lines.party_lines.Given as goal
 
 abbrev pub invariant-loop-entry : goal.invariant-loop-entry
-invariant-loop-entry l = l.lines.items ≡ seat_lines (lent (take l.entry-index l.names))
+invariant-loop-entry l = record {
+  lines : l.parties.items ≡ seat_lines (lent (take l.entry-index l.names));
+  few : vec_len l.parties ≤ l.entry-index;
+  room : vec_capacity l.parties ≡ vec_capacity l.fn.parties;
+}

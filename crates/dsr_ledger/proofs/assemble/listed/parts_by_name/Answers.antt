@@ -1,4 +1,4 @@
-use Rattle.std.proofs.Common.{◌≡◌, ℕ, ◌<◌, List, [], ◌∷◌, ◌++◌, map, take, get_or, length, sym, ap, ◌∙◌, subst, Bor}
+use Rattle.std.proofs.Common.{◌≡◌, ℕ, ◌+◌, ◌<◌, List, [], ◌∷◌, ◌++◌, map, take, get_or, length, sym, ap, ◌∙◌, subst, Bor}
 use Rattle.std.specs.Prelude.{All, Some}
 use Rattle.std.specs.Option.{option_and_then}
 use Rattle.std.specs.Ordering.{is_lt}
@@ -53,19 +53,21 @@ loop-part-preserved c =
     let P = λ (e : Entry). place_by (party_in ps) ns e.0.now ≡ Some e.1.now.seat in
     record {
       all =
-          ap (map part) c.in_ok-push.ensures.items
+          ap (map part) c.push_reserved.ensures.items
           ∙ map_push part old _
           ∙ ap (λ zs. zs ++ p ∷ []) c.loop-part.invariant.all
           ∙ ap (λ y. take i parts ++ y ∷ []) c.part-item.is
           ∙ sym (take_more parts i p c.loop-part-test.true);
       own =
-          subst (All P) (sym c.in_ok-push.ensures.items) (All-push P old _ c.loop-part.invariant.own (
+          subst (All P) (sym c.push_reserved.ensures.items) (All-push P old _ c.loop-part.invariant.own (
           ap (option_and_then (place_in ns)) (number_at bytes_eq bytes_eq-Decides ps n _ c.args.tables.now.distinct at)
           ∙ c.requires.numbers.apart p.seat n (slice_get-get_or ns p.seat 0 below)));
+      many = c.push_reserved.ensures.len ∙ ap (λ n. n + 1) c.loop-part.invariant.many;
+      room = c.push_reserved.ensures.capacity ∙ c.loop-part.invariant.room;
     }
 
-pub returns : goal.returns
-returns c =
+pub returns-clause-listed : goal.returns-clause-listed
+returns-clause-listed c =
     let ps = c.args.tables.now.parties.now in
     let ns = c.args.numbers.now in
     let parts = c.args.parts.now in

@@ -1,15 +1,16 @@
-use Rattle.std.proofs.Common.{◌∙◌}
+use Rattle.std.proofs.Common.{◌∙◌, refl, sym, subst}
 use Rattle.dsr_ledger.specs.Bookings.{bookings}
 use Rattle.dsr_ledger.specs.Reports.{report_of}
+use Rattle.dsr_ledger.specs.Stands.{LedgerStands}
 use Rattle.dsr_ledger.proofs.closed.ClosedBooks.report.Goals as goal
 
-pub returns : goal.returns
+pub returns-clause-report : goal.returns-clause-report
 unfolding report_of
-returns c = λ files h i. record {
-  key = h.key i;
-  files = (c.as_slice.ensures ∙ h.lines) i;
-  missing = (c.as_slice-2.ensures ∙ h.missing) i;
-  differences = (c.as_slice-3.ensures ∙ h.differences) i;
-  ledger = c.in_ok-ledger_lines.ensures (bookings files) h.ledger i;
-  rejects = (c.as_slice-4.ensures ∙ h.rejects) i;
+returns-clause-report c = λ files h. record {
+  key = h.key;
+  files = c.as_slice.ensures ∙ h.lines;
+  missing = c.as_slice-2.ensures ∙ h.missing;
+  differences = c.as_slice-3.ensures ∙ h.differences;
+  ledger = (bookings files, subst (λ b. LedgerStands b (bookings files)) (sym c.in_ok-of.ensures.books) h.ledger, refl);
+  rejects = c.as_slice-4.ensures ∙ h.rejects;
 }

@@ -1,7 +1,7 @@
 use Rattle.std.proofs.Math.Logic.{∥∥₁_elim}
 use Rattle.std.proofs.Props.{props}
-use Rattle.std.proofs.Common.{◌≡◌, ◌++◌, ◌∷◌, [], List, ℕ, length, to_z, of_z, rules, sym, ◌∙◌, ap, subst, ◌+◌, ◌<◌, ◌^◌}
-use Rattle.std.specs.Prelude.{Option, sum_by, unsigned_abs, ◌-ℤ◌}
+use Rattle.std.proofs.Common.{◌≡◌, ◌++◌, ◌∷◌, [], List, ℕ, length, to_z, of_z, rules, sym, ◌∙◌, ap, subst, ◌+◌, ◌<◌, ◌≤◌, ◌^◌}
+use Rattle.std.specs.Prelude.{vec_capacity, Option, sum_by, unsigned_abs, ◌-ℤ◌}
 use Rattle.std.specs.Option.{option_map_or}
 use Rattle.std.specs.Int.{w128}
 use Rattle.dsr_ledger.specs.declared.ledger.line.Line.{Line}
@@ -16,15 +16,19 @@ use Rattle.dsr_ledger.specs.Parts.{all_parts}
 use Rattle.dsr_ledger.specs.Sums.{int_sum_by}
 use Rattle.dsr_ledger.specs.Tallies.{line_tally, tally_of}
 use Rattle.dsr_ledger.specs.declared.report.PartyLine.{PartyLine}
+use Rattle.dsr_ledger.proofs.TakingLemmas.{takes_same}
 use Rattle.dsr_ledger.proofs.PartyLemmas.{line_fits, unclaimed_is}
 use Rattle.dsr_ledger.proofs.ReportLemmas.{read_is}
-use Rattle.dsr_ledger.proofs.assemble.lines.push_line.Goals as goal
+use Rattle.dsr_ledger.proofs.assemble.lines.give_line.Goals as goal
 
 pub parts_by_name-requires-clause-seats : goal.parts_by_name-requires-clause-seats
-parts_by_name-requires-clause-seats c = record {
-  apart = subst (λ ps. AreApart (part_seats ps)) (sym c.as_slice-parts.ensures.value) c.as_slice-parts.ensures.apart;
-  below = subst (λ ps. AreBelow (length c.args.numbers.now) (part_seats ps)) (sym c.as_slice-parts.ensures.value) c.requires.within;
+parts_by_name-requires-clause-seats g c = record {
+  apart = subst (λ ps. AreApart (part_seats ps)) (sym c.as_slice.ensures.value) c.as_slice.ensures.apart;
+  below = subst (λ ps. AreBelow (length c.args.numbers.now) (part_seats ps)) (sym c.as_slice.ensures.value) c.requires.seated.within;
 }
+
+pub parts_by_name-requires-clause-room : goal.parts_by_name-requires-clause-room
+parts_by_name-requires-clause-room g c = subst (λ ps. length ps ≤ vec_capacity c.args.lists.now.names) (sym c.as_slice.ensures.value) c.requires.room.names
 
 -- what the parts of a line owe each party
 owed_is : (line : Line) (parts : List SeatPart) (seat : List ℕ → Option ℕ) (bs : List Booking) → parts ≡ line.parts.items.items
@@ -33,45 +37,36 @@ owed_is : (line : Line) (parts : List SeatPart) (seat : List ℕ → Option ℕ)
 owed_is line parts seat bs same tally q =
     sym (read_is owed_kept nothing_owed parts (place_by seat (part_seats parts) q)) ∙ ap (λ xs. owed_in xs (seat q)) same ∙ ap (λ t. t.owed q) tally
 
-pub unclaimed-left-requires : goal.unclaimed-left-requires
-unclaimed-left-requires c =
+pub unclaimed-requires : goal.unclaimed-requires
+unclaimed-requires g c =
     let line = c.args.entry.now.1.now in
     let seat : List ℕ → Option ℕ = place_by (party_in c.args.tables.now.parties.now) c.args.numbers.now in
-    let part = numbered_by seat (λ (p : SeatPart). p.seat) c.as_slice-parts.result.now in
-    let listed = subst (λ es. AreListed text_cmp part (lent es)) (sym c.as_slice.ensures.value) c.in_ok-parts_by_name.ensures in
+    let part = numbered_by seat (λ (p : SeatPart). p.seat) c.as_slice.result.now in
+    let listed = subst (λ es. AreListed text_cmp part (lent es)) (sym c.as_slice-2.ensures.value) c.parts_by_name.ensures.listed in
     let same : to_z w128 (of_z w128 c.get-amount.result) ≡ line.sums.amount = search rules in
     let size : List PartyLine → ℕ = λ ls. sum_by (λ p. unsigned_abs p.amount) ls in
-    ∥∥₁_elim c.requires.small (hlevel props) (λ o.
+    ∥∥₁_elim c.requires.seated.small (hlevel props) (λ o.
     let amount : to_z w128 (of_z w128 c.get-amount.result) ≡ amount_sum o.bookings = same ∙ ap (λ t. t.amount) o.tally in
-    let owed = owed_is line c.as_slice-parts.result.now seat o.bookings c.as_slice-parts.ensures.value o.tally in
-    let lines : c.as_slice-2.result.now ≡ party_lines o.bookings = c.as_slice-2.ensures ∙ c.in_ok-parties.ensures o.bookings part listed owed in
+    let owed = owed_is line c.as_slice.result.now seat o.bookings c.as_slice.ensures.value o.tally in
+    let lines : c.as_slice-parties.result.now ≡ party_lines o.bookings =
+    c.as_slice-parties.ensures.value ∙ c.party_lines.ensures.lines o.bookings part listed owed in
     subst (λ n. n < 2 ^ 127) (λ i. unsigned_abs (sym amount i) + size (sym lines i)) (line_fits o.bookings o.small))
 
-pub returns : goal.returns
+pub returns-clause-line : goal.returns-clause-line
 unfolding line_of
-returns c = λ bs is.
+returns-clause-line g c = λ bs is.
     let line = c.args.entry.now.1.now in
     let key = c.args.entry.now.0.now in
     let seat : List ℕ → Option ℕ = place_by (party_in c.args.tables.now.parties.now) c.args.numbers.now in
-    let part = numbered_by seat (λ (p : SeatPart). p.seat) c.as_slice-parts.result.now in
-    let listed = subst (λ es. AreListed text_cmp part (lent es)) (sym c.as_slice.ensures.value) c.in_ok-parts_by_name.ensures in
+    let part = numbered_by seat (λ (p : SeatPart). p.seat) c.as_slice.result.now in
+    let listed = subst (λ es. AreListed text_cmp part (lent es)) (sym c.as_slice-2.ensures.value) c.parts_by_name.ensures.listed in
     let usages : to_z w128 (of_z w128 c.get.result) ≡ line.sums.usages = search rules in
     let amount : to_z w128 (of_z w128 c.get-amount.result) ≡ line.sums.amount = search rules in
-    let left : to_z w128 (of_z w128 c.unclaimed-left.result) ≡ c.unclaimed-left.result = search rules in
-    let owed = owed_is line c.as_slice-parts.result.now seat bs c.as_slice-parts.ensures.value is in
-    let lines : c.in_ok-parties.parties.items ≡ party_lines bs = c.in_ok-parties.ensures bs part listed owed in
+    let left : to_z w128 (of_z w128 c.unclaimed.result) ≡ c.unclaimed.result = search rules in
+    let owed = owed_is line c.as_slice.result.now seat bs c.as_slice.ensures.value is in
+    let lines : c.as_slice-parties.result.now ≡ party_lines bs = c.as_slice-parties.ensures.value ∙ c.party_lines.ensures.lines bs part listed owed in
     let total = amount ∙ ap (λ t. t.amount) is in
-    let pushed : c.push.new.self ≡ c.args.lines.now.report ++ (record {
-      isrc = c.args.isrc.now;
-      territory = key.territory;
-      use_type = key.use_type;
-      currency = key.currency;
-      usages = to_z w128 (of_z w128 c.get.result);
-      amount = to_z w128 (of_z w128 c.get-amount.result);
-      parties = c.in_ok-parties.parties.items;
-      unclaimed = to_z w128 (of_z w128 c.unclaimed-left.result);
-    }) ∷ [] = search rules in
-    pushed ∙ (λ i. c.args.lines.now.report ++ (record {
+    takes_same c.take_line.ensures (λ i. record {
       isrc = c.args.isrc.now;
       territory = key.territory;
       use_type = key.use_type;
@@ -79,5 +74,5 @@ returns c = λ bs is.
       usages = (usages ∙ ap (λ t. t.usages) is) i;
       amount = total i;
       parties = lines i;
-      unclaimed = (left ∙ c.unclaimed-left.ensures ∙ (λ j. total j -ℤ int_sum_by (λ p. p.amount) ((c.as_slice-2.ensures ∙ lines) j)) ∙ unclaimed_is bs) i;
-    }) ∷ [])
+      unclaimed = (left ∙ c.unclaimed.ensures ∙ (λ j. total j -ℤ int_sum_by (λ p. p.amount) (lines j)) ∙ unclaimed_is bs) i;
+    } ∷ [])

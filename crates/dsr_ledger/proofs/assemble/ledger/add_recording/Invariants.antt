@@ -1,8 +1,0 @@
-use Rattle.std.proofs.Common.{◌≡◌, ◌++◌, List, take}
-use Rattle.dsr_ledger.specs.Bookings.{Booking}
-use Rattle.dsr_ledger.specs.Listed.{HasBookings, booked_lines, entries_under, keyed}
-use Rattle.dsr_ledger.proofs.assemble.ledger.add_recording.Given as goal
-
-abbrev pub invariant-loop-entry : goal.invariant-loop-entry
-invariant-loop-entry l = (bs : List Booking) → HasBookings l.tables.parties.now l.tables.keys.now l.isrc l.recording bs
-    → l.lines.report ≡ l.fn.lines.report ++ booked_lines bs (entries_under l.isrc (take l.entry-index (keyed l.entry-items)))

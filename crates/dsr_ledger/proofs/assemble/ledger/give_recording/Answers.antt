@@ -1,0 +1,122 @@
+use Rattle.std.proofs.Common.{◌≡◌, ℕ, ◌<◌, ◌≤◌, [], ◌∷◌, ◌++◌, Bor, List, length, get_or, sym, ap, ◌∙◌, subst}
+use Rattle.std.specs.Prelude.{Some}
+use Rattle.std.proofs.lemmas.List.{take_all, length-map, get_or-map}
+use Rattle.dsr_ledger.specs.declared.ledger.line.Line.{Line}
+use Rattle.dsr_ledger.specs.declared.ledger.summary_key.SummaryKey.{SummaryKey}
+use Rattle.dsr_ledger.specs.SummaryKeys.{summary_key_cmp, summary_key_in}
+use Rattle.dsr_ledger.specs.Bookings.{key_under}
+use Rattle.dsr_ledger.specs.Ledger.{at_key, line_of}
+use Rattle.dsr_ledger.specs.Numbered.{place_by}
+use Rattle.dsr_ledger.specs.Recordings.{seat_of}
+use Rattle.dsr_ledger.specs.Taking.{Takes}
+use Rattle.dsr_ledger.specs.Tallies.{line_keys, line_tally, tally_of}
+use Rattle.dsr_ledger.specs.Booked.{HasPartRoom, SamePartRoom}
+use Rattle.dsr_ledger.specs.Listed.{AreDistinctBelow, AreListed, IsSeatedLine, booked_lines, entries_under, keyed, line_for, party_in}
+use Rattle.dsr_ledger.proofs.TakingLemmas.{takes_same}
+use Rattle.dsr_ledger.proofs.RoomLemmas.{line_room, part_room_of, part_room_then}
+use Rattle.dsr_ledger.proofs.ReportLemmas.{own_tally, seated_line, line_added, line_passed, under_sorted, under_own, under_all}
+use Rattle.dsr_ledger.proofs.assemble.ledger.give_recording.Goals.{then-entry, else-entry}
+use Rattle.dsr_ledger.proofs.assemble.ledger.give_recording.Goals as goal
+
+abbrev Entry : Type 0
+Entry = ℕ × (Bor SummaryKey × Bor Line)
+
+abbrev pair : Entry → SummaryKey × Line
+pair e = (e.1.0.now, e.1.1.now)
+
+-- the lines of a recording are listed by their summary keys
+abbrev AreLinesOf : List SummaryKey → List Line → List Entry → Type 0
+AreLinesOf ks ls es = AreListed summary_key_cmp (line_for ks ls) (keyed es)
+
+listed_at : (ks : List SummaryKey) (ls rs : List Line) (es items : List Entry) → ls ≡ rs → items ≡ es → AreLinesOf ks ls es → AreLinesOf ks rs items
+listed_at ks ls rs es items same all h = subst (λ xs. AreLinesOf ks xs items) same (subst (AreLinesOf ks ls) (sym all) h)
+
+entry_at : (ks : List SummaryKey) (rs : List Line) (items : List Entry) (i : ℕ) (e : Entry) → AreLinesOf ks rs items → i < length items → e ≡ get_or items i e
+    → line_for ks rs e.1.0.now ≡ Some e.1.1.now
+entry_at ks rs items i e h below is =
+    subst (λ (x : SummaryKey × Line). line_for ks rs x.0 ≡ Some x.1) (get_or-map pair items i e (pair e) below ∙ ap pair (sym is))
+    (h.own i (pair e) (subst (λ n. i < n) (sym (length-map items pair)) below))
+
+pub lines_by_key-requires-clause-keys : goal.lines_by_key-requires-clause-keys
+lines_by_key-requires-clause-keys g c =
+    subst (λ ls. AreDistinctBelow (length c.args.tables.now.keys.now) (line_keys ls)) (sym c.as_slice.ensures.value) (record {
+      apart = c.args.recording.now.apart;
+      below = c.requires.recording.lined;
+    })
+
+pub give_line-requires-clause-seated : goal.give_line-requires-clause-seated
+give_line-requires-clause-seated g c =
+    let ps = c.args.tables.now.parties.now in
+    let ks = c.args.tables.now.keys.now in
+    let rs = c.args.recording.now.lines.items in
+    let items = c.as_slice-entry-items.result.now in
+    let e = c.entry-item.result in
+    let listed = listed_at ks c.as_slice.result.now rs _ items c.as_slice.ensures.value c.as_slice-entry-items.ensures.value c.lines_by_key.ensures.listed in
+    let at = entry_at ks rs items c.loop-entry.entry-index e listed c.loop-entry-test.true c.entry-item.is in
+    subst (λ ns. IsSeatedLine ps ns e.1.1.now) (sym c.as_slice-numbers.ensures.value)
+    (seated_line ps ks c.args.isrc.now c.args.recording.now c.requires.recording e.1.0.now e.1.1.now at c.as_slice-numbers.ensures.apart)
+
+pub give_line-requires-clause-room : goal.give_line-requires-clause-room
+give_line-requires-clause-room g c =
+    let ks = c.args.tables.now.keys.now in
+    let rs = c.args.recording.now.lines.items in
+    let items = c.as_slice-entry-items.result.now in
+    let e = c.entry-item.result in
+    let listed = listed_at ks c.as_slice.result.now rs _ items c.as_slice.ensures.value c.as_slice-entry-items.ensures.value c.lines_by_key.ensures.listed in
+    let at = entry_at ks rs items c.loop-entry.entry-index e listed c.loop-entry-test.true c.entry-item.is in
+    part_room_of c.args.parts.now _ c.loop-entry.invariant.room (line_room (HasPartRoom c.args.parts.now) ks rs e.1.0.now e.1.1.now at c.requires.parts)
+
+pub loop-entry-preserved : goal.loop-entry-preserved
+loop-entry-preserved g c =
+    let ps = c.args.tables.now.parties.now in
+    let ks = c.args.tables.now.keys.now in
+    let isrc = c.args.isrc.now in
+    let r = c.args.recording.now in
+    let items = c.as_slice-entry-items.result.now in
+    let i = c.loop-entry.entry-index in
+    let e = c.entry-item.result in
+    let l = e.1.1.now in
+    let took = g.T.TakeLines.took in
+    let listed =
+    listed_at ks c.as_slice.result.now r.lines.items _ items c.as_slice.ensures.value c.as_slice-entry-items.ensures.value c.lines_by_key.ensures.listed in
+    let at = entry_at ks r.lines.items items i e listed c.loop-entry-test.true c.entry-item.is in
+    let key = key_under isrc e.1.0.now in
+    let below = subst (λ n. i < n) (sym (length-map items pair)) c.loop-entry-test.true in
+    let is = ap pair c.entry-item.is ∙ sym (get_or-map pair items i e (pair e) c.loop-entry-test.true) in
+    let old = c.args.taker.now in
+    record {
+      lines = λ bs has.
+          let tally = own_tally ps ks isrc r c.requires.recording e.1.0.now l at (seat_of (party_in ps) r) ∙ has e.1.0.now in
+          let so_far = c.loop-entry.invariant.lines bs has in
+          elim c.if-entry.branch [
+            | then-entry w ↦
+                let own = subst (λ ns. line_tally (place_by (party_in ps) ns) l ≡ tally_of (at_key key bs)) (sym c.as_slice-numbers.ensures.value) tally in
+                line_added bs isrc (keyed items) i (pair e) below is took old c.loop-entry.taker c.if-entry.taker so_far
+                (subst (λ t. Takes took c.loop-entry.taker t (line_of key (at_key key bs) ∷ [])) (sym w.taker-is) (w.give_line.ensures.line (at_key key bs) own)) (sym (ap (λ t. t.is_booked) tally) ∙ w.if-entry.true)
+            | else-entry w ↦ line_passed bs isrc (keyed items) i (pair e) below is took old c.loop-entry.taker c.if-entry.taker so_far
+                w.taker-is (sym (ap (λ t. t.is_booked) tally) ∙ w.if-entry.false)
+          ];
+      room = elim c.if-entry.branch [
+        | then-entry w ↦ subst (SamePartRoom c.args.parts.now) (sym w.parts-is) (part_room_then _ _ _ c.loop-entry.invariant.room w.give_line.ensures.room)
+        | else-entry w ↦ subst (SamePartRoom c.args.parts.now) (sym w.parts-is) c.loop-entry.invariant.room
+      ];
+    }
+
+pub returns-clause-lines : goal.returns-clause-lines
+returns-clause-lines g c =
+    let isrc = c.args.isrc.now in
+    let items = c.as_slice-entry-items.result.now in
+    let pairs = keyed items in
+    let i = c.loop-entry.entry-index in
+    let listed =
+    listed_at c.args.tables.now.keys.now c.as_slice.result.now c.args.recording.now.lines.items _ items c.as_slice.ensures.value
+    c.as_slice-entry-items.ensures.value c.lines_by_key.ensures.listed in
+    record {
+      entries = entries_under isrc pairs;
+      order = under_sorted isrc pairs listed.order;
+      own = under_own isrc pairs;
+      all = λ q l is at. under_all isrc q pairs is (listed.all (summary_key_in q) l at);
+      lines = λ bs has.
+          takes_same (c.loop-entry.invariant.lines bs has) (ap (λ es. booked_lines bs (entries_under isrc es))
+          (take_all i pairs (subst (λ n. n ≤ i) (sym (length-map items pair)) c.loop-entry-test.false)));
+    }

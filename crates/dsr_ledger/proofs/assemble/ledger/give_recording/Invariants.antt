@@ -1,0 +1,13 @@
+use Rattle.std.proofs.Common.{List, take}
+use Rattle.dsr_ledger.specs.Bookings.{Booking}
+use Rattle.dsr_ledger.specs.Booked.{SamePartRoom}
+use Rattle.dsr_ledger.specs.Listed.{HasBookings, booked_lines, entries_under, keyed}
+use Rattle.dsr_ledger.specs.Taking.{Takes}
+use Rattle.dsr_ledger.proofs.assemble.ledger.give_recording.Given as goal
+
+abbrev pub invariant-loop-entry : goal.invariant-loop-entry
+invariant-loop-entry g l = record {
+  lines : (bs : List Booking) → HasBookings l.tables.parties.now l.tables.keys.now l.isrc l.recording bs
+      → Takes g.T.TakeLines.took l.fn.taker l.taker (booked_lines bs (entries_under l.isrc (take l.entry-index (keyed l.entry-items))));
+  room : SamePartRoom l.fn.parts l.parts;
+}
