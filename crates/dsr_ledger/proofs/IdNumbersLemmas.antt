@@ -1,11 +1,35 @@
 -- The identifiers of ranges of numbers.
-use Rattle.std.proofs.Common.{◌≡◌, ℕ, ◌+◌, ◌-◌, ◌<◌, ◌≤◌, List, [], ◌∷◌, ◌++◌, length, get_or, set, take, map, decimal, sym, ap, ◌∙◌, arith, append_assoc}
+use Rattle.std.proofs.Common.{◌≡◌, ℕ, ◌+◌, ◌-◌, ◌<◌, ◌≤◌, ◌^◌, ◌≢◌, true, false, refl, List, [], ◌∷◌, ◌++◌, length, get_or, set, take, map, decimal, sym, ap, ◌∙◌, arith, append_assoc}
 use Rattle.std.proofs.lemmas.List.{take_more, take_more_set, length-set, length-append, flat_map_more}
 use Rattle.std.specs.List.{range_with_len}
 use Rattle.std.proofs.lemmas.List.FromFn.{length-map-range_with_len, get_or-map-range_with_len, map-range_with_len_more}
 use Rattle.std.proofs.Math.Seq.{take-length, take-append_seam}
+use Rattle.std.proofs.lemmas.Fmt.{decimal-digits_value}
+use Rattle.std.proofs.lemmas.Str.Parse.{digits_value_short}
+use Rattle.std.proofs.lemmas.Bool.Decides.{nat_tests}
+use Rattle.std.specs.Prelude.{Some, None, IfSome, if◌then◌else◌}
+use Rattle.std.specs.List.{list_all}
+use Rattle.std.specs.Char.{is_ascii_digit}
+use Rattle.dsr_cells.specs.Numbers.{number_of, is_digits, digits_sum}
+use Rattle.dsr_cells.proofs.Numbers.{own}
 use Rattle.dsr_ledger.specs.declared.ids.number_range.NumberRange.{NumberRange}
 use Rattle.dsr_ledger.specs.IdNumbers.{range_texts, texts_of}
+
+-- the text of a number that does not begin with 0
+number_text : (text : List ℕ) → is_digits 12 text ≡ true → get_or text 0 0 ≢ 48 → text ≡ decimal (digits_sum text)
+number_text text digits first =
+    let all : list_all is_ascii_digit text ≡ true = grind (arith, nat_tests) in
+    let some : 0 < length text = grind (arith, nat_tests) in
+    let short : length text ≤ 12 = grind (arith, nat_tests) in
+    let small : digits_sum text < 10 ^ 12 = digits_value_short own text 12 all short in
+    sym (decimal-digits_value own text all some (λ zero. absurd (first zero)) (omega arith))
+
+pub text_of_number : (text : List ℕ) → get_or text 0 0 ≢ 48 → IfSome (number_of text) (λ n. text ≡ decimal n)
+text_of_number text first =
+    elim (is_digits 12 text) as (λ b. is_digits 12 text ≡ b → IfSome (if b then Some (digits_sum text) else None) (λ n. text ≡ decimal n)) [
+      | true ↦ λ digits. number_text text digits first
+      | false ↦ λ _. tt
+    ] refl
 
 module _ (range : NumberRange) (n : ℕ) where
   pub number_within : range.first ≤ n → n < range.end → n - range.first < length (range_texts range)

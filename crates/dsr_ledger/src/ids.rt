@@ -124,7 +124,7 @@ impl Ids {
         if rank <= self.top {
             return self.put(alloc, id);
         }
-        if append(&mut self.numbers, id.as_str().as_bytes())? {
+        if append(&mut self.numbers, id.as_str())? {
             self.top = rank;
             return Ok(Noted::InNumbers);
         }

@@ -13,8 +13,8 @@ invariant_of-self-then-branch c =
     let rank = c.rank-rank.ensures in
     let new = c.append.new.ranges.items in
     let appended : texts_of new ≡ texts_of old.numbers.items ++ id ∷ [] =
-    subst (λ b. IsAppended b old.numbers.items new c.as_bytes.result.now) c.if-branch.true c.in_ok-append.ensures.appended
-    ∙ ap (λ x. texts_of old.numbers.items ++ x ∷ []) (c.as_bytes.ensures.value ∙ c.as_str.ensures) in
+    subst (λ b. IsAppended b old.numbers.items new c.as_str.result.now) c.if-branch.true c.in_ok-append.ensures.appended
+    ∙ ap (λ x. texts_of old.numbers.items ++ x ∷ []) c.as_str.ensures in
     record {
       below = below_with (is_in old) (is_among (texts_of new ++ old.run.items) old.rest) id c.rank-rank.result
           (λ q. number_more (texts_of old.numbers.items) (texts_of new) old.run.items old.run.items old.rest id q appended refl)
@@ -30,7 +30,7 @@ invariant_of-self-2 c =
     let numbers = c.append.new.ranges.items in
     let run = c.push.new.self.items in
     let same : texts_of numbers ≡ texts_of old.numbers.items =
-    subst (λ b. IsAppended b old.numbers.items numbers c.as_bytes.result.now) c.if-branch.false c.in_ok-append.ensures.appended in
+    subst (λ b. IsAppended b old.numbers.items numbers c.as_str.result.now) c.if-branch.false c.in_ok-append.ensures.appended in
     let pushed : run ≡ old.run.items ++ id ∷ [] = c.in_ok-push.ensures.items ∙ ap (λ x. old.run.items ++ x ∷ []) c.in_ok-copy.ensures in
     record {
       below = below_with (is_in old) (is_among (texts_of numbers ++ run) old.rest) id c.rank-rank.result

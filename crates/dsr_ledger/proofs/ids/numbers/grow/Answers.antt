@@ -1,4 +1,4 @@
-use Rattle.std.proofs.Common.{◌≡◌, ◌+◌, ◌∷◌, [], ◌++◌, length, decimal, ap, sym, ◌∙◌, arith, rules}
+use Rattle.std.proofs.Common.{◌≡◌, ◌+◌, ◌∷◌, [], ◌++◌, length, decimal, ap, sym, ◌∙◌, arith}
 use Rattle.dsr_ledger.specs.IdNumbers.{texts_of}
 use Rattle.dsr_ledger.proofs.IdNumbersLemmas.{grown}
 use Rattle.dsr_ledger.proofs.ids.numbers.grow.Goals as goal
@@ -9,6 +9,7 @@ returns c =
     let range = c.index-range.result.now in
     let at = c.in-Some.last in
     let whole : at + 1 ≡ length ranges.items = omega (arith, ranges.ok.0) in
-    let end : c.in-Some-checked_add.end ≡ range.end + 1 = omega arith in
-    grown ranges.items at whole _ range (ap (λ r. r.first) c.index-range.ensures) (end ∙ ap (λ r. r.end + 1) c.index-range.ensures)
-    ∙ ap (λ x. texts_of ranges.items ++ x ∷ []) (ap (λ r. decimal r.end) (sym c.index-range.ensures) ∙ sym (c.if-not-is_text_of.ensures.0 (search rules)))
+    let last : range.end ≡ c.args.number = omega arith in
+    let end = sym last ∙ ap (λ r. r.end) c.index-range.ensures in
+    grown ranges.items at whole _ range (ap (λ r. r.first) c.index-range.ensures) (ap (λ n. n + 1) end)
+    ∙ ap (λ n. texts_of ranges.items ++ decimal n ∷ []) (sym end)
