@@ -29,6 +29,8 @@ pub mod LawLemmas
 pub mod SmallBookings
 pub mod FitLemmas
 pub mod JudgedLemmas
+pub mod IdNumbersLemmas
+pub mod GatherLemmas
 pub mod IdsLemmas
 pub mod StandLemmas
 pub mod OpenLemmas

@@ -1,5 +1,5 @@
 -- Clauses about a result.
-use Rattle.std.specs.Prelude.{Result, Ok, Err, IfOk, OnOk, OnErr}
+use Rattle.std.specs.Prelude.{Result, Ok, Err, IfOk, OnErr}
 
 pub ok_both : {A E : Type 0} (P Q R : A → Type 0) (r : Result A E) → ((x : A) → P x → Q x → R x) → IfOk r P → IfOk r Q → IfOk r R
 ok_both P Q R (Ok x) f p q = f x p q
@@ -8,7 +8,3 @@ ok_both P Q R (Err e) f p q = tt
 pub if_err : {A E : Type 0} (P : Type 0) (r : Result A E) → P → OnErr r P
 if_err P (Ok x) p = tt
 if_err P (Err e) p = p
-
-pub either_way : {A E : Type 0} (P Q R : Type 0) (r : Result A E) → (P → R) → (Q → R) → OnOk r P → OnErr r Q → R
-either_way P Q R (Ok x) f g p q = f p
-either_way P Q R (Err e) f g p q = g q

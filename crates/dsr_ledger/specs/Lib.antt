@@ -22,6 +22,7 @@ pub mod Recordings
 pub mod Summaries
 pub mod Lined
 pub mod Plans
+pub mod IdNumbers
 pub mod Ids
 pub mod IdSteps
 pub mod FileSteps

@@ -1,10 +1,16 @@
 //! The identifiers of a file's blocks.
-ghost use Rattle.std.specs.Prelude.{◌≡◌, ◌≤◌, ℕ, List, true, OnOk, OnErr};
+ghost use Rattle.std.specs.Prelude.{◌≡◌, ◌≤◌, ◌++◌, ℕ, List, true, OnErr};
 ghost use Rattle.std.specs.List.{fold};
-ghost use Rattle.std.specs.Str.{bytes_eq};
-ghost use Rattle.indexmap.specs.IndexSet.{contains};
 ghost use Rattle.dsr_ledger.specs.Ids.{rank_of, with_byte, is_among};
+ghost use Rattle.dsr_ledger.specs.IdNumbers.{texts_of};
 
+mod gather;
+mod number_range;
+mod numbers;
+
+use crate::ids::gather::{IdSet, gather};
+use crate::ids::number_range::NumberRange;
+use crate::ids::numbers::{append, take_last};
 use crate::seeded::Seeded;
 use dsr_cells::{NoMemory, Text};
 use indexmap::IndexSet;
@@ -15,6 +21,8 @@ use std::alloc::Global;
 pub enum Noted {
     /// It was there before.
     Before,
+    /// Its rank is above all others, and it was added to the numbers.
+    InNumbers,
     /// Its rank is above all others, and it was appended to the run.
     InRun,
     /// It was put among the rest.
@@ -22,16 +30,18 @@ pub enum Noted {
 }
 
 /// The identifiers of a file's blocks. They mostly ascend in a file; while they do, they are noted
-/// without a search.
+/// without a search, and decimal numbers without a copy.
 #[derive(Drop)]
 pub struct Ids {
-    /// The ascending ones since the last one that did not ascend.
+    /// The decimal numbers among the ascending ones since the last one that did not ascend.
+    pub numbers: Vec<NumberRange>,
+    /// The other ascending ones since the last one that did not ascend.
     pub run: Vec<Text>,
     /// All others.
-    pub rest: IndexSet<Text, Seeded>,
+    pub rest: IdSet,
     /// No identifier has a greater rank.
     pub top: u128,
-    ghost below: { (q : List ℕ) → is_among run.items rest q ≡ true → rank_of q ≤ top },
+    ghost below: { (q : List ℕ) → is_among (texts_of numbers.items ++ run.items) rest q ≡ true → rank_of q ≤ top },
 }
 
 /// The big-endian number of these bytes, modulo 2^64.
@@ -56,19 +66,6 @@ fn rank(id: &Text) -> u128
     bytes.len() as u128 * (1 << 64) + u128::from(number)
 }
 
-/// Adds the identifiers of a run to the rest.
-fn gather(rest: &mut IndexSet<Text, Seeded>, alloc: Global, run: &[Text]) -> Result<(), NoMemory>
-    ensures same { OnErr result ((q : List ℕ)
-        → is_among run.now rest.new q ≡ is_among run.now rest.old q) }
-    ensures all { OnOk result ((q : List ℕ)
-        → contains bytes_eq rest.new q ≡ is_among run.now rest.old q) }
-{
-    for id in run {
-        rest.insert(id.copy(alloc)?)?;
-    }
-    Ok(())
-}
-
 impl Noted {
     ghost use Rattle.dsr_ledger.specs.IdSteps.{was_before};
 
@@ -78,7 +75,7 @@ impl Noted {
     {
         match self {
             Noted::Before => true,
-            Noted::InRun | Noted::InRest => false,
+            Noted::InNumbers | Noted::InRun | Noted::InRest => false,
         }
     }
 }
@@ -92,19 +89,26 @@ impl Ids {
         ensures { (q : List ℕ) → is_in result q ≡ false }
     {
         Ids {
+            numbers: Vec::new(alloc),
             run: Vec::new(alloc),
             rest: IndexSet::with_hasher(alloc, seeded),
             top: 0,
         }
     }
 
-    /// Moves the run to the rest, and adds an identifier to it.
+    /// Moves the numbers and the run to the rest, and adds an identifier to it.
     fn put(&mut self, alloc: Global, id: &Text) -> Result<Noted, NoMemory>
         requires { rank_of id.now ≤ self.old.top }
         ensures same { OnErr result (HaveSame self.old self.new) }
         ensures noted { IfOk result (λ n. IsNoted n self.old self.new id.now) }
     {
-        gather(&mut self.rest, alloc, self.run.as_slice())?;
+        gather(
+            &mut self.rest,
+            alloc,
+            self.numbers.as_slice(),
+            self.run.as_slice(),
+        )?;
+        self.numbers.clear();
         self.run.clear();
         let is_new = self.rest.insert(id.copy(alloc)?)?;
         Ok(if is_new { Noted::InRest } else { Noted::Before })
@@ -120,6 +124,10 @@ impl Ids {
         if rank <= self.top {
             return self.put(alloc, id);
         }
+        if append(&mut self.numbers, id.as_str())? {
+            self.top = rank;
+            return Ok(Noted::InNumbers);
+        }
         self.run.push(id.copy(alloc)?)?;
         self.top = rank;
         Ok(Noted::InRun)
@@ -131,6 +139,7 @@ impl Ids {
     {
         match noted {
             Noted::Before => {}
+            Noted::InNumbers => take_last(&mut self.numbers),
             Noted::InRun => {
                 self.run.pop();
             }

@@ -4,7 +4,8 @@
 //! 1. `example`: the one that the lib.rt of dsr_ledger shows.
 //! 2. `texts` has the files, `making` makes books and reports of them, and `shown` writes a report as lines of text.
 //! 3. `books`: standings, verdicts, sums and findings. `parties`: the parties' parts of an amount. `many`: a recording
-//!    with more lines, parties and parts of a line than are searched without an index.
+//!    with more lines, parties and parts of a line than are searched without an index. `identifiers`: those of blocks
+//!    that rise, fall and repeat.
 //!
 //! In the tests of 3 a call that is refused memory is made once more, so each of them passes also if any one allocation
 //! is refused. `checks/refusals` refuses each in turn, in all tests but the example.
@@ -17,6 +18,8 @@
 mod books;
 #[cfg(test)]
 mod example;
+#[cfg(test)]
+mod identifiers;
 pub mod making;
 #[cfg(test)]
 mod many;

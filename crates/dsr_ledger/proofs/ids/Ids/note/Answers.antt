@@ -1,9 +1,25 @@
-use Rattle.std.proofs.Common.{ap, ◌∙◌, cond, true, arith}
-use Rattle.std.specs.Str.{bytes_eq}
+use Rattle.std.proofs.Common.{◌≡◌, ◌++◌, ◌∷◌, [], ap, ◌∙◌, refl, subst, arith}
 use Rattle.dsr_ledger.specs.Ids.{is_among}
+use Rattle.dsr_ledger.specs.IdNumbers.{texts_of, IsAppended}
 use Rattle.dsr_ledger.specs.IdSteps.{is_in}
-use Rattle.dsr_ledger.proofs.IdsLemmas.{below_with, one_more}
+use Rattle.dsr_ledger.proofs.IdsLemmas.{below_with, number_more, run_more}
 use Rattle.dsr_ledger.proofs.ids.Ids.note.Goals as goal
+
+pub invariant_of-self-then-branch : goal.invariant_of-self-then-branch
+invariant_of-self-then-branch c =
+    let old = c.args.self.now in
+    let id = c.args.id.now in
+    let above = c.if-rank-self.false in
+    let rank = c.rank-rank.ensures in
+    let new = c.append.new.ranges.items in
+    let appended : texts_of new ≡ texts_of old.numbers.items ++ id ∷ [] =
+    subst (λ b. IsAppended b old.numbers.items new c.as_str.result.now) c.if-branch.true c.in_ok-append.ensures.appended
+    ∙ ap (λ x. texts_of old.numbers.items ++ x ∷ []) c.as_str.ensures in
+    record {
+      below = below_with (is_in old) (is_among (texts_of new ++ old.run.items) old.rest) id c.rank-rank.result
+          (λ q. number_more (texts_of old.numbers.items) (texts_of new) old.run.items old.run.items old.rest id q appended refl)
+          (λ q e. let below = old.below q e in omega arith) (omega arith);
+    }
 
 pub invariant_of-self-2 : goal.invariant_of-self-2
 invariant_of-self-2 c =
@@ -11,10 +27,13 @@ invariant_of-self-2 c =
     let id = c.args.id.now in
     let above = c.if-rank-self.false in
     let rank = c.rank-rank.ensures in
+    let numbers = c.append.new.ranges.items in
+    let run = c.push.new.self.items in
+    let same : texts_of numbers ≡ texts_of old.numbers.items =
+    subst (λ b. IsAppended b old.numbers.items numbers c.as_str.result.now) c.if-branch.false c.in_ok-append.ensures.appended in
+    let pushed : run ≡ old.run.items ++ id ∷ [] = c.in_ok-push.ensures.items ∙ ap (λ x. old.run.items ++ x ∷ []) c.in_ok-copy.ensures in
     record {
-      below = below_with (is_in old) (is_among c.push.new.self.items old.rest) id c.rank-rank.result (λ q.
-          ap (λ l. is_among l old.rest q) c.in_ok-push.ensures.items
-          ∙ one_more old.run.items old.rest c.in_ok-copy.field-0 q
-          ∙ ap (λ k. cond (bytes_eq k q) true (is_in old q)) c.in_ok-copy.ensures)
+      below = below_with (is_in old) (is_among (texts_of numbers ++ run) old.rest) id c.rank-rank.result
+          (λ q. run_more (texts_of old.numbers.items) (texts_of numbers) old.run.items run old.rest id q same pushed)
           (λ q e. let below = old.below q e in omega arith) (omega arith);
     }

@@ -1,0 +1,7 @@
+use Rattle.std.proofs.Common.{take}
+use Rattle.dsr_ledger.specs.Ids.{HasAlso}
+use Rattle.dsr_ledger.specs.IdNumbers.{texts_of}
+use Rattle.dsr_ledger.proofs.ids.gather.gather_ranges.Given as goal
+
+abbrev pub invariant-loop-range : goal.invariant-loop-range
+invariant-loop-range l = HasAlso (texts_of (take l.range-index l.ranges)) l.fn.set l.set
