@@ -20,11 +20,16 @@ pub turn : {P : Type 0} {after : P → P → List ℕ → Type 0} {p q : P} {xs 
 turn {P} {after} {p} {q} puts e = subst (λ l. Puts after p q l) e puts
 
 -- the lines of one more item
+pub one_more : {P : Type 0} {after : P → P → List ℕ → Type 0} {p q r : P} {X : Type 0} (f : X → List ℕ) (xs : List X) (x : X)
+    → Puts after p q (flat_map f xs) → Puts after q r (f x) → Puts after p r (flat_map f (xs ++ x ∷ []))
+one_more f xs x before now = turn (then before now) (sym (flat_map-append f xs (x ∷ []) ∙ ap (λ l. flat_map f xs ++ l) (append-nil (f x))))
+
+-- the lines of the first items of a list, and of one more
 pub more : {P : Type 0} {after : P → P → List ℕ → Type 0} {p q r : P} {X : Type 0} (f : X → List ℕ) (xs : List X) (i : ℕ) (x d : X) → i < length xs
     → x ≡ get_or xs i d → Puts after p q (flat_map f (take i xs)) → Puts after q r (f x) → Puts after p r (flat_map f (take (i + 1) xs))
 more f xs i x d less is before now =
     let front : take (i + 1) xs ≡ take i xs ++ x ∷ [] = take_more xs i d less ∙ ap (λ y. take i xs ++ y ∷ []) (sym is) in
-    turn (then before now) (sym (ap (flat_map f) front ∙ flat_map-append f (take i xs) (x ∷ []) ∙ ap (λ l. flat_map f (take i xs) ++ l) (append-nil (f x))))
+    turn (one_more f (take i xs) x before now) (sym (ap (flat_map f) front))
 
 -- the lines of all items
 pub all : {P : Type 0} {after : P → P → List ℕ → Type 0} {p q : P} {X : Type 0} (f : X → List ℕ) (xs : List X) (i : ℕ) → length xs ≤ i

@@ -8,7 +8,7 @@ use Rattle.dsr_ledger.specs.declared.assemble.lists.PartLists.{PartLists}
 use Rattle.dsr_ledger.specs.declared.ledger.line.Line.{Line}
 use Rattle.dsr_ledger.specs.declared.ledger.recording.Recording.{Recording}
 use Rattle.dsr_ledger.specs.declared.ledger.summary_key.SummaryKey.{SummaryKey}
-use Rattle.dsr_ledger.specs.Booked.{HasPartRoom, HasRoom, SamePartRoom, SameRoom}
+use Rattle.dsr_ledger.specs.Rooms.{HasPartRoom, HasRoom, SamePartRoom, SameRoom}
 use Rattle.dsr_ledger.specs.Listed.{key_in, line_for}
 use Rattle.dsr_ledger.specs.Numbered.{place_by}
 use Rattle.dsr_ledger.specs.Tallies.{line_keys}

@@ -34,7 +34,7 @@ pub mod Order
 pub mod Taking
 pub mod Listed
 pub mod Assembly
-pub mod Booked
+pub mod Rooms
 pub mod SortedLedgers
 pub mod BookedLines
 pub mod Lent

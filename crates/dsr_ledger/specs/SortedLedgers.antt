@@ -6,7 +6,7 @@ use Rattle.dsr_ledger.specs.declared.assemble.ledger.SortedLedger.{SortedLedger}
 use Rattle.dsr_ledger.specs.declared.assemble.lists.Lists.{Lists}
 use Rattle.dsr_ledger.specs.Keys.{text_cmp}
 use Rattle.dsr_ledger.specs.Order.{AreOfSmall}
-use Rattle.dsr_ledger.specs.Booked.{HasRoom}
+use Rattle.dsr_ledger.specs.Rooms.{HasRoom}
 use Rattle.dsr_ledger.specs.Listed.{AreListed, lent}
 
 -- the tables and the recordings in order are those of the ledger, whose sums fit

@@ -20,10 +20,11 @@
 //!    have the probable places of lines and summaries. `key` is the key of a ledger line, which only
 //!    specs use.
 //! 5. `assemble` closes the books (`closed`): it makes the parts of the `report` that say how the files
-//!    did (`file_lines`, `missing`, `differences`, `rejects`). Closed books make the lines of the
-//!    ledger (`assemble/ledger`) in the order of the recordings (`assemble/recordings`) and of the
-//!    summary keys (`assemble/ranks`). The lines borrow their texts (`lent`) or have copies of them,
-//!    and their `parties`.
+//!    did (`file_lines`, `missing`, `differences`, `rejects`). Closed books give the lines of the
+//!    ledger one after another (`assemble/ledger`) to whoever takes them (`taking`), in the order of
+//!    the recordings (`assemble/recordings`) and of the summary keys (`assemble/ranks`). They are made
+//!    in lists with room for the longest (`assemble/lists`), so that giving them allocates nothing.
+//!    They borrow their texts (`lent`); a report has copies of them, and its own `parties`.
 //!
 //! **Example**, compiled and proved in `crates/dsr_ledger_tests/src/example.rt`:
 //!

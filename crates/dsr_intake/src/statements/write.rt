@@ -117,7 +117,6 @@ fn send_statement<W: Outlet>(
 )
     requires days { IfSome report.old.key.now (λ k. days.now ≡ day_cells k) }
     requires ready { IsReady report.old.ledger }
-    ensures same_outlet { put.new.out.sender.out.ghost_name ≡ put.old.out.sender.out.ghost_name }
     ensures same { (r : ReportValue) → IsLent report.old r → IsLent report.new r }
     ensures put { (r : ReportValue) → IsLent report.old r → Carries W.told put.old.out put.new.out (statement_of r) }
 {

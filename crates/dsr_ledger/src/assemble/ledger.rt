@@ -5,7 +5,7 @@ ghost use Rattle.dsr_ledger.specs.Ledger.{ledger};
 ghost use Rattle.dsr_ledger.specs.Stands.{LedgerStands};
 ghost use Rattle.dsr_ledger.specs.Order.{AreOfSmall};
 ghost use Rattle.dsr_ledger.specs.Listed.{IsRecordingOf, AddsLines};
-ghost use Rattle.dsr_ledger.specs.Booked.{HasPartRoom, SamePartRoom, SameRoom};
+ghost use Rattle.dsr_ledger.specs.Rooms.{HasPartRoom, SamePartRoom, SameRoom};
 ghost use Rattle.dsr_ledger.specs.Taking.{Takes};
 
 use crate::assemble::lines::give_line;

@@ -11,7 +11,7 @@ ghost use Rattle.dsr_ledger.specs.Numbered.{place_by};
 ghost use Rattle.dsr_ledger.specs.Owed.{owed_kept, nothing_owed, owed_for};
 ghost use Rattle.dsr_ledger.specs.Tallies.{line_tally, tally_of};
 ghost use Rattle.dsr_ledger.specs.Listed.{AreListed, IsSeatedLine, lent, party_in};
-ghost use Rattle.dsr_ledger.specs.Booked.{HasPartRoom, SamePartRoom};
+ghost use Rattle.dsr_ledger.specs.Rooms.{HasPartRoom, SamePartRoom};
 ghost use Rattle.dsr_ledger.specs.Taking.{Takes};
 
 use crate::assemble::listed::parts_by_name;

@@ -10,7 +10,7 @@ use Rattle.dsr_ledger.specs.Numbered.{place_by}
 use Rattle.dsr_ledger.specs.Recordings.{seat_of}
 use Rattle.dsr_ledger.specs.Taking.{Takes}
 use Rattle.dsr_ledger.specs.Tallies.{line_keys, line_tally, tally_of}
-use Rattle.dsr_ledger.specs.Booked.{HasPartRoom, SamePartRoom}
+use Rattle.dsr_ledger.specs.Rooms.{HasPartRoom, SamePartRoom}
 use Rattle.dsr_ledger.specs.Listed.{AreDistinctBelow, AreListed, IsSeatedLine, booked_lines, entries_under, keyed, line_for, party_in}
 use Rattle.dsr_ledger.proofs.TakingLemmas.{takes_same}
 use Rattle.dsr_ledger.proofs.RoomLemmas.{line_room, part_room_of, part_room_then}

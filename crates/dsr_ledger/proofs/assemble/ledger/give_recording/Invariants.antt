@@ -1,6 +1,6 @@
 use Rattle.std.proofs.Common.{List, take}
 use Rattle.dsr_ledger.specs.Bookings.{Booking}
-use Rattle.dsr_ledger.specs.Booked.{SamePartRoom}
+use Rattle.dsr_ledger.specs.Rooms.{SamePartRoom}
 use Rattle.dsr_ledger.specs.Listed.{HasBookings, booked_lines, entries_under, keyed}
 use Rattle.dsr_ledger.specs.Taking.{Takes}
 use Rattle.dsr_ledger.proofs.assemble.ledger.give_recording.Given as goal

@@ -10,5 +10,5 @@ returns c = λ files h.
     let lines = ledger (bookings files) in
     let copies = c.new-copies.result in
     let taken = c.give.ensures.lines lines (c.in_ok-report.ensures.report files h).ledger in
-    let copied = taken.carries copies [] (λ _. sym (append-nil copies.lines)) ? ∙ ap (λ ls. ls ++ lines) c.new-copies.ensures.lines in
+    let copied = taken.carries copies [] (λ _. sym (append-nil copies.lines)) c.if-copies.false ∙ ap (λ ls. ls ++ lines) c.new-copies.ensures.lines in
     λ i. record { key = h.key i; files = h.lines i; missing = h.missing i; differences = h.differences i; ledger = copied i; rejects = h.rejects i }

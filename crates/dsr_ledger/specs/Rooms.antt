@@ -1,4 +1,4 @@
--- The lines of the ledger, made one after another.
+-- Room in the lists from which the lines of the ledger are made.
 use Rattle.std.specs.Prelude.{◌≡◌, ◌≤◌, List, All, length, vec_capacity}
 use Rattle.dsr_ledger.specs.declared.assemble.lists.Lists.{Lists}
 use Rattle.dsr_ledger.specs.declared.assemble.lists.PartLists.{PartLists}
