@@ -1,8 +1,6 @@
 -- Room for the recordings and the lines of a ledger.
-use Rattle.std.proofs.Common.{◌≡◌, ℕ, ◌+◌, ◌<◌, ◌≤◌, List, [], ◌∷◌, ◌++◌, take, length, get_or, refl, sym, ap, ◌∙◌, subst, arith, Bor}
-use Rattle.std.specs.Prelude.{All, Some, slice_get, vec_capacity}
-use Rattle.std.proofs.lemmas.List.{take_more}
-use Rattle.std.proofs.lemmas.List.Elements.{All-push, All-weaker}
+use Rattle.std.proofs.Common.{◌≡◌, ℕ, ◌<◌, ◌≤◌, List, length, get_or, refl, sym, ◌∙◌, subst, Bor}
+use Rattle.std.specs.Prelude.{All, Some, slice_get}
 use Rattle.dsr_ledger.specs.declared.assemble.lists.Lists.{Lists}
 use Rattle.dsr_ledger.specs.declared.assemble.lists.PartLists.{PartLists}
 use Rattle.dsr_ledger.specs.declared.ledger.line.Line.{Line}
@@ -17,13 +15,6 @@ use Rattle.dsr_ledger.proofs.ListedLemmas.{all_there, taken}
 -- a line of a recording has room if each has
 pub line_room : (P : Line → Type 0) (ks : List SummaryKey) (ls : List Line) (k : SummaryKey) (l : Line) → line_for ks ls k ≡ Some l → All P ls → P l
 line_room P ks ls k l at all = let i = taken (slice_get ls) (place_by (key_in ks) (line_keys ls) k) l at in all_there P ls i.0 l all i.2
-
--- one more of a list's first elements, at most this great by some count, and those before it are at most as great
-pub bounded_more : {X : Type 0} (count : X → ℕ) (most more : ℕ) (xs : List X) (i : ℕ) (x : X) → i < length xs → x ≡ get_or xs i x
-    → All (λ y. count y ≤ most) (take i xs) → most ≤ more → count x ≤ more → All (λ y. count y ≤ more) (take (i + 1) xs)
-bounded_more {X} count most more xs i x below is h wider own =
-    subst (All (λ y. count y ≤ more)) (sym (take_more xs i x below ∙ ap (λ y. take i xs ++ y ∷ []) (sym is)))
-    (All-push (λ y. count y ≤ more) (take i xs) x (All-weaker (λ y. count y ≤ most) (λ y. count y ≤ more) (λ y b. omega arith) (take i xs) h) own)
 
 -- room that stays the same
 pub part_room_of : (old new : PartLists) {l : Line} → SamePartRoom old new → HasPartRoom old l → HasPartRoom new l
@@ -40,9 +31,6 @@ room_of old new {r} same room = record {
   lines = subst (λ n. length r.lines.items ≤ n) (sym same.order) room.lines;
   parts = λ i d below. part_room_of old.parts new.parts same.parts (room.parts i d below);
 }
-
-pub room_then : (a b c : Lists) → SameRoom a b → SameRoom b c → SameRoom a c
-room_then a b c f g = record { order = g.order ∙ f.order; parts = part_room_then a.parts b.parts c.parts f.parts g.parts }
 
 pub same_room : (a : Lists) → SameRoom a a
 same_room a = record { order = refl; parts = record { names = refl; parties = refl } }
