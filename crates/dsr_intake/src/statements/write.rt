@@ -46,7 +46,8 @@ pub(crate) fn room_for(alloc: Global, report: &mut LentReport<'_>) -> Result<Roo
     ensures ready { IsReady report.new.ledger }
     ensures same { (r : ReportValue) → IsLent report.old r → IsLent report.new r }
     ensures days { IfOk result (λ room. IfSome report.new.key.now (λ k. room.days.items ≡ day_cells k)) }
-    ensures short { (r : ReportValue) → IsLent report.old r → OnOk result (length (statement_of r) < MOST) }
+    ensures short { OnOk result ((r : ReportValue) → IsLent report.old r
+        → length (statement_of r) < MOST) }
 {
     let mut room = Room::new(alloc, report.key)?;
     if statement_bound(&room.days, &mut room.key, report) < u64::MAX {

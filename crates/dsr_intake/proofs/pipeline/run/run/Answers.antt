@@ -1,11 +1,7 @@
-use Rattle.std.proofs.Common.{◌≤◌, ◌∙◌, ap, subst, length, take, true≢false}
+use Rattle.std.proofs.Common.{◌≤◌, ◌∙◌, ap, true≢false}
 use Rattle.std.specs.Prelude.{Option, Some, None, MatchOption, is_ok, vec_len}
-use Rattle.dsr_ledger.specs.declared.report.Report.{Report}
 use Rattle.dsr_intake.specs.meaning.Options.{refusal_of}
-use Rattle.dsr_intake.specs.meaning.Statement.{statement_of}
-use Rattle.dsr_intake.specs.meaning.Status.{status_of}
 use Rattle.dsr_intake.specs.meaning.Texts.{report_of_texts}
-use Rattle.dsr_intake.specs.meaning.Written.{IsFlushed, IsCut}
 use Rattle.dsr_intake.proofs.pipeline.run.run.Goals as goal
 
 not_refused : {E : Type 0} (o : Option E) (A B : Type 0) (C D : E → Type 0) → MatchOption o A C → ((e : E) → C e → ⊥) → B → MatchOption o B D
@@ -16,11 +12,10 @@ pub returns-in-Ok-write_statement-clause-reported : goal.returns-in-Ok-write_sta
 unfolding report_of_texts
 returns-in-Ok-write_statement-clause-reported g c =
     let p = c.in-Ok.ensures.books in
-    let is = c.in-Ok-report.ensures _ p.2 in
-    let told = g.W.Outlet.told in
-    let written =
-    subst (λ (r : Report). IsFlushed (statement_of r) (told c.args.out.now) (told c.write_statement.new.out)) is c.in-Ok-write_statement.ensures.whole in
-    (p.0, record { given = p.1; written = written; sound = written.sound ∙ c.requires.outlet; status_is = c.lent_status.ensures ∙ ap status_of is })
+    let lent = c.room_for.ensures.same _ (c.in-Ok-report.ensures.report _ p.2) in
+    let written = subst (λ o. OnOk o (IsFlushed (statement_of _) _ _)) c.in-Ok-write_statement.is (c.write_statement.ensures.whole _ lent) in
+    let status = c.lent_status.ensures _ (c.write_statement.ensures.same _ lent) in
+    (p.0, record { given = p.1; written = written; sound = written.sound ∙ c.requires.outlet; status_is = status })
 
 pub returns-in-Ok-write_statement-clause-refused : goal.returns-in-Ok-write_statement-clause-refused
 returns-in-Ok-write_statement-clause-refused g c =
@@ -30,12 +25,8 @@ pub returns-clause-unwritten : goal.returns-clause-unwritten
 unfolding report_of_texts
 returns-clause-unwritten g c =
     let p = c.in-Ok.ensures.books in
-    let is = c.in-Ok-report.ensures _ p.2 in
-    let told = g.W.Outlet.told in
-    let n = c.in-Err-write_statement.written in
-    let cut =
-    subst (λ (r : Report). (n ≤ length (statement_of r)) × IsCut (take n (statement_of r)) (told c.args.out.now) (told c.write_statement.new.out)) is
-    (c.in-Err-write_statement.ensures.part c.in-Ok-room_for.ensures.short) in
+    let lent = c.in-Ok-report.ensures.report _ p.2 in
+    let cut = c.write_statement.ensures.part _ (c.room_for.ensures.same _ lent) (c.in-Ok-room_for.ensures.short _ lent) in
     (p.0, p.1, cut.0, cut.1)
 
 pub returns-clause-refused : goal.returns-clause-refused

@@ -8,7 +8,7 @@ use Rattle.dsr_intake.proofs.statements.write.put_statement.Goals as goal
 pub returns-clause-put : goal.returns-clause-put
 unfolding statement_of
 returns-clause-put g c = λ r is.
-    let ledger = (c.give.ensures.lines r.ledger is.ledger).carries ? [] (nothing _) in
+    let ledger = (c.give.ensures.lines r.ledger is.ledger).carries (record { out = c.put_differences.new.out; key = c.args.put.now.key }) [] (nothing _) in
     let puts =
     then (turn c.put_head.ensures (ap head_line is.key)) (then (turn c.put_files.ensures (ap (file_lines 1) is.files)) (then (turn c.put_numbers.ensures (ap (flat_map missing_line) is.missing))
     (then (turn c.put_differences.ensures (ap (flat_map difference_line) is.differences)) (then ledger (turn c.put_rejects.ensures (ap (flat_map reject_line) is.rejects)))))) in
