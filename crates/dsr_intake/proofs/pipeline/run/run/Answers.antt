@@ -1,4 +1,4 @@
-use Rattle.std.proofs.Common.{◌≤◌, ◌∙◌, ap, true≢false}
+use Rattle.std.proofs.Common.{◌∙◌, ap, true≢false}
 use Rattle.std.specs.Prelude.{Option, Some, None, MatchOption, is_ok, vec_len}
 use Rattle.dsr_intake.specs.meaning.Options.{refusal_of}
 use Rattle.dsr_intake.specs.meaning.Texts.{report_of_texts}
@@ -13,7 +13,7 @@ unfolding report_of_texts
 returns-in-Ok-write_statement-clause-reported g c =
     let p = c.in-Ok.ensures.books in
     let lent = c.room_for.ensures.same _ (c.in-Ok-report.ensures.report _ p.2) in
-    let written = subst (λ o. OnOk o (IsFlushed (statement_of _) _ _)) c.in-Ok-write_statement.is (c.write_statement.ensures.whole _ lent) in
+    let written = c.in-Ok-write_statement.ensures.whole _ lent in
     let status = c.lent_status.ensures _ (c.write_statement.ensures.same _ lent) in
     (p.0, record { given = p.1; written = written; sound = written.sound ∙ c.requires.outlet; status_is = status })
 
@@ -26,7 +26,7 @@ unfolding report_of_texts
 returns-clause-unwritten g c =
     let p = c.in-Ok.ensures.books in
     let lent = c.in-Ok-report.ensures.report _ p.2 in
-    let cut = c.write_statement.ensures.part _ (c.room_for.ensures.same _ lent) (c.in-Ok-room_for.ensures.short _ lent) in
+    let cut = c.in-Err-write_statement.ensures.part _ (c.room_for.ensures.same _ lent) (c.in-Ok-room_for.ensures.short _ lent) in
     (p.0, p.1, cut.0, cut.1)
 
 pub returns-clause-refused : goal.returns-clause-refused
