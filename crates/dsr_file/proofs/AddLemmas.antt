@@ -10,9 +10,9 @@ use Rattle.dsr_records.specs.declared.record.Record.{Record}
 use Rattle.dsr_records.specs.declared.record.Record.TheVariants.{Head, Summary, Resource, Work, Usage, Foot, Skipped}
 use Rattle.dsr_records.specs.declared.kinds.Kind.TheVariants as kinds
 use Rattle.dsr_records.specs.Reads.{kind_of_record}
-use Rattle.dsr_file.specs.declared.fault.FileFault.{FileFault}
-use Rattle.dsr_file.specs.declared.fault.FileFault.TheVariants as faults
-use Rattle.dsr_file.specs.declared.event.EventPart.{EventPart}
+use Rattle.dsr_events.specs.declared.fault.FileFault.{FileFault}
+use Rattle.dsr_events.specs.declared.fault.FileFault.TheVariants as faults
+use Rattle.dsr_events.specs.declared.event.EventPart.{EventPart}
 use Rattle.dsr_file.specs.declared.grammar.Grammar.{Grammar}
 use Rattle.dsr_file.specs.Readings.{Reading, Holds, kept, records, is_skipped_line, is_skipped_record}
 use Rattle.dsr_file.specs.Parts.{closed, summaries, events_of}

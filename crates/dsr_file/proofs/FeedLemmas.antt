@@ -5,11 +5,11 @@ use Rattle.std.specs.Option.{option_to_list, is_some, IfNone, IfSome}
 use Rattle.std.proofs.lemmas.List.{append-nil}
 use mathlib.Core.List.{IsPrefix}
 use Rattle.dsr_records.specs.Records.{LayoutTable}
-use Rattle.dsr_file.specs.declared.fault.Ending.{Ending}
-use Rattle.dsr_file.specs.declared.fault.Ending.TheVariants as endings
-use Rattle.dsr_file.specs.declared.event.EventPart.{EventPart}
+use Rattle.dsr_events.specs.declared.fault.Ending.{Ending}
+use Rattle.dsr_events.specs.declared.fault.Ending.TheVariants as endings
+use Rattle.dsr_events.specs.declared.event.EventPart.{EventPart}
 use Rattle.dsr_file.specs.declared.reader.FileReader.{FileReader}
-use Rattle.dsr_file.specs.Placed.{Placed}
+use Rattle.dsr_events.specs.Placed.{Placed}
 use Rattle.dsr_file.specs.Texts.{text_events, so_far}
 use Rattle.dsr_file.specs.Runs.{FileText, IsSomeRun, IsRun, BeginsEvents, HasEvents}
 use Rattle.dsr_file.specs.Standing.{Stands, IsDone}

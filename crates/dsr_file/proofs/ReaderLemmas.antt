@@ -6,12 +6,12 @@ use Rattle.std.proofs.lemmas.List.{append-nil, map-append}
 use Rattle.std.proofs.lemmas.Bool.Decides.{nat_tests}
 use Rattle.dsr_cells.specs.Lines.{is_long, pieces, line_limit}
 use Rattle.dsr_records.specs.Records.{LayoutTable}
-use Rattle.dsr_file.specs.declared.fault.FileFault.{FileFault}
-use Rattle.dsr_file.specs.declared.fault.Ending.{Ending}
-use Rattle.dsr_file.specs.declared.fault.Ending.TheVariants as endings
-use Rattle.dsr_file.specs.declared.fault.Outcome.TheVariants as outcomes
-use Rattle.dsr_file.specs.declared.event.EventPart.{EventPart}
-use Rattle.dsr_file.specs.declared.event.EventPart.TheVariants.{Ended}
+use Rattle.dsr_events.specs.declared.fault.FileFault.{FileFault}
+use Rattle.dsr_events.specs.declared.fault.Ending.{Ending}
+use Rattle.dsr_events.specs.declared.fault.Ending.TheVariants as endings
+use Rattle.dsr_events.specs.declared.fault.Outcome.TheVariants as outcomes
+use Rattle.dsr_events.specs.declared.event.EventPart.{EventPart}
+use Rattle.dsr_events.specs.declared.event.EventPart.TheVariants.{Ended}
 use Rattle.dsr_file.specs.Lines.{lines_among}
 use Rattle.dsr_file.specs.Readings.{Reading, reading, records}
 use Rattle.dsr_file.specs.Parts.{events_of}

@@ -10,7 +10,7 @@ use Rattle.dsr_records.specs.declared.record.Record.TheVariants as the
 use Rattle.dsr_records.specs.declared.record.Summary as summary
 use Rattle.dsr_records.specs.declared.record.Head as head
 use Rattle.dsr_records.specs.Blocks.{BlockParts, OpensBlock}
-use Rattle.dsr_file.specs.declared.fault.FileFault.{FileFault}
+use Rattle.dsr_events.specs.declared.fault.FileFault.{FileFault}
 use Rattle.dsr_file.specs.declared.stage.Before.TheVariants as columns
 use Rattle.dsr_file.specs.declared.stage.Stage.{Stage}
 use Rattle.dsr_file.specs.declared.stage.Stage.TheVariants.{Start, Front, Open, Closed}

@@ -11,14 +11,14 @@ use Rattle.std.specs.List.{list_any}
 use Rattle.dsr_cells.specs.Lines.{is_long}
 use Rattle.dsr_records.specs.declared.record.Record.{Record}
 use Rattle.dsr_records.specs.Records.{LayoutTable}
-use Rattle.dsr_file.specs.declared.fault.FileFault.{FileFault}
-use Rattle.dsr_file.specs.declared.fault.FileFault.TheVariants as faults
-use Rattle.dsr_file.specs.declared.fault.Ending.{Ending}
-use Rattle.dsr_file.specs.declared.fault.Ending.TheVariants as endings
-use Rattle.dsr_file.specs.declared.fault.Outcome.{Outcome}
-use Rattle.dsr_file.specs.declared.fault.Outcome.TheVariants as outcomes
-use Rattle.dsr_file.specs.declared.event.EventPart.{EventPart}
-use Rattle.dsr_file.specs.declared.event.EventPart.TheVariants.{Ended}
+use Rattle.dsr_events.specs.declared.fault.FileFault.{FileFault}
+use Rattle.dsr_events.specs.declared.fault.FileFault.TheVariants as faults
+use Rattle.dsr_events.specs.declared.fault.Ending.{Ending}
+use Rattle.dsr_events.specs.declared.fault.Ending.TheVariants as endings
+use Rattle.dsr_events.specs.declared.fault.Outcome.{Outcome}
+use Rattle.dsr_events.specs.declared.fault.Outcome.TheVariants as outcomes
+use Rattle.dsr_events.specs.declared.event.EventPart.{EventPart}
+use Rattle.dsr_events.specs.declared.event.EventPart.TheVariants.{Ended}
 use Rattle.dsr_file.specs.declared.grammar.Step.{Step}
 use Rattle.dsr_file.specs.declared.grammar.Step.TheVariants.{Good, Faulty, NoMemory}
 use Rattle.dsr_file.specs.declared.cutter.Cut.{Cut}
@@ -26,8 +26,8 @@ use Rattle.dsr_file.specs.declared.cutter.Cut.TheVariants.{Kept, Here, Long}
 use Rattle.dsr_file.specs.declared.reader.phase.Phase.{Phase}
 use Rattle.dsr_file.specs.declared.reader.phase.Phase.TheVariants as phases
 use Rattle.dsr_file.specs.declared.reader.FileReader.{FileReader}
-use Rattle.dsr_file.specs.Placed.{Placed}
-use Rattle.dsr_file.specs.Orderly.{is_ended, has_ended}
+use Rattle.dsr_events.specs.Placed.{Placed}
+use Rattle.dsr_events.specs.Orderly.{is_ended, has_ended}
 use Rattle.dsr_file.specs.Readings.{Reading, reading, records}
 use Rattle.dsr_file.specs.Readings as of
 use Rattle.dsr_file.specs.Parts.{events_of}

@@ -21,9 +21,9 @@ use Rattle.dsr_records.specs.declared.record.Head as head
 use Rattle.dsr_records.specs.declared.record.Foot as foot
 use Rattle.dsr_records.specs.declared.record.Resource as resource
 use Rattle.dsr_records.specs.Blocks.{BlockParts}
-use Rattle.dsr_file.specs.declared.fault.FileFault.{FileFault}
-use Rattle.dsr_file.specs.Openings.{OpeningParts}
-use Rattle.dsr_file.specs.declared.event.EventPart.TheVariants as tell
+use Rattle.dsr_events.specs.declared.fault.FileFault.{FileFault}
+use Rattle.dsr_events.specs.Openings.{OpeningParts}
+use Rattle.dsr_events.specs.declared.event.EventPart.TheVariants as tell
 use Rattle.dsr_file.specs.declared.stage.Before.TheVariants as columns
 use Rattle.dsr_file.specs.declared.stage.Stage.{Stage}
 use Rattle.dsr_file.specs.declared.stage.Stage.TheVariants.{Start, Front, Open, Closed}

@@ -17,8 +17,8 @@ use Rattle.dsr_records.specs.declared.kinds.RecordFault.TheVariants as own
 use Rattle.dsr_records.specs.declared.record.Record.{Record}
 use Rattle.dsr_records.specs.declared.record.Summary as summary
 use Rattle.dsr_records.specs.declared.record.Record.TheVariants.{Head, Summary, Resource, Work, Usage, Foot, Skipped}
-use Rattle.dsr_file.specs.declared.fault.FileFault.{FileFault}
-use Rattle.dsr_file.specs.declared.fault.FileFault.TheVariants as faults
+use Rattle.dsr_events.specs.declared.fault.FileFault.{FileFault}
+use Rattle.dsr_events.specs.declared.fault.FileFault.TheVariants as faults
 use Rattle.dsr_file.specs.declared.grammar.Grammar.{Grammar}
 use Rattle.dsr_file.specs.declared.grammar.Step.TheVariants.{Good, Faulty}
 use Rattle.dsr_file.specs.declared.stage.Before.{Before}

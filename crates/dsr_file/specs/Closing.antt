@@ -1,10 +1,10 @@
 -- What a line closes, and its event.
 use Rattle.std.specs.Prelude.{◌≡◌, ℕ, Option, None, Some, OnSome}
 use Rattle.dsr_records.specs.Blocks.{BlockParts}
-use Rattle.dsr_file.specs.declared.event.EventPart.{EventPart}
-use Rattle.dsr_file.specs.declared.event.EventPart.TheVariants as tell
+use Rattle.dsr_events.specs.declared.event.EventPart.{EventPart}
+use Rattle.dsr_events.specs.declared.event.EventPart.TheVariants as tell
 use Rattle.dsr_file.specs.declared.closed.Closed.TheInside.{Inside}
-use Rattle.dsr_file.specs.Placed.{Placed}
+use Rattle.dsr_events.specs.Placed.{Placed}
 
 -- the block, or else the other part
 abbrev pub block_or : Option BlockParts → Option EventPart → Option EventPart
@@ -18,10 +18,6 @@ part_closed c = block_or c.block c.other
 -- a block and another part are not closed at once
 abbrev pub IsOne : Inside → Type 0
 IsOne c = OnSome c.block (c.other ≡ None)
-
--- the event of a block with this place
-abbrev pub block_event : ℕ → BlockParts → Placed
-block_event place block = record { place = place; part = tell.Block block }
 
 -- the event of what is closed, with this place
 abbrev pub event_at : ℕ → Option EventPart → Option Placed

@@ -9,8 +9,8 @@ use Rattle.dsr_records.specs.declared.record.Record.TheVariants.{Head, Summary, 
 use Rattle.dsr_records.specs.declared.record.Summary as summary
 use Rattle.dsr_records.specs.Reads.{id_of_record}
 use Rattle.dsr_records.specs.Records.{or_else}
-use Rattle.dsr_file.specs.declared.fault.FileFault.{FileFault}
-use Rattle.dsr_file.specs.declared.fault.FileFault.TheVariants as faults
+use Rattle.dsr_events.specs.declared.fault.FileFault.{FileFault}
+use Rattle.dsr_events.specs.declared.fault.FileFault.TheVariants as faults
 use Rattle.dsr_file.specs.declared.stage.Before.{Before}
 use Rattle.dsr_file.specs.declared.stage.Before.TheVariants.{Nothing, Front, Open, Used, Closed}
 use Rattle.dsr_file.specs.Readings.{Reading, Faulty, SkippedLine, Holds, records, is_skipped_line, is_skipped_record}

@@ -4,8 +4,8 @@ use Rattle.std.specs.Io.KnownBytes.{Consumes}
 use mathlib.Core.List.{IsPrefix}
 use Rattle.dsr_records.specs.Records.{LayoutTable}
 use Rattle.dsr_file.specs.declared.reader.FileReader.{FileReader}
-use Rattle.dsr_file.specs.Placed.{Placed}
-use Rattle.dsr_file.specs.Orderly.{has_ended}
+use Rattle.dsr_events.specs.Placed.{Placed}
+use Rattle.dsr_events.specs.Orderly.{has_ended}
 use Rattle.dsr_file.specs.Texts.{so_far}
 use Rattle.dsr_file.specs.Runs.{BeginsEvents, HasEvents}
 use Rattle.dsr_file.specs.ReadCounts.{Answered}

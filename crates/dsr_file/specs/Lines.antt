@@ -1,8 +1,8 @@
 -- The lines of a text with an ending.
 use Rattle.std.specs.Prelude.{ℕ, nat_lt, ◌&&◌, ◌||◌, Bool, true, false, List, [], ◌∷◌, length, if◌then◌else◌}
 use Rattle.dsr_cells.specs.Lines.{pieces, is_long}
-use Rattle.dsr_file.specs.declared.fault.Ending.{Ending}
-use Rattle.dsr_file.specs.declared.fault.Ending.TheVariants.{Whole, Read, Reads}
+use Rattle.dsr_events.specs.declared.fault.Ending.{Ending}
+use Rattle.dsr_events.specs.declared.fault.Ending.TheVariants.{Whole, Read, Reads}
 
 abbrev pub is_whole : Ending → Bool
 is_whole Whole = true

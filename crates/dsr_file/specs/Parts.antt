@@ -9,9 +9,9 @@ use Rattle.dsr_records.specs.declared.record.Usage as usage
 use Rattle.dsr_records.specs.declared.record.Summary as summary
 use Rattle.dsr_records.specs.Blocks.{BlockParts}
 use Rattle.dsr_records.specs.Works.{WorkParts}
-use Rattle.dsr_file.specs.declared.event.EventPart.{EventPart}
-use Rattle.dsr_file.specs.declared.event.EventPart.TheVariants as tell
-use Rattle.dsr_file.specs.Openings.{OpeningParts}
+use Rattle.dsr_events.specs.declared.event.EventPart.{EventPart}
+use Rattle.dsr_events.specs.declared.event.EventPart.TheVariants as tell
+use Rattle.dsr_events.specs.Openings.{OpeningParts}
 
 -- the maximum number of records in a block
 abbrev pub block_limit : ℕ

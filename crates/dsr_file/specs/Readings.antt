@@ -8,8 +8,8 @@ use Rattle.dsr_records.specs.declared.kinds.RecordFault.{RecordFault}
 use Rattle.dsr_records.specs.declared.kinds.RecordFault.TheVariants as faults
 use Rattle.dsr_records.specs.Records.{LayoutTable}
 use Rattle.dsr_records.specs.Values.{record_of}
-use Rattle.dsr_file.specs.declared.fault.FileFault.{FileFault}
-use Rattle.dsr_file.specs.declared.fault.FileFault.TheVariants.{LongLine, NotUtf8, ManyCells, UnknownRecord, MissingCell, BadCell, Uneven}
+use Rattle.dsr_events.specs.declared.fault.FileFault.{FileFault}
+use Rattle.dsr_events.specs.declared.fault.FileFault.TheVariants.{LongLine, NotUtf8, ManyCells, UnknownRecord, MissingCell, BadCell, Uneven}
 
 -- a fault of the line itself, a skipped line, or a record
 pub data Reading : Type 0 where

@@ -3,7 +3,7 @@ use Rattle.std.specs.Prelude.{◌≡◌, ℕ, List, [], Result, Ok, Err}
 use Rattle.dsr_records.specs.Records.{LayoutTable}
 use Rattle.dsr_file.specs.declared.reading.ReadFileError.{ReadFileError}
 use Rattle.dsr_file.specs.declared.reading.ReadFileError.TheVariants.{Memory, Refused}
-use Rattle.dsr_file.specs.Placed.{Placed}
+use Rattle.dsr_events.specs.Placed.{Placed}
 use Rattle.dsr_file.specs.Sources.{Told, IsRefused}
 
 -- if memory was refused, nothing was read or put; a refused event comes after those that were put

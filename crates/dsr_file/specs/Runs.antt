@@ -4,15 +4,15 @@ use mathlib.Core.List.{IsPrefix}
 use Rattle.dsr_records.specs.declared.record.Record.{Record}
 use Rattle.dsr_records.specs.Reads.{has_texts}
 use Rattle.dsr_records.specs.Records.{LayoutTable}
-use Rattle.dsr_file.specs.declared.fault.FileFault.{FileFault}
-use Rattle.dsr_file.specs.declared.fault.FileFault.TheVariants.{Memory}
-use Rattle.dsr_file.specs.declared.fault.Ending.{Ending}
-use Rattle.dsr_file.specs.declared.fault.Ending.TheVariants.{Read}
-use Rattle.dsr_file.specs.declared.fault.Outcome.{Outcome}
-use Rattle.dsr_file.specs.declared.fault.Outcome.TheVariants.{Whole, Fault}
-use Rattle.dsr_file.specs.declared.event.EventPart.TheVariants.{Ended}
-use Rattle.dsr_file.specs.Placed.{Placed}
-use Rattle.dsr_file.specs.Orderly.{has_ended}
+use Rattle.dsr_events.specs.declared.fault.FileFault.{FileFault}
+use Rattle.dsr_events.specs.declared.fault.FileFault.TheVariants.{Memory}
+use Rattle.dsr_events.specs.declared.fault.Ending.{Ending}
+use Rattle.dsr_events.specs.declared.fault.Ending.TheVariants.{Read}
+use Rattle.dsr_events.specs.declared.fault.Outcome.{Outcome}
+use Rattle.dsr_events.specs.declared.fault.Outcome.TheVariants.{Whole, Fault}
+use Rattle.dsr_events.specs.declared.event.EventPart.TheVariants.{Ended}
+use Rattle.dsr_events.specs.Placed.{Placed}
+use Rattle.dsr_events.specs.Orderly.{has_ended}
 use Rattle.dsr_file.specs.Readings.{Reading, Holds, records}
 use Rattle.dsr_file.specs.Faults.{early_fault}
 use Rattle.dsr_file.specs.Parts.{events_of}

@@ -3,11 +3,11 @@ use Rattle.std.specs.Prelude.{◌≡◌, ℕ, ◌+◌, ◌-◌, ◌*◌, ◌≤�
 use Rattle.std.specs.Io.KnownBytes.{Consumes, IsAtEnd}
 use mathlib.Core.List.{IsPrefix}
 use Rattle.dsr_records.specs.Records.{LayoutTable}
-use Rattle.dsr_file.specs.declared.fault.Ending.{Ending}
-use Rattle.dsr_file.specs.declared.fault.Ending.TheVariants.{Whole, Read, Reads}
+use Rattle.dsr_events.specs.declared.fault.Ending.{Ending}
+use Rattle.dsr_events.specs.declared.fault.Ending.TheVariants.{Whole, Read, Reads}
 use Rattle.dsr_file.specs.declared.read_count.ReadCount.{ReadCount}
-use Rattle.dsr_file.specs.Placed.{Placed}
-use Rattle.dsr_file.specs.Orderly.{has_ended}
+use Rattle.dsr_events.specs.Placed.{Placed}
+use Rattle.dsr_events.specs.Orderly.{has_ended}
 use Rattle.dsr_file.specs.ReadCounts.{Answered}
 use Rattle.dsr_file.specs.Texts.{text_events, so_far}
 use Rattle.dsr_file.specs.Runs.{FileText, events_of_text, known_lines, IsRun, IsCutOff}

@@ -9,9 +9,9 @@ use Rattle.dsr_records.specs.declared.record.Record.TheVariants as the
 use Rattle.dsr_records.specs.declared.record.Head as head
 use Rattle.dsr_records.specs.Blocks.{BlockParts}
 use Rattle.dsr_records.specs.Records.{or_else}
-use Rattle.dsr_file.specs.declared.fault.FileFault.{FileFault}
-use Rattle.dsr_file.specs.declared.event.EventPart.{EventPart}
-use Rattle.dsr_file.specs.declared.event.EventPart.TheVariants as tell
+use Rattle.dsr_events.specs.declared.fault.FileFault.{FileFault}
+use Rattle.dsr_events.specs.declared.event.EventPart.{EventPart}
+use Rattle.dsr_events.specs.declared.event.EventPart.TheVariants as tell
 use Rattle.dsr_file.specs.declared.stage.Before.{Before}
 use Rattle.dsr_file.specs.declared.stage.Before.TheVariants as columns
 use Rattle.dsr_file.specs.declared.stage.Stage.{Stage}

@@ -1,14 +1,14 @@
 -- What a reader represents: the bytes used so far, and the events given.
 use Rattle.std.specs.Prelude.{◌≡◌, ℕ, ◌+◌, true, false, List, [], ◌∷◌, ◌++◌, length, map, Option, None, Some, unwrap_or}
 use Rattle.dsr_records.specs.Records.{LayoutTable}
-use Rattle.dsr_file.specs.declared.fault.Ending.{Ending}
-use Rattle.dsr_file.specs.declared.fault.Outcome.{Outcome}
-use Rattle.dsr_file.specs.declared.event.EventPart.{EventPart}
+use Rattle.dsr_events.specs.declared.fault.Ending.{Ending}
+use Rattle.dsr_events.specs.declared.fault.Outcome.{Outcome}
+use Rattle.dsr_events.specs.declared.event.EventPart.{EventPart}
 use Rattle.dsr_file.specs.declared.reader.phase.Phase.{Phase}
 use Rattle.dsr_file.specs.declared.reader.phase.Phase.TheVariants.{Reading, Waiting, Done}
 use Rattle.dsr_file.specs.declared.reader.FileReader.{FileReader}
-use Rattle.dsr_file.specs.Placed.{Placed}
-use Rattle.dsr_file.specs.Orderly.{has_ended}
+use Rattle.dsr_events.specs.Placed.{Placed}
+use Rattle.dsr_events.specs.Orderly.{has_ended}
 use Rattle.dsr_file.specs.Readings.{reading, records}
 use Rattle.dsr_file.specs.Parts.{events_of}
 use Rattle.dsr_file.specs.Texts.{AllGood, first_from, placed}

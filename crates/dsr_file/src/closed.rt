@@ -8,9 +8,9 @@ ghost use Rattle.dsr_file.specs.Runs.{IsSomeRun};
 ghost use Rattle.dsr_file.specs.Counting.{block_count};
 ghost use Rattle.dsr_file.specs.Closing.{event_at};
 
-use crate::event::{Event, EventPart};
 use crate::sink::Sink;
 use dsr_cells::NoMemory;
+use dsr_events::{Event, EventPart};
 use dsr_records::{Block, BoxedBlock, CheckedLine};
 use std::alloc::Global;
 use std::marker::Model;
@@ -38,7 +38,7 @@ fn new_block(alloc: Global) -> Result<BoxedBlock, NoMemory> {
 
 impl Model for Closed {
     ghost use Rattle.std.specs.Prelude.{Option};
-    ghost use Rattle.dsr_file.specs.declared.event.EventPart.{EventPart};
+    ghost use Rattle.dsr_events.specs.declared.event.EventPart.{EventPart};
     ghost use Rattle.dsr_file.specs.Closing.{part_closed, IsOne};
 
     ghost Value = { Option EventPart };

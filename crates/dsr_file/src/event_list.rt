@@ -2,8 +2,8 @@
 ghost use Rattle.std.specs.Prelude.{◌≡◌, ◌++◌, ◌∷◌, [], length, slice_get, MatchOption, MatchResult};
 ghost use Rattle.std.specs.Option.{option_map};
 
-use crate::event::Event;
 use crate::sink::Sink;
+use dsr_events::Event;
 use std::alloc::Global;
 use std::collections::VecDeque;
 use std::marker::Model;
@@ -16,7 +16,7 @@ pub struct EventList {
 
 impl Model for EventList {
     ghost use Rattle.std.specs.Prelude.{List};
-    ghost use Rattle.dsr_file.specs.Placed.{Placed};
+    ghost use Rattle.dsr_events.specs.Placed.{Placed};
 
     ghost Value = { List Placed };
 

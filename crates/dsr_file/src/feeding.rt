@@ -2,16 +2,15 @@
 ghost use Rattle.std.specs.Prelude.{◌≡◌, ◌++◌, ◌∷◌, [], ◌+◌, ◌≤◌, ◌^◌, length, List, ℕ, Some, None, OnOk, IfOk, IfErr, IfSome};
 ghost use mathlib.Core.List.{IsPrefix};
 ghost use Rattle.dsr_records.specs.Records.{LayoutTable};
-ghost use Rattle.dsr_file.specs.Placed.{Placed};
+ghost use Rattle.dsr_events.specs.Placed.{Placed};
 ghost use Rattle.dsr_file.specs.Runs.{IsSomeRun, BeginsEvents, HasEvents, EndsWith};
 ghost use Rattle.dsr_file.specs.Standing.{Stands, bytes_used, ending_told, events_left};
 ghost use Rattle.dsr_file.specs.Feeding.{IsKnown, Fed, FedSome};
 
 use crate::closed::Closed;
-use crate::event::Event;
-use crate::fault::{Ending, Outcome};
 use crate::reader::FileReader;
 use crate::sink::Sink;
+use dsr_events::{Ending, Event, Outcome};
 
 /// Gives a piece to a reader and its events to a sink, and notes the length of the piece in the sink. An event that the
 /// sink refuses is in `refused` then: as a result it would be a large local of the loop, which is set to zero each time.

@@ -5,9 +5,8 @@ ghost use Rattle.dsr_file.specs.Readings.{is_skipped_text, file_fault};
 ghost use Rattle.dsr_file.specs.Counting.{foot_in, summary_count};
 
 use crate::closed::Closed;
-use crate::event::EventPart;
-use crate::fault::{Ending, FileFault, Outcome};
 use crate::stage::Stage;
+use dsr_events::{Ending, EventPart, FileFault, Outcome};
 use dsr_records::{CheckedLine, Foot, Kind, Layout, Record, RecordFault, TypedLine, text_of};
 use std::alloc::Global;
 

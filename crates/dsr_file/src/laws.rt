@@ -2,11 +2,11 @@
 ghost use Rattle.std.specs.Prelude.{◌≡◌, ◌++◌, List, ℕ, true};
 ghost use mathlib.Core.List.{IsPrefix};
 ghost use Rattle.dsr_records.specs.Records.{LayoutTable};
-ghost use Rattle.dsr_file.specs.Orderly.{has_ended, IsOrderly};
-ghost use Rattle.dsr_file.specs.Placed.{Placed};
+ghost use Rattle.dsr_events.specs.Orderly.{has_ended, IsOrderly};
+ghost use Rattle.dsr_events.specs.Placed.{Placed};
 ghost use Rattle.dsr_file.specs.Runs.{FileText, IsRun};
 ghost use Rattle.dsr_file.specs.Texts.{so_far, text_events};
-ghost use Rattle.dsr_file.specs.declared.fault.Ending.{Ending};
+ghost use Rattle.dsr_events.specs.declared.fault.Ending.{Ending};
 
 /// The events of bytes are the first events of every text that begins with these bytes.
 pub fn so_far_begins()

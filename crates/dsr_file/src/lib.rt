@@ -9,8 +9,8 @@
 //! 3. `stage` keeps what is open after the records so far: the head with its summaries, or a block.
 //!    A work or a usage is appended to the open block, and a resource is written over an old block.
 //!    What a line closes goes into a place that is lent to the stage (`closed`), with that old block.
-//! 4. [`FileReader`] (`reader`) gives the events (`event`), each with its place, and the [`Outcome`]
-//!    last: Whole, or the first fault (`fault`) with its line. It takes the lines of each piece
+//! 4. [`FileReader`] (`reader`) gives the events of dsr_events, each with its place, and the [`Outcome`]
+//!    last: Whole, or the first fault with its line. It takes the lines of each piece
 //!    (`reader/lines`) and the last line (`reader/ending`), makes the events (`reader/events`), and
 //!    knows how far it has come (`reader/phase`).
 //! 5. [`read_file`] (`reading`) reads a [`Source`] (`source`) to its end, as often as its limit allows
@@ -65,9 +65,7 @@
 
 mod closed;
 mod cutter;
-mod event;
 mod event_list;
-mod fault;
 mod feeding;
 mod grammar;
 pub mod laws;
@@ -81,9 +79,8 @@ mod source;
 mod stage;
 mod whole;
 
-pub use event::{Event, EventPart, Opening, Summaries};
+pub use dsr_events::{Ending, Event, EventPart, FileFault, Opening, Outcome, Summaries};
 pub use event_list::EventList;
-pub use fault::{Ending, FileFault, Outcome};
 pub use read_count::ReadCount;
 pub use reader::FileReader;
 pub use reading::{ReadFileError, read_file};

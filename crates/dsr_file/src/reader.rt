@@ -2,8 +2,8 @@
 ghost use Rattle.std.specs.Prelude.{◌≡◌, ◌++◌, [], ◌+◌, ◌<◌, ◌≤◌, ◌^◌, ◌⊎◌, ◌↔◌, length, List, ℕ, true, take, Some, None, IfOk, IfNone, OnSome, IsTrue};
 ghost use Rattle.std.specs.Option.{option_to_list};
 ghost use Rattle.dsr_records.specs.Records.{LayoutTable};
-ghost use Rattle.dsr_file.specs.Placed.{Placed};
-ghost use Rattle.dsr_file.specs.Orderly.{has_ended};
+ghost use Rattle.dsr_events.specs.Placed.{Placed};
+ghost use Rattle.dsr_events.specs.Orderly.{has_ended};
 ghost use Rattle.dsr_file.specs.Allowance.{allowance};
 
 mod ending;
@@ -13,11 +13,10 @@ mod phase;
 
 use crate::closed::Closed;
 use crate::cutter::Cutter;
-use crate::event::Event;
-use crate::fault::{Ending, Outcome};
 use crate::grammar::Grammar;
 use crate::reader::phase::Phase;
 use dsr_cells::NoMemory;
+use dsr_events::{Ending, Event, Outcome};
 use dsr_records::{Block, BoxedBlock, Layout};
 use std::alloc::Global;
 

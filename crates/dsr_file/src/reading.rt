@@ -7,12 +7,11 @@ ghost use Rattle.dsr_file.specs.Refusals.{IsRefusal, refused_event};
 ghost use Rattle.dsr_file.specs.Standing.{Stands, bytes_used, ending_told};
 
 use crate::closed::Closed;
-use crate::event::Event;
-use crate::fault::{Ending, Outcome};
 use crate::feeding::{feed, finish_all};
 use crate::reader::FileReader;
 use crate::sink::Sink;
 use crate::source::Source;
+use dsr_events::{Ending, Event, Outcome};
 use dsr_records::Layout;
 use std::alloc::Global;
 

@@ -1,10 +1,9 @@
 //! The destination of a file's events.
 ghost use Rattle.std.specs.Prelude.{◌≡◌, ◌<◌, ◌^◌, List, [], ◌∷◌, ◌++◌, true, false, OnOk, IfErr};
-ghost use Rattle.dsr_file.specs.Placed.{Placed};
-ghost use Rattle.dsr_file.specs.Closing.{block_event};
+ghost use Rattle.dsr_events.specs.Placed.{Placed, block_event};
 ghost use Rattle.dsr_file.specs.Runs.{IsSomeRun};
 
-use crate::event::Event;
+use dsr_events::Event;
 use dsr_records::Block;
 
 /// Takes the events of a file, one after another.

@@ -9,10 +9,9 @@ ghost use Rattle.dsr_file.specs.Faults.{place, member_fault, summary_fault};
 ghost use Rattle.dsr_file.specs.Stages.{column_at, stage_fault, stage_after, given_by, part_given, kept_fault, block_length, IsFree, IsMember, IsOther, IsNew};
 
 use crate::closed::Closed;
-use crate::event::{EventPart, Opening, Summaries};
-use crate::fault::FileFault;
 use crate::same_text::is_same;
 use dsr_cells::NoMemory;
+use dsr_events::{EventPart, FileFault, Opening, Summaries};
 use dsr_records::{Block, BoxedBlock, CheckedLine, Kind, Record, Summary};
 use std::alloc::Global;
 use std::mem;

@@ -7,13 +7,12 @@ ghost use Rattle.dsr_file.specs.Standing.{Stands, bytes_used, ending_told};
 ghost use Rattle.dsr_file.specs.Feeding.{IsKnown};
 
 use crate::closed::Closed;
-use crate::event::Event;
 use crate::event_list::EventList;
-use crate::fault::{Ending, FileFault, Outcome};
 use crate::feeding::{feed, finish_all};
 use crate::reader::FileReader;
 use crate::sink::Sink;
 use dsr_cells::NoMemory;
+use dsr_events::{Ending, Event, FileFault, Outcome};
 use dsr_records::Layout;
 use std::alloc::Global;
 

@@ -1,12 +1,12 @@
 -- How lists of events end.
 use Rattle.std.proofs.Common.{◌≡◌, ℕ, suc, ◌+◌, Bool, true, false, ◌||◌, List, [], ◌∷◌, ◌++◌, length, Some, slice_get, refl, ap, ◌∙◌, arith, length-append}
-use Rattle.dsr_file.specs.declared.fault.FileFault.TheVariants.{Memory}
-use Rattle.dsr_file.specs.declared.fault.Outcome.TheVariants.{Fault}
-use Rattle.dsr_file.specs.declared.event.EventPart.{EventPart}
-use Rattle.dsr_file.specs.declared.event.EventPart.TheVariants.{Opened, Block, Ended}
-use Rattle.dsr_file.specs.Placed.{Placed}
-use Rattle.dsr_file.specs.Orderly.{is_ended, has_ended, IsOrderly}
-use Rattle.dsr_file.specs.OrderlyLaws.{slice_get_front}
+use Rattle.dsr_events.specs.declared.fault.FileFault.TheVariants.{Memory}
+use Rattle.dsr_events.specs.declared.fault.Outcome.TheVariants.{Fault}
+use Rattle.dsr_events.specs.declared.event.EventPart.{EventPart}
+use Rattle.dsr_events.specs.declared.event.EventPart.TheVariants.{Opened, Block, Ended}
+use Rattle.dsr_events.specs.Placed.{Placed}
+use Rattle.dsr_events.specs.Orderly.{is_ended, has_ended, IsOrderly}
+use Rattle.dsr_events.specs.OrderlyLaws.{slice_get_front}
 use Rattle.dsr_file.specs.Texts.{placed}
 use Rattle.dsr_intake.specs.inner.Ends.{is_clean_end, ends_clean}
 

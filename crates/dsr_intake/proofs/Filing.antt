@@ -6,11 +6,11 @@ use Rattle.std.proofs.lemmas.List.{append-nil, set-set, set-get_or, take-append-
 use Rattle.std.proofs.Math.Seq.{take-suc}
 use Rattle.std.proofs.lemmas.Option.{get_or_from_slice_get}
 use Rattle.std.proofs.lemmas.List.Elements.{filter_map-append}
-use Rattle.dsr_file.specs.declared.event.EventPart.{EventPart}
-use Rattle.dsr_file.specs.declared.event.EventPart.TheVariants as part
-use Rattle.dsr_file.specs.Placed.{Placed}
-use Rattle.dsr_file.specs.Orderly.{is_ended, has_ended, MayStandAt, IsOrderly}
-use Rattle.dsr_file.specs.OrderlyLaws.{orderly_front}
+use Rattle.dsr_events.specs.declared.event.EventPart.{EventPart}
+use Rattle.dsr_events.specs.declared.event.EventPart.TheVariants as part
+use Rattle.dsr_events.specs.Placed.{Placed}
+use Rattle.dsr_events.specs.Orderly.{is_ended, has_ended, MayStandAt, IsOrderly}
+use Rattle.dsr_events.specs.OrderlyLaws.{orderly_front}
 use Rattle.dsr_relay.proofs.Taking.{going_on}
 use Rattle.dsr_ledger.specs.declared.books.Books.{Books}
 use Rattle.dsr_ledger.specs.Files.{File}

@@ -1,10 +1,10 @@
 -- A thread's list of events, by the result of reading its file.
 use Rattle.std.proofs.Common.{◌≡◌, false, List, [], ◌∷◌, inl, inr, ap, Result, Ok, Err, IfErr}
 use Rattle.std.specs.Prelude.{OnOk}
-use Rattle.dsr_file.specs.declared.fault.Outcome.{Outcome}
+use Rattle.dsr_events.specs.declared.fault.Outcome.{Outcome}
 use Rattle.dsr_file.specs.declared.reading.ReadFileError.{ReadFileError}
 use Rattle.dsr_file.specs.declared.reading.ReadFileError.TheVariants.{Memory, Refused}
-use Rattle.dsr_file.specs.Placed.{Placed}
+use Rattle.dsr_events.specs.Placed.{Placed}
 use Rattle.dsr_file.specs.Sources.{Told, IsRead, IsRefused}
 use Rattle.dsr_file.specs.Refusals.{IsRefusal}
 use Rattle.dsr_file.proofs.RunLemmas.{run_orderly}

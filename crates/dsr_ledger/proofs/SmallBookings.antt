@@ -7,7 +7,7 @@ use Rattle.dsr_records.specs.declared.record.Summary.{Summary}
 use Rattle.dsr_records.specs.declared.record.Usage.{Usage}
 use Rattle.dsr_records.specs.Works.{WorkParts}
 use Rattle.dsr_records.specs.Blocks.{BlockParts}
-use Rattle.dsr_file.specs.Openings.{OpeningParts}
+use Rattle.dsr_events.specs.Openings.{OpeningParts}
 use Rattle.dsr_ledger.specs.declared.verdict.Standing.{Standing}
 use Rattle.dsr_ledger.specs.declared.verdict.Verdict.{Verdict}
 use Rattle.dsr_ledger.specs.declared.verdict.Verdict.TheVariants.{Booked, Rejected}

@@ -11,7 +11,7 @@ use Rattle.dsr_cells.specs.Texts.{is_isrc_text}
 use Rattle.dsr_records.specs.Blocks.{BlockParts}
 use Rattle.dsr_records.specs.declared.record.Summary.{Summary}
 use Rattle.dsr_records.specs.declared.record.Usage.{Usage}
-use Rattle.dsr_file.specs.Openings.{OpeningParts}
+use Rattle.dsr_events.specs.Openings.{OpeningParts}
 use Rattle.dsr_ledger.specs.declared.key.Key.{Key}
 use Rattle.dsr_ledger.specs.declared.ledger.recordings.Ledger.{Ledger}
 use Rattle.dsr_ledger.specs.declared.file.FileBooks.{FileBooks}

@@ -7,9 +7,9 @@ use Rattle.dsr_records.specs.declared.record.Head.{Head}
 use Rattle.dsr_records.specs.declared.record.Summary.{Summary}
 use Rattle.dsr_records.specs.declared.record.Usage.{Usage}
 use Rattle.dsr_records.specs.Blocks.{BlockParts}
-use Rattle.dsr_file.specs.declared.fault.Outcome.{Outcome}
-use Rattle.dsr_file.specs.declared.fault.Outcome.TheVariants.{Whole, Fault}
-use Rattle.dsr_file.specs.Openings.{OpeningParts}
+use Rattle.dsr_events.specs.declared.fault.Outcome.{Outcome}
+use Rattle.dsr_events.specs.declared.fault.Outcome.TheVariants.{Whole, Fault}
+use Rattle.dsr_events.specs.Openings.{OpeningParts}
 use Rattle.dsr_ledger.specs.declared.verdict.Standing.{Standing}
 use Rattle.dsr_ledger.specs.declared.verdict.Standing.TheVariants.{Ours, Foreign, Doubled, Headless}
 use Rattle.dsr_ledger.specs.declared.verdict.Verdict.{Verdict}

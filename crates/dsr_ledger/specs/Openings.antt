@@ -2,7 +2,7 @@
 use Rattle.std.specs.Prelude.{ℕ, List, Option, None, Some, map, if◌then◌else◌}
 use Rattle.std.specs.Str.{bytes_eq}
 use Rattle.dsr_records.specs.declared.record.Summary.{Summary}
-use Rattle.dsr_file.specs.Openings.{OpeningParts}
+use Rattle.dsr_events.specs.Openings.{OpeningParts}
 use Rattle.dsr_ledger.specs.declared.file.FileBooks.{FileBooks}
 
 abbrev pub openings_of : List FileBooks → List (Option OpeningParts)

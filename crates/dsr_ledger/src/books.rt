@@ -12,7 +12,7 @@ use crate::report::Report;
 use crate::seeded::Seeded;
 use crate::verdict::{Standing, Verdict};
 use dsr_cells::NoMemory;
-use dsr_file::{Opening, Outcome};
+use dsr_events::{Opening, Outcome};
 use dsr_records::Block;
 use std::alloc::Global;
 

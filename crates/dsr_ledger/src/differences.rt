@@ -12,7 +12,7 @@ use crate::report::{Difference, Differences};
 use crate::sums::Sums;
 use crate::verdict::Standing;
 use dsr_cells::{Items, NoMemory};
-use dsr_file::Outcome;
+use dsr_events::Outcome;
 use dsr_records::Summary;
 use std::alloc::Global;
 

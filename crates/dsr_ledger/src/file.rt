@@ -21,7 +21,7 @@ use crate::ledger::recordings::Ledger;
 use crate::report::Reject;
 use crate::verdict::{Reason, Standing, Verdict};
 use dsr_cells::{Isrc, NoMemory};
-use dsr_file::{Opening, Outcome};
+use dsr_events::{Opening, Outcome};
 use dsr_records::Block;
 use std::alloc::Global;
 

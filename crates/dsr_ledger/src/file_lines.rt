@@ -5,7 +5,7 @@ ghost use Rattle.dsr_ledger.specs.Assembly.{line_kept};
 use crate::file::FileBooks;
 use crate::report::{FileLine, FileLines};
 use dsr_cells::{Items, NoMemory};
-use dsr_file::Outcome;
+use dsr_events::Outcome;
 use std::alloc::Global;
 
 /// The line of a file that ended.

@@ -17,7 +17,7 @@ use crate::ledger::summary_key::SummaryKey;
 use crate::seeded::Seeded;
 use crate::verdict::Standing;
 use dsr_cells::NoMemory;
-use dsr_file::Opening;
+use dsr_events::Opening;
 use dsr_records::{Head, Summary};
 use std::alloc::Global;
 

@@ -8,7 +8,7 @@ ghost use Rattle.dsr_ledger.specs.Reports.{key_of};
 use crate::file::FileBooks;
 use crate::report::{Reject, Rejects, ReportKey};
 use dsr_cells::{Items, NoMemory};
-use dsr_file::Opening;
+use dsr_events::Opening;
 use dsr_records::Head;
 use std::alloc::Global;
 

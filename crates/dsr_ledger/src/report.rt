@@ -2,7 +2,7 @@
 use crate::parties::Parties;
 use crate::verdict::{Reason, Standing};
 use dsr_cells::{Day, Isrc, Items, Text};
-use dsr_file::Outcome;
+use dsr_events::Outcome;
 
 /// The key of a report.
 #[derive(Drop)]

@@ -1,4 +1,5 @@
 //! The examples that the lib.rt files show, one file for each crate.
 mod cells;
+mod events;
 mod file;
 mod records;

@@ -1,7 +1,7 @@
 -- The steps, if the view is known.
 use Rattle.std.proofs.Common.{◌≡◌, ℕ, ◌≤◌, List, [], ◌∷◌, ◌++◌, length, refl, sym, subst}
 use Rattle.crossbeam_channel.specs.Fifo.{Pushes, Pops, Forks, Merges, Learns}
-use Rattle.dsr_file.specs.Orderly.{IsOrderly}
+use Rattle.dsr_events.specs.Orderly.{IsOrderly}
 use Rattle.dsr_relay.specs.declared.rule.Log.{Log}
 use Rattle.dsr_relay.specs.declared.rule.Log.TheVariants.{Fresh, Sends, Takes, Both, Spent}
 use Rattle.dsr_relay.specs.Messages.{Message, events_of, IsMessage, AreMessages}

@@ -5,8 +5,8 @@ use mathlib.Core.Option.{some, some-ne-none, some-injective}
 use lib.ListN.{get_elem?}
 use Rattle.crossbeam_channel.specs.Fifo.{Pushes, Pops, Forks, Merges, Learns}
 use Rattle.atomic_table.proofs.Lists.{at_set}
-use Rattle.dsr_file.specs.Orderly.{IsOrderly}
-use Rattle.dsr_file.specs.OrderlyLaws.{orderly_nil, orderly_front}
+use Rattle.dsr_events.specs.Orderly.{IsOrderly}
+use Rattle.dsr_events.specs.OrderlyLaws.{orderly_nil, orderly_front}
 use Rattle.dsr_relay.specs.declared.rule.Log.{Log}
 use Rattle.dsr_relay.specs.declared.rule.Log.TheVariants.{Fresh, Sends, Takes, Both, Spent}
 use Rattle.dsr_relay.specs.Messages.{Message, events_of, IsMessage, AreMessages}

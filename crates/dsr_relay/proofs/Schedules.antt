@@ -4,9 +4,9 @@ use Rattle.std.proofs.Common.{subst, arith, append_assoc, length-append}
 use Rattle.std.specs.Prelude.{sum}
 use Rattle.std.specs.List.{AllByRecursion, sum_by}
 use Rattle.std.proofs.lemmas.List.Sums.{sum-map, sum_by-cons}
-use Rattle.dsr_file.specs.Placed.{Placed}
-use Rattle.dsr_file.specs.Orderly.{IsOrderly, has_ended}
-use Rattle.dsr_file.specs.OrderlyLaws.{ended_whole}
+use Rattle.dsr_events.specs.Placed.{Placed}
+use Rattle.dsr_events.specs.Orderly.{IsOrderly, has_ended}
+use Rattle.dsr_events.specs.OrderlyLaws.{ended_whole}
 use Rattle.dsr_relay.specs.Messages.{IsMessage}
 use Rattle.dsr_relay.specs.Lanes.{Lane, Step, put, get, IsPrefix, Puts, Gets, Moves, file_of, Happens, Leads, IsFresh}
 use Rattle.dsr_relay.specs.Laws.{joined, IsInOrder, InEverySchedule, LeavesOthers, IsNeverStuck, IsBounded, IsDelivered}

@@ -1,8 +1,7 @@
 -- A feed after its batch was sent.
 use Rattle.std.proofs.Common.{◌≡◌, ℕ, ◌≤◌, true, false, List, [], ◌∷◌, ◌++◌, length, refl, sym, ap, ◌∙◌, arith, length-append}
 use Rattle.dsr_records.specs.Blocks.{BlockParts}
-use Rattle.dsr_file.specs.Placed.{Placed}
-use Rattle.dsr_file.specs.Closing.{block_event}
+use Rattle.dsr_events.specs.Placed.{Placed, block_event}
 use Rattle.dsr_relay.specs.declared.rule.Log.{Log}
 use Rattle.dsr_relay.specs.declared.rule.Log.TheVariants.{Sends}
 use Rattle.dsr_relay.specs.Messages.{Message, events_of}

@@ -2,9 +2,9 @@
 use Rattle.std.proofs.Common.{◌≡◌, ℕ, ◌+◌, Bool, true, false, ◌||◌, List, [], ◌∷◌, ◌++◌, length, take, refl, sym, ap, ◌∙◌, subst, arith, append_assoc}
 use Rattle.std.proofs.Common.{length-append}
 use Rattle.std.proofs.Math.Seq.{take-append_seam}
-use Rattle.dsr_file.specs.Placed.{Placed}
-use Rattle.dsr_file.specs.Orderly.{IsOrderly, is_ended, has_ended}
-use Rattle.dsr_file.specs.OrderlyLaws.{orderly_next, orderly_front, ended_whole}
+use Rattle.dsr_events.specs.Placed.{Placed}
+use Rattle.dsr_events.specs.Orderly.{IsOrderly, is_ended, has_ended}
+use Rattle.dsr_events.specs.OrderlyLaws.{orderly_next, orderly_front, ended_whole}
 use Rattle.dsr_relay.specs.declared.rule.Log.{Log}
 use Rattle.dsr_relay.specs.declared.rule.Log.TheVariants.{Takes}
 use Rattle.dsr_relay.specs.Messages.{Message, events_of, IsMessage, AreMessages}

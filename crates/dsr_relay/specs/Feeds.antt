@@ -2,8 +2,8 @@
 use Rattle.std.specs.Prelude.{◌≡◌, ◌≤◌, List, ◌++◌, length}
 use Rattle.crossbeam_channel.specs.Ends.{sends_on, ruled_capacity}
 use Rattle.crossbeam_channel.specs.Claims.{view, IsSeatAt}
-use Rattle.dsr_file.specs.Placed.{Placed}
-use Rattle.dsr_file.specs.Orderly.{IsOrderly}
+use Rattle.dsr_events.specs.Placed.{Placed}
+use Rattle.dsr_events.specs.Orderly.{IsOrderly}
 use Rattle.dsr_relay.specs.Messages.{events_of}
 use Rattle.dsr_relay.specs.Rule.{out_of}
 use Rattle.dsr_relay.specs.Views.{FeedView}

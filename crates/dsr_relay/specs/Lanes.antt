@@ -1,7 +1,7 @@
 -- The relays of all files as one machine: its states, its steps, and its schedules.
 use Rattle.std.specs.Prelude.{◌≡◌, ℕ, ◌<◌, ◌≤◌, true, false, List, [], ◌∷◌, ◌++◌, length, Some, slice_get, slice_set}
-use Rattle.dsr_file.specs.Placed.{Placed}
-use Rattle.dsr_file.specs.Orderly.{IsOrderly, has_ended}
+use Rattle.dsr_events.specs.Placed.{Placed}
+use Rattle.dsr_events.specs.Orderly.{IsOrderly, has_ended}
 use Rattle.dsr_relay.specs.Messages.{IsMessage}
 
 -- one file: its events, the capacity of its relay, what was sent, the messages in the queue, and what was taken

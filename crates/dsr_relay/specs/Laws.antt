@@ -1,8 +1,8 @@
 -- The laws of the relays of all files. They hold in every schedule, for any number of files.
 use Rattle.std.specs.Prelude.{◌≡◌, ℕ, ◌*◌, ◌≤◌, false, List, [], ◌∷◌, ◌++◌, length, map, sum, Some, slice_get}
 use Rattle.std.specs.List.{AllByRecursion}
-use Rattle.dsr_file.specs.Placed.{Placed}
-use Rattle.dsr_file.specs.Orderly.{has_ended}
+use Rattle.dsr_events.specs.Placed.{Placed}
+use Rattle.dsr_events.specs.Orderly.{has_ended}
 use Rattle.dsr_relay.specs.Lanes.{Lane, Step, file_of, IsPrefix, Happens, Leads, IsFresh}
 
 -- the events of the messages, one message after another

@@ -1,6 +1,6 @@
 -- The events of messages.
 use Rattle.std.specs.Prelude.{◌<◌, ◌≤◌, List, [], ◌∷◌, ◌++◌, length}
-use Rattle.dsr_file.specs.Placed.{Placed}
+use Rattle.dsr_events.specs.Placed.{Placed}
 
 -- a message, as contracts see it, is the list of its events
 abbrev pub Message : Type 0

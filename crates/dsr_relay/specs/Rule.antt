@@ -3,7 +3,7 @@
 use Rattle.std.specs.Prelude.{◌≡◌, ℕ, ◌≤◌, List, [], ◌∷◌, ◌++◌, length}
 use mathlib.Core.Option.{some}
 use lib.ListN.{get_elem?}
-use Rattle.dsr_file.specs.Orderly.{IsOrderly}
+use Rattle.dsr_events.specs.Orderly.{IsOrderly}
 use Rattle.dsr_relay.specs.Messages.{Message, events_of, AreMessages}
 use Rattle.dsr_relay.specs.declared.rule.Log.{Log}
 use Rattle.dsr_relay.specs.declared.rule.Log.TheVariants.{Fresh, Sends, Takes, Both, Spent}

@@ -2,8 +2,8 @@
 use Rattle.std.specs.Prelude.{◌≡◌, ◌≤◌, List, ◌++◌, length, take}
 use Rattle.crossbeam_channel.specs.Ends.{receives_on, ruled_capacity}
 use Rattle.crossbeam_channel.specs.Claims.{view, IsSeatAt}
-use Rattle.dsr_file.specs.Placed.{Placed}
-use Rattle.dsr_file.specs.Orderly.{IsOrderly, has_ended}
+use Rattle.dsr_events.specs.Placed.{Placed}
+use Rattle.dsr_events.specs.Orderly.{IsOrderly, has_ended}
 use Rattle.dsr_relay.specs.Messages.{events_of}
 use Rattle.dsr_relay.specs.Rule.{received_of}
 use Rattle.dsr_relay.specs.Views.{TapView}

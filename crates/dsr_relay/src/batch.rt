@@ -6,11 +6,10 @@
 //! filled with empty blocks before a batch is filled for the first time.
 ghost use Rattle.std.specs.Prelude.{◌≡◌, ◌<◌, ◌^◌, ◌∷◌, ◌++◌, [], ℕ, List, true, false, MatchOption, MatchResult, IfOk};
 ghost use Rattle.dsr_records.specs.Blocks.{BlockParts};
-ghost use Rattle.dsr_file.specs.Placed.{Placed};
-ghost use Rattle.dsr_file.specs.Closing.{block_event};
+ghost use Rattle.dsr_events.specs.Placed.{Placed, block_event};
 
 use dsr_cells::NoMemory;
-use dsr_file::{Event, EventPart};
+use dsr_events::{Event, EventPart};
 use dsr_records::Block;
 use std::alloc::Global;
 use std::marker::Model;
@@ -42,7 +41,7 @@ pub struct Batch {
 
 impl Model for Batch {
     ghost use Rattle.std.specs.Prelude.{◌≤◌, List, length, take, drop};
-    ghost use Rattle.dsr_file.specs.Placed.{Placed};
+    ghost use Rattle.dsr_events.specs.Placed.{Placed};
 
     ghost Value = { List Placed };
 

@@ -2,7 +2,7 @@
 ghost use Rattle.std.specs.Prelude.{◌≡◌, [], ◌∷◌, ◌++◌, OnOk, OnErr, IfSome, IfNone, OnSome};
 ghost use Rattle.crossbeam_channel.specs.Ends.{sends_on, receives_on, ruled_capacity};
 ghost use Rattle.crossbeam_channel.specs.Claims.{view, IsSeatAt};
-ghost use Rattle.dsr_file.specs.Orderly.{IsOrderly};
+ghost use Rattle.dsr_events.specs.Orderly.{IsOrderly};
 ghost use Rattle.dsr_relay.specs.Messages.{events_of, IsMessage, AreMessages};
 ghost use Rattle.dsr_relay.specs.Rule.{out_of, received_of};
 ghost use Rattle.dsr_relay.specs.declared.rule.Log.TheVariants.{Sends, Takes};

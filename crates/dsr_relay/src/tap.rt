@@ -1,7 +1,7 @@
 //! The receiving end of a relay.
 ghost use Rattle.std.specs.Prelude.{◌≡◌, ◌+◌, ◌*◌, ◌<◌, ◌≤◌, true, false, [], ◌∷◌, ◌++◌, length};
 ghost use Rattle.std.specs.Prelude.{IfSome, IfNone, IfOk, OnErr};
-ghost use Rattle.dsr_file.specs.Orderly.{IsOrderly, has_ended};
+ghost use Rattle.dsr_events.specs.Orderly.{IsOrderly, has_ended};
 
 use crate::batch::Batch;
 use crate::channel::{Closed, take_next};
@@ -10,7 +10,7 @@ use crate::memory::Returns;
 use crate::rule::{InOrder, Log, Meet, Rest};
 use crate::settled::Settled;
 use crossbeam_channel::{Pass, RuledReceiver};
-use dsr_file::Event;
+use dsr_events::Event;
 use std::marker::Model;
 use std::mem;
 use std::snapshot::Snapshot;

@@ -1,6 +1,6 @@
 //! What a test takes: one event, a batch, or all events of a file.
 ghost use Rattle.std.specs.Prelude.{◌≡◌, false};
-ghost use Rattle.dsr_file.specs.Orderly.{has_ended};
+ghost use Rattle.dsr_events.specs.Orderly.{has_ended};
 
 use crate::events::{are_right, is_block, is_end, is_opened};
 use dsr_relay::Tap;

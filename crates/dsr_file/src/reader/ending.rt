@@ -1,13 +1,12 @@
 //! The end of a text: its last line, if it has no line feed, and the outcome.
 ghost use Rattle.std.specs.Prelude.{◌≡◌, ◌≢◌, ◌<◌, length, List, ℕ, Some};
 ghost use Rattle.dsr_records.specs.Records.{LayoutTable};
-ghost use Rattle.dsr_file.specs.Placed.{Placed};
+ghost use Rattle.dsr_events.specs.Placed.{Placed};
 ghost use Rattle.dsr_file.specs.Allowance.{left};
 
-use crate::event::Event;
-use crate::fault::{Ending, FileFault, Outcome};
 use crate::grammar::Step;
 use crate::reader::FileReader;
+use dsr_events::{Ending, Event, FileFault, Outcome};
 
 impl FileReader {
     ghost use Rattle.dsr_file.specs.Standing.{Stands, SameText, AtEnd, first_ending};

@@ -4,11 +4,10 @@ ghost use Rattle.std.specs.Option.{option_to_list};
 ghost use Rattle.dsr_file.specs.Allowance.{allowance};
 
 use crate::closed::Closed;
-use crate::event::{Event, EventPart};
-use crate::fault::{FileFault, Outcome};
 use crate::grammar::Step;
 use crate::reader::FileReader;
 use crate::reader::phase::Phase;
+use dsr_events::{Event, EventPart, FileFault, Outcome};
 
 impl FileReader {
     ghost use Rattle.dsr_file.specs.Standing.{SameBut, SameText, FaultyGives};

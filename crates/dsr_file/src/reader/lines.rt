@@ -2,16 +2,15 @@
 ghost use Rattle.std.specs.Prelude.{◌≡◌, ◌++◌, [], ◌+◌, ◌<◌, ◌≤◌, ◌^◌, ◌⊎◌, length, List, ℕ, false, take, None, IfNone, OnSome};
 ghost use Rattle.std.specs.Option.{option_to_list};
 ghost use Rattle.dsr_records.specs.Records.{LayoutTable};
-ghost use Rattle.dsr_file.specs.Placed.{Placed};
+ghost use Rattle.dsr_events.specs.Placed.{Placed};
 ghost use Rattle.dsr_file.specs.Closing.{event_at};
 
 use crate::closed::Closed;
 use crate::cutter::Cut;
-use crate::event::Event;
-use crate::fault::{FileFault, Outcome};
 use crate::grammar::Step;
 use crate::reader::FileReader;
 use crate::reader::phase::Phase;
+use dsr_events::{Event, FileFault, Outcome};
 
 impl FileReader {
     ghost use Rattle.dsr_file.specs.Standing.{Stands, IsDone, SameText, bytes_used, events_left, ending_told};

@@ -1,10 +1,10 @@
 -- Invariants of the collector: what holds of a tap and of the books.
 use Rattle.std.specs.Prelude.{◌≡◌, ℕ, ◌+◌, ◌<◌, ◌^◌, Bool, true, false, List, [], ◌∷◌, ◌++◌, length, Some, None}
 use Rattle.std.specs.Prelude.{IsSome, slice_get, slice_set}
-use Rattle.dsr_file.specs.declared.event.EventPart.{EventPart}
-use Rattle.dsr_file.specs.declared.event.EventPart.TheVariants as part
-use Rattle.dsr_file.specs.Orderly.{IsOrderly, has_ended}
-use Rattle.dsr_file.specs.Placed.{Placed}
+use Rattle.dsr_events.specs.declared.event.EventPart.{EventPart}
+use Rattle.dsr_events.specs.declared.event.EventPart.TheVariants as part
+use Rattle.dsr_events.specs.Orderly.{IsOrderly, has_ended}
+use Rattle.dsr_events.specs.Placed.{Placed}
 use Rattle.dsr_relay.specs.Views.{TapView}
 use Rattle.dsr_ledger.specs.declared.books.Books.{Books}
 use Rattle.dsr_ledger.specs.Files.{File, opened, add_block, end_with}

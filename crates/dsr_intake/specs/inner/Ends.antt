@@ -1,12 +1,12 @@
 -- How a list of events ends.
 use Rattle.std.specs.Prelude.{Bool, true, false, not, List, [], ◌∷◌}
-use Rattle.dsr_file.specs.declared.fault.FileFault.{FileFault}
-use Rattle.dsr_file.specs.declared.fault.FileFault.TheVariants.{Memory}
-use Rattle.dsr_file.specs.declared.fault.Outcome.{Outcome}
-use Rattle.dsr_file.specs.declared.fault.Outcome.TheVariants.{Whole, Fault}
-use Rattle.dsr_file.specs.declared.event.EventPart.{EventPart}
-use Rattle.dsr_file.specs.declared.event.EventPart.TheVariants.{Opened, Block, Ended}
-use Rattle.dsr_file.specs.Placed.{Placed}
+use Rattle.dsr_events.specs.declared.fault.FileFault.{FileFault}
+use Rattle.dsr_events.specs.declared.fault.FileFault.TheVariants.{Memory}
+use Rattle.dsr_events.specs.declared.fault.Outcome.{Outcome}
+use Rattle.dsr_events.specs.declared.fault.Outcome.TheVariants.{Whole, Fault}
+use Rattle.dsr_events.specs.declared.event.EventPart.{EventPart}
+use Rattle.dsr_events.specs.declared.event.EventPart.TheVariants.{Opened, Block, Ended}
+use Rattle.dsr_events.specs.Placed.{Placed}
 
 abbrev pub is_memory_fault : FileFault → Bool
 is_memory_fault Memory = true

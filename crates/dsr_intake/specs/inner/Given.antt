@@ -1,6 +1,6 @@
 -- What a thread promises.
 use Rattle.std.specs.Prelude.{◌≡◌, true, List}
-use Rattle.dsr_file.specs.Placed.{Placed}
+use Rattle.dsr_events.specs.Placed.{Placed}
 use Rattle.dsr_file.specs.Runs.{FileText, events_of_text}
 use Rattle.dsr_file.specs.Sources.{Told, GaveText}
 use Rattle.dsr_intake.specs.declared.pipeline.options.Options.{Options}

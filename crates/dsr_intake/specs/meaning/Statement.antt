@@ -6,9 +6,9 @@ use Rattle.dsr_cells.specs.Days.{day_number}
 use Rattle.dsr_cells.specs.Written.{written, written_day}
 use Rattle.dsr_records.specs.Tables.{column_name}
 use Rattle.dsr_records.specs.declared.kinds.Column.{Column}
-use Rattle.dsr_file.specs.Names.{name_of, column_named}
-use Rattle.dsr_file.specs.declared.fault.Outcome.{Outcome}
-use Rattle.dsr_file.specs.declared.fault.Outcome.TheVariants.{Whole, Fault}
+use Rattle.dsr_events.specs.Names.{name_of, column_named}
+use Rattle.dsr_events.specs.declared.fault.Outcome.{Outcome}
+use Rattle.dsr_events.specs.declared.fault.Outcome.TheVariants.{Whole, Fault}
 use Rattle.dsr_ledger.specs.declared.report.ReportKey.{ReportKey}
 use Rattle.dsr_ledger.specs.declared.report.FileLine.{FileLine}
 use Rattle.dsr_ledger.specs.declared.report.Difference.{Difference}

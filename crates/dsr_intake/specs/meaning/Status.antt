@@ -1,8 +1,8 @@
 -- Whether a statement has remarks.
 use Rattle.std.specs.Prelude.{Bool, true, false, ◌&&◌, is_some, if◌then◌else◌, List, [], ◌∷◌}
 use Rattle.std.specs.List.{list_all}
-use Rattle.dsr_file.specs.declared.fault.Outcome.{Outcome}
-use Rattle.dsr_file.specs.declared.fault.Outcome.TheVariants.{Whole, Fault}
+use Rattle.dsr_events.specs.declared.fault.Outcome.{Outcome}
+use Rattle.dsr_events.specs.declared.fault.Outcome.TheVariants.{Whole, Fault}
 use Rattle.dsr_ledger.specs.declared.verdict.Standing.{Standing}
 use Rattle.dsr_ledger.specs.declared.verdict.Standing.TheVariants.{Ours, Foreign, Doubled, Headless}
 use Rattle.dsr_ledger.specs.declared.report.FileLine.{FileLine}

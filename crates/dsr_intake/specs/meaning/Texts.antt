@@ -3,10 +3,10 @@ use Rattle.std.specs.Prelude.{List, [], ◌∷◌, map, Option, Some, None}
 use Rattle.std.specs.List.{filter_map}
 use Rattle.dsr_records.specs.Blocks.{BlockParts}
 use Rattle.dsr_records.specs.Records.{LayoutTable}
-use Rattle.dsr_file.specs.declared.event.EventPart.TheVariants as part
-use Rattle.dsr_file.specs.declared.fault.Outcome.{Outcome}
-use Rattle.dsr_file.specs.Openings.{OpeningParts}
-use Rattle.dsr_file.specs.Placed.{Placed}
+use Rattle.dsr_events.specs.declared.event.EventPart.TheVariants as part
+use Rattle.dsr_events.specs.declared.fault.Outcome.{Outcome}
+use Rattle.dsr_events.specs.Openings.{OpeningParts}
+use Rattle.dsr_events.specs.Placed.{Placed}
 use Rattle.dsr_file.specs.Runs.{FileText, events_of_text}
 use Rattle.dsr_file.specs.Sources.{Told, GaveText}
 use Rattle.dsr_ledger.specs.declared.report.Report.{Report}

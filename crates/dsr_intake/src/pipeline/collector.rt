@@ -1,8 +1,8 @@
 //! The collector: it takes the events of all files, books them, and closes the books or makes their report.
 ghost use Rattle.std.specs.Prelude.{◌≡◌, ◌+◌, ◌<◌, ◌≤◌, ◌++◌, true, false, List, [], length, map, All, OnOk, OnErr, IfOk, IfErr};
 ghost use Rattle.std.specs.Prelude.{vec_len};
-ghost use Rattle.dsr_file.specs.Placed.{Placed};
-ghost use Rattle.dsr_file.specs.Orderly.{IsOrderly, is_ended, has_ended, MayStandAt};
+ghost use Rattle.dsr_events.specs.Placed.{Placed};
+ghost use Rattle.dsr_events.specs.Orderly.{IsOrderly, is_ended, has_ended, MayStandAt};
 ghost use Rattle.dsr_ledger.specs.BooksWords.{Stands, files_count};
 ghost use Rattle.dsr_ledger.specs.Closed.{AreClosed};
 ghost use Rattle.dsr_ledger.specs.Reports.{report_of};

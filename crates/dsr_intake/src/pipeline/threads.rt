@@ -1,7 +1,7 @@
 //! The threads, each of which reads a file and sends its events.
 ghost use Rattle.std.specs.Prelude.{◌≡◌, ◌<◌, ◌≤◌, false, List, [], ◌++◌, IfOk, IfErr};
-ghost use Rattle.dsr_file.specs.Placed.{Placed};
-ghost use Rattle.dsr_file.specs.Orderly.{IsOrderly};
+ghost use Rattle.dsr_events.specs.Placed.{Placed};
+ghost use Rattle.dsr_events.specs.Orderly.{IsOrderly};
 ghost use Rattle.dsr_intake.specs.meaning.Options.{IsLate};
 ghost use Rattle.dsr_intake.specs.inner.Ends.{ends_clean};
 ghost use Rattle.dsr_intake.specs.inner.Given.{IsGiven};

@@ -1,5 +1,5 @@
 use Rattle.std.proofs.Common.{◌∙◌, ◌++◌, ◌∷◌, [], refl, subst, sym}
-use Rattle.dsr_file.specs.declared.fault.Outcome.TheVariants.{Fault}
+use Rattle.dsr_events.specs.declared.fault.Outcome.TheVariants.{Fault}
 use Rattle.std.specs.Option.{option_to_list}
 use Rattle.dsr_file.specs.Standing.{FaultyGives, Stands}
 use Rattle.dsr_file.specs.Texts.{placed}

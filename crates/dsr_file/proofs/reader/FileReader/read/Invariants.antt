@@ -1,6 +1,6 @@
 use Rattle.std.proofs.Common.{◌≡◌, ◌≤◌, ◌+◌, ◌-◌, ◌++◌, List, ℕ, length, take, None}
 use Rattle.dsr_records.specs.Records.{LayoutTable}
-use Rattle.dsr_file.specs.Placed.{Placed}
+use Rattle.dsr_events.specs.Placed.{Placed}
 use Rattle.dsr_file.specs.declared.reader.phase.Phase.TheVariants.{Reading}
 use Rattle.dsr_file.specs.Standing.{Stands}
 use Rattle.dsr_file.proofs.reader.FileReader.read.Given as goal

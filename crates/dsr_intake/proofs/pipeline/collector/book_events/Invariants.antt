@@ -1,5 +1,5 @@
 use Rattle.std.proofs.Common.{◌≡◌, List, take}
-use Rattle.dsr_file.specs.Placed.{Placed}
+use Rattle.dsr_events.specs.Placed.{Placed}
 use Rattle.dsr_ledger.specs.BooksWords.{files_count}
 use Rattle.dsr_intake.specs.inner.Collecting.{IsFollowed, TakesAll}
 use Rattle.dsr_intake.proofs.pipeline.collector.book_events.Given as goal

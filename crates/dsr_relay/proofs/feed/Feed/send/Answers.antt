@@ -1,8 +1,8 @@
 use Rattle.std.proofs.Common.{◌≡◌, ◌+◌, [], ◌∷◌, ◌++◌, length, sym, ap, ◌∙◌, subst, arith, append_assoc, length-append}
 use Rattle.crossbeam_channel.specs.Claims.{view}
-use Rattle.dsr_file.specs.Placed.{Placed}
-use Rattle.dsr_file.specs.Orderly.{IsOrderly}
-use Rattle.dsr_file.specs.OrderlyLaws.{orderly_next}
+use Rattle.dsr_events.specs.Placed.{Placed}
+use Rattle.dsr_events.specs.Orderly.{IsOrderly}
+use Rattle.dsr_events.specs.OrderlyLaws.{orderly_next}
 use Rattle.dsr_relay.specs.Messages.{events_of}
 use Rattle.dsr_relay.specs.Rule.{out_of}
 use Rattle.dsr_relay.specs.Views.{FeedView, batch_after}

@@ -1,5 +1,5 @@
 use Rattle.std.proofs.Common.{◌≡◌, ◌+◌, [], ◌∷◌, ◌++◌, length, take, sym, ap, ◌∙◌, arith}
-use Rattle.dsr_file.specs.Orderly.{has_ended}
+use Rattle.dsr_events.specs.Orderly.{has_ended}
 use Rattle.dsr_relay.specs.Views.{TapView}
 use Rattle.dsr_relay.specs.Taps.{tap_view, arrived}
 use Rattle.dsr_relay.proofs.Taking.{takes_next}

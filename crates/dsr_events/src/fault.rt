@@ -1,6 +1,6 @@
 //! The endings, outcomes and faults of a file.
 ghost use Rattle.std.specs.Prelude.{◌≡◌};
-ghost use Rattle.dsr_file.specs.Names.{name_of, column_named};
+ghost use Rattle.dsr_events.specs.Names.{name_of, column_named};
 
 use dsr_records::Column;
 

@@ -2,8 +2,8 @@
 use Rattle.std.proofs.Common.{◌≡◌, ℕ, zero, suc, Bool, true, false, true≢false, ◌||◌, ◌⊎◌, inl, inr, ⊎_elim, append_assoc, List, [], ◌∷◌, ◌++◌, length, Some}
 use Rattle.std.proofs.Common.{slice_get, refl, sym, ap, ◌∙◌, subst, arith, length-append}
 use Rattle.std.proofs.lemmas.Option.{slice_get_within}
-use Rattle.dsr_file.specs.Placed.{Placed}
-use Rattle.dsr_file.specs.Orderly.{is_ended, has_ended, MayStandAt, IsOrderly}
+use Rattle.dsr_events.specs.Placed.{Placed}
+use Rattle.dsr_events.specs.Orderly.{is_ended, has_ended, MayStandAt, IsOrderly}
 
 pub slice_get_front : (xs ys : List Placed) (k : ℕ) (e : Placed) → slice_get xs k ≡ Some e → slice_get (xs ++ ys) k ≡ Some e
 slice_get_front [] ys k e h = absurd (cc)

@@ -1,9 +1,9 @@
 -- Orderly lists of events.
 use Rattle.std.specs.Prelude.{◌≡◌, ℕ, ◌+◌, Bool, true, false, List, length, Some, slice_get}
 use Rattle.std.specs.List.{list_any}
-use Rattle.dsr_file.specs.Placed.{Placed}
-use Rattle.dsr_file.specs.declared.event.EventPart.{EventPart}
-use Rattle.dsr_file.specs.declared.event.EventPart.TheVariants.{Opened, Block, Ended}
+use Rattle.dsr_events.specs.Placed.{Placed}
+use Rattle.dsr_events.specs.declared.event.EventPart.{EventPart}
+use Rattle.dsr_events.specs.declared.event.EventPart.TheVariants.{Opened, Block, Ended}
 
 abbrev pub is_ended : EventPart → Bool
 is_ended (Opened _) = false

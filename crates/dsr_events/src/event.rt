@@ -1,6 +1,6 @@
 //! The events of a file.
 ghost use Rattle.std.specs.Prelude.{◌≡◌};
-ghost use Rattle.dsr_file.specs.Orderly.{is_ended};
+ghost use Rattle.dsr_events.specs.Orderly.{is_ended};
 
 use crate::fault::Outcome;
 use dsr_cells::Items;
@@ -20,7 +20,7 @@ pub struct Opening {
 }
 
 impl Model for Opening {
-    ghost use Rattle.dsr_file.specs.Openings.{OpeningParts, HasDistinctIds};
+    ghost use Rattle.dsr_events.specs.Openings.{OpeningParts, HasDistinctIds};
 
     ghost Value = { OpeningParts };
 
@@ -60,7 +60,7 @@ pub struct Event {
 
 impl Model for Event {
     ghost use Rattle.std.specs.Prelude.{◌^◌, ◌<◌};
-    ghost use Rattle.dsr_file.specs.Placed.{Placed};
+    ghost use Rattle.dsr_events.specs.Placed.{Placed};
 
     ghost Value = { Placed };
 
@@ -72,8 +72,8 @@ impl Model for Event {
 /// A placeholder for an event that was taken out of a list.
 impl Default for Event {
     ghost use Rattle.std.specs.Prelude.{◌≡◌};
-    ghost use Rattle.dsr_file.specs.declared.event.EventPart.TheVariants as part;
-    ghost use Rattle.dsr_file.specs.declared.fault.Outcome.TheVariants as outcome;
+    ghost use Rattle.dsr_events.specs.declared.event.EventPart.TheVariants as part;
+    ghost use Rattle.dsr_events.specs.declared.fault.Outcome.TheVariants as outcome;
 
     ghost is_default = { λ e. e ≡ record { place = 0; part = part.Ended outcome.Whole } };
 

@@ -1,0 +1,7 @@
+-- The definitions to be trusted.
+pub mod Openings
+pub mod Names
+pub mod Placed
+pub mod Orderly
+-- Laws of them.
+pub mod OrderlyLaws
