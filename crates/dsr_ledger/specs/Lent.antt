@@ -1,9 +1,9 @@
 -- A report whose parts are lent.
 use Rattle.std.specs.Prelude.{◌≡◌, ◌≤◌, List, All, length, vec_capacity}
-use Rattle.dsr_ledger.specs.declared.lent.LentLedger.{LentLedger}
-use Rattle.dsr_ledger.specs.declared.lent.LentLedger.TheVariants.{Booked, Reported}
-use Rattle.dsr_ledger.specs.declared.lent.LentReport.{LentReport}
-use Rattle.dsr_ledger.specs.declared.lent.ReportedLines.{ReportedLines}
+use Rattle.dsr_ledger.specs.declared.lent.ledger.LentLedger.{LentLedger}
+use Rattle.dsr_ledger.specs.declared.lent.ledger.LentLedger.TheVariants.{Booked, Reported}
+use Rattle.dsr_ledger.specs.declared.lent.report.LentReport.{LentReport}
+use Rattle.dsr_ledger.specs.declared.lent.reported.ReportedLines.{ReportedLines}
 use Rattle.dsr_ledger.specs.declared.report.LedgerLine.{LedgerLine}
 use Rattle.dsr_ledger.specs.declared.report.Report.{Report}
 use Rattle.dsr_ledger.specs.Bookings.{Booking}

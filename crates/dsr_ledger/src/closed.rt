@@ -3,7 +3,9 @@ ghost use Rattle.dsr_ledger.specs.Order.{AreOfSmall};
 
 use crate::assemble::ledger::BookedLines;
 use crate::ledger::recordings::Ledger;
-use crate::lent::{Copies, LentLedger, LentReport};
+use crate::lent::copies::Copies;
+use crate::lent::ledger::LentLedger;
+use crate::lent::report::LentReport;
 use crate::report::{Differences, FileLines, Numbers, Rejects, Report, ReportKey};
 use dsr_cells::NoMemory;
 use std::alloc::Global;

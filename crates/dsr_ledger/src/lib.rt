@@ -117,7 +117,10 @@ mod wide;
 
 pub use books::Books;
 pub use closed::ClosedBooks;
-pub use lent::{LentLedger, LentLine, LentParty, LentReport};
+pub use lent::ledger::LentLedger;
+pub use lent::line::LentLine;
+pub use lent::party::LentParty;
+pub use lent::report::LentReport;
 pub use parties::Parties;
 pub use report::{
     Difference, Differences, FileLine, FileLines, LedgerLine, LedgerLines, Numbers, PartyLine,

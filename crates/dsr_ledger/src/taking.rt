@@ -3,7 +3,7 @@ ghost use Rattle.std.specs.Prelude.{List, ◌∷◌, []};
 ghost use Rattle.dsr_ledger.specs.declared.report.LedgerLine.{LedgerLine as LedgerLineValue};
 ghost use Rattle.dsr_ledger.specs.Taking.{Takes};
 
-use crate::lent::LentLine;
+use crate::lent::line::LentLine;
 
 /// What takes the lines of a ledger.
 pub trait TakeLines {

@@ -6,7 +6,7 @@ use crate::ledger::line::Line;
 use crate::ledger::parts::SeatPart;
 use crate::ledger::recording::Recording;
 use crate::ledger::summary_key::SummaryKey;
-use crate::lent::LentParty;
+use crate::lent::party::LentParty;
 use dsr_cells::{Isrc, NoMemory, Text};
 use std::alloc::Global;
 

@@ -119,8 +119,8 @@ fn plan_lines(
 {
     for number in numbers {
         let key = summaries.key(*number);
-        let hint = next_line(plan.as_slice());
-        let line = ledger.line(alloc, recording, key, hint, shares)?;
+        let next = next_line(plan.as_slice());
+        let line = ledger.line(alloc, recording, key, next, shares)?;
         plan.push(line)?;
     }
     Ok(())

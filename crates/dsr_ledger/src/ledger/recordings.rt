@@ -188,13 +188,13 @@ impl Ledger {
     }
 
     /// The line of the summary key with this number in a recording, which is added if there is none, and has a part for
-    /// the seat of each share. The sums of each key are unchanged. If the recording has many lines, `hint` is tried first.
+    /// the seat of each share. The sums of each key are unchanged. If the recording has many lines, `next` is tried first.
     pub fn line(
         &mut self,
         alloc: Global,
         recording: usize,
         number: u32,
-        hint: usize,
+        next: usize,
         shares: &[SeatShare],
     ) -> Result<usize, NoMemory>
         requires there { (isrc : List ℕ) × (es : List (List ℕ × ℕ))
@@ -209,7 +209,7 @@ impl Ledger {
     {
         let seeded = *self.recordings.hasher();
         let (_, found) = self.recordings.pair_mut(recording);
-        found.line(alloc, seeded, number, hint, shares)
+        found.line(alloc, seeded, number, next, shares)
     }
 
     /// Adds a usage and its parts to a line, and to no other. This allocates nothing.

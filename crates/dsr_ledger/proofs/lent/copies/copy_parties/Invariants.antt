@@ -1,5 +1,5 @@
 use Rattle.std.proofs.Common.{◌≡◌, take}
-use Rattle.dsr_ledger.proofs.lent.copy_parties.Given as goal
+use Rattle.dsr_ledger.proofs.lent.copies.copy_parties.Given as goal
 
 abbrev pub invariant-loop-party : goal.invariant-loop-party
 invariant-loop-party l = l.parties ≡ take l.party-index l.lent
