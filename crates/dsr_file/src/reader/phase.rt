@@ -1,8 +1,8 @@
-use dsr_events::Outcome;
 //! How far a reader has come.
 ghost use Rattle.std.specs.Prelude.{◌≡◌};
 ghost use Rattle.dsr_file.specs.Allowance.{has_given_all};
 
+use dsr_events::Outcome;
 
 /// How far a reader has come.
 #[derive(Clone, Copy)]
