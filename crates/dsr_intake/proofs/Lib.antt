@@ -6,3 +6,4 @@ pub mod Rounds
 pub mod Sending
 pub mod Lines
 pub mod Bounds
+pub mod LedgerBytes

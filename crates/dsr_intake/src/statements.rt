@@ -2,6 +2,7 @@
 pub(crate) mod bound;
 pub(crate) mod cells;
 pub(crate) mod key;
+pub(crate) mod ledger_bytes;
 pub(crate) mod ledger_put;
 pub(crate) mod lines;
 pub(crate) mod names;

@@ -83,7 +83,7 @@ named_some : (bs : List Booking) (n : List ℕ) → list_any (eq_by_cmp text_cmp
 named_some bs n h = ltb-true 0 (length (filter (is_for n) (all_parts bs))) (some_for n (all_parts bs) ∙ h)
 
 -- what holds of each party that has a part holds of the lines of the parties
-each_party : (P : PartyLine → Type 0) (bs : List Booking) → ((n : List ℕ) → 0 < length (filter (is_for n) (all_parts bs))
+pub each_party : (P : PartyLine → Type 0) (bs : List Booking) → ((n : List ℕ) → 0 < length (filter (is_for n) (all_parts bs))
     → P (record { party = n; amount = party_amount bs n })) → AllByRecursion P (party_lines bs)
 each_party P bs each =
     subst (AllByRecursion P) (sym (lines_are bs)) (over (names_of bs)
@@ -95,7 +95,8 @@ each_party P bs each =
     over (n ∷ names) h = (each n (named_some bs n h.0), over names h.1)
 
 -- what holds of the line of each key holds of the ledger
-each_line : (P : LedgerLine → Type 0) (bs : List Booking) → ((key : Key) → P (line_of key (at_key key bs))) → AllByRecursion P (ledger bs)
+pub each_line : (P : LedgerLine → Type 0) (bs : List Booking) → ((key : Key) → list_any (eq_by_cmp key_cmp key) (map (λ b. b.key) bs) ≡ true
+    → P (line_of key (at_key key bs))) → AllByRecursion P (ledger bs)
 unfolding ledger
 each_line P bs each =
     let f : Key → LedgerLine = λ key. line_of key (at_key key bs) in
@@ -103,15 +104,16 @@ each_line P bs each =
     let keys = keys_of (in_order key_cmp f ks) in
     let is : map (λ e. e.1) (in_order key_cmp f ks) ≡ map f keys =
     ap (map (λ e. e.1)) (values_in_order key_cmp key_total key_exact f ks) ∙ map-map (λ (e : Key × LedgerLine). e.1) (λ (k : Key). (k, f k)) keys in
-    subst (AllByRecursion P) (sym is) (over keys)
+    subst (AllByRecursion P) (sym is) (over keys (keys_among key_cmp key_total key_exact f ks))
   where
-    over : (keys : List Key) → AllByRecursion P (map (λ key. line_of key (at_key key bs)) keys)
-    over [] = tt
-    over (key ∷ keys) = (each key, over keys)
+    over : (keys : List Key) → AllByRecursion (λ key. list_any (eq_by_cmp key_cmp key) (map (λ b. b.key) bs) ≡ true) keys
+        → AllByRecursion P (map (λ key. line_of key (at_key key bs)) keys)
+    over [] h = tt
+    over (key ∷ keys) h = (each key h.0, over keys h.1)
 
 pub add_up : (files : List File) → SharesAddUp files
 unfolding report_of line_of
-add_up files = All-from_recursion AddsUp _ (each_line AddsUp (bookings files) (λ key. shares_conserved (at_key key (bookings files))))
+add_up files = All-from_recursion AddsUp _ (each_line AddsUp (bookings files) (λ key among. shares_conserved (at_key key (bookings files))))
 
 line_near : (files : List File) (key : Key) → All (λ p. IsNear (filter (is_for p.party) (all_parts (at_key key (bookings files)))) p)
     (party_lines (at_key key (bookings files)))
@@ -124,7 +126,7 @@ pub are_near : (files : List File) → SharesAreNear files
 unfolding report_of line_of
 are_near files =
     let P : LedgerLine → Type 0 = λ l. All (λ p. IsNear (line_parts files l p) p) l.parties in
-    All-from_recursion P _ (each_line P (bookings files) (line_near files))
+    All-from_recursion P _ (each_line P (bookings files) (λ key among. line_near files key))
 
 -- the bookings of a key, where none is negative
 key_within : (files : List File) (key : Key) → NoneIsNegative (at_key key (bookings files))
@@ -149,4 +151,4 @@ pub are_within : (files : List File) → SharesAreWithin files
 unfolding report_of line_of
 are_within files =
     let P : LedgerLine → Type 0 = λ l. NoneIsNegative (line_bookings files l) → IsWithin files l in
-    All-from_recursion P _ (each_line P (bookings files) (key_within files))
+    All-from_recursion P _ (each_line P (bookings files) (λ key among. key_within files key))

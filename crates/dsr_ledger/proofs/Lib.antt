@@ -21,6 +21,7 @@ pub mod OrderLemmas
 pub mod ListedLemmas
 pub mod TakingLemmas
 pub mod RoomLemmas
+pub mod SameLemmas
 pub mod ReportLemmas
 pub mod PartyLineLemmas
 pub mod PartyLemmas
@@ -46,3 +47,4 @@ pub mod TallyPlusLemmas
 pub mod ShownLemmas
 pub mod KeyNumberLemmas
 pub mod AssemblyLemmas
+pub mod SizeLemmas

@@ -5,7 +5,7 @@ use Rattle.std.specs.List.{list_any, AllByRecursion, Contains}
 use Rattle.std.specs.List.Sorted.{IsStrictlySortedBy}
 use Rattle.std.specs.Ordering.{is_eq, is_lt, eq_by_cmp}
 use Rattle.std.specs.declared.cmp.Ordering.{Ordering}
-use Rattle.std.specs.declared.cmp.Ordering.TheVariants.{Less, Equal}
+use Rattle.std.specs.declared.cmp.Ordering.TheVariants.{Less, Equal, Greater}
 use Rattle.std.specs.Cmp.{IsTotalOrder, Equal-is, tied_itself}
 use Rattle.std.specs.Map.{keys_of}
 use Rattle.std.specs.FinMap as finite
@@ -14,8 +14,17 @@ use Rattle.std.proofs.lemmas.Bool.{and_from}
 use Rattle.std.proofs.lemmas.List.Elements.{recursion_from_All, Contains-get_or}
 use Rattle.std.proofs.lemmas.Simd.{map-map}
 use Rattle.std.proofs.lemmas.Map.Keys.{any_passes_from_place}
+use Rattle.std.proofs.lemmas.Map.Views.{Contains-from_any}
 use Rattle.std.proofs.lemmas.Option.{slice_get-get_or}
 use Rattle.dsr_ledger.specs.Keys.{in_order}
+
+both_first : (a b : Bool) → T (a && b) → T a
+both_first true b h = tt
+both_first false b h = absurd h
+
+both_second : (a b : Bool) → T (a && b) → T b
+both_second true b h = h
+both_second false b h = absurd h
 
 module _ {K : Type 0} (R : K → K → Ordering) (total : IsTotalOrder R) (exact : (a b : K) → R a b ≡ Equal → a ≡ b) where
   below_true : {V : Type 0} (x : K) (es : List (K × V)) → AllByRecursion (λ y. R x y ≡ Less) (keys_of es) → below_all R x es ≡ true
@@ -103,3 +112,30 @@ module _ {K : Type 0} (R : K → K → Ordering) (total : IsTotalOrder R) (exact
       let mine = keys_of (in_order R f ks) in
       recursion_from_All (λ k. list_any (eq_by_cmp R k) ks ≡ true) mine (λ i d below.
       sym (any-in_order f ks (get_or mine i d)) ∙ any_own mine (get_or mine i d) (Contains-get_or mine i d below))
+
+  is_Less : (o : Ordering) → T (is_lt o) → o ≡ Less
+  is_Less Less h = refl
+  is_Less Equal h = absurd h
+  is_Less Greater h = absurd h
+
+  less_all : {X : Type 0} (x : K) (es : List (K × X)) → T (below_all R x es) → AllByRecursion (λ y. R x y ≡ Less) (keys_of es)
+  less_all x [] h = tt
+  less_all x (e ∷ es) h = (is_Less (R x e.0) (both_first _ _ h), less_all x es (both_second _ _ h))
+
+  sorted_from : {X : Type 0} (es : List (K × X)) → T (is_sorted R es) → IsStrictlySortedBy R (keys_of es)
+  unfolding IsStrictlySortedBy
+  sorted_from [] h = tt
+  sorted_from (e ∷ es) h = (less_all e.0 es (both_first _ _ h), sorted_from es (both_second _ _ h))
+
+  pub sorted_in_order : {X : Type 0} (f : K → X) (ks : List K) → IsStrictlySortedBy R (keys_of (in_order R f ks))
+  sorted_in_order f ks = sorted_from _ (finite.entries_sorted (finite.from_entries {R = R} (map (λ k. (k, f k)) ks)))
+
+  -- the same keys with the same values
+  pub same_in_order : {X : Type 0} (f g : K → X) (ks ls : List K) (p : K → Bool) → ((q : K) → p q ≡ list_any (eq_by_cmp R q) ks)
+      → ((q : K) → p q ≡ list_any (eq_by_cmp R q) ls) → ((q : K) → f q ≡ g q) → in_order R f ks ≡ in_order R g ls
+  same_in_order f g ks ls p mine other same =
+      let es = in_order R g ls in
+      let sorted = sorted_in_order g ls in
+      let all = λ (q : K) (e : p q ≡ true).
+      Contains-from_any (λ x y t. exact x y ((Equal-is (R x y)).0 t)) q (keys_of es) (any-in_order g ls q ∙ sym (other q) ∙ e) in
+      sym (in_order_is f ks p es sorted mine all) ∙ (λ i. kept (λ q. same q i) p es) ∙ in_order_is g ls p es sorted other all

@@ -1,15 +1,12 @@
 -- The sums by party, and all parts.
-use Rattle.std.proofs.Common.{◌≡◌, ℕ, ◌+◌, ◌*◌, ◌^◌, ◌<◌, ◌≤◌, zero, suc, take, get_or, List, [], ◌∷◌, length, Bool, true, false, cond, T, true≢false, refl}
+use Rattle.std.proofs.Common.{◌≡◌, ℕ, ◌+◌, ◌*◌, ◌^◌, ◌<◌, ◌≤◌, zero, suc, take, get_or, List, [], ◌∷◌, length, Bool, true, false, cond, true≢false, refl}
 use Rattle.std.proofs.Common.{subst, sym, ◌∙◌, ap, arith}
-use Rattle.std.specs.Prelude.{ℤ, pos, nat_lt, ◌+ℤ◌, ◌-ℤ◌, ◌||◌, ◌&&◌, filter, map, sum_by, unsigned_abs}
+use Rattle.std.specs.Prelude.{ℤ, pos, nat_lt, ◌+ℤ◌, ◌-ℤ◌, ◌||◌, filter, map, sum_by, unsigned_abs}
 use Rattle.std.specs.List.{list_any, IsDistinct, AllByRecursion}
 use Rattle.std.specs.Map.{keys_of}
-use Rattle.std.specs.Ordering.{is_eq, is_lt, eq_by_cmp}
-use Rattle.std.specs.declared.cmp.Ordering.{Ordering}
-use Rattle.std.specs.declared.cmp.Ordering.TheVariants.{Less, Equal, Greater}
+use Rattle.std.specs.Ordering.{eq_by_cmp}
 use Rattle.std.specs.Str.{bytes_eq}
 use Rattle.std.specs.FinMap as finite
-use Rattle.std.specs.FinMap.Entries.{below_all, is_sorted}
 use Rattle.std.specs.Cmp.Lexicographic.{nat_list_cmp_total, nat_list_eq_equiv}
 use Rattle.std.proofs.lemmas.Bool.{lt-ltb}
 use Rattle.std.proofs.lemmas.Slice.Eq.{bytes_eq-Decides}
@@ -19,6 +16,7 @@ use Rattle.std.specs.Int.RustNames.{FitsSigned}
 use Rattle.std.proofs.lemmas.Simd.{map-map}
 use Rattle.std.proofs.lemmas.List.Concat.{flat_map-cons}
 use Rattle.std.proofs.lemmas.List.Sums.{sum_by-cons, sum_by-append}
+use Rattle.std.proofs.lemmas.Map.Keys.{IsDistinct-from_sorted}
 use Rattle.std.proofs.lemmas.Map.Lookups.{exact_bytes}
 use Rattle.dsr_ledger.specs.declared.report.PartyLine.{PartyLine}
 use Rattle.dsr_ledger.specs.Sums.{int_sum_by}
@@ -31,7 +29,7 @@ use Rattle.dsr_ledger.proofs.SumLemmas.{int_sum_by-append, zero-add, abs-add}
 use Rattle.dsr_ledger.specs.Owed.{parts_size}
 use Rattle.dsr_ledger.proofs.TextLemmas.{text_itself, text_ties}
 use Rattle.dsr_ledger.proofs.ShareLemmas.{parts_within}
-use Rattle.dsr_ledger.proofs.OrderLemmas.{any-in_order, values_in_order}
+use Rattle.dsr_ledger.proofs.OrderLemmas.{any-in_order, values_in_order, sorted_in_order}
 
 -- a sum of zeros
 sum_zero : {X : Type 0} (xs : List X) → int_sum_by (λ _. pos 0) xs ≡ pos 0
@@ -172,36 +170,13 @@ sizes names distinct (q ∷ ps) =
 abbrev pub names_of : List Booking → List (List ℕ)
 names_of bs = keys_of (in_order text_cmp (party_amount bs) (map (λ q. q.party) (all_parts bs)))
 
-apart : (x y : List ℕ) → T (is_lt (text_cmp x y)) → bytes_eq x y ≡ false
-apart x y h = sym (text_ties x y) ∙ by (text_cmp x y) h
-  where
-    by : (o : Ordering) → T (is_lt o) → is_eq o ≡ false
-    by Less h = refl
-    by Equal h = absurd h
-    by Greater h = refl
-
-both_first : (a b : Bool) → T (a && b) → T a
-both_first true b h = tt
-both_first false b h = absurd h
-
-both_second : (a b : Bool) → T (a && b) → T b
-both_second true b h = h
-both_second false b h = absurd h
-
-apart_all : {X : Type 0} (x : List ℕ) (es : List (List ℕ × X)) → T (below_all text_cmp x es) → AllByRecursion (λ y. bytes_eq x y ≡ false) (keys_of es)
-apart_all x [] h = tt
-apart_all x (e ∷ es) h = (apart x e.0 (both_first _ _ h), apart_all x es (both_second _ _ h))
-
-distinct_from : {X : Type 0} (es : List (List ℕ × X)) → T (is_sorted text_cmp es) → IsDistinct bytes_eq (keys_of es)
-unfolding IsDistinct
-distinct_from [] h = tt
-distinct_from (e ∷ es) h = (apart_all e.0 es (both_first _ _ h), distinct_from es (both_second _ _ h))
-
-names_distinct : (bs : List Booking) → IsDistinct bytes_eq (names_of bs)
+pub names_distinct : (bs : List Booking) → IsDistinct bytes_eq (names_of bs)
 names_distinct bs =
-    distinct_from _ (finite.entries_sorted (finite.from_entries {R = text_cmp} (map (λ k. (k, party_amount bs k)) (map (λ q. q.party) (all_parts bs)))))
+    subst (λ (eq : List ℕ → List ℕ → Bool). IsDistinct eq (names_of bs)) (λ i x y. text_ties x y i) (
+    IsDistinct-from_sorted text_cmp (names_of bs)
+    (sorted_in_order text_cmp nat_list_cmp_total exact_bytes (party_amount bs) (map (λ q. q.party) (all_parts bs))))
 
-any_same : (q : List ℕ) (names : List (List ℕ)) → list_any (bytes_eq q) names ≡ list_any (eq_by_cmp text_cmp q) names
+pub any_same : (q : List ℕ) (names : List (List ℕ)) → list_any (bytes_eq q) names ≡ list_any (eq_by_cmp text_cmp q) names
 any_same q names = λ i. list_any (λ n. sym (text_ties q n) i) names
 
 or_true : (b : Bool) → (b || true) ≡ true
@@ -249,7 +224,7 @@ size-map f g [] = refl
 size-map f g (x ∷ xs) = sum_by-cons f (g x) (map g xs) ∙ ap (λ n. f (g x) + n) (size-map f g xs) ∙ sym (sum_by-cons (λ y. f (g y)) x xs)
 
 -- the parts of small bookings
-small_parts : (bs : List Booking) → AllByRecursion IsSmall bs → parts_size (all_parts bs) ≤ length bs * 10 ^ 22
+pub small_parts : (bs : List Booking) → AllByRecursion IsSmall bs → parts_size (all_parts bs) ≤ length bs * 10 ^ 22
 small_parts [] h = omega arith
 small_parts (b ∷ bs) h =
     let rest = small_parts bs h.1 in

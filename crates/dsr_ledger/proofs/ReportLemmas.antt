@@ -2,19 +2,18 @@
 use Rattle.std.proofs.Math.Logic.{∥∥₁_map}
 use Rattle.std.proofs.Common.{◌≡◌, ℕ, zero, suc, ◌+◌, ◌<◌, ◌≤◌, take, drop, get_or, Bool, true, false, cond, List, [], ◌∷◌, ◌++◌, ◌⊎◌, inl, inr}
 use Rattle.std.proofs.Common.{⊎_elim, append-nil, length, refl, sym, ap, ◌∙◌, subst, arith}
-use Rattle.std.specs.Prelude.{Option, None, Some, slice_get, map, filter, nat_lt, ◌||◌, option_map}
+use Rattle.std.specs.Prelude.{Option, None, Some, slice_get, map, filter, nat_lt, option_map}
 use Rattle.std.specs.Option.{option_map_or, option_and_then}
-use Rattle.std.specs.List.{AllByRecursion, Contains, list_any}
+use Rattle.std.specs.List.{AllByRecursion, Contains}
 use Rattle.std.specs.List.Sorted.{IsStrictlySortedBy}
 use Rattle.std.specs.Borrow.{Bor}
 use Rattle.std.specs.Str.{bytes_eq}
-use Rattle.std.specs.Cmp.{tied_itself, eq_by_cmp_equiv}
+use Rattle.std.specs.Cmp.{tied_itself}
 use Rattle.std.specs.Cmp.Lexicographic.{nat_list_cmp_total}
 use Rattle.std.specs.Map.{keys_of}
-use Rattle.std.specs.Ordering.{eq_by_cmp, ordering_then}
+use Rattle.std.specs.Ordering.{ordering_then}
 use Rattle.std.specs.declared.cmp.Ordering.{Ordering}
 use Rattle.std.specs.declared.cmp.Ordering.TheVariants.{Less}
-use Rattle.std.proofs.lemmas.Bool.{lt-ltb}
 use Rattle.std.proofs.lemmas.List.{map-append, map_more, drop_more}
 use Rattle.std.proofs.lemmas.List.Elements.{Contains-append_left, Contains-append_right, filter-append, recursion_from_All}
 use Rattle.std.proofs.lemmas.Option.{slice_get-map, slice_get-get_or}
@@ -26,7 +25,7 @@ use Rattle.dsr_ledger.specs.declared.ledger.summary_key.SummaryKey.{SummaryKey}
 use Rattle.dsr_ledger.specs.declared.ledger.recording.Recording.{Recording}
 use Rattle.dsr_ledger.specs.declared.ledger.recordings.Ledger.{Ledger}
 use Rattle.dsr_ledger.specs.declared.report.LedgerLine.{LedgerLine}
-use Rattle.dsr_ledger.specs.Keys.{text_cmp, key_cmp, key_eq}
+use Rattle.dsr_ledger.specs.Keys.{text_cmp, key_cmp}
 use Rattle.dsr_ledger.specs.SummaryKeys.{summary_key_cmp, summary_key_in}
 use Rattle.dsr_ledger.specs.Numbered.{AreApart, read_at, place_by}
 use Rattle.dsr_ledger.specs.Bookings.{Booking, key_under}
@@ -40,10 +39,11 @@ use Rattle.dsr_ledger.specs.Listed.{AreListed, AddsLines, HasBookings, IsRecordi
 use Rattle.dsr_ledger.specs.Listed.{line_for, lent}
 use Rattle.dsr_ledger.specs.Taking.{Takes}
 use Rattle.dsr_ledger.proofs.TakingLemmas.{takes_none, takes_then, takes_same}
-use Rattle.dsr_ledger.proofs.KeyLemmas.{key_total, key_exact, key_ties}
+use Rattle.dsr_ledger.proofs.KeyLemmas.{key_total, key_exact}
 use Rattle.dsr_ledger.proofs.EachLemmas.{each_append, each_filter}
 use Rattle.dsr_ledger.proofs.ListedLemmas.{mapped, taken, there}
 use Rattle.dsr_ledger.proofs.OrderLemmas.{in_order_is}
+use Rattle.dsr_ledger.proofs.SameLemmas.{some_at}
 
 -- the results for those that pass, with one more
 module _ {X Y : Type 0} (f : X → Y) (p : X → Bool) (xs : List X) (x : X) where
@@ -265,17 +265,6 @@ module _ {T : Type 0} (took : T → T → List LedgerLine → Type 0) (start : T
           → AllByRecursion (λ e. AllByRecursion (λ x. text_cmp e.0.isrc x.0 ≡ Less) rest) gs
       later [] h = tt
       later (g ∷ gs) h = (above g.0.isrc h.0 rest was.ahead.0, later gs h.1)
-
-  -- a key has a booking if it is among the bookings' keys
-  some_at : (q : Key) (bs : List Booking) → nat_lt 0 (length (at_key q bs)) ≡ list_any (eq_by_cmp key_cmp q) (map (λ b. b.key) bs)
-  some_at q [] = refl
-  some_at q (b ∷ bs) =
-      let tie : key_eq b.key q ≡ eq_by_cmp key_cmp q b.key = sym (key_ties b.key q) ∙ (eq_by_cmp_equiv key_total).symm b.key q in
-      elim (key_eq b.key q) as (λ t. nat_lt 0 (length (cond t (b ∷ at_key q bs) (at_key q bs))) ≡ (t || list_any (eq_by_cmp key_cmp q) (map (λ x. x.key) bs))) [
-        | true ↦ lt-ltb 0 (suc (length (at_key q bs))) (omega arith)
-        | false ↦ some_at q bs
-      ]
-      ∙ ap (λ t. t || list_any (eq_by_cmp key_cmp q) (map (λ x. x.key) bs)) tie
 
   -- once all recordings are written, the lines are the ledger
   pub written_all : (out : T) (bs : List Booking) → IsWritten took start books [] out → LedgerStands books bs → Takes took start out (ledger bs)

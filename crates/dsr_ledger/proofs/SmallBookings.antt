@@ -1,6 +1,6 @@
 -- The bookings of files that are small.
-use Rattle.std.proofs.Common.{◌≡◌, ℕ, suc, ◌+◌, ◌*◌, ◌^◌, ◌≤◌, ◌<◌, List, [], ◌∷◌, ◌++◌, length, length-append, ap, ◌∙◌, arith}
-use Rattle.std.specs.Prelude.{Option, None, Some, unsigned_abs}
+use Rattle.std.proofs.Common.{◌≡◌, ℕ, suc, ◌+◌, ◌*◌, ◌^◌, ◌≤◌, List, [], ◌∷◌, ◌++◌, length, length-append, ap, ◌∙◌, arith}
+use Rattle.std.specs.Prelude.{Option, None, Some}
 use Rattle.std.specs.List.{flat_map, AllByRecursion}
 use Rattle.std.proofs.lemmas.List.Concat.{flat_map-cons}
 use Rattle.dsr_records.specs.declared.record.Summary.{Summary}
@@ -25,8 +25,8 @@ pub record IsShort (n : ℕ) (file : File) : Type 0 where
   pub few : length file.blocks ≤ n
   pub range : AllByRecursion IsBlockInRange file.blocks
 
-abbrev HasSmallAmount : Booking → Type 0
-HasSmallAmount b = unsigned_abs b.usage.amount < 10 ^ 22
+abbrev HasSmallNumbers : Booking → Type 0
+HasSmallNumbers b = IsInRange b.usage
 
 -- no more bookings than usages
 few_under : (isrc : List ℕ) (works : List WorkParts) (u : Usage) (place : Option SummaryKey) → length (booked_under isrc works u place) ≤ 1
@@ -84,19 +84,19 @@ few_filed n place earlier (f ∷ files) h =
     summed : (all one more m k : ℕ) → all ≡ one + more → one ≤ k → more ≤ m * k → all ≤ suc m * k
     summed all one more m k e h g = omega arith
 
--- the amounts are those of usages
+-- the numbers are those of usages
 small_under : (isrc : List ℕ) (works : List WorkParts) (u : Usage) (place : Option SummaryKey) → IsInRange u
-    → AllByRecursion HasSmallAmount (booked_under isrc works u place)
+    → AllByRecursion HasSmallNumbers (booked_under isrc works u place)
 small_under isrc works u None h = tt
-small_under isrc works u (Some place) h = (h.amount, tt)
+small_under isrc works u (Some place) h = (h, tt)
 
-small_block : (summaries : List Summary) (b : BlockParts) → IsBlockInRange b → AllByRecursion HasSmallAmount (block_bookings summaries b)
+small_block : (summaries : List Summary) (b : BlockParts) → IsBlockInRange b → AllByRecursion HasSmallNumbers (block_bookings summaries b)
 unfolding block_bookings
 small_block summaries b h =
-    all_flat HasSmallAmount IsInRange (λ u. booked_under b.resource.isrc b.works u (place_named summaries u.summary_id))
+    all_flat HasSmallNumbers IsInRange (λ u. booked_under b.resource.isrc b.works u (place_named summaries u.summary_id))
     (λ u k. small_under b.resource.isrc b.works u (place_named summaries u.summary_id) k) b.usages h.range
 
-small_verdict : (summaries : List Summary) (b : BlockParts) (v : Verdict) → IsBlockInRange b → AllByRecursion HasSmallAmount (verdict_bookings summaries (b, v))
+small_verdict : (summaries : List Summary) (b : BlockParts) (v : Verdict) → IsBlockInRange b → AllByRecursion HasSmallNumbers (verdict_bookings summaries (b, v))
 small_verdict summaries b Booked h = small_block summaries b h
 small_verdict summaries b (Rejected reason) h = tt
 
@@ -110,21 +110,21 @@ filed_range : (n place : ℕ) (earlier : List (Option OpeningParts)) (files : Li
 filed_range n place earlier [] h = tt
 filed_range n place earlier (f ∷ files) h = (h.0, filed_range n (suc place) (earlier ++ f.opening ∷ []) files h.1)
 
-small_amounts : (n : ℕ) (files : List File) → AllByRecursion (IsShort n) files → AllByRecursion HasSmallAmount (bookings files)
-small_amounts n files h =
-    all_flat HasSmallAmount (λ d. IsShort n d.file) filed_bookings (λ d k.
-    all_flat HasSmallAmount (λ e. IsBlockInRange e.0) (verdict_bookings (summaries_of d.file.opening))
+small_numbers : (n : ℕ) (files : List File) → AllByRecursion (IsShort n) files → AllByRecursion HasSmallNumbers (bookings files)
+small_numbers n files h =
+    all_flat HasSmallNumbers (λ d. IsShort n d.file) filed_bookings (λ d k.
+    all_flat HasSmallNumbers (λ e. IsBlockInRange e.0) (verdict_bookings (summaries_of d.file.opening))
     (λ e r. small_verdict (summaries_of d.file.opening) e.0 e.1 r) (judged_in d)
     (judged_range d.standing (summaries_of d.file.opening) [] d.file.blocks k.range))
     (filed files) (filed_range n 1 [] files h)
 
-both : (bs : List Booking) → AllByRecursion HasSmallAmount bs → AllByRecursion IsWhole bs → AllByRecursion IsSmall bs
+both : (bs : List Booking) → AllByRecursion HasSmallNumbers bs → AllByRecursion IsWhole bs → AllByRecursion IsSmall bs
 both [] h k = tt
-both (b ∷ bs) h k = (record { amount = h.0; whole = k.0 }, both bs h.1 k.1)
+both (b ∷ bs) h k = (record { usages = h.0.usages; amount = h.0.amount; whole = k.0 }, both bs h.1 k.1)
 
 -- the bookings of at most 64 files of at most 2^37 blocks are small
 pub bookings_small : (files : List File) → length files ≤ 64 → AllByRecursion (IsShort (2 ^ 37)) files → AreSmall (bookings files)
 bookings_small files few h = record {
   few = let most = few_filed (2 ^ 37) 1 [] files h in omega arith;
-  each = both (bookings files) (small_amounts (2 ^ 37) files h) (bookings_whole files);
+  each = both (bookings files) (small_numbers (2 ^ 37) files h) (bookings_whole files);
 }

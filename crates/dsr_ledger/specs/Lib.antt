@@ -35,6 +35,7 @@ pub mod Taking
 pub mod Listed
 pub mod Assembly
 pub mod Rooms
+pub mod Sizes
 pub mod SortedLedgers
 pub mod BookedLines
 pub mod Lent

@@ -8,8 +8,10 @@ use Rattle.dsr_ledger.specs.Verdicts.{share_total}
 use Rattle.dsr_ledger.specs.Tallies.{line_tally, tally_of}
 use Rattle.dsr_ledger.specs.Stands.{LedgerStands}
 
--- the amount of a booking is below 10^22 units either way, and the shares of its works add up to at most 100 percent
+-- the usages of a booking are at most 2^63 and its amount is below 10^22 units, either way, and the shares of its works
+-- add up to at most 100 percent
 pub record IsSmall (b : Booking) : Type 0 where
+  pub usages : unsigned_abs b.usage.usages ≤ 2 ^ 63
   pub amount : unsigned_abs b.usage.amount < 10 ^ 22
   pub whole : share_total b.works ≤ 1000000
 

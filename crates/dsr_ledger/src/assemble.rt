@@ -14,6 +14,7 @@ mod listed;
 mod lists;
 mod ranks;
 mod recordings;
+mod sizes;
 mod tables;
 
 use crate::closed::ClosedBooks;

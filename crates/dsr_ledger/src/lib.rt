@@ -24,6 +24,7 @@
 //!    ledger one after another (`assemble/ledger`) to whoever takes them (`taking`), in the order of
 //!    the recordings (`assemble/recordings`) and of the summary keys (`assemble/ranks`). They are made
 //!    in lists with room for the longest (`assemble/lists`), so that giving them allocates nothing.
+//!    How many and how long they are at most is known without making them (`assemble/sizes`).
 //!    They borrow their texts (`lent`); a report has copies of them, and its own `parties`.
 //!
 //! **Example**, compiled and proved in `crates/dsr_ledger_tests/src/example.rt`:
@@ -121,6 +122,7 @@ pub use lent::ledger::LentLedger;
 pub use lent::line::LentLine;
 pub use lent::party::LentParty;
 pub use lent::report::LentReport;
+pub use lent::sizes::LedgerSizes;
 pub use parties::Parties;
 pub use report::{
     Difference, Differences, FileLine, FileLines, LedgerLine, LedgerLines, Numbers, PartyLine,

@@ -52,6 +52,11 @@ impl Put for Bound {
         false
     }
 
+    fn put_length(&mut self, most: u64) -> bool {
+        self.add(most);
+        true
+    }
+
     fn is_closed(&mut self) -> bool {
         false
     }

@@ -164,6 +164,11 @@ impl<'a, W: Outlet> Put for Pieces<'a, W> {
         true
     }
 
+    /// The bytes themselves matter.
+    fn put_length(&mut self, _most: u64) -> bool {
+        false
+    }
+
     /// Whether the outlet has failed.
     fn is_closed(&mut self) -> bool {
         if !self.sender.failed {

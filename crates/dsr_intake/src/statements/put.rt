@@ -1,5 +1,5 @@
 //! Putting bytes one after another, into any destination.
-ghost use Rattle.std.specs.Prelude.{◌≡◌, true, false, decimal, List, ℕ};
+ghost use Rattle.std.specs.Prelude.{◌≡◌, ◌≤◌, true, false, decimal, length, List, ℕ};
 ghost use Rattle.std.specs.Fmt.{signed_decimal};
 ghost use Rattle.dsr_intake.specs.meaning.Statement.{amount_cell};
 ghost use Rattle.dsr_intake.specs.inner.Puts.{Puts};
@@ -27,6 +27,12 @@ pub(crate) trait Put {
 
     /// Whether bytes are copied when they are put, so that cells that are put often are laid out once.
     fn copies_bytes(&self) -> bool;
+
+    /// Puts the length of some bytes, if only the length of bytes matters: `most` is at least theirs.
+    fn put_length(&mut self, most: u64) -> bool
+        ensures taken { result ≡ true → (bytes : List ℕ) → length bytes ≤ most
+            → Puts after self.old self.new bytes }
+        ensures refused { result ≡ false → self.new ≡ self.old };
 
     /// Whether what is put from now on is dropped.
     fn is_closed(&mut self) -> bool

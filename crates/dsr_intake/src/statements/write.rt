@@ -1,9 +1,10 @@
 //! The statement of a report.
-ghost use Rattle.std.specs.Prelude.{◌≡◌, ◌<◌, ◌≤◌, true, length, take, IfSome, OnOk, IfOk, IfErr};
+ghost use Rattle.std.specs.Prelude.{◌≡◌, ◌<◌, ◌≤◌, true, false, List, length, take, IfSome, OnOk, IfOk, IfErr};
 ghost use Rattle.std.specs.List.{flat_map};
-ghost use Rattle.dsr_intake.specs.meaning.Statement.{statement_of, file_lines, missing_line, difference_line, reject_line};
+ghost use Rattle.dsr_intake.specs.meaning.Statement.{statement_of, file_lines, missing_line, difference_line, ledger_lines, reject_line};
+ghost use Rattle.dsr_ledger.specs.declared.report.LedgerLine.{LedgerLine as LedgerLineValue};
 ghost use Rattle.dsr_ledger.specs.declared.report.Report.{Report as ReportValue};
-ghost use Rattle.dsr_ledger.specs.Lent.{IsReady, IsLent};
+ghost use Rattle.dsr_ledger.specs.Lent.{IsReady, IsLent, LinesLent};
 ghost use Rattle.dsr_intake.specs.meaning.Written.{IsFlushed, IsCut};
 ghost use Rattle.dsr_intake.specs.inner.Pieces.{Carries, MOST};
 ghost use Rattle.dsr_intake.specs.inner.Puts.{Puts};
@@ -12,6 +13,7 @@ ghost use Rattle.dsr_intake.specs.inner.Laid.{day_cells};
 
 use crate::outlet::Outlet;
 use crate::statements::bound::Bound;
+use crate::statements::ledger_bytes::ledger_bytes;
 use crate::statements::ledger_put::LedgerPut;
 use crate::statements::lines::{put_difference, put_file, put_head, put_missing, put_reject};
 use crate::statements::pieces::Pieces;
@@ -19,7 +21,7 @@ use crate::statements::put::Put;
 use crate::statements::room::Room;
 use crate::to_write::ToWrite;
 use dsr_cells::NoMemory;
-use dsr_ledger::{Difference, FileLine, LentReport, Reject, Report};
+use dsr_ledger::{Difference, FileLine, LentLedger, LentReport, Reject, Report};
 use std::alloc::Global;
 
 /// The bytes of the statement.
@@ -137,8 +139,37 @@ fn put_statement<P: Put>(put: &mut LedgerPut<'_, P>, days: &[u8], report: &mut L
     put_files(&mut put.out, report.files);
     put_numbers(&mut put.out, report.missing);
     put_differences(&mut put.out, report.differences);
-    report.ledger.give(put);
+    put_lines(put, &mut report.ledger);
     put_rejects(&mut put.out, report.rejects);
+}
+
+/// Puts a bound of the length of the ledger's lines, if only lengths matter and it is known without making them.
+fn put_bytes<P: Put>(out: &mut P, ledger: &LentLedger<'_>) -> bool
+    requires { IsReady ledger.now }
+    ensures taken { result ≡ true → (lines : List LedgerLineValue) → LinesLent ledger.now lines
+        → Puts P.after out.old out.new (flat_map ledger_lines lines) }
+    ensures refused { result ≡ false → out.new ≡ out.old }
+{
+    if out.copies_bytes() {
+        return false;
+    }
+    match ledger_bytes(ledger) {
+        Some(most) => out.put_length(most),
+        None => false,
+    }
+}
+
+/// Puts the lines of the ledger, or a bound of their length.
+fn put_lines<P: Put>(put: &mut LedgerPut<'_, P>, ledger: &mut LentLedger<'_>)
+    requires ready { IsReady ledger.old }
+    ensures ready { IsReady ledger.new }
+    ensures same { (lines : List LedgerLineValue) → LinesLent ledger.old lines → LinesLent ledger.new lines }
+    ensures put { (lines : List LedgerLineValue) → LinesLent ledger.old lines
+        → Puts P.after put.old.out put.new.out (flat_map ledger_lines lines) }
+{
+    if !put_bytes(&mut put.out, ledger) {
+        ledger.give(put);
+    }
 }
 
 /// Puts the lines of the files.

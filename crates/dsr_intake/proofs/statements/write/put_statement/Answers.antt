@@ -2,13 +2,13 @@ use Rattle.std.proofs.Common.{[], append_assoc, rules, ap}
 use Rattle.std.specs.List.{flat_map}
 use Rattle.std.proofs.lemmas.List.{append-nil}
 use Rattle.dsr_intake.specs.meaning.Statement.{statement_of, head_line, file_lines, missing_line, difference_line, reject_line}
-use Rattle.dsr_intake.proofs.Lines.{nothing, then, turn}
+use Rattle.dsr_intake.proofs.Lines.{then, turn}
 use Rattle.dsr_intake.proofs.statements.write.put_statement.Goals as goal
 
 pub returns-clause-put : goal.returns-clause-put
 unfolding statement_of
 returns-clause-put g c = λ r is.
-    let ledger = (c.give.ensures.lines r.ledger is.ledger).carries (record { out = c.put_differences.new.out; key = c.args.put.now.key }) [] (nothing _) in
+    let ledger = c.put_lines.ensures.put r.ledger is.ledger in
     let puts =
     then (turn c.put_head.ensures (ap head_line is.key)) (then (turn c.put_files.ensures (ap (file_lines 1) is.files)) (then (turn c.put_numbers.ensures (ap (flat_map missing_line) is.missing))
     (then (turn c.put_differences.ensures (ap (flat_map difference_line) is.differences)) (then ledger (turn c.put_rejects.ensures (ap (flat_map reject_line) is.rejects)))))) in
