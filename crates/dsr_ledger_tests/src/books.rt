@@ -1,12 +1,13 @@
 //! Standings, verdicts, sums and findings.
-use crate::making::{joined, new_books, open, open_with, report, report_of, take, take_all};
-use crate::shown::report_lines;
+use crate::making::{joined, new_books, open, open_with, report, take, take_all};
+use crate::shown::{has_lines, shows};
 use crate::texts::{
     another_report, first_of_three, first_of_two, foot_of_rejects, last_of_three,
     rejects_without_foot, second_of_two, two_blocks,
 };
 use dsr_cells::NoMemory;
-use dsr_ledger::{Reason, Report, Standing, Verdict};
+use dsr_file::EventList;
+use dsr_ledger::{Books, Reason, Report, Standing, Verdict};
 use std::alloc::Global;
 use std::test::Fail;
 
@@ -31,27 +32,40 @@ UNCLAIMED 0.7500000000
 
 #[test]
 fn two_files_add_to_one_line(rt: HostRuntime) -> Result<(), Fail> {
-    let report = report_of(rt.alloc(), &[first_of_two(), second_of_two()])?;
-    let lines = report_lines(rt.alloc(), &report)?;
-    assert_eq!(rt; lines.as_slice(), lines_of_two().as_bytes());
+    assert!(rt;
+        has_lines(
+            rt.alloc(),
+            &[first_of_two(), second_of_two()],
+            lines_of_two()
+        )?
+    );
     Ok(())
 }
 
 #[test]
 fn files_keep_the_order_in_which_they_are_given(rt: HostRuntime) -> Result<(), Fail> {
-    let report = report_of(rt.alloc(), &[second_of_two(), first_of_two()])?;
-    let lines = report_lines(rt.alloc(), &report)?;
-    assert_eq!(rt; lines.as_slice(), lines_of_two_swapped().as_bytes());
+    assert!(rt;
+        has_lines(
+            rt.alloc(),
+            &[second_of_two(), first_of_two()],
+            lines_of_two_swapped()
+        )?
+    );
     Ok(())
+}
+
+/// Books files 1 and 2 of 2, the second before the first.
+fn book_second_first(alloc: Global, books: &mut Books) -> Result<(), Fail> {
+    let (_, mut first) = open(alloc, books, first_of_two())?;
+    let (_, mut second) = open(alloc, books, second_of_two())?;
+    take_all(books, 1, &mut second)?;
+    take_all(books, 0, &mut first)
 }
 
 /// The report of files 1 and 2 of 2, with the second booked first.
 fn second_booked_first(alloc: Global) -> Result<Result<Report, NoMemory>, Fail> {
     let mut books = new_books(alloc, 2)?;
-    let (_, mut first) = open(alloc, &mut books, first_of_two())?;
-    let (_, mut second) = open(alloc, &mut books, second_of_two())?;
-    take_all(&mut books, 1, &mut second)?;
-    take_all(&mut books, 0, &mut first)?;
+    book_second_first(alloc, &mut books)?;
     report(books)
 }
 
@@ -61,8 +75,7 @@ fn the_order_of_booking_changes_nothing(rt: HostRuntime) -> Result<(), Fail> {
         Ok(report) => report,
         Err(NoMemory) => second_booked_first(rt.alloc())??,
     };
-    let lines = report_lines(rt.alloc(), &report)?;
-    assert_eq!(rt; lines.as_slice(), lines_of_two().as_bytes());
+    assert!(rt; shows(rt.alloc(), &report, lines_of_two())?);
     Ok(())
 }
 
@@ -80,12 +93,13 @@ REJECT 3 1 1 DoubledFile
 
 #[test]
 fn a_file_is_missing_and_one_is_doubled(rt: HostRuntime) -> Result<(), Fail> {
-    let report = report_of(
-        rt.alloc(),
-        &[first_of_three(), last_of_three(), first_of_three()],
-    )?;
-    let lines = report_lines(rt.alloc(), &report)?;
-    assert_eq!(rt; lines.as_slice(), lines_of_missing_and_doubled().as_bytes());
+    assert!(rt;
+        has_lines(
+            rt.alloc(),
+            &[first_of_three(), last_of_three(), first_of_three()],
+            lines_of_missing_and_doubled()
+        )?
+    );
     Ok(())
 }
 
@@ -102,9 +116,13 @@ REJECT 2 2 2 ForeignFile
 
 #[test]
 fn a_file_of_another_report_is_foreign(rt: HostRuntime) -> Result<(), Fail> {
-    let report = report_of(rt.alloc(), &[another_report(), two_blocks()])?;
-    let lines = report_lines(rt.alloc(), &report)?;
-    assert_eq!(rt; lines.as_slice(), lines_with_a_foreign_file().as_bytes());
+    assert!(rt;
+        has_lines(
+            rt.alloc(),
+            &[another_report(), two_blocks()],
+            lines_with_a_foreign_file()
+        )?
+    );
     Ok(())
 }
 
@@ -130,10 +148,16 @@ fn rejects(alloc: Global) -> Result<String, NoMemory> {
 #[test]
 fn each_reason_to_reject_a_block(rt: HostRuntime) -> Result<(), Fail> {
     let text = rejects(rt.alloc())?;
-    let report = report_of(rt.alloc(), &[text.as_str()])?;
-    let lines = report_lines(rt.alloc(), &report)?;
-    assert_eq!(rt; lines.as_slice(), lines_of_rejects().as_bytes());
+    assert!(rt; has_lines(rt.alloc(), &[text.as_str()], lines_of_rejects())?);
     Ok(())
+}
+
+/// Whether the next event is a block with this verdict.
+fn is_answered(books: &mut Books, events: &mut EventList, want: Verdict) -> Result<bool, Fail> {
+    match events.next() {
+        Some(event) => Ok(take(books, 0, event)? == Some(want)),
+        None => Ok(false),
+    }
 }
 
 #[test]
@@ -149,10 +173,7 @@ fn verdicts_are_answered_block_by_block(rt: HostRuntime) -> Result<(), Fail> {
         Verdict::Rejected(Reason::UnknownSummary),
         Verdict::Rejected(Reason::ShareOver),
     ] {
-        let Some(event) = events.next() else {
-            return Err(Fail::new("an event is missing"));
-        };
-        assert!(rt; take(&mut books, 0, event)? == Some(want));
+        assert!(rt; is_answered(&mut books, &mut events, want)?);
     }
     assert_eq!(rt; books.blocks(0), 6);
     Ok(())
@@ -172,22 +193,30 @@ REJECT 1 5 5 UnknownSummary
 
 #[test]
 fn a_file_that_is_not_whole_has_no_difference(rt: HostRuntime) -> Result<(), Fail> {
-    let report = report_of(rt.alloc(), &[rejects_without_foot()])?;
-    let lines = report_lines(rt.alloc(), &report)?;
-    assert_eq!(rt; lines.as_slice(), lines_without_foot().as_bytes());
+    assert!(rt; has_lines(rt.alloc(), &[rejects_without_foot()], lines_without_foot())?);
     Ok(())
+}
+
+/// Books of two files, the first of which has no opening, and its standing.
+fn books_with_a_headless_file(alloc: Global) -> Result<(Books, Standing), Fail> {
+    let mut books = new_books(alloc, 2)?;
+    let standing = open_with(&mut books, None)??;
+    Ok((books, standing))
 }
 
 #[test]
 fn a_file_without_an_opening_is_headless(rt: HostRuntime) -> Result<(), Fail> {
-    let mut books = new_books(rt.alloc(), 2)?;
-    let standing = open_with(&mut books, None)??;
+    let (books, standing) = books_with_a_headless_file(rt.alloc())?;
     assert!(rt; standing == Standing::Headless);
     assert_eq!(rt; (books.files(), books.opened()), (2, 1));
-    assert!(rt; !books.has_opening(0));
-    assert!(rt; !books.ended(0));
+    assert_eq!(rt; (books.has_opening(0), books.ended(0)), (false, false));
+    Ok(())
+}
+
+#[test]
+fn the_file_after_a_headless_one_is_ours(rt: HostRuntime) -> Result<(), Fail> {
+    let (mut books, _) = books_with_a_headless_file(rt.alloc())?;
     let (standing, _) = open(rt.alloc(), &mut books, two_blocks())?;
-    assert!(rt; standing == Standing::Ours);
-    assert!(rt; books.has_opening(1));
+    assert!(rt; standing == Standing::Ours && books.has_opening(1));
     Ok(())
 }

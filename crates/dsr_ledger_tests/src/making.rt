@@ -134,20 +134,24 @@ fn end(books: &mut Books, k: u32, outcome: Outcome) -> Result<(), Fail> {
     Ok(books.end_file(k, outcome)?)
 }
 
+fn take_part(books: &mut Books, k: u32, part: &EventPart) -> Result<Option<Verdict>, Fail> {
+    match part {
+        EventPart::Opened(_) => Err(Fail::new("a second opening")),
+        EventPart::Block(block) => Ok(Some(book(books, k, block)?)),
+        EventPart::Ended(outcome) => {
+            end(books, k, *outcome)?;
+            Ok(None)
+        }
+    }
+}
+
 /// Takes an event of file k, and returns the verdict if it is a block.
 ///
 /// # Errors
 ///
 /// A failure of the test: the file takes no such event, or memory was refused twice.
 pub fn take(books: &mut Books, k: u32, event: Event) -> Result<Option<Verdict>, Fail> {
-    match event.part {
-        EventPart::Opened(_) => Err(Fail::new("a second opening")),
-        EventPart::Block(block) => Ok(Some(book(books, k, &block)?)),
-        EventPart::Ended(outcome) => {
-            end(books, k, outcome)?;
-            Ok(None)
-        }
-    }
+    take_part(books, k, &event.part)
 }
 
 /// Takes all further events of file k.
@@ -192,13 +196,19 @@ pub fn report(books: Books) -> Result<Result<Report, NoMemory>, Fail> {
     Ok(books.into_report())
 }
 
-fn report_once(alloc: Global, texts: &[&str]) -> Result<Result<Report, NoMemory>, Fail> {
-    let mut books = new_books(alloc, texts.len())?;
+/// Takes all events of files with these texts.
+fn take_texts(alloc: Global, books: &mut Books, texts: &[&str]) -> Result<(), Fail> {
     for text in texts {
         let k = books.opened();
-        let (_, mut events) = open(alloc, &mut books, text)?;
-        take_all(&mut books, k, &mut events)?;
+        let (_, mut events) = open(alloc, books, text)?;
+        take_all(books, k, &mut events)?;
     }
+    Ok(())
+}
+
+fn report_once(alloc: Global, texts: &[&str]) -> Result<Result<Report, NoMemory>, Fail> {
+    let mut books = new_books(alloc, texts.len())?;
+    take_texts(alloc, &mut books, texts)?;
     report(books)
 }
 

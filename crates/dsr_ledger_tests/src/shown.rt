@@ -1,8 +1,10 @@
 //! Reports as lines of text.
+use crate::making::report_of;
 use dsr_cells::{Day, NoMemory, write_amount, write_day};
 use dsr_file::{FileFault, Outcome};
 use dsr_ledger::{Difference, FileLine, LedgerLine, Reason, Reject, Report, ReportKey, Standing};
 use std::alloc::Global;
+use std::test::Fail;
 
 /// Lines as they are written, with a blank before each cell but the first.
 #[derive(Drop)]
@@ -209,11 +211,7 @@ fn report_once(alloc: Global, report: &Report) -> Result<Vec<u8>, NoMemory> {
 }
 
 /// The lines of a report.
-///
-/// # Errors
-///
-/// Out of memory.
-pub fn report_lines(alloc: Global, report: &Report) -> Result<Vec<u8>, NoMemory> {
+fn report_lines(alloc: Global, report: &Report) -> Result<Vec<u8>, NoMemory> {
     match report_once(alloc, report) {
         Ok(lines) => Ok(lines),
         Err(NoMemory) => report_once(alloc, report),
@@ -227,13 +225,40 @@ fn ledger_once(alloc: Global, report: &Report) -> Result<Vec<u8>, NoMemory> {
 }
 
 /// The ledger's lines of a report.
-///
-/// # Errors
-///
-/// Out of memory.
-pub fn ledger_lines(alloc: Global, report: &Report) -> Result<Vec<u8>, NoMemory> {
+fn ledger_lines(alloc: Global, report: &Report) -> Result<Vec<u8>, NoMemory> {
     match ledger_once(alloc, report) {
         Ok(lines) => Ok(lines),
         Err(NoMemory) => ledger_once(alloc, report),
     }
+}
+
+/// Whether a report has these lines.
+///
+/// # Errors
+///
+/// `NoMemory`: memory was refused twice.
+pub fn shows(alloc: Global, report: &Report, want: &str) -> Result<bool, NoMemory> {
+    let lines = report_lines(alloc, report)?;
+    Ok(lines.as_slice() == want.as_bytes())
+}
+
+/// Whether the report of files with these texts has these lines.
+///
+/// # Errors
+///
+/// A failure of the test: a text is not that of a whole file, or memory was refused twice.
+pub fn has_lines(alloc: Global, texts: &[&str], want: &str) -> Result<bool, Fail> {
+    let report = report_of(alloc, texts)?;
+    Ok(shows(alloc, &report, want)?)
+}
+
+/// Whether the report of files with these texts has these lines of the ledger.
+///
+/// # Errors
+///
+/// A failure of the test: a text is not that of a whole file, or memory was refused twice.
+pub fn has_ledger(alloc: Global, texts: &[&str], want: &str) -> Result<bool, Fail> {
+    let report = report_of(alloc, texts)?;
+    let lines = ledger_lines(alloc, &report)?;
+    Ok(lines.as_slice() == want.as_bytes())
 }

@@ -1,9 +1,9 @@
 //! Worked examples of each call: the values are those of the format's description.
 
 use dsr_cells::{
-    Amount, Day, Isrc, Share, Shares, Text, Texts, cell, count_cells, count_values, is_currency,
-    is_identifier, is_territory, is_use_type, read_number, read_texts, read_texts_into,
-    read_usages, unescape, values, write_amount, write_day,
+    Amount, Day, Isrc, NoMemory, Share, Shares, Text, Texts, cell, count_cells, count_values,
+    is_currency, is_identifier, is_territory, is_use_type, read_number, read_texts,
+    read_texts_into, read_usages, unescape, values, write_amount, write_day,
 };
 use std::alloc::{AllocError, Global};
 use std::cmp::Ordering;
@@ -29,8 +29,74 @@ fn cells_of_a_line(rt: HostRuntime) {
     assert_eq!(rt; cell(line, 5), None);
 }
 
+/// Appends a value in angle brackets.
+fn bracket(shown: &mut String, value: &str) -> Result<(), AllocError> {
+    shown.push('<')?;
+    shown.push_str(value)?;
+    shown.push('>')?;
+    Ok(())
+}
+
+/// The values of a cell in angle brackets, one by one.
+fn bracketed_values(alloc: Global, cell: &str) -> Result<String, NoMemory> {
+    let mut shown = String::new(alloc);
+    for part in values(cell) {
+        let value = unescape(alloc, part)?;
+        bracket(&mut shown, value.as_str())?;
+    }
+    Ok(shown)
+}
+
+/// The texts of a list in angle brackets.
+fn bracketed_texts(alloc: Global, texts: &Texts) -> Result<String, AllocError> {
+    let mut shown = String::new(alloc);
+    for text in texts.as_slice() {
+        bracket(&mut shown, text.as_str())?;
+    }
+    Ok(shown)
+}
+
+/// Whether the values of a cell are these, one by one.
+fn gives_values(alloc: Global, cell: &str, want: &str) -> bool {
+    match bracketed_values(alloc, cell) {
+        Ok(shown) => shown.as_str() == want,
+        Err(_) => false,
+    }
+}
+
+/// Whether the texts of a list are these.
+fn has_texts(alloc: Global, texts: &Texts, want: &str) -> bool {
+    match bracketed_texts(alloc, texts) {
+        Ok(shown) => shown.as_str() == want,
+        Err(_) => false,
+    }
+}
+
+/// Whether a cell is read as a list of these texts.
+fn is_read(alloc: Global, cell: &str, want: &str) -> bool {
+    match read_texts(alloc, cell) {
+        Ok(texts) => texts.len() == count_values(cell) && has_texts(alloc, &texts, want),
+        Err(_) => false,
+    }
+}
+
+/// The values of a cell, written over a list of three others.
+fn written_over(alloc: Global, cell: &str) -> Result<Texts, NoMemory> {
+    let mut over = read_texts(alloc, "a|b|c")?;
+    read_texts_into(alloc, cell, &mut over)?;
+    Ok(over)
+}
+
+/// Whether a cell is read over another list as a list of these texts.
+fn is_read_over(alloc: Global, cell: &str, want: &str) -> bool {
+    match written_over(alloc, cell) {
+        Ok(over) => over.len() == count_values(cell) && has_texts(alloc, &over, want),
+        Err(_) => false,
+    }
+}
+
 #[test]
-fn values_of_a_cell(rt: HostRuntime) -> Result<(), Fail> {
+fn values_of_a_cell(rt: HostRuntime) {
     for (text, want) in [
         ("", ""),
         ("A\\|B|C\\\\", "<A|B><C\\>"),
@@ -42,28 +108,10 @@ fn values_of_a_cell(rt: HostRuntime) -> Result<(), Fail> {
         ("Song", "<Song>"),
         ("\u{e9}|\\\u{e9}", "<\u{e9}><\\\u{e9}>"),
     ] {
-        let mut shown = String::new(rt.alloc());
-        for part in values(text) {
-            let value = unescape(rt.alloc(), part)?;
-            shown.push('<')?;
-            shown.push_str(value.as_str())?;
-            shown.push('>')?;
-        }
-        assert_eq!(rt; shown.as_str(), want, "at {text}");
-        let texts = read_texts(rt.alloc(), text)?;
-        assert_eq!(rt; count_values(text), texts.len(), "at {text}");
-        let mut over = read_texts(rt.alloc(), "a|b|c")?;
-        read_texts_into(rt.alloc(), text, &mut over)?;
-        assert!(rt; over.as_slice() == texts.as_slice(), "at {text}");
-        let mut read = String::new(rt.alloc());
-        for value in texts.as_slice() {
-            read.push('<')?;
-            read.push_str(value.as_str())?;
-            read.push('>')?;
-        }
-        assert_eq!(rt; read.as_str(), want, "at {text}");
+        assert!(rt; gives_values(rt.alloc(), text, want), "at {text}");
+        assert!(rt; is_read(rt.alloc(), text, want), "at {text}");
+        assert!(rt; is_read_over(rt.alloc(), text, want), "at {text}");
     }
-    Ok(())
 }
 
 #[test]
@@ -242,7 +290,7 @@ fn equal_texts_and_isrcs_hash_alike(rt: HostRuntime) -> Result<(), Fail> {
 }
 
 #[test]
-fn lists_of_texts_and_shares(rt: HostRuntime) -> Result<(), Fail> {
+fn lists_of_texts(rt: HostRuntime) -> Result<(), Fail> {
     let mut texts = Texts::new(rt.alloc());
     for part in values("P1|P2|P3") {
         let text = unescape(rt.alloc(), part)?;
@@ -251,6 +299,20 @@ fn lists_of_texts_and_shares(rt: HostRuntime) -> Result<(), Fail> {
     assert_eq!(rt; texts.len(), 3);
     assert!(rt; texts.get(1).is_some_and(|text| text.as_str() == "P2"));
     assert!(rt; texts.get(3).is_none());
+    Ok(())
+}
+
+/// The sum of some shares.
+fn sum_of(shares: &Shares) -> u32 {
+    let mut sum: u32 = 0;
+    for share in shares.as_slice() {
+        sum = sum.saturating_add(share.parts());
+    }
+    sum
+}
+
+#[test]
+fn lists_of_shares(rt: HostRuntime) {
     let mut shares = Shares::new(rt.alloc());
     assert_eq!(rt; shares.len(), 0);
     for part in values("50|25") {
@@ -259,12 +321,7 @@ fn lists_of_texts_and_shares(rt: HostRuntime) -> Result<(), Fail> {
         }
     }
     assert_eq!(rt; shares.len(), 2);
-    let mut parts = 0;
-    for share in shares.as_slice() {
-        parts ^= share.parts();
-    }
-    assert_eq!(rt; parts, 500_000 ^ 250_000);
-    Ok(())
+    assert_eq!(rt; sum_of(&shares), 750_000);
 }
 
 /// The bytes of all texts of a list, concatenated, each after a period.
@@ -297,16 +354,30 @@ fn lists_are_written_over_in_place(rt: HostRuntime) -> Result<(), Fail> {
         assert_eq!(rt; joined(rt.alloc(), &texts)?.as_str(), want, "at {cell}");
         assert_eq!(rt; texts.len(), count_values(cell), "at {cell}");
     }
+    Ok(())
+}
+
+/// Takes the last text off a list, if it has one.
+fn shorten(texts: &mut Texts) {
     if texts.len() > 0 {
         texts.shorten();
     }
+}
+
+#[test]
+fn a_text_is_written_over_the_last_one(rt: HostRuntime) -> Result<(), Fail> {
+    let mut texts = read_texts(rt.alloc(), "g|h|i")?;
+    shorten(&mut texts);
     assert_eq!(rt; joined(rt.alloc(), &texts)?.as_str(), ".g.h");
-    if texts.len() > 0 {
-        texts.shorten();
-    }
-    let next = texts.next()?;
-    next.assign(rt.alloc(), "j")?;
+    shorten(&mut texts);
+    texts.next()?.assign(rt.alloc(), "j")?;
     assert_eq!(rt; joined(rt.alloc(), &texts)?.as_str(), ".g.j");
+    Ok(())
+}
+
+#[test]
+fn a_restarted_list_is_empty(rt: HostRuntime) -> Result<(), Fail> {
+    let mut texts = read_texts(rt.alloc(), "g|h")?;
     texts.restart();
     assert_eq!(rt; texts.len(), 0);
     assert!(rt; texts.get(0).is_none());
@@ -314,12 +385,16 @@ fn lists_are_written_over_in_place(rt: HostRuntime) -> Result<(), Fail> {
 }
 
 #[test]
-fn nothing_changes_where_memory_is_refused(rt: HostRuntime) {
+fn a_refused_amount_writes_nothing(rt: HostRuntime) {
     let mut out = Vec::new(rt.alloc());
     match write_amount(5, &mut out) {
         Ok(()) => assert!(rt; out.as_slice() == b"0.0000000005".as_slice()),
         Err(_) => assert!(rt; out.is_empty()),
     }
+}
+
+#[test]
+fn a_refused_day_writes_nothing(rt: HostRuntime) {
     let Some(day) = Day::read("2024-02-29") else {
         assert!(rt; false);
         return;
@@ -329,11 +404,15 @@ fn nothing_changes_where_memory_is_refused(rt: HostRuntime) {
         Ok(()) => assert!(rt; out.as_slice() == b"2024-02-29".as_slice()),
         Err(_) => assert!(rt; out.is_empty()),
     }
-    let mut shares = Shares::new(rt.alloc());
+}
+
+#[test]
+fn a_refused_share_comes_back(rt: HostRuntime) {
     let Some(share) = Share::read("12.5") else {
         assert!(rt; false);
         return;
     };
+    let mut shares = Shares::new(rt.alloc());
     match shares.push(share) {
         Ok(()) => assert_eq!(rt; shares.len(), 1),
         Err(back) => {
@@ -341,6 +420,10 @@ fn nothing_changes_where_memory_is_refused(rt: HostRuntime) {
             assert_eq!(rt; shares.len(), 0);
         }
     }
+}
+
+#[test]
+fn texts_are_whole_or_refused(rt: HostRuntime) {
     if let Ok(value) = unescape(rt.alloc(), "\\|") {
         assert_eq!(rt; value.as_str(), "|");
     }

@@ -42,6 +42,18 @@ fn length_of(texts: &Texts) -> usize {
     }
 }
 
+/// The lengths of the ISRC, the title and the artist of a resource.
+fn lengths_of(record: &Record) -> Option<(usize, usize, usize)> {
+    match record {
+        Record::Resource(resource) => Some((
+            resource.isrc.as_str().len(),
+            length_of(&resource.titles),
+            length_of(&resource.artists),
+        )),
+        _ => None,
+    }
+}
+
 /// Whether a line is read as a resource whose ISRC, title and artist have these lengths.
 fn has_lengths(
     alloc: Global,
@@ -53,15 +65,8 @@ fn has_lengths(
         return false;
     };
     match read_record(alloc, layout, line) {
-        Ok(Record::Resource(resource)) => {
-            let found = (
-                resource.isrc.as_str().len(),
-                length_of(&resource.titles),
-                length_of(&resource.artists),
-            );
-            found == lengths
-        }
-        _ => false,
+        Ok(record) => lengths_of(&record) == Some(lengths),
+        Err(_) => false,
     }
 }
 
