@@ -406,18 +406,45 @@ fn a_refused_day_writes_nothing(rt: HostRuntime) {
     }
 }
 
+/// Shares as texts. A list stores four in place, allocates memory at the fifth, and more at the ninth.
+const SHARES: [&str; 9] = ["0", "0.5", "1", "12.5", "25", "33.3333", "50", "99", "100"];
+
+/// The share that the text at index `i` spells; None past the end.
+fn share_at(i: usize) -> Option<Share> {
+    Share::read(SHARES.get(i)?)
+}
+
+/// Pushes these shares, in order, up to one that is refused. Of that one, the index and the share that came back are
+/// returned.
+fn push_shares(shares: &mut Shares) -> Result<(), (usize, Share)> {
+    for (i, text) in SHARES.iter().enumerate() {
+        if let Some(share) = Share::read(text) {
+            if let Err(back) = shares.push(share) {
+                return Err((i, back));
+            }
+        }
+    }
+    Ok(())
+}
+
+/// Whether a list has the first `count` of these shares, in order, and no others.
+fn has_shares(shares: &Shares, count: usize) -> bool {
+    for (i, share) in shares.as_slice().iter().enumerate() {
+        if share_at(i) != Some(*share) {
+            return false;
+        }
+    }
+    shares.len() == count
+}
+
 #[test]
 fn a_refused_share_comes_back(rt: HostRuntime) {
-    let Some(share) = Share::read("12.5") else {
-        assert!(rt; false);
-        return;
-    };
     let mut shares = Shares::new(rt.alloc());
-    match shares.push(share) {
-        Ok(()) => assert_eq!(rt; shares.len(), 1),
-        Err(back) => {
-            assert_eq!(rt; back.parts(), 125_000);
-            assert_eq!(rt; shares.len(), 0);
+    match push_shares(&mut shares) {
+        Ok(()) => assert!(rt; has_shares(&shares, 9)),
+        Err((i, back)) => {
+            assert!(rt; share_at(i) == Some(back));
+            assert!(rt; has_shares(&shares, i));
         }
     }
 }

@@ -1,29 +1,23 @@
-//! Worked examples of every call.
+//! The records, faults, kinds and identifiers of lines, the names of columns, and the text of a line.
 use dsr_cells::Texts;
 use dsr_records::{
-    Block, Column, Kind, Layout, LayoutFault, ReadRecordError, Record, RecordFault, Resource,
-    Usage, Work, check_line, check_record, read_record, record_id, text_of,
+    Column, Kind, Layout, ReadRecordError, Record, RecordFault, check_line, check_record,
+    read_record, record_id, text_of,
 };
-use std::alloc::{AllocError, Global};
+use std::alloc::Global;
 
-/// The standard layout as a text.
-const STANDARD: &str =
-    "HEAD\tHEAD\t1\t2\t3\t4\t5\t6\t7\nSY\tSY01\t1\t2\t3\t4\t5\t6\nAS\tAS01\t1\t2\t3\t4\nMW\tMW01\t1\t2\t3\t4\t5\nSU\tSU01\t1\t2\t3\t4\nFOOT\tFOOT\t1\t2\t3\n";
-
-/// The layout of a text, if it has one.
-fn layout_in(text: &str) -> Option<Layout> {
-    Layout::read(text.as_bytes()).ok()
-}
-
-fn kind_in(layout: &Layout, line: &str) -> Result<Kind, RecordFault> {
+/// The kind of a line, or its fault.
+pub fn kind_in(layout: &Layout, line: &str) -> Result<Kind, RecordFault> {
     check_record(layout, line)
 }
 
-fn id_in<'l>(layout: &Layout, line: &'l str) -> Option<&'l str> {
+/// The identifier of a line, if it has one.
+pub fn id_in<'l>(layout: &Layout, line: &'l str) -> Option<&'l str> {
     record_id(layout, line)
 }
 
-fn record_in(alloc: Global, layout: &Layout, line: &str) -> Option<Record> {
+/// The record of a line, if it can be read.
+pub fn record_in(alloc: Global, layout: &Layout, line: &str) -> Option<Record> {
     read_record(alloc, layout, line).ok()
 }
 
@@ -91,7 +85,8 @@ fn the_first_fault_is_told(rt: HostRuntime) {
     }
 }
 
-fn is_text(texts: &Texts, i: usize, wanted: &str) -> bool {
+/// Whether the text at index `i` of a list is the wanted one.
+pub fn is_text(texts: &Texts, i: usize, wanted: &str) -> bool {
     match texts.get(i) {
         Some(text) => text.as_str() == wanted,
         None => false,
@@ -273,286 +268,6 @@ fn lines_tell_their_kind_and_identifier(rt: HostRuntime) {
     for (line, kind, id) in rows {
         assert!(rt; tells(&layout, line, kind, id), "{line}");
     }
-}
-
-fn resource(alloc: Global, line: &str) -> Option<Resource> {
-    match record_in(alloc, &Layout::standard(), line)? {
-        Record::Resource(resource) => Some(resource),
-        _ => None,
-    }
-}
-
-fn work(alloc: Global, line: &str) -> Option<Work> {
-    match record_in(alloc, &Layout::standard(), line)? {
-        Record::Work(work) => Some(work),
-        _ => None,
-    }
-}
-
-fn usage(alloc: Global, line: &str) -> Option<Usage> {
-    match record_in(alloc, &Layout::standard(), line)? {
-        Record::Usage(usage) => Some(usage),
-        _ => None,
-    }
-}
-
-/// A block of a resource, a work and a usage.
-fn block(alloc: Global) -> Option<Block> {
-    let mut block = Block::open(alloc, resource(alloc, "AS01\tB1\tGBABC2400001")?).ok()?;
-    let Ok(()) = block.push_work(work(alloc, "MW01\tB1")?) else {
-        return None;
-    };
-    let Ok(()) = block.push_usage(usage(alloc, "SU01\tB1\tS1\t1\t1")?) else {
-        return None;
-    };
-    Some(block)
-}
-
-#[test]
-fn a_block_takes_works_and_usages(rt: HostRuntime) {
-    let block = block(rt.alloc());
-    assert!(rt;
-        block.is_some_and(|block| block.id.as_str() == "B1"
-            && block.len() == 3
-            && block.works.len() == 1
-            && block.usages.len() == 1)
-    );
-}
-
-/// Appends the work or the usage of a line, if there is room.
-fn append(alloc: Global, block: &mut Block, line: &str) -> Option<()> {
-    if block.len() == 64 {
-        return None;
-    }
-    check_line(&Layout::standard(), line)
-        .ok()?
-        .append_to(alloc, block)
-        .ok()
-}
-
-/// Appends the works and the usages of lines.
-fn append_all(alloc: Global, block: &mut Block, lines: &[&str]) -> Option<()> {
-    for line in lines {
-        append(alloc, block, line)?;
-    }
-    Some(())
-}
-
-/// A block of a resource alone.
-fn opened(alloc: Global) -> Option<Block> {
-    Block::open(alloc, resource(alloc, "AS01\tB1\tGBABC2400001")?).ok()
-}
-
-/// A block to which the works and the usages of lines are appended.
-fn block_of_lines(alloc: Global) -> Option<Block> {
-    let lines = [
-        "MW01\tB1",
-        "SU01\tB1\tS1\t1\t1",
-        "SU01\tB1\tS2\t1\t1",
-        "FOOT\t6\t2\t1",
-    ];
-    let mut block = opened(alloc)?;
-    append_all(alloc, &mut block, &lines)?;
-    Some(block)
-}
-
-/// Whether there is a block with this many works and usages.
-fn has_records(block: &Option<Block>, works: usize, usages: usize) -> bool {
-    match block {
-        Some(block) => block.works.len() == works && block.usages.len() == usages,
-        None => false,
-    }
-}
-
-#[test]
-fn works_and_usages_are_appended_to_a_block(rt: HostRuntime) {
-    let block = block_of_lines(rt.alloc());
-    assert!(rt; has_records(&block, 1, 2));
-}
-
-/// Opens the block of a line's resource over a block.
-fn reopen(alloc: Global, block: &mut Block, line: &str) -> Option<()> {
-    let layout = Layout::standard();
-    let line = check_line(&layout, line).ok()?;
-    match line.kind() {
-        Kind::Resource => line.open_block(alloc, block).ok(),
-        _ => None,
-    }
-}
-
-/// Opens a block over another one, with a work and more usages than a list stores in place.
-fn write_over(alloc: Global, block: &mut Block) -> Option<()> {
-    reopen(alloc, block, "AS01\tB2\t\tSong|Air")?;
-    append(alloc, block, "MW01\tB2\tW\tSong\tA|B|C\t1|2|3")?;
-    for _ in 0..6 {
-        append(alloc, block, "SU01\tB2\tS1\t1\t1")?;
-    }
-    Some(())
-}
-
-fn block_over_another(alloc: Global) -> Option<Block> {
-    let mut block = block_of_lines(alloc)?;
-    write_over(alloc, &mut block)?;
-    Some(block)
-}
-
-/// Whether there is a block with the identifier and the resource that were written over another one's.
-fn is_written_over(block: &Option<Block>) -> bool {
-    match block {
-        Some(block) => {
-            block.id.as_str() == "B2"
-                && block.resource.isrc.as_str() == ""
-                && is_text(&block.resource.titles, 1, "Air")
-                && block.resource.artists.len() == 0
-        }
-        None => false,
-    }
-}
-
-#[test]
-fn a_block_is_opened_over_another(rt: HostRuntime) {
-    let block = block_over_another(rt.alloc());
-    assert!(rt; is_written_over(&block));
-    assert!(rt; has_records(&block, 1, 6));
-}
-
-#[test]
-fn an_empty_block_has_one_record(rt: HostRuntime) {
-    let block = Block::empty(rt.alloc());
-    assert!(rt; block.len() == 1);
-}
-
-/// Whether the text is refused as a layout, with this fault in this line.
-fn is_refused(text: &[u8], line: u64, fault: LayoutFault) -> bool {
-    match Layout::read(text) {
-        Err(error) => error.line == line && error.fault == fault,
-        Ok(_) => false,
-    }
-}
-
-#[test]
-fn the_first_fault_of_a_layout_is_told(rt: HostRuntime) {
-    let rows = [
-        ("", 1, LayoutFault::MissingRole),
-        ("AS\tAS01\t0\t2\t3\t4\n", 1, LayoutFault::BadPosition),
-        ("AS\tAS01\t1\t64\t3\t4\n", 1, LayoutFault::BadPosition),
-        ("AS\tAS01\t-\t2\t3\t4\n", 1, LayoutFault::BadPosition),
-        ("AS\tAS01\t1\t2\t3\n", 1, LayoutFault::BadPosition),
-        ("XX\tAS01\n", 1, LayoutFault::UnknownRole),
-        ("AS\tA-1\t1\t2\t3\t4\n", 1, LayoutFault::BadType),
-        ("AS", 1, LayoutFault::BadType),
-        (
-            "#x\nAS\tA\t1\t-\t-\t-\r\n\nSKIP\tA",
-            4,
-            LayoutFault::TypeTwice,
-        ),
-        (
-            "AS\tA\t1\t-\t-\t-\nAS\tB\t1\t2\t3\t4",
-            2,
-            LayoutFault::RoleTwice,
-        ),
-    ];
-    for (text, line, fault) in rows {
-        assert!(rt; is_refused(text.as_bytes(), line, fault));
-    }
-    assert!(rt; is_refused(&[35, 10, 35, 255], 2, LayoutFault::NotUtf8));
-}
-
-/// A comment of `signs` characters.
-fn comment(alloc: Global, signs: usize) -> Result<Vec<u8>, AllocError> {
-    let mut text = Vec::new(alloc);
-    for _ in 0..signs {
-        text.push(b'#')?;
-    }
-    Ok(text)
-}
-
-#[test]
-fn a_layout_of_65536_bytes(rt: HostRuntime) -> Result<(), AllocError> {
-    for (signs, fault) in [
-        (65_536, LayoutFault::LongLine),
-        (65_537, LayoutFault::Large),
-    ] {
-        let text = comment(rt.alloc(), signs)?;
-        assert!(rt; is_refused(text.as_slice(), 1, fault));
-    }
-    Ok(())
-}
-
-/// The standard layout with `skips` skipped types.
-fn with_skips(alloc: Global, skips: u8) -> Result<Vec<u8>, AllocError> {
-    let mut text = Vec::new(alloc);
-    text.extend_from_slice(STANDARD.as_bytes())?;
-    for skip in 0..skips {
-        text.extend_from_slice(b"SKIP\tT")?;
-        text.push(b'0' + skip / 10)?;
-        text.push(b'0' + skip % 10)?;
-        text.push(b'\n')?;
-    }
-    Ok(text)
-}
-
-#[test]
-fn a_layout_skips_64_types(rt: HostRuntime) -> Result<(), AllocError> {
-    let most = with_skips(rt.alloc(), 64)?;
-    assert!(rt; Layout::read(most.as_slice()).is_ok());
-    let more = with_skips(rt.alloc(), 65)?;
-    assert!(rt; is_refused(more.as_slice(), 71, LayoutFault::ManySkips));
-    Ok(())
-}
-
-/// Whether two layouts read the same from a line.
-fn agree(a: &Layout, b: &Layout, line: &str) -> bool {
-    kind_in(a, line) == kind_in(b, line) && id_in(a, line) == id_in(b, line)
-}
-
-/// Whether the copy of a text's layout agrees with the standard one on a line.
-fn is_standard(line: &str) -> bool {
-    match layout_in(STANDARD) {
-        Some(layout) => agree(&layout.copy(), &Layout::standard(), line),
-        None => false,
-    }
-}
-
-#[test]
-fn the_standard_layout_is_the_one_that_its_text_spells(rt: HostRuntime) {
-    for line in [
-        "HEAD\tR1\t1\t1\t2024-02-29\t2024-02-29",
-        "SY01\tS1\tGB\tX\tGBP\t30\t1.5",
-        "AS01\tB1",
-        "MW01\tB2\tW\tT\tA\t1",
-        "SU01\tB7\tS1\t1\t1",
-        "FOOT\t1\t1",
-        "AS01.01\t1",
-    ] {
-        assert!(rt; is_standard(line), "{line}");
-    }
-}
-
-/// A layout that moves the columns of a resource, has no artists, and skips a type.
-const MOVED: &str =
-    "HEAD\tHEAD\t1\t2\t3\t4\t5\t6\t7\nSY\tSY01\t1\t2\t3\t4\t5\t6\nAS\tAS01.01\t1\t3\t2\t-\nMW\tMW01\t1\t2\t3\t4\t5\nSU\tSU01\t1\t2\t3\t4\nFOOT\tFOOT\t1\t2\t3\nSKIP\tRE01\r\n#x\n\n";
-
-/// Whether a layout reads a line as the resource with this title, this ISRC and no artists.
-fn is_moved(alloc: Global, layout: &Layout, line: &str) -> bool {
-    match record_in(alloc, layout, line) {
-        Some(Record::Resource(resource)) => {
-            resource.isrc.as_str() == "GBABC2400001"
-                && is_text(&resource.titles, 0, "Song")
-                && resource.artists.len() == 0
-        }
-        _ => false,
-    }
-}
-
-#[test]
-fn a_layout_moves_columns_and_skips_types(rt: HostRuntime) {
-    let Some(layout) = layout_in(MOVED) else {
-        panic!(rt; "the text is refused")
-    };
-    assert!(rt; kind_in(&layout, "RE01\tx") == Ok(Kind::Skipped));
-    assert!(rt; kind_in(&layout, "AS01\t1") == Err(RecordFault::Unknown));
-    assert!(rt; is_moved(rt.alloc(), &layout, "AS01.01\t1\tSong\tGBABC2400001\tBand"));
 }
 
 #[test]
