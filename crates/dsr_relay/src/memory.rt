@@ -1,6 +1,7 @@
 //! The memory of batches, a pool of fixed size: the feed fills it, and the tap gives it back once its events are no
 //! longer needed. All of it is allocated when a relay is made: for the batches in the channel, the one being filled
 //! and the one being emptied. So a send allocates nothing, and the feed's thread frees the events of returned batches.
+//! After Ended it also frees the memory that it has left, so that the one thread of all taps need not.
 ghost use Rattle.std.specs.Prelude.{◌≡◌, [], ◌≤◌};
 
 use crate::batch::Batch;
@@ -90,6 +91,24 @@ impl Supply {
         let mut batch = self.find(rt);
         batch.restart(self.alloc);
         batch
+    }
+
+    /// Frees the memory that waits to be filled, if Ended was sent and so nothing more is.
+    #[inline(always)]
+    pub(crate) fn free_at_end<R: Wait>(&mut self, rt: &R, has_ended: bool) {
+        if has_ended {
+            self.free(rt);
+        }
+    }
+
+    /// Frees the memory that waits to be filled.
+    #[cold]
+    #[inline(never)]
+    fn free<R: Wait>(&mut self, rt: &R) {
+        self.unused.clear();
+        for _ in 0..self.receiver.len() {
+            let _ = self.receiver.try_recv(rt);
+        }
     }
 
     /// A batch without memory.
