@@ -4,7 +4,9 @@ use Rattle.std.proofs.Common.{Less, Equal, Greater, arith}
 use Rattle.std.specs.Cmp.{nat_cmp_is, ranks}
 use Rattle.std.specs.Cmp.Lexicographic.{slice_cmp}
 use Rattle.std.specs.Int.{w32, w64, from_be_bytes}
-use Rattle.std.specs.Ordering.{MatchOrdering, ordering_then}
+use Rattle.std.specs.Ordering.{MatchOrdering, ordering_then, is_eq}
+use Rattle.std.proofs.lemmas.Map.Text.{is_eq-slice_cmp}
+use Rattle.std.proofs.lemmas.Slice.Eq.{bytes_eq-Decides}
 use Rattle.std.proofs.lemmas.Nat.{mul-add-lt}
 use Rattle.std.proofs.Math.Nat.{pow-suc}
 use Rattle.dsr_cells.specs.Order.{number_of_bytes, AreBytes}
@@ -94,6 +96,18 @@ by_numbers n xs ys l small small' =
     let fronts = by_number (take n xs) (take n ys) (same_fronts n xs ys l) (small_front n xs small) (small_front n ys small') in
     let backs = by_number (drop n xs) (drop n ys) (same_backs n xs ys l) (small_back n xs small) (small_back n ys small') in
     rw (← fronts, ← backs) (sym (cut n xs ys l))
+
+equal_numbers : (x y : ℕ) → x ≡ y → nat_cmp x y ≡ Equal
+equal_numbers x y same = sym (nat_cmp_is x y Equal same)
+
+-- bytes whose two numbers are equal are the same
+pub same_by_numbers : (n : ℕ) (xs ys : List ℕ) → length xs ≡ length ys → AreBytes xs → AreBytes ys
+    → number_of_bytes (take n xs) ≡ number_of_bytes (take n ys) → number_of_bytes (drop n xs) ≡ number_of_bytes (drop n ys) → xs ≡ ys
+same_by_numbers n xs ys l small small' front back =
+    let fronts = equal_numbers (number_of_bytes (take n xs)) (number_of_bytes (take n ys)) front in
+    let backs = equal_numbers (number_of_bytes (drop n xs)) (number_of_bytes (drop n ys)) back in
+    let cmp : slice_cmp nat_cmp xs ys ≡ Equal = sym (by_numbers n xs ys l small small') ∙ rw (fronts, backs) refl in
+    (bytes_eq-Decides xs ys).0 (sym (is_eq-slice_cmp xs ys) ∙ ap is_eq cmp)
 
 pub front_number : (bs : List ℕ) → length bs ≡ 12
     → from_be_bytes w64 (slice_index bs 0 ∷ slice_index bs 1 ∷ slice_index bs 2 ∷ slice_index bs 3 ∷ slice_index bs 4 ∷ slice_index bs 5 ∷ slice_index bs 6

@@ -45,8 +45,29 @@ fn is_isrc(bytes: &[u8]) -> bool
     all_capitals(&bytes[..2]) && all_capitals_or_digits(&bytes[2..5]) && all_digits(&bytes[5..])
 }
 
+/// The first eight bytes as a big-endian number, so that its order is that of the bytes.
+#[inline(always)]
+fn front_of(bytes: &[u8; 12]) -> u64
+    ensures value { result ≡ number_of_bytes (take 8 bytes.now) }
+    ensures bytes { AreBytes bytes.now }
+{
+    let b = bytes;
+    u64::from_be_bytes([b[0], b[1], b[2], b[3], b[4], b[5], b[6], b[7]])
+}
+
+/// The last four bytes as a big-endian number.
+#[inline(always)]
+fn back_of(bytes: &[u8; 12]) -> u32
+    ensures { result ≡ number_of_bytes (drop 8 bytes.now) }
+{
+    u32::from_be_bytes([bytes[8], bytes[9], bytes[10], bytes[11]])
+}
+
 impl Isrc {
     /// The ISRC that the text spells. None for every other text, such as one with hyphens.
+    ///
+    /// Not inlined: where it was, the bytes of an ISRC that `read_near` found by its hint were taken apart.
+    #[inline(never)]
     pub fn read(text: &str) -> Option<Isrc>
         ensures { result ≡ (if is_isrc_text text.now then Some text.now else None) }
     {
@@ -57,6 +78,30 @@ impl Isrc {
         Some(Isrc { bytes })
     }
 
+    /// The same as `read`. It is quicker if the text is that of `hint`, whose bytes need no test.
+    #[inline(always)]
+    pub fn read_near(text: &str, hint: Option<Isrc>) -> Option<Isrc>
+        ensures { result ≡ (if is_isrc_text text.now then Some text.now else None) }
+    {
+        if let Some(isrc) = hint {
+            if isrc.is_text(text) {
+                return Some(isrc);
+            }
+        }
+        Isrc::read(text)
+    }
+
+    /// Whether this is the text of the ISRC.
+    #[inline(always)]
+    fn is_text(&self, text: &str) -> bool
+        ensures { result ≡ true → text.now ≡ self.now }
+    {
+        let Ok(bytes) = <[u8; 12]>::try_from(text.as_bytes()) else {
+            return false;
+        };
+        front_of(&bytes) == self.front() && back_of(&bytes) == self.back()
+    }
+
     /// The twelve bytes, in ASCII.
     pub fn as_bytes(&self) -> &[u8]
         ensures value { result.now ≡ self.now }
@@ -65,22 +110,20 @@ impl Isrc {
         &self.bytes
     }
 
-    /// The first eight bytes as a big-endian number, so that its order is that of the bytes.
+    /// The number of the first eight bytes.
     fn front(&self) -> u64
         ensures value { result ≡ number_of_bytes (take 8 self.now) }
         ensures twelve { length self.now ≡ 12 }
         ensures bytes { AreBytes self.now }
     {
-        let b = &self.bytes;
-        u64::from_be_bytes([b[0], b[1], b[2], b[3], b[4], b[5], b[6], b[7]])
+        front_of(&self.bytes)
     }
 
-    /// The last four bytes as a big-endian number.
+    /// The number of the last four bytes.
     fn back(&self) -> u32
         ensures { result ≡ number_of_bytes (drop 8 self.now) }
     {
-        let b = &self.bytes;
-        u32::from_be_bytes([b[8], b[9], b[10], b[11]])
+        back_of(&self.bytes)
     }
 }
 

@@ -1,5 +1,5 @@
 -- The most bytes of numbers and amounts.
-use Rattle.std.proofs.Common.{arith, ◌≡◌, ℕ, ◌+◌, ◌-◌, ◌^◌, ◌≤◌, ◌<◌, ◌/◌, ◌%◌, ◌++◌, ◌∷◌, List, length, replicate, true, false, length-append, lit<, min}
+use Rattle.std.proofs.Common.{arith, ◌≡◌, ℕ, ◌+◌, ◌-◌, ◌^◌, ◌≤◌, ◌<◌, ◌/◌, ◌%◌, ◌++◌, [], ◌∷◌, List, length, replicate, true, false, length-append, lit<, min}
 use Rattle.std.specs.Prelude.{ℤ, pos, negsuc, Bool, unsigned_abs}
 use Rattle.std.specs.Int.{is_negative, w128}
 use Rattle.std.specs.Int.RustNames.{FitsSigned}
@@ -9,7 +9,7 @@ use Rattle.std.proofs.lemmas.List.{length-replicate}
 use Rattle.std.proofs.lemmas.Int.{ints}
 use Rattle.dsr_cells.specs.Written.{padded_number, written}
 use Rattle.dsr_intake.specs.inner.Bound.{IsUpTo}
-use Rattle.dsr_intake.specs.inner.Puts.{Puts}
+use Rattle.dsr_intake.specs.inner.Puts.{Puts, end_of_line}
 use Rattle.dsr_intake.specs.declared.statements.bound.Bound.{Bound}
 
 pub up_to_sum : (old new count n k : ℕ) → new ≡ min (old + count) (2 ^ 64 - 1) → k ≤ count → IsUpTo old n → IsUpTo new (n + k)
@@ -47,6 +47,10 @@ written_length z fits =
     let b : length units ≤ 39 = wide (n / 10 ^ 10) (omega (arith, h)) in
     let c : length decimals ≤ 10 = decimals_length (n % 10 ^ 10) (omega arith) in
     omega (arith, all, front, a, b, c)
+
+pub amount_length : (z : ℤ) (is_last : Bool) → FitsSigned w128 z → length (9 ∷ written z ++ end_of_line is_last) ≤ 66
+amount_length z true fits = omega (arith, written_length z fits, length-append (written z) (10 ∷ []))
+amount_length z false fits = omega (arith, written_length z fits, length-append (written z) [])
 
 -- what takes numbers in place of bytes
 pub puts_up_to : (old new : Bound) (bytes : List ℕ) (count : ℕ) → length bytes ≤ count

@@ -6,4 +6,5 @@ pub mod Rounds
 pub mod Sending
 pub mod Lines
 pub mod Bounds
+pub mod AmountCells
 pub mod LedgerBytes

@@ -49,24 +49,23 @@ module _ {W : Type 0} (told : W → Written) where
   puts_from p q bytes carries = record { carries = λ start put h. carry_then start p q put bytes h carries }
 
   -- what is put once the outlet has failed and nothing waits
-  pub carry_failed : (p q : Pieces W) (bytes : List ℕ) → p.sender.failed ≡ true → q.sender ≡ p.sender → q.waiting.now.items ≡ []
-      → Carries told p q bytes
+  pub carry_failed : (p q : Pieces W) (bytes : List ℕ) → p.sender.failed ≡ true → q.sender ≡ p.sender → q.waiting ≡ [] → Carries told p q bytes
   carry_failed p q bytes failed same empty = (
     ap (λ s. s.out.ghost_name) same,
     λ put before h.
         let was : IsSent true h.0 p.sender.written before (told p.sender.out.now) = rw failed at h.1 in
-        let now : IsBroken (h.0 ++ (p.waiting.now.items ++ bytes)) p.sender.written was.0 before (told p.sender.out.now)
-        = broken_more h.0 (p.waiting.now.items ++ bytes) p.sender.written was.0 before _ was.1 in
-        (put ++ bytes, rw (same, failed, h.2, append_assoc h.0 p.waiting.now.items bytes) (was.0, now), rw (empty, append-nil (put ++ bytes)) refl),
+        let now : IsBroken (h.0 ++ (p.waiting ++ bytes)) p.sender.written was.0 before (told p.sender.out.now)
+        = broken_more h.0 (p.waiting ++ bytes) p.sender.written was.0 before _ was.1 in
+        (put ++ bytes, rw (same, failed, h.2, append_assoc h.0 p.waiting bytes) (was.0, now), rw (empty, append-nil (put ++ bytes)) refl),
   )
 
   -- if nothing waits, what was put was sent
-  pub all_sent : (p : Pieces W) (put : List ℕ) (before : Written) → p.waiting.now.items ≡ [] → Holds told put before p
+  pub all_sent : (p : Pieces W) (put : List ℕ) (before : Written) → p.waiting ≡ [] → Holds told put before p
       → IsSent p.sender.failed put p.sender.written before (told p.sender.out.now)
   all_sent p put before empty h = let e : put ≡ h.0 = h.2 ∙ rw (empty, append-nil h.0) refl in rw e h.1
 
   -- the same after what waited was sent
-  pub all_sent_too : (p q : Pieces W) (put : List ℕ) (before : Written) → q.waiting.now.items ≡ [] → Carries told p q [] → Holds told put before p
+  pub all_sent_too : (p q : Pieces W) (put : List ℕ) (before : Written) → q.waiting ≡ [] → Carries told p q [] → Holds told put before p
       → IsSent q.sender.failed put q.sender.written before (told q.sender.out.now)
   all_sent_too p q put before empty carries h = all_sent q put before empty (rw (append-nil put) at (carries.1 put before h))
 

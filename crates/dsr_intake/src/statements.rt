@@ -9,6 +9,7 @@ pub(crate) mod names;
 pub(crate) mod pieces;
 pub(crate) mod put;
 pub(crate) mod room;
+pub(crate) mod slice_buffer;
 pub(crate) mod status;
 pub(crate) mod verdict;
 pub(crate) mod write;

@@ -127,11 +127,13 @@ impl FileBooks {
         ensures ok { IfOk result (λ v. TakesBlock self.old self.new ledger.old ledger.new block.now
             v) }
     {
+        let hint = ledger.expected_isrc(plan.recording);
         match judge(
             self.standing,
             seen,
             &self.summaries,
             block,
+            hint,
             &mut plan.summaries,
         )? {
             Ok(isrc) => {

@@ -57,12 +57,13 @@ fn shares_over(works: &[Work]) -> bool
 
 #[tactic(auto, unfolding(crate::specs::Verdicts::verdict_by))]
 /// The recording of a block that is booked, or why it is rejected. If it is booked, `numbers` has
-/// the numbers of the summaries that its usages name.
+/// the numbers of the summaries that its usages name. An ISRC that is `hint` is read quicker.
 pub fn judge(
     standing: Standing,
     seen: bool,
     summaries: &Summaries,
     block: &Block,
+    hint: Option<Isrc>,
     numbers: &mut Vec<usize>,
 ) -> Result<Result<Isrc, Reason>, NoMemory>
     ensures verdict { IfOk result (λ r. MatchResult r
@@ -84,7 +85,7 @@ pub fn judge(
     if isrc.is_empty() {
         return Ok(Err(Reason::NoIsrc));
     }
-    let Some(isrc) = Isrc::read(isrc) else {
+    let Some(isrc) = Isrc::read_near(isrc, hint) else {
         return Ok(Err(Reason::BadIsrc));
     };
     if !find_summaries(summaries, block.usages.as_slice(), numbers)? {

@@ -30,7 +30,7 @@ IsSent true sent written before after = (n : ℕ) × IsBroken sent written n bef
 -- these bytes were put
 abbrev pub Holds : {W : Type 0} → (W → Written) → List ℕ → Written → Pieces W → Type 0
 Holds told put before p =
-    (sent : List ℕ) × IsSent p.sender.failed sent p.sender.written before (told p.sender.out.now) × (put ≡ sent ++ p.waiting.now.items)
+    (sent : List ℕ) × IsSent p.sender.failed sent p.sender.written before (told p.sender.out.now) × (put ≡ sent ++ p.waiting)
 
 -- from the old to the new, these bytes were put, on the same outlet
 abbrev pub Carries : {W : Type 0} → (W → Written) → Pieces W → Pieces W → List ℕ → Type 0

@@ -10,8 +10,8 @@ const DECIMAL: u64 = 20;
 /// The most digits of an `i128`, with its sign.
 const SIGNED_DECIMAL: u64 = 40;
 
-/// At least the most bytes of an amount.
-const UNITS: u64 = 64;
+/// At least the most bytes of an amount's cell, with a tab before it and the end of the line after it.
+const AMOUNT: u64 = 66;
 
 /// An upper bound of the bytes that were put; `u64::MAX` if there may be more.
 #[derive(Drop)]
@@ -44,8 +44,8 @@ impl Put for Bound {
         self.add(SIGNED_DECIMAL);
     }
 
-    fn put_units(&mut self, _amount: i128) {
-        self.add(UNITS);
+    fn put_amount(&mut self, _amount: i128, _is_last: bool) {
+        self.add(AMOUNT);
     }
 
     fn copies_bytes(&self) -> bool {

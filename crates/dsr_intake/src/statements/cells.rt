@@ -1,5 +1,5 @@
 //! Putting the cells of a line, each after a tab.
-ghost use Rattle.std.specs.Prelude.{◌∷◌, [], decimal};
+ghost use Rattle.std.specs.Prelude.{◌∷◌, ◌++◌, [], decimal};
 ghost use Rattle.std.specs.Fmt.{signed_decimal};
 ghost use Rattle.dsr_intake.specs.meaning.Statement.{amount_cell};
 ghost use Rattle.dsr_intake.specs.inner.Puts.{Puts};
@@ -38,8 +38,15 @@ pub(crate) fn put_signed<P: Put>(out: &mut P, number: i128)
 pub(crate) fn put_amount<P: Put>(out: &mut P, amount: i128)
     ensures { Puts P.after out.old out.new (9 ∷ amount_cell amount) }
 {
-    out.put(b"\t");
-    out.put_units(amount);
+    out.put_amount(amount, false);
+}
+
+/// Puts an amount, and the end of the line.
+#[inline(always)]
+pub(crate) fn put_last_amount<P: Put>(out: &mut P, amount: i128)
+    ensures { Puts P.after out.old out.new (9 ∷ amount_cell amount ++ 10 ∷ []) }
+{
+    out.put_amount(amount, true);
 }
 
 /// Puts the end of a line.

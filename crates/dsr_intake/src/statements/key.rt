@@ -5,16 +5,21 @@ ghost use Rattle.dsr_intake.specs.inner.Puts.{Puts};
 
 use crate::statements::cells::put_text;
 use crate::statements::put::Put;
+use crate::statements::slice_buffer::SliceBuffer;
 use dsr_ledger::LentLine;
 
 /// Room for this many bytes of a key's cells.
 pub(crate) const KEY_ROOM: usize = 256;
 
-/// The cells of a key, written into this room, if they fit.
-pub(crate) fn laid_key<'a>(room: &'a mut Vec<u8>, line: &LentLine<'_>) -> Option<&'a [u8]>
+/// The cells of a key, written into this room, if they are wanted and fit.
+pub(crate) fn laid_key<'a>(
+    are_wanted: bool,
+    room: &'a mut SliceBuffer<'_>,
+    line: &LentLine<'_>,
+) -> Option<&'a [u8]>
     ensures { IfSome result (λ k. k.now ≡ tabbed (key_cells line.now)) }
 {
-    if lay_key(room, line) {
+    if are_wanted && lay_key(room, line) {
         Some(room.as_slice())
     } else {
         None
@@ -22,8 +27,8 @@ pub(crate) fn laid_key<'a>(room: &'a mut Vec<u8>, line: &LentLine<'_>) -> Option
 }
 
 /// Writes the cells of a key over what the room has. Returns whether they fit.
-fn lay_key(room: &mut Vec<u8>, line: &LentLine<'_>) -> bool
-    ensures { result ≡ true → room.new.items ≡ tabbed (key_cells line.now) }
+fn lay_key(room: &mut SliceBuffer<'_>, line: &LentLine<'_>) -> bool
+    ensures { result ≡ true → room.new ≡ tabbed (key_cells line.now) }
 {
     room.clear();
     lay_cell(room, line.isrc().as_bytes())
@@ -34,14 +39,10 @@ fn lay_key(room: &mut Vec<u8>, line: &LentLine<'_>) -> bool
 
 /// Appends a cell, after a tab. Returns whether it fits.
 #[inline(always)]
-fn lay_cell(room: &mut Vec<u8>, cell: &[u8]) -> bool
-    ensures { result ≡ true → room.new.items ≡ room.old.items ++ 9 ∷ cell.now }
+fn lay_cell(room: &mut SliceBuffer<'_>, cell: &[u8]) -> bool
+    ensures { result ≡ true → room.new ≡ room.old ++ 9 ∷ cell.now }
 {
-    if cell.len() >= room.capacity() - room.len() {
-        return false;
-    }
-    room.push_reserved(b'\t');
-    room.extend_from_slice(cell).is_ok()
+    room.append(b"\t") && room.append(cell)
 }
 
 /// Puts the cells of a line's key: those of `key`, if they were laid there.

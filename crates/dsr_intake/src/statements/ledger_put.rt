@@ -5,13 +5,14 @@ ghost use Rattle.dsr_intake.specs.inner.Puts.{Puts};
 
 use crate::statements::lines::put_ledger;
 use crate::statements::put::Put;
+use crate::statements::slice_buffer::SliceBuffer;
 use dsr_ledger::{LentLine, TakeLines};
 
 /// Where the lines of a ledger are put, and room for the cells of a key.
 #[derive(Drop)]
 pub(crate) struct LedgerPut<'a, P> {
     pub(crate) out: P,
-    pub(crate) key: &'a mut Vec<u8>,
+    pub(crate) key: SliceBuffer<'a>,
 }
 
 impl<'a, P: Put> TakeLines for LedgerPut<'a, P> {
@@ -22,6 +23,6 @@ impl<'a, P: Put> TakeLines for LedgerPut<'a, P> {
         if self.out.is_closed() {
             return;
         }
-        put_ledger(&mut self.out, self.key, line);
+        put_ledger(&mut self.out, &mut self.key, line);
     }
 }

@@ -8,10 +8,13 @@ ghost use Rattle.dsr_intake.specs.meaning.Statement.{sums_line, party_line, uncl
 ghost use Rattle.dsr_intake.specs.inner.Laid.{day_cells};
 ghost use Rattle.dsr_intake.specs.inner.Puts.{Puts};
 
-use crate::statements::cells::{put_amount, put_end, put_number, put_signed, put_text};
+use crate::statements::cells::{
+    put_amount, put_end, put_last_amount, put_number, put_signed, put_text,
+};
 use crate::statements::key::{laid_key, put_key};
 use crate::statements::names::{reason_name, standing_name};
 use crate::statements::put::Put;
+use crate::statements::slice_buffer::SliceBuffer;
 use dsr_file::Outcome;
 use dsr_ledger::{Difference, FileLine, LentLine, LentParty, Reject, ReportKey};
 use dsr_records::Column;
@@ -111,8 +114,7 @@ pub(crate) fn put_difference<P: Put>(out: &mut P, difference: &Difference)
     put_text(out, difference.summary_id.as_str().as_bytes());
     put_usages(out, difference.stated_usages, difference.found_usages);
     put_amount(out, difference.stated_amount);
-    put_amount(out, difference.found_amount);
-    put_end(out)
+    put_last_amount(out, difference.found_amount);
 }
 
 /// Puts the usages that a summary states, and those that were found for it.
@@ -126,14 +128,10 @@ fn put_usages<P: Put>(out: &mut P, stated: i64, found: i128)
 
 /// Puts the lines of a ledger line: its sums, its parties, and the unclaimed amount. The cells of
 /// the key, with which each of them begins, are written into `room` once.
-pub(crate) fn put_ledger<P: Put>(out: &mut P, room: &mut Vec<u8>, line: &LentLine<'_>)
+pub(crate) fn put_ledger<P: Put>(out: &mut P, room: &mut SliceBuffer<'_>, line: &LentLine<'_>)
     ensures { Puts P.after out.old out.new (ledger_lines line.now) }
 {
-    let key = if out.copies_bytes() {
-        laid_key(room, line)
-    } else {
-        None
-    };
+    let key = laid_key(out.copies_bytes(), room, line);
     put_sums(out, key, line);
     put_parties(out, key, line);
     put_unclaimed(out, key, line)
@@ -147,8 +145,7 @@ fn put_sums<P: Put>(out: &mut P, key: Option<&[u8]>, line: &LentLine<'_>)
     out.put(b"LEDGER");
     put_key(out, key, line);
     put_signed(out, line.usages());
-    put_amount(out, line.amount());
-    put_end(out)
+    put_last_amount(out, line.amount());
 }
 
 /// Puts the lines of a key's parties. `key` has the key's cells, if they fit.
@@ -169,8 +166,7 @@ fn put_party<P: Put>(out: &mut P, key: Option<&[u8]>, line: &LentLine<'_>, party
     out.put(b"PARTY");
     put_key(out, key, line);
     put_text(out, party.party().as_bytes());
-    put_amount(out, party.amount());
-    put_end(out)
+    put_last_amount(out, party.amount());
 }
 
 /// Puts the line of a key's unclaimed amount. `key` has the key's cells, if they fit.
@@ -180,8 +176,7 @@ fn put_unclaimed<P: Put>(out: &mut P, key: Option<&[u8]>, line: &LentLine<'_>)
 {
     out.put(b"UNCLAIMED");
     put_key(out, key, line);
-    put_amount(out, line.unclaimed());
-    put_end(out)
+    put_last_amount(out, line.unclaimed());
 }
 
 /// Puts the line of a rejected block.

@@ -5,7 +5,8 @@ ghost use Rattle.dsr_intake.specs.inner.Pieces.{IsSent, Holds, Carries, MOST};
 
 use crate::outlet::{Outlet, write_all};
 use crate::statements::put::Put;
-use dsr_cells::amount_text;
+use crate::statements::slice_buffer::SliceBuffer;
+use dsr_cells::fill_amount;
 use dsr_file::Failed;
 use itoa::Buffer;
 
@@ -41,26 +42,29 @@ impl<'a, W: Outlet> Sender<'a, W> {
     }
 }
 
-/// A buffered writer to an outlet, with the bytes that wait to be written.
+/// A buffered writer to an outlet.
 #[derive(Drop)]
 pub(crate) struct Pieces<'a, W> {
     sender: Sender<'a, W>,
-    waiting: &'a mut Vec<u8>,
+    /// The bytes that wait to be written.
+    waiting: SliceBuffer<'a>,
 }
 
 impl<'a, W: Outlet> Pieces<'a, W> {
-    /// A buffered writer to this outlet, with this memory for what waits.
-    pub(crate) fn new(out: &'a mut W, waiting: &'a mut Vec<u8>) -> Pieces<'a, W>
+    /// A buffered writer to this outlet, with this room for what waits.
+    pub(crate) fn new(out: &'a mut W, room: &'a mut [u8]) -> Pieces<'a, W>
         ensures same_outlet { result.sender.out.ghost_name ≡ out.entry.ghost_name }
         ensures nothing { Holds W.told [] (W.told out.old) result }
     {
-        waiting.clear();
         let sender = Sender {
             out,
             written: 0,
             failed: false,
         };
-        Pieces { sender, waiting }
+        Pieces {
+            sender,
+            waiting: SliceBuffer::new(room),
+        }
     }
 
     /// Lets these bytes wait if there is room for them. Returns whether they wait.
@@ -68,8 +72,7 @@ impl<'a, W: Outlet> Pieces<'a, W> {
     fn keep(&mut self, bytes: &[u8]) -> bool
         ensures { Carries W.told self.old self.new (if result then bytes.now else []) }
     {
-        bytes.len() <= self.waiting.capacity() - self.waiting.len()
-            && self.waiting.extend_from_slice(bytes).is_ok()
+        self.waiting.append(bytes)
     }
 
     /// Writes what waits, and lets these bytes wait; if there are too many, writes them too.
@@ -96,7 +99,7 @@ impl<'a, W: Outlet> Pieces<'a, W> {
     /// Writes what waits.
     fn send_waiting(&mut self)
         ensures nothing { Carries W.told self.old self.new [] }
-        ensures empty { self.new.waiting.now.items ≡ [] }
+        ensures empty { self.new.waiting ≡ [] }
     {
         self.sender.send(self.waiting.as_slice());
         self.waiting.clear();
@@ -154,10 +157,12 @@ impl<'a, W: Outlet> Put for Pieces<'a, W> {
         self.put(buffer.format(number).as_bytes());
     }
 
-    #[tactic(auto, unfolding(crate::specs::meaning::Statement::amount_cell))]
-    fn put_units(&mut self, amount: i128) {
-        let mut room = [b'0'; 64];
-        self.put(amount_text(amount, &mut room));
+    fn put_amount(&mut self, amount: i128, is_last: bool) {
+        let mut cell = [b'\n'; 64];
+        let start = fill_amount(&mut cell, amount) - 1;
+        cell[start] = b'\t';
+        let end = if is_last { 64 } else { 63 };
+        self.put(&cell[start..end]);
     }
 
     fn copies_bytes(&self) -> bool {

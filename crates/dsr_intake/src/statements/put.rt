@@ -1,8 +1,8 @@
 //! Putting bytes one after another, into any destination.
-ghost use Rattle.std.specs.Prelude.{◌≡◌, ◌≤◌, true, false, decimal, length, List, ℕ};
+ghost use Rattle.std.specs.Prelude.{◌≡◌, ◌≤◌, ◌∷◌, ◌++◌, true, false, decimal, length, List, ℕ};
 ghost use Rattle.std.specs.Fmt.{signed_decimal};
 ghost use Rattle.dsr_intake.specs.meaning.Statement.{amount_cell};
-ghost use Rattle.dsr_intake.specs.inner.Puts.{Puts};
+ghost use Rattle.dsr_intake.specs.inner.Puts.{Puts, end_of_line};
 
 /// A destination for bytes, numbers and amounts, one after another.
 pub(crate) trait Put {
@@ -21,9 +21,9 @@ pub(crate) trait Put {
     fn put_signed_decimal(&mut self, number: i128)
         ensures { Puts after self.old self.new (signed_decimal number) };
 
-    /// Puts the text of an amount.
-    fn put_units(&mut self, amount: i128)
-        ensures { Puts after self.old self.new (amount_cell amount) };
+    /// Puts the cell of an amount, after a tab, and the end of the line if it is the last cell.
+    fn put_amount(&mut self, amount: i128, is_last: bool)
+        ensures { Puts after self.old self.new (9 ∷ amount_cell amount ++ end_of_line is_last) };
 
     /// Whether bytes are copied when they are put, so that cells that are put often are laid out once.
     fn copies_bytes(&self) -> bool;

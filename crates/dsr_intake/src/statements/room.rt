@@ -26,8 +26,8 @@ impl Room {
     {
         Ok(Room {
             days: lay_days(alloc, key)?,
-            key: Vec::with_capacity(alloc, KEY_ROOM)?,
-            waiting: Vec::with_capacity(alloc, PIECE)?,
+            key: Vec::from_elem(alloc, 0, KEY_ROOM)?,
+            waiting: Vec::from_elem(alloc, 0, PIECE)?,
         })
     }
 }

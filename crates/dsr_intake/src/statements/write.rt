@@ -19,6 +19,7 @@ use crate::statements::lines::{put_difference, put_file, put_head, put_missing, 
 use crate::statements::pieces::Pieces;
 use crate::statements::put::Put;
 use crate::statements::room::Room;
+use crate::statements::slice_buffer::SliceBuffer;
 use crate::to_write::ToWrite;
 use dsr_cells::NoMemory;
 use dsr_ledger::{Difference, FileLine, LentLedger, LentReport, Reject, Report};
@@ -52,7 +53,7 @@ pub(crate) fn room_for(alloc: Global, report: &mut LentReport<'_>) -> Result<Roo
         → length (statement_of r) < MOST) }
 {
     let mut room = Room::new(alloc, report.key)?;
-    if statement_bound(&room.days, &mut room.key, report) < u64::MAX {
+    if statement_bound(&room.days, room.key.as_mut_slice(), report) < u64::MAX {
         Ok(room)
     } else {
         Err(NoMemory)
@@ -61,7 +62,7 @@ pub(crate) fn room_for(alloc: Global, report: &mut LentReport<'_>) -> Result<Roo
 
 /// An upper bound of the statement's bytes, or `u64::MAX`. `days` has the cells of the report's
 /// days, `key` is room for those of a key.
-fn statement_bound(days: &[u8], key: &mut Vec<u8>, report: &mut LentReport<'_>) -> u64
+fn statement_bound(days: &[u8], key: &mut [u8], report: &mut LentReport<'_>) -> u64
     requires days { IfSome report.old.key.now (λ k. days.now ≡ day_cells k) }
     requires ready { IsReady report.old.ledger }
     ensures ready { IsReady report.new.ledger }
@@ -71,7 +72,7 @@ fn statement_bound(days: &[u8], key: &mut Vec<u8>, report: &mut LentReport<'_>) 
 {
     let mut put = LedgerPut {
         out: Bound { most: 0 },
-        key,
+        key: SliceBuffer::new(key),
     };
     put_statement(&mut put, days, report);
     put.out.most
@@ -99,8 +100,8 @@ pub(crate) fn write_statement<W: Outlet>(
         mut waiting,
     } = room;
     let mut put = LedgerPut {
-        out: Pieces::new(out, &mut waiting),
-        key: &mut key,
+        out: Pieces::new(out, waiting.as_mut_slice()),
+        key: SliceBuffer::new(key.as_mut_slice()),
     };
     send_statement(&mut put, &days, report);
     let LedgerPut {

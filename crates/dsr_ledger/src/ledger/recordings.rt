@@ -51,15 +51,29 @@ impl Ledger {
         }
     }
 
-    /// The number of a recording, if its block came next after one of recording `last` before.
-    fn following(&self, last: usize, isrc: &Isrc) -> Option<usize>
-        ensures { IfSome result (λ number. recording_number self.now isrc.now ≡ Some number) }
+    /// The recording whose block came after one of recording `last` before, by its number and its ISRC.
+    fn expected(&self, last: usize) -> Option<(usize, Isrc)>
+        ensures { IfSome result (λ e. recording_number self.now e.1 ≡ Some e.0) }
     {
         let recordings = self.recordings.as_slice();
         let (_, found) = recordings.get_index(last)?;
         let next = found.next as usize;
-        let (own, _) = recordings.get_index(next)?;
-        if *own == *isrc {
+        let (isrc, _) = recordings.get_index(next)?;
+        Some((next, *isrc))
+    }
+
+    /// The ISRC whose block came after one of recording `last` before, which is mostly that of the next block.
+    pub fn expected_isrc(&self, last: usize) -> Option<Isrc> {
+        let (_, isrc) = self.expected(last)?;
+        Some(isrc)
+    }
+
+    /// The number of a recording, if it is the one expected after recording `last`.
+    fn following(&self, last: usize, isrc: &Isrc) -> Option<usize>
+        ensures { IfSome result (λ number. recording_number self.now isrc.now ≡ Some number) }
+    {
+        let (next, own) = self.expected(last)?;
+        if own == *isrc {
             return Some(next);
         }
         None

@@ -14,5 +14,5 @@ returns g c =
     let same = to_z-of_z w64 c.args.difference.now.stated_usages fits in
     let puts =
     then c.put.ensures (then c.put_number.ensures (then c.put_text.ensures
-    (then c.put_usages.ensures (then c.put_amount.ensures (then c.put_amount-2.ensures c.put_end.ensures))))) in
+    (then c.put_usages.ensures (then c.put_amount.ensures c.put_last_amount.ensures)))) in
     turn puts (search (rules, append_assoc, append-nil, same))

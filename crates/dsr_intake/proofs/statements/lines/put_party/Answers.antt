@@ -7,5 +7,5 @@ use Rattle.dsr_intake.proofs.statements.lines.put_party.Goals as goal
 pub returns : goal.returns
 unfolding party_line
 returns g c =
-    turn (then c.put.ensures (then c.put_key.ensures (then c.put_text.ensures (then c.put_amount.ensures c.put_end.ensures))))
+    turn (then c.put.ensures (then c.put_key.ensures (then c.put_text.ensures c.put_last_amount.ensures)))
     (search (rules, append_assoc, append-nil))

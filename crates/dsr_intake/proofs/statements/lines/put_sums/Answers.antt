@@ -7,5 +7,5 @@ use Rattle.dsr_intake.proofs.statements.lines.put_sums.Goals as goal
 pub returns : goal.returns
 unfolding sums_line
 returns g c =
-    turn (then c.put.ensures (then c.put_key.ensures (then c.put_signed.ensures (then c.put_amount.ensures c.put_end.ensures))))
+    turn (then c.put.ensures (then c.put_key.ensures (then c.put_signed.ensures c.put_last_amount.ensures)))
     (search (rules, append_assoc, append-nil))

@@ -6,4 +6,4 @@ use Rattle.dsr_intake.proofs.statements.lines.put_unclaimed.Goals as goal
 
 pub returns : goal.returns
 unfolding unclaimed_line
-returns g c = turn (then c.put.ensures (then c.put_key.ensures (then c.put_amount.ensures c.put_end.ensures))) (search (rules, append_assoc, append-nil))
+returns g c = turn (then c.put.ensures (then c.put_key.ensures c.put_last_amount.ensures)) (search (rules, append_assoc, append-nil))

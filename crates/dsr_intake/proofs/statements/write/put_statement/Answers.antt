@@ -1,4 +1,4 @@
-use Rattle.std.proofs.Common.{[], append_assoc, rules, ap}
+use Rattle.std.proofs.Common.{append_assoc, rules, ap}
 use Rattle.std.specs.List.{flat_map}
 use Rattle.std.proofs.lemmas.List.{append-nil}
 use Rattle.dsr_intake.specs.meaning.Statement.{statement_of, head_line, file_lines, missing_line, difference_line, reject_line}

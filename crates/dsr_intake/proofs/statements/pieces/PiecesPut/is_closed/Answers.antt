@@ -5,5 +5,5 @@ use Rattle.dsr_intake.proofs.statements.pieces.PiecesPut.is_closed.Goals as goal
 pub returns-clause-closed : goal.returns-clause-closed
 returns-clause-closed g c is bytes =
     let told = g.W.Outlet.told in
-    let left = record c.args.self.now { waiting = record c.args.self.now.waiting { now = c.clear.new.self } } in
-    puts_from told c.args.self.now left bytes (carry_failed told c.args.self.now left bytes c.if-not-self.false refl c.clear.ensures.items)
+    let left = record c.args.self.now { waiting = c.clear.new.self } in
+    puts_from told c.args.self.now left bytes (carry_failed told c.args.self.now left bytes c.if-not-self.false refl c.clear.ensures)
