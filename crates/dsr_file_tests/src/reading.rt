@@ -160,28 +160,36 @@ fn length_of(lines: u64, bytes: &[u8]) -> usize {
     bytes.len()
 }
 
+/// The reads of one byte that a file of these bytes takes which ends like this: up to its end, or up to the line at which
+/// memory was refused. None if an event was refused.
+fn reads_to_end(answer: &Result<Outcome, ReadFileError>, bytes: &[u8]) -> Option<usize> {
+    match answer {
+        Ok(Outcome::Whole) => Some(bytes.len().wrapping_add(1)),
+        Ok(Outcome::Fault { line, fault }) if is_named(*fault, "Memory") => {
+            Some(length_of(*line, bytes))
+        }
+        Ok(_) => Some(0),
+        Err(ReadFileError::Memory) => Some(0),
+        Err(ReadFileError::Refused(_)) => None,
+    }
+}
+
+/// Whether a source that gives one byte a read is read as far as it should be; true also if an event is refused.
+fn is_read_no_further(alloc: Global, bytes: &[u8]) -> bool {
+    let mut events = EventList::new(alloc);
+    let mut source = in_pieces(bytes, 1, false);
+    let answer = read_file(alloc, &Layout::standard(), &mut source, &mut events, 1000);
+    match reads_to_end(&answer, bytes) {
+        Some(reads) => source.reads as usize == reads,
+        None => true,
+    }
+}
+
 /// A source that gives one byte a read is read up to its end, or up to the line at which memory is refused.
 #[test]
 fn no_read_after_the_end(rt: HostRuntime) -> Result<(), AllocError> {
     let bytes = text(rt.alloc(), FILE, "", b"\n")?;
-    let mut events = EventList::new(rt.alloc());
-    let mut source = in_pieces(bytes.as_slice(), 1, false);
-    let reads = match read_file(
-        rt.alloc(),
-        &Layout::standard(),
-        &mut source,
-        &mut events,
-        1000,
-    ) {
-        Ok(Outcome::Whole) => bytes.len().wrapping_add(1),
-        Ok(Outcome::Fault { line, fault }) if is_named(fault, "Memory") => {
-            length_of(line, bytes.as_slice())
-        }
-        Ok(_) => 0,
-        Err(ReadFileError::Memory) => 0,
-        Err(ReadFileError::Refused(_)) => return Ok(()),
-    };
-    assert!(rt; source.reads as usize == reads);
+    assert!(rt; is_read_no_further(rt.alloc(), bytes.as_slice()));
     Ok(())
 }
 
@@ -253,17 +261,28 @@ fn take(file: &mut FileReader, piece: &[u8]) -> (usize, u8)
     }
 }
 
-/// Takes from a text three times, each from where the last call stopped, and finishes. Returns the letters of the events
-/// and the bytes used.
+/// Takes from a text three times, each from where the last call stopped. Returns the letters of the events and the bytes
+/// used.
+fn three_events(file: &mut FileReader, bytes: &[u8]) -> ([u8; 3], usize)
+    requires open { ending_told file.old ≡ None }
+    requires room { bytes_used file.old + length bytes.now ≤ 2 ^ 36 }
+    ensures open { ending_told file.new ≡ None }
+    ensures used { bytes_used file.new ≡ bytes_used file.old + result.1 }
+    ensures bound { result.1 ≤ length bytes.now }
+{
+    let (first, one) = take(file, bytes);
+    let (second, two) = take(file, &bytes[first..]);
+    let used = first + second;
+    let (third, three) = take(file, &bytes[used..]);
+    ([one, two, three], used + third)
+}
+
+/// Takes from a text three times, and finishes. Returns the letters of the events and the bytes used.
 fn four_events(alloc: Global, bytes: &[u8]) -> Option<([u8; 4], usize)>
     requires { length bytes.now ≤ 10000 }
 {
     let mut file = FileReader::new(alloc, &Layout::standard()).ok()?;
-    let (first, one) = take(&mut file, bytes);
-    let (second, two) = take(&mut file, &bytes[first..]);
-    let used = first + second;
-    let (third, three) = take(&mut file, &bytes[used..]);
-    let used = used + third;
+    let ([one, two, three], used) = three_events(&mut file, bytes);
     let four = match file.finish(Ending::Whole) {
         Some(event) => letter(&event),
         None => b' ',
