@@ -15,7 +15,7 @@ const MOST_BLOCKS: u64 = 1 << 37;
 /// The number of blocks that wait, so that the clock is read once for all of them.
 const WAITING: usize = 4096;
 
-/// The number of events in a message of a relay.
+/// The number of blocks in a message of a relay.
 const MESSAGE: usize = 32;
 
 /// What was measured.
@@ -35,7 +35,7 @@ pub struct Figures {
 #[derive(Drop)]
 pub struct Measured {
     books: Books,
-    waiting: Vec<Event>,
+    waiting: Vec<Block>,
     blocks: u64,
     nanos: u128,
 }
@@ -50,20 +50,18 @@ fn book(books: &mut Books, block: &Block) -> Result<bool, NoMemory> {
 }
 
 /// Books the blocks of a message, and returns how many the books took.
-fn book_message(books: &mut Books, events: &[Event]) -> Result<u64, NoMemory> {
+fn book_message(books: &mut Books, blocks: &[Block]) -> Result<u64, NoMemory> {
     let mut booked = 0u64;
-    for event in events {
-        if let EventPart::Block(block) = &event.part {
-            booked = booked.wrapping_add(u64::from(book(books, block)?));
-        }
+    for block in blocks {
+        booked = booked.wrapping_add(u64::from(book(books, block)?));
     }
     Ok(booked)
 }
 
 /// Books all blocks, and returns how many the books took.
-fn book_all(books: &mut Books, events: &[Event]) -> Result<u64, NoMemory> {
+fn book_all(books: &mut Books, blocks: &[Block]) -> Result<u64, NoMemory> {
     let mut booked = 0u64;
-    for message in events.chunks(MESSAGE) {
+    for message in blocks.chunks(MESSAGE) {
         booked = booked.wrapping_add(book_message(books, message)?);
     }
     Ok(booked)
@@ -123,11 +121,23 @@ impl Measured {
         Ok(())
     }
 
+    /// Books the blocks that wait, and ends the file.
+    fn book_rest<C: Clock>(&mut self, clock: &C, outcome: Outcome) -> io::Result<()> {
+        self.book_waiting(clock)?;
+        self.end(outcome).map_err(no_memory)
+    }
+
+    /// Lets a block wait.
+    fn keep(&mut self, block: Block) -> Result<(), NoMemory> {
+        match self.waiting.push(block) {
+            Ok(()) => Ok(()),
+            Err(_) => Err(NoMemory),
+        }
+    }
+
     /// Lets a block wait, and books all that wait once they are many.
-    fn wait<C: Clock>(&mut self, clock: &C, event: Event) -> io::Result<()> {
-        self.waiting
-            .push(event)
-            .map_err(|_| io::ErrorKind::OutOfMemory)?;
+    fn wait<C: Clock>(&mut self, clock: &C, block: Block) -> io::Result<()> {
+        self.keep(block).map_err(no_memory)?;
         if self.waiting.len() >= WAITING {
             self.book_waiting(clock)?;
         }
@@ -136,16 +146,10 @@ impl Measured {
 
     /// Takes an event of the file.
     fn put<C: Clock>(&mut self, clock: &C, event: Event) -> io::Result<()> {
-        if matches!(event.part, EventPart::Block(_)) {
-            return self.wait(clock, event);
-        }
         match event.part {
             EventPart::Opened(opening) => self.open(opening).map_err(no_memory),
-            EventPart::Block(_) => Ok(()),
-            EventPart::Ended(outcome) => {
-                self.book_waiting(clock)?;
-                self.end(outcome).map_err(no_memory)
-            }
+            EventPart::Block(block) => self.wait(clock, block),
+            EventPart::Ended(outcome) => self.book_rest(clock, outcome),
         }
     }
 

@@ -28,6 +28,11 @@ fn show<P: Print>(rt: &P, event: &Event) -> io::Result<()> {
     }
 }
 
+/// Prints an event that is no longer needed.
+fn print_event<P: Print>(rt: &P, event: Event) -> io::Result<()> {
+    show(rt, &event)
+}
+
 /// Passes a piece to the reader, and prints each event that it returns.
 fn feed<P: Print>(rt: &P, file: &mut FileReader, piece: &[u8]) -> io::Result<()>
     requires open { ending_told file.old ≡ None }
@@ -41,7 +46,7 @@ fn feed<P: Print>(rt: &P, file: &mut FileReader, piece: &[u8]) -> io::Result<()>
         let Some(event) = event else {
             break;
         };
-        show(rt, &event)?;
+        print_event(rt, event)?;
     }
     Ok(())
 }
@@ -70,7 +75,7 @@ fn end<P: Print>(rt: &P, file: &mut FileReader, ending: Ending) -> io::Result<()
     requires { ending_told file.old ≡ None }
 {
     while let Some(event) = file.finish(ending) {
-        show(rt, &event)?;
+        print_event(rt, event)?;
     }
     Ok(())
 }
