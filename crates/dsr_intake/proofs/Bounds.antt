@@ -1,13 +1,13 @@
 -- The most bytes of numbers and amounts.
-use Rattle.std.proofs.Common.{arith, ◌≡◌, ℕ, ◌+◌, ◌-◌, ◌^◌, ◌≤◌, ◌<◌, ◌/◌, ◌%◌, ◌++◌, [], ◌∷◌, List, length, replicate, true, false, length-append, lit<, min}
+use Rattle.std.proofs.Common.{arith, ◌≡◌, ℕ, ◌+◌, ◌-◌, ◌^◌, ◌≤◌, ◌<◌, ◌/◌, ◌%◌, ◌++◌, [], ◌∷◌, List, length, true, false, length-append, lit<, min}
 use Rattle.std.specs.Prelude.{ℤ, pos, negsuc, Bool, unsigned_abs}
 use Rattle.std.specs.Int.{is_negative, w128}
 use Rattle.std.specs.Int.RustNames.{FitsSigned}
 use Rattle.std.specs.Fmt.{decimal, sign_text}
 use Rattle.std.proofs.lemmas.Fmt.{length-decimal-le_wide}
-use Rattle.std.proofs.lemmas.List.{length-replicate}
 use Rattle.std.proofs.lemmas.Int.{ints}
 use Rattle.dsr_cells.specs.Written.{padded_number, written}
+use Rattle.dsr_cells.proofs.Spelled.{padded_length}
 use Rattle.dsr_intake.specs.inner.Bound.{IsUpTo}
 use Rattle.dsr_intake.specs.inner.Puts.{Puts, end_of_line}
 use Rattle.dsr_intake.specs.declared.statements.bound.Bound.{Bound}
@@ -29,11 +29,6 @@ within (negsuc n) h = omega (arith, ints, h)
 wide : (n : ℕ) → n ≤ 2 ^ 127 → length (decimal n) ≤ 39
 wide n h = length-decimal-le_wide 39 n (lit< tt) (omega (arith, h)) (omega (arith, h))
 
-decimals_length : (n : ℕ) → n < 10 ^ 10 → length (padded_number 10 n) ≤ 10
-decimals_length n h =
-    let short : length (decimal n) ≤ 10 = length-decimal-le_wide 10 n (lit< tt) h (omega (arith, h)) in
-    omega (arith, short, length-append (replicate (10 - length (decimal n)) 48) (decimal n), length-replicate {A = ℕ} (10 - length (decimal n)) 48)
-
 pub written_length : (z : ℤ) → FitsSigned w128 z → length (written z) ≤ 64
 written_length z fits =
     let n = unsigned_abs z in
@@ -45,7 +40,7 @@ written_length z fits =
     let front : length (sign ++ units) ≡ length sign + length units = length-append sign units in
     let a : length sign ≤ 1 = sign_length (is_negative z) in
     let b : length units ≤ 39 = wide (n / 10 ^ 10) (omega (arith, h)) in
-    let c : length decimals ≤ 10 = decimals_length (n % 10 ^ 10) (omega arith) in
+    let c : length decimals ≡ 10 = padded_length (n % 10 ^ 10) (omega arith) in
     omega (arith, all, front, a, b, c)
 
 pub amount_length : (z : ℤ) (is_last : Bool) → FitsSigned w128 z → length (9 ∷ written z ++ end_of_line is_last) ≤ 66

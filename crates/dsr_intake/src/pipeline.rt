@@ -4,6 +4,7 @@ pub(crate) mod errors;
 pub(crate) mod feed_sink;
 pub(crate) mod gather;
 pub(crate) mod options;
+pub(crate) mod patience;
 pub(crate) mod run;
 pub(crate) mod seed;
 pub(crate) mod threads;

@@ -1,6 +1,7 @@
 //! The statement of a report, and whether it has remarks.
 pub(crate) mod bound;
 pub(crate) mod cells;
+pub(crate) mod copying;
 pub(crate) mod key;
 pub(crate) mod ledger_bytes;
 pub(crate) mod ledger_put;

@@ -44,15 +44,28 @@ pub struct Ids {
     ghost below: { (q : List ℕ) → is_among (texts_of numbers.items ++ run.items) rest q ≡ true → rank_of q ≤ top },
 }
 
-/// The big-endian number of these bytes, modulo 2^64.
-fn number_of(bytes: &[u8]) -> u64
-    ensures { result ≡ fold with_byte 0 bytes.now }
+/// The big-endian number with these bytes appended, modulo 2^64.
+fn number_with(before: u64, bytes: &[u8]) -> u64
+    ensures { result ≡ fold with_byte before bytes.now }
 {
-    let mut number = 0u64;
+    let mut number = before;
     for byte in bytes {
         number = number.wrapping_mul(256).wrapping_add(u64::from(*byte));
     }
     number
+}
+
+/// The big-endian number of these bytes, modulo 2^64. The first four are read at once.
+fn number_of(bytes: &[u8]) -> u64
+    ensures { result ≡ fold with_byte 0 bytes.now }
+{
+    match bytes {
+        [a, b, c, d, rest @ ..] => {
+            let first = u32::from_be_bytes([*a, *b, *c, *d]);
+            number_with(u64::from(first), rest)
+        }
+        _ => number_with(0, bytes),
+    }
 }
 
 #[tactic(auto, unfolding(crate::specs::Ids::rank_of))]

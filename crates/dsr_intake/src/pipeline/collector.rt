@@ -15,12 +15,14 @@ ghost use Rattle.dsr_intake.specs.inner.Collecting.{IsNext, Opens, IsTapped, IsD
 
 use crate::pipeline::errors::CollectError;
 use crate::pipeline::options::MOST_FILES;
+use crate::pipeline::patience::Patience;
 use crate::pipeline::seed::random_seed;
 use dsr_cells::NoMemory;
 use dsr_file::{Event, EventPart, FileFault, Outcome};
 use dsr_ledger::{Books, ClosedBooks, Report};
 use dsr_relay::{Batch, Closed, Tap};
 use std::alloc::Global;
+use std::hint::spin_loop;
 use std::random::RandomSource;
 use std::sync::Wait;
 
@@ -259,7 +261,7 @@ fn have_ended(taps: &Vec<Tap>) -> bool
     true
 }
 
-/// Takes messages round by round until every file has ended. After a round without a message the next one waits for one.
+/// Takes messages round by round until every file has ended. After some rounds without a message the next one waits for one.
 fn take_all<H: Wait>(rt: &H, books: &mut Books, taps: &mut Vec<Tap>) -> Result<(), CollectError>
     requires most { vec_len taps.old ≤ MOST_FILES }
     requires tapped { All IsTapped taps.old.items }
@@ -271,12 +273,18 @@ fn take_all<H: Wait>(rt: &H, books: &mut Books, taps: &mut Vec<Tap>) -> Result<(
     ensures stands { OnOk result (Stands books.new (map (λ t. file_of t.taken) taps.new.items)) }
     ensures stopped { IfErr result (IsStopped taps.new.items) }
 {
-    let mut waits = false;
+    let mut patience = Patience::new();
     for _ in rt.forever() {
         if have_ended(taps) {
             return Ok(());
         }
-        waits = !go_round(rt, books, taps, waits)?;
+        let waits = patience.has_ended();
+        if go_round(rt, books, taps, waits)? {
+            patience.note_message(waits);
+        } else {
+            patience.note_none();
+            spin_loop();
+        }
     }
     unreachable!()
 }

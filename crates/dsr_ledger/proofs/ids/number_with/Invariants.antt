@@ -1,6 +1,6 @@
 use Rattle.std.proofs.Common.{◌≡◌, take, fold}
 use Rattle.dsr_ledger.specs.Ids.{with_byte}
-use Rattle.dsr_ledger.proofs.ids.number_of.Given as goal
+use Rattle.dsr_ledger.proofs.ids.number_with.Given as goal
 
 abbrev pub invariant-loop-byte : goal.invariant-loop-byte
-invariant-loop-byte l = l.number ≡ fold with_byte 0 (take l.byte-index l.bytes)
+invariant-loop-byte l = l.number ≡ fold with_byte l.before (take l.byte-index l.bytes)
