@@ -60,7 +60,26 @@ fn in_pieces(rest: &[u8], size: usize, fails: bool) -> Pieces<'_>
     }
 }
 
-/// Reads a source into a list, and returns whether it gives these events and this end.
+/// Reads a source by a layout into a list, and returns whether it gives these events and this end.
+fn reads_by<R: Source>(
+    alloc: Global,
+    layout: &Layout,
+    source: &mut R,
+    max_reads: u32,
+    letters: &str,
+    told: &str,
+) -> bool
+    requires some_reads { 0 < max_reads }
+    requires few_reads { max_reads ≤ 2 ^ 24 }
+    requires unfailed { (R.told source.old).failed ≡ false }
+{
+    let mut events = EventList::new(alloc);
+    let is_read = read_file(alloc, layout, source, &mut events, max_reads).is_ok();
+    let is_right = come_to(&events, letters, told);
+    is_read && is_right
+}
+
+/// The same by the standard layout.
 fn reads_to<R: Source>(
     alloc: Global,
     source: &mut R,
@@ -72,11 +91,7 @@ fn reads_to<R: Source>(
     requires few_reads { max_reads ≤ 2 ^ 24 }
     requires unfailed { (R.told source.old).failed ≡ false }
 {
-    let mut events = EventList::new(alloc);
-    match read_file(alloc, &Layout::standard(), source, &mut events, max_reads) {
-        Ok(_) => come_to(&events, letters, told),
-        Err(_) => false,
-    }
+    reads_by(alloc, &Layout::standard(), source, max_reads, letters, told)
 }
 
 /// A file with a byte order mark, CR LF and no last LF, in pieces of every size.
@@ -174,15 +189,20 @@ fn reads_to_end(answer: &Result<Outcome, ReadFileError>, bytes: &[u8]) -> Option
     }
 }
 
+/// Whether so many reads are those that it should be; true also if an event was refused.
+fn are_right(reads: usize, wanted: Option<usize>) -> bool {
+    match wanted {
+        Some(wanted) => reads == wanted,
+        None => true,
+    }
+}
+
 /// Whether a source that gives one byte a read is read as far as it should be; true also if an event is refused.
 fn is_read_no_further(alloc: Global, bytes: &[u8]) -> bool {
     let mut events = EventList::new(alloc);
     let mut source = in_pieces(bytes, 1, false);
     let answer = read_file(alloc, &Layout::standard(), &mut source, &mut events, 1000);
-    match reads_to_end(&answer, bytes) {
-        Some(reads) => source.reads as usize == reads,
-        None => true,
-    }
+    are_right(source.reads as usize, reads_to_end(&answer, bytes))
 }
 
 /// A source that gives one byte a read is read up to its end, or up to the line at which memory is refused.
@@ -245,6 +265,14 @@ fn a_sink_that_refuses(rt: HostRuntime) -> Result<(), AllocError> {
     Ok(())
 }
 
+/// The letter of an event, or a blank if there is none.
+fn letter_or_blank(event: Option<&Event>) -> u8 {
+    match event {
+        Some(event) => letter(event),
+        None => b' ',
+    }
+}
+
 /// Takes from a piece, and returns the number of bytes and the letter of the event, or a blank for
 /// none.
 fn take(file: &mut FileReader, piece: &[u8]) -> (usize, u8)
@@ -255,10 +283,7 @@ fn take(file: &mut FileReader, piece: &[u8]) -> (usize, u8)
     ensures bound { result.0 ≤ length piece.now }
 {
     let (used, event) = file.take(piece);
-    match event {
-        Some(event) => (used, letter(&event)),
-        None => (used, b' '),
-    }
+    (used, letter_or_blank(event.as_ref()))
 }
 
 /// Takes from a text three times, each from where the last call stopped. Returns the letters of the events and the bytes
@@ -277,20 +302,22 @@ fn three_events(file: &mut FileReader, bytes: &[u8]) -> ([u8; 3], usize)
     ([one, two, three], used + third)
 }
 
+/// Finishes, and returns the letter of the event. None if the reader was not given so many bytes, or has not ended.
+fn finishes(file: &mut FileReader, used: usize) -> Option<u8> {
+    let event = file.finish(Ending::Whole);
+    let last = letter_or_blank(event.as_ref());
+    let is_right = file.given() == used as u64 && file.done();
+    is_right.then_some(last)
+}
+
 /// Takes from a text three times, and finishes. Returns the letters of the events and the bytes used.
 fn four_events(alloc: Global, bytes: &[u8]) -> Option<([u8; 4], usize)>
     requires { length bytes.now ≤ 10000 }
 {
     let mut file = FileReader::new(alloc, &Layout::standard()).ok()?;
     let ([one, two, three], used) = three_events(&mut file, bytes);
-    let four = match file.finish(Ending::Whole) {
-        Some(event) => letter(&event),
-        None => b' ',
-    };
-    if file.given() != used as u64 || !file.done() {
-        return None;
-    }
-    Some(([one, two, three, four], used))
+    let last = finishes(&mut file, used);
+    Some(([one, two, three, last?], used))
 }
 
 /// The number of bytes used, if the four events are these.
@@ -344,19 +371,23 @@ fn another_layout(rt: HostRuntime) {
     let Ok(layout) = Layout::read(LAYOUT) else {
         panic!(rt; "the layout is refused")
     };
-    let mut events = EventList::new(rt.alloc());
     let mut source = in_pieces(OTHER_FILE, 4096, false);
-    let outcome = read_file(rt.alloc(), &layout, &mut source, &mut events, 9);
-    assert!(rt; outcome.is_ok() && come_to(&events, "OBE", "Whole"));
+    assert!(rt; reads_by(rt.alloc(), &layout, &mut source, 9, "OBE", "Whole"));
+}
+
+/// Pushes an event and takes it out again. Returns whether the list had it in between.
+fn holds_an_event(events: &mut EventList) -> bool {
+    if events.push(Event::default()).is_err() || events.len() != 1 {
+        return false;
+    }
+    let front = letter_or_blank(events.next().as_ref());
+    front == b'E' && events.len() == 0
 }
 
 #[test]
 fn a_list_of_events(rt: HostRuntime) {
     let mut events = EventList::new(rt.alloc());
-    let pushed = events.push(Event::default()).is_ok();
-    assert!(rt; pushed && events.len() == 1);
-    let front = events.next();
-    assert!(rt; front.is_some_and(|event| event.part.is_ended()) && events.len() == 0);
+    assert!(rt; holds_an_event(&mut events));
 }
 
 /// If memory is refused no events are given, else these.

@@ -6,16 +6,19 @@
 //! 2. `pipeline/gather`: opens a relay for each file and starts a thread for it.
 //! 3. `pipeline/threads`: each thread reads its file, and `pipeline/feed_sink` sends its events into the relay.
 //! 4. `pipeline/collector`: takes the events of all relays, in rounds a message of each that has one,
-//!    books them, and closes the books. `pipeline/seed`: the seed of the hashes in the books.
+//!    books them, and closes the books. `pipeline/patience`: how long it looks for messages before it
+//!    waits. `pipeline/seed`: the seed of the hashes in the books.
 //! 5. `pipeline/gather` again: joins the threads, and returns the readers and the closed books. `intake`
 //!    makes their report; the statement of a run is put from lines that borrow their texts from them.
 //! 6. `statements/room`: allocates all memory that writing the statement needs, before its first byte is written.
 //! 7. `statements/write`: puts the statement, by `statements/lines`, `statements/cells`, `statements/key` and
 //!    `statements/names`, into a `Put` (`statements/put`): first into `statements/bound`, which
-//!    computes an upper bound of its bytes, then into `statements/pieces`. `statements/status`:
+//!    computes an upper bound of its bytes (that of the ledger's lines by `statements/ledger_bytes`), then into
+//!    `statements/pieces`. `statements/ledger_put` puts the lines of the ledger as they are given. `statements/status`:
 //!    whether it has remarks.
-//! 8. `statements/pieces`: writes what is put to an `outlet`, in pieces of up to 64 KiB, and flushes it at the end.
-//!    `to_write` makes an outlet of a `std::io::Write`.
+//! 8. `statements/pieces`: writes what is put to an `outlet`, in pieces of up to 64 KiB, and flushes it at the end. What
+//!    waits is in a `statements/slice_buffer`, into which `statements/copying` copies each cell. `to_write` makes an outlet
+//!    of a `std::io::Write`.
 //! 9. `pipeline/run`: all stages together.
 //!
 //! **Example**, compiled and proved in `crates/dsr_tests/src/runs.rt`. `Script` is a reader that gives a text, `Page`

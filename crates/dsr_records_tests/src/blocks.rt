@@ -24,15 +24,24 @@ fn usage(alloc: Global, line: &str) -> Option<Usage> {
     }
 }
 
+/// A block of a resource alone.
+fn opened(alloc: Global) -> Option<Block> {
+    Block::open(alloc, resource(alloc, "AS01\tB1\tGBABC2400001")?).ok()
+}
+
+/// Pushes the work and the usage of two lines, if there is room.
+fn push_both(alloc: Global, block: &mut Block) -> Option<()> {
+    if block.len() > 62 {
+        return None;
+    }
+    block.push_work(work(alloc, "MW01\tB1")?).ok()?;
+    block.push_usage(usage(alloc, "SU01\tB1\tS1\t1\t1")?).ok()
+}
+
 /// A block of a resource, a work and a usage.
 fn block(alloc: Global) -> Option<Block> {
-    let mut block = Block::open(alloc, resource(alloc, "AS01\tB1\tGBABC2400001")?).ok()?;
-    let Ok(()) = block.push_work(work(alloc, "MW01\tB1")?) else {
-        return None;
-    };
-    let Ok(()) = block.push_usage(usage(alloc, "SU01\tB1\tS1\t1\t1")?) else {
-        return None;
-    };
+    let mut block = opened(alloc)?;
+    push_both(alloc, &mut block)?;
     Some(block)
 }
 
@@ -64,11 +73,6 @@ fn append_all(alloc: Global, block: &mut Block, lines: &[&str]) -> Option<()> {
         append(alloc, block, line)?;
     }
     Some(())
-}
-
-/// A block of a resource alone.
-fn opened(alloc: Global) -> Option<Block> {
-    Block::open(alloc, resource(alloc, "AS01\tB1\tGBABC2400001")?).ok()
 }
 
 /// A block to which the works and the usages of lines are appended.
