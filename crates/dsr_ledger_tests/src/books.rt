@@ -160,11 +160,8 @@ fn is_answered(books: &mut Books, events: &mut EventList, want: Verdict) -> Resu
     }
 }
 
-#[test]
-fn verdicts_are_answered_block_by_block(rt: HostRuntime) -> Result<(), Fail> {
-    let text = rejects(rt.alloc())?;
-    let mut books = new_books(rt.alloc(), 1)?;
-    let (_, mut events) = open(rt.alloc(), &mut books, text.as_str())?;
+/// Whether the next six events are blocks with their verdicts, and all six are counted.
+fn are_answered(books: &mut Books, events: &mut EventList) -> Result<bool, Fail> {
     for want in [
         Verdict::Booked,
         Verdict::Rejected(Reason::DoubledBlock),
@@ -173,9 +170,19 @@ fn verdicts_are_answered_block_by_block(rt: HostRuntime) -> Result<(), Fail> {
         Verdict::Rejected(Reason::UnknownSummary),
         Verdict::Rejected(Reason::ShareOver),
     ] {
-        assert!(rt; is_answered(&mut books, &mut events, want)?);
+        if !is_answered(books, events, want)? {
+            return Ok(false);
+        }
     }
-    assert_eq!(rt; books.blocks(0), 6);
+    Ok(books.blocks(0) == 6)
+}
+
+#[test]
+fn verdicts_are_answered_block_by_block(rt: HostRuntime) -> Result<(), Fail> {
+    let text = rejects(rt.alloc())?;
+    let mut books = new_books(rt.alloc(), 1)?;
+    let (_, mut events) = open(rt.alloc(), &mut books, text.as_str())?;
+    assert!(rt; are_answered(&mut books, &mut events)?);
     Ok(())
 }
 
@@ -217,6 +224,7 @@ fn a_file_without_an_opening_is_headless(rt: HostRuntime) -> Result<(), Fail> {
 fn the_file_after_a_headless_one_is_ours(rt: HostRuntime) -> Result<(), Fail> {
     let (mut books, _) = books_with_a_headless_file(rt.alloc())?;
     let (standing, _) = open(rt.alloc(), &mut books, two_blocks())?;
-    assert!(rt; standing == Standing::Ours && books.has_opening(1));
+    let has_opening = books.has_opening(1);
+    assert!(rt; has_opening && standing == Standing::Ours);
     Ok(())
 }

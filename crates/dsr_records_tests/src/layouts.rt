@@ -123,9 +123,9 @@ fn the_standard_layout_is_the_one_that_its_text_spells(rt: HostRuntime) {
 const MOVED: &str =
     "HEAD\tHEAD\t1\t2\t3\t4\t5\t6\t7\nSY\tSY01\t1\t2\t3\t4\t5\t6\nAS\tAS01.01\t1\t3\t2\t-\nMW\tMW01\t1\t2\t3\t4\t5\nSU\tSU01\t1\t2\t3\t4\nFOOT\tFOOT\t1\t2\t3\nSKIP\tRE01\r\n#x\n\n";
 
-/// Whether a layout reads a line as the resource with this title, this ISRC and no artists.
-fn is_moved(alloc: Global, layout: &Layout, line: &str) -> bool {
-    match record_in(alloc, layout, line) {
+/// Whether this is the resource with this title, this ISRC and no artists.
+fn is_moved(record: &Option<Record>) -> bool {
+    match record {
         Some(Record::Resource(resource)) => {
             resource.isrc.as_str() == "GBABC2400001"
                 && is_text(&resource.titles, 0, "Song")
@@ -142,5 +142,6 @@ fn a_layout_moves_columns_and_skips_types(rt: HostRuntime) {
     };
     assert!(rt; kind_in(&layout, "RE01\tx") == Ok(Kind::Skipped));
     assert!(rt; kind_in(&layout, "AS01\t1") == Err(RecordFault::Unknown));
-    assert!(rt; is_moved(rt.alloc(), &layout, "AS01.01\t1\tSong\tGBABC2400001\tBand"));
+    let record = record_in(rt.alloc(), &layout, "AS01.01\t1\tSong\tGBABC2400001\tBand");
+    assert!(rt; is_moved(&record));
 }
