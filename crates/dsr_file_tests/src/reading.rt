@@ -189,8 +189,8 @@ fn reads_to_end(answer: &Result<Outcome, ReadFileError>, bytes: &[u8]) -> Option
     }
 }
 
-/// Whether so many reads are those that it should be; true also if an event was refused.
-fn are_right(reads: usize, wanted: Option<usize>) -> bool {
+/// Whether the number of reads is the wanted one; true also if none is wanted, since an event was refused.
+fn is_number_right(reads: usize, wanted: Option<usize>) -> bool {
     match wanted {
         Some(wanted) => reads == wanted,
         None => true,
@@ -202,7 +202,7 @@ fn is_read_no_further(alloc: Global, bytes: &[u8]) -> bool {
     let mut events = EventList::new(alloc);
     let mut source = in_pieces(bytes, 1, false);
     let answer = read_file(alloc, &Layout::standard(), &mut source, &mut events, 1000);
-    are_right(source.reads as usize, reads_to_end(&answer, bytes))
+    is_number_right(source.reads as usize, reads_to_end(&answer, bytes))
 }
 
 /// A source that gives one byte a read is read up to its end, or up to the line at which memory is refused.
