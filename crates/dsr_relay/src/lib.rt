@@ -7,7 +7,8 @@
 //! 3. The [`Tap`] takes the events one by one, or those of a message at once; if there is none, it waits (`tap`).
 //! 4. A batch whose events are no longer needed is given back ([`Tap::give_back`]). The feed writes later events over
 //!    it. A block is exchanged for an old one ([`Feed::send_block`]), so that it is not moved and the reader reuses the
-//!    memory of the old one.
+//!    memory of the old one. A feed may start slowly ([`Feed::start_slowly`]): it uses half of the memory at first, so that
+//!    its thread does not run far ahead of the tap's (`pace`).
 //! 5. [`Tap::take_in`] joins the two ends and returns what was taken and what is left ([`Settled`], in `settled`).
 //!
 //! **Example**, compiled and proved in `crates/dsr_relay_tests/src/example.rt`:
@@ -29,7 +30,7 @@
 //! taken, followed by what is left, is what was sent. It rests on a rule (`rule`), which the channel keeps at each of
 //! its two kinds of step, sending a message and receiving one: the messages that the tap received, followed by those in
 //! the channel, are those that the feed sent. No clause says that a thread runs, or that a call which waits returns.
-//! [`laws`] has the laws of the relays of all files together.
+//! [`laws`] has the laws of the relays of all files together, and that of the memory of one relay.
 //!
 //! **Where to begin.** `specs/Views.antt` has the ends as contracts see them, and `specs/Rule.antt` the rule; then read
 //! `feed`, `tap` and `open`.
@@ -42,6 +43,7 @@ pub mod laws;
 mod memory;
 mod name;
 mod open;
+mod pace;
 mod rule;
 mod settled;
 mod tap;

@@ -2,13 +2,17 @@
 //! longer needed. All of it is allocated when a relay is made: for the batches in the channel, the one being filled
 //! and the one being emptied. So a send allocates nothing, and the feed's thread frees the events of returned batches.
 //! After Ended it also frees the memory that it has left, so that the one thread of all taps need not.
-ghost use Rattle.std.specs.Prelude.{◌≡◌, [], ◌≤◌};
+ghost use Rattle.std.specs.Prelude.{◌≡◌, [], ◌<◌, ◌≤◌, ◌*◌, length, IfOk};
 
 use crate::batch::Batch;
+use crate::pace::Pace;
 use crossbeam_channel::{Receiver, Sender, bounded};
 use dsr_cells::NoMemory;
 use std::alloc::Global;
 use std::sync::Wait;
+
+/// At most this many batches are given back together.
+const MOST_TOGETHER: usize = 4;
 
 /// The end of the pool that takes memory, to fill it.
 #[derive(Drop)]
@@ -17,6 +21,7 @@ pub(crate) struct Supply {
     /// The memory that was never filled.
     unused: Vec<Batch>,
     receiver: Receiver<Batch>,
+    pace: Pace,
 }
 
 /// The end of the pool that gives memory back, several batches at a time: if each were given back alone, a feed that
@@ -27,13 +32,15 @@ pub(crate) struct Returns {
     sender: Sender<Batch>,
     /// Batches that are not given back yet.
     kept: Vec<Batch>,
-    /// This many are given back together, 1 to half the capacity of the channel. So the feed always has memory for at
-    /// least half of the channel, and never waits for memory while the tap waits for a message.
+    /// This many are given back together: 1 to 4, and at most as many as a feed that starts slowly uses at first. So the
+    /// feed never waits for memory while the tap waits for a message (`laws::never_lacks_memory`).
     together: usize,
 }
 
 /// Memory for this many batches.
-fn rooms(alloc: Global, batches: usize) -> Result<Vec<Batch>, NoMemory> {
+fn rooms(alloc: Global, batches: usize) -> Result<Vec<Batch>, NoMemory>
+    ensures { IfOk result (λ rooms. length rooms.items ≡ batches) }
+{
     let mut rooms = Vec::with_capacity(alloc, batches)?;
     for _ in 0..batches {
         rooms.push(Batch::with_room(alloc)?)?;
@@ -49,6 +56,9 @@ fn rooms(alloc: Global, batches: usize) -> Result<Vec<Batch>, NoMemory> {
 /// `NoMemory`: out of memory.
 pub(crate) fn memory(alloc: Global, capacity: u32) -> Result<(Supply, Returns), NoMemory>
     requires { capacity ≤ 1024 }
+    ensures unlimited { IfOk result (λ r. length r.0.unused.items ≤ r.0.pace.more) }
+    ensures together { IfOk result (λ r. (0 < r.1.together)
+        × (2 * r.1.together ≤ length r.0.unused.items)) }
 {
     let batches = capacity as usize + 2;
     let unused = rooms(alloc, batches)?;
@@ -57,8 +67,9 @@ pub(crate) fn memory(alloc: Global, capacity: u32) -> Result<(Supply, Returns), 
         alloc,
         unused,
         receiver,
+        pace: Pace::unlimited(),
     };
-    let together = (capacity as usize / 2).max(1);
+    let together = (capacity as usize / 4).min(MOST_TOGETHER).max(1);
     let returns = Returns {
         alloc,
         sender,
@@ -69,13 +80,31 @@ pub(crate) fn memory(alloc: Global, capacity: u32) -> Result<(Supply, Returns), 
 }
 
 impl Supply {
+    /// Uses half of the memory at first, and one batch more for each 32 that are filled.
+    pub(crate) fn start_slowly(&mut self)
+        ensures unused { self.new.unused ≡ self.old.unused }
+        ensures half { length self.old.unused.items ≤ 2 * self.new.pace.more }
+    {
+        let all = self.unused.len();
+        self.pace = Pace::of(all - all / 2);
+    }
+
+    /// Memory that was never filled, if more may be used.
+    fn take_unused(&mut self) -> Option<Batch> {
+        if self.pace.use_more() {
+            self.unused.pop()
+        } else {
+            None
+        }
+    }
+
     /// Memory to be filled: that of a batch that came back, or memory that was never filled. If there is none, the call
     /// waits until a batch comes back; if the tap is gone, it returns a batch without memory.
     fn find<R: Wait>(&mut self, rt: &R) -> Batch {
         if let Ok(used) = self.receiver.try_recv(rt) {
             return used;
         }
-        if let Some(unused) = self.unused.pop() {
+        if let Some(unused) = self.take_unused() {
             return unused;
         }
         match self.receiver.recv(rt) {
@@ -89,6 +118,7 @@ impl Supply {
         ensures { result ≡ [] }
     {
         let mut batch = self.find(rt);
+        self.pace.note_filled();
         batch.restart(self.alloc);
         batch
     }

@@ -106,6 +106,19 @@ pub fn ended() -> EventPart
     EventPart::Ended(Outcome::Whole)
 }
 
+/// What an event of a file of blocks is.
+#[derive(Clone, Copy, PartialEq, Eq)]
+pub enum Seen {
+    /// The opening, which has place 0.
+    Opening,
+    /// The block that `block` makes for its place.
+    Block,
+    /// The end of a whole file.
+    End,
+    /// Anything else.
+    Other,
+}
+
 /// Whether the event is the opening.
 pub fn is_opened(event: &Event) -> bool {
     event.place == 0 && matches!(&event.part, EventPart::Opened(_))
@@ -132,6 +145,19 @@ pub fn is_block(event: &Event, n: u64) -> bool {
 /// Whether the event is the end of a whole file, at this place.
 pub fn is_end(event: &Event, place: u64) -> bool {
     event.place == place && matches!(&event.part, EventPart::Ended(Outcome::Whole))
+}
+
+/// What the event is.
+pub fn as_seen(event: &Event) -> Seen {
+    if is_opened(event) {
+        Seen::Opening
+    } else if is_block(event, event.place) {
+        Seen::Block
+    } else if is_end(event, event.place) {
+        Seen::End
+    } else {
+        Seen::Other
+    }
 }
 
 /// Whether these are the events of a file of blocks from a place on.

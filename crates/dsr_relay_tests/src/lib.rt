@@ -3,7 +3,7 @@
 //! 1. `example`: the one that the lib.rt of dsr_relay shows.
 //! 2. `events` makes the events that go through a relay, `sending` sends them, and `taking` takes them.
 //! 3. `batches`, `ends` and `reuse`: batches, the two ends, and blocks that are written over old ones.
-//! 4. `memory`: refused allocations. `threads`: a file that goes from one thread to another.
+//! 4. `memory`: refused allocations. `threads` and `slow_start`: a file that goes from one thread to another.
 //!
 //! They are a separate crate, since a crate with tests is proved a second time with them.
 #![tactic(auto)]
@@ -22,6 +22,8 @@ mod memory;
 mod reuse;
 #[cfg(test)]
 mod sending;
+#[cfg(test)]
+mod slow_start;
 #[cfg(test)]
 mod taking;
 #[cfg(test)]

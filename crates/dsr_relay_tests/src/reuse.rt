@@ -1,5 +1,5 @@
 //! Blocks that are exchanged for stale ones of a batch that came back.
-ghost use Rattle.std.specs.Prelude.{◌≡◌, ◌+◌, ◌<◌, ◌≤◌, false, length};
+ghost use Rattle.std.specs.Prelude.{◌≡◌, ◌+◌, ◌<◌, ◌≤◌, [], false, length};
 ghost use Rattle.dsr_events.specs.Orderly.{has_ended};
 
 use crate::events::{are_right, block};
@@ -44,26 +44,31 @@ fn takes_blocks<R: Wait>(rt: &R, tap: &mut Tap, place: u64) -> bool
     right
 }
 
-/// A block is exchanged for an empty one in the first round of a batch and for a stale one after that, but not for the
-/// opening.
+/// Sends a batch of an opening and three blocks, and then one of five blocks. A block is exchanged for an empty one in the
+/// first round of a batch and for a stale one after that, but not for the opening. Returns whether all of that is so.
+fn blocks_are_exchanged<R: Wait>(rt: &R, alloc: Global, feed: &mut Feed, tap: &mut Tap) -> bool
+    requires { (feed.old.sent ≡ []) × (tap.old.taken ≡ []) }
+{
+    send_blocks(rt, alloc, feed, 1)
+        && exchanged(rt, alloc, feed) == Some(0)
+        && exchanged(rt, alloc, feed) == Some(0)
+        && flushes(rt, feed)
+        && takes_batch(rt, tap) == Some(4)
+        && exchanged(rt, alloc, feed).is_none()
+        && send_block(rt, alloc, feed)
+        && exchanged(rt, alloc, feed) == Some(1)
+        && exchanged(rt, alloc, feed) == Some(2)
+        && exchanged(rt, alloc, feed) == Some(3)
+        && exchanged(rt, alloc, feed) == Some(0)
+        && flushes(rt, feed)
+        && !tap.ended()
+        && takes_blocks(rt, tap, 4)
+}
+
 #[test]
 fn a_block_is_sent_for_a_stale_one(rt: HostRuntime) -> Result<(), Fail> {
-    let alloc: Global = rt.alloc();
-    let (mut feed, mut tap) = relay(alloc, 1)?;
-    assert!(rt; send_blocks(&rt, alloc, &mut feed, 1));
-    assert_eq!(rt; exchanged(&rt, alloc, &mut feed), Some(0));
-    assert_eq!(rt; exchanged(&rt, alloc, &mut feed), Some(0));
-    assert!(rt; flushes(&rt, &mut feed));
-    assert_eq!(rt; takes_batch(&rt, &mut tap), Some(4));
-    assert!(rt; exchanged(&rt, alloc, &mut feed).is_none());
-    assert!(rt; send_block(&rt, alloc, &mut feed));
-    assert_eq!(rt; exchanged(&rt, alloc, &mut feed), Some(1));
-    assert_eq!(rt; exchanged(&rt, alloc, &mut feed), Some(2));
-    assert_eq!(rt; exchanged(&rt, alloc, &mut feed), Some(3));
-    assert_eq!(rt; exchanged(&rt, alloc, &mut feed), Some(0));
-    assert!(rt; flushes(&rt, &mut feed));
-    assert!(rt; !tap.ended());
-    assert!(rt; takes_blocks(&rt, &mut tap, 4));
+    let (mut feed, mut tap) = relay(rt.alloc(), 1)?;
+    assert!(rt; blocks_are_exchanged(&rt, rt.alloc(), &mut feed, &mut tap));
     Ok(())
 }
 

@@ -2,19 +2,27 @@
 ghost use Rattle.std.specs.Prelude.{◌≡◌, false};
 ghost use Rattle.dsr_events.specs.Orderly.{has_ended};
 
-use crate::events::{are_right, is_block, is_end, is_opened};
+use crate::events::{Seen, are_right, as_seen};
 use dsr_relay::Tap;
 use std::sync::Wait;
+
+/// Takes one event, and returns its place and what it is, or None if the feed is gone.
+fn take_one<R: Wait>(rt: &R, tap: &mut Tap) -> Option<(u64, Seen)>
+    requires { has_ended tap.old.taken ≡ false }
+    ensures { tap.new.name ≡ tap.old.name }
+{
+    match tap.take(rt) {
+        Ok(event) => Some((event.place, as_seen(&event))),
+        Err(_) => None,
+    }
+}
 
 /// Takes one event, and returns whether it is the opening.
 pub fn takes_opened<R: Wait>(rt: &R, tap: &mut Tap) -> bool
     requires { has_ended tap.old.taken ≡ false }
     ensures { tap.new.name ≡ tap.old.name }
 {
-    let Ok(event) = tap.take(rt) else {
-        return false;
-    };
-    is_opened(&event)
+    take_one(rt, tap) == Some((0, Seen::Opening))
 }
 
 /// Takes one event, and returns whether it is the end, at this place.
@@ -22,20 +30,15 @@ pub fn takes_end<R: Wait>(rt: &R, tap: &mut Tap, place: u64) -> bool
     requires { has_ended tap.old.taken ≡ false }
     ensures { tap.new.name ≡ tap.old.name }
 {
-    let Ok(event) = tap.take(rt) else {
-        return false;
-    };
-    is_end(&event, place)
+    take_one(rt, tap) == Some((place, Seen::End))
 }
 
 /// Takes one event, and returns its place, or None if the feed is gone.
 pub fn takes_place<R: Wait>(rt: &R, tap: &mut Tap) -> Option<u64>
     requires { has_ended tap.old.taken ≡ false }
 {
-    let Ok(event) = tap.take(rt) else {
-        return None;
-    };
-    Some(event.place)
+    let (place, _) = take_one(rt, tap)?;
+    Some(place)
 }
 
 /// Takes a batch and gives it back, and returns the number of its events, or None if the feed is gone.
@@ -70,11 +73,9 @@ pub fn take_file<R: Wait>(rt: &R, tap: &mut Tap) -> u64
         if tap.ended() {
             return place;
         }
-        let Ok(event) = tap.take(rt) else {
-            return place;
-        };
-        if !(is_opened(&event) || is_block(&event, place) || is_end(&event, place)) {
-            return place;
+        match take_one(rt, tap) {
+            Some((at, what)) if at == place && what != Seen::Other => {}
+            _ => return place,
         }
     }
     u64::MAX

@@ -1,0 +1,84 @@
+//! Feeds that start slowly.
+ghost use Rattle.std.specs.Prelude.{◌≡◌, [], IfOk};
+
+use crate::sending::{relay, send_blocks, send_file};
+use crate::taking::{take_batches, take_file, takes_opened};
+use dsr_relay::{Feed, Tap};
+use std::alloc::Global;
+use std::sync::Wait;
+use std::test::Fail;
+use std::thread::Threads;
+use std::{mem, thread};
+
+/// A new relay, whose feed starts slowly.
+fn slow_relay(alloc: Global, capacity: u32) -> Result<(Feed, Tap), Fail>
+    ensures { IfOk result (λ r. (r.0.sent ≡ []) × (r.1.taken ≡ [])) }
+{
+    let (mut feed, tap) = relay(alloc, capacity)?;
+    feed.start_slowly();
+    Ok((feed, tap))
+}
+
+/// Sends a file of 3,000 blocks through such a relay, and returns how many of its events were right when they were taken by
+/// batches.
+fn by_batches<H: Threads + Wait + Copy + Send + 'static>(
+    rt: &H,
+    alloc: Global,
+    capacity: u32,
+) -> Result<u64, Fail> {
+    let own_rt = *rt;
+    let (feed, mut tap) = slow_relay(alloc, capacity)?;
+    let sender = thread::spawn(rt, move || send_file(&own_rt, alloc, feed, 3000))?;
+    let right = take_batches(rt, &mut tap);
+    let _feed = sender.join(rt);
+    Ok(right)
+}
+
+/// The same, one event at a time.
+fn one_by_one<H: Threads + Wait + Copy + Send + 'static>(
+    rt: &H,
+    alloc: Global,
+    capacity: u32,
+) -> Result<u64, Fail> {
+    let own_rt = *rt;
+    let (feed, mut tap) = slow_relay(alloc, capacity)?;
+    let sender = thread::spawn(rt, move || send_file(&own_rt, alloc, feed, 3000))?;
+    let right = take_file(rt, &mut tap);
+    let _feed = sender.join(rt);
+    Ok(right)
+}
+
+#[test]
+fn a_slow_start_loses_no_batch(rt: HostRuntime) -> Result<(), Fail> {
+    for capacity in [1, 2, 3, 7, 8, 16, 17, 40] {
+        assert_eq!(rt; by_batches(&rt, rt.alloc(), capacity)?, 3002);
+    }
+    Ok(())
+}
+
+#[test]
+fn a_slow_start_loses_no_event(rt: HostRuntime) -> Result<(), Fail> {
+    for capacity in [1, 2, 3, 7, 8, 16, 17, 40] {
+        assert_eq!(rt; one_by_one(&rt, rt.alloc(), capacity)?, 3002);
+    }
+    Ok(())
+}
+
+/// Sends blocks, and returns whether all were taken.
+fn sends_blocks<R: Wait>(rt: &R, alloc: Global, mut feed: Feed) -> bool
+    requires { feed.sent ≡ [] }
+{
+    send_blocks(rt, alloc, &mut feed, 3000)
+}
+
+/// The first event is taken and nothing is given back, so the feed waits for memory until the tap is dropped.
+#[test]
+fn a_feed_that_waits_for_memory_ends_with_its_tap(rt: HostRuntime) -> Result<(), Fail> {
+    let alloc: Global = rt.alloc();
+    let (feed, mut tap) = slow_relay(alloc, 16)?;
+    let sender = thread::spawn(&rt, move || sends_blocks(&rt, alloc, feed))?;
+    assert!(rt; takes_opened(&rt, &mut tap));
+    mem::drop(tap);
+    assert!(rt; !sender.join(&rt));
+    Ok(())
+}
