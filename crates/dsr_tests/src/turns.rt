@@ -5,8 +5,11 @@ use crate::script::{After, Script, Step, Wait};
 use crate::texts::{FIRST_OF_TWO, HUNDRED_AND_ONE_STATEMENT, SECOND_OF_TWO, TWO_STATEMENT};
 use dsr_intake::Status;
 use std::alloc::{AllocError, Global};
+use std::random::RandomSource;
+use std::sync;
 use std::sync::Arc;
 use std::sync::atomic::AtomicU64;
+use std::thread::Threads;
 
 /// Each reader's first read waits until the other's has begun.
 #[test]
@@ -60,19 +63,21 @@ pub fn hundred_blocks(alloc: Global) -> Result<Vec<u8>, AllocError> {
     Ok(text)
 }
 
-/// Until the first reader gives its end, nothing is taken of the second file. A relay of one message then holds a message,
-/// and a second one waits to be sent: two messages of 32 events, whose last event comes with line 129. So the second reader
-/// begins no 130th read, unless its events go another way.
-#[test]
-fn a_full_relay_holds_its_reader_back(rt: HostRuntime) -> Result<(), AllocError> {
-    let alloc = rt.alloc();
+/// Runs on two files. Until the first reader gives its end, nothing is taken of the second file, of a hundred blocks, which
+/// comes line by line. Returns whether its reader begins fewer than `reads` reads until then, and the statement is right.
+fn holds_back<H: Threads + sync::Wait + RandomSource + Copy + Send + 'static>(
+    rt: &H,
+    alloc: Global,
+    capacity: u32,
+    reads: u64,
+) -> Result<bool, AllocError> {
     let a = Arc::new(alloc, AtomicU64::new(0))?;
     let b = Arc::new(alloc, AtomicU64::new(0))?;
     let first = Script::new(
         Vec::from_slice(alloc, FIRST_OF_TWO)?,
         Step::Line,
         After::End,
-        Wait::Unless(130),
+        Wait::Unless(reads),
         Arc::try_clone(&a)?,
         Arc::try_clone(&b)?,
     );
@@ -85,15 +90,23 @@ fn a_full_relay_holds_its_reader_back(rt: HostRuntime) -> Result<(), AllocError>
         a,
     );
     let readers = vec![in alloc; first, second]?;
-    assert!(rt;
-        gives(
-            &rt,
-            alloc,
-            readers,
-            options(1, 1000),
-            Status::Clean,
-            HUNDRED_AND_ONE_STATEMENT
-        )
-    );
+    let options = options(capacity, 1000);
+    let statement = HUNDRED_AND_ONE_STATEMENT;
+    Ok(gives(rt, alloc, readers, options, Status::Clean, statement))
+}
+
+/// A relay of one message holds a message, and a second one waits to be sent: two messages of 32 events, whose last event
+/// comes with line 129. So the second reader begins no 130th read, unless its events go another way.
+#[test]
+fn a_full_relay_holds_its_reader_back(rt: HostRuntime) -> Result<(), AllocError> {
+    assert!(rt; holds_back(&rt, rt.alloc(), 1, 130)?);
+    Ok(())
+}
+
+/// A relay of four messages has memory for six, of which its reader uses three at first. The event after these, block 96,
+/// comes with line 195, and waits for memory. So the second reader begins no 196th read, unless it uses more at first.
+#[test]
+fn a_slow_start_holds_its_reader_back(rt: HostRuntime) -> Result<(), AllocError> {
+    assert!(rt; holds_back(&rt, rt.alloc(), 4, 196)?);
     Ok(())
 }
