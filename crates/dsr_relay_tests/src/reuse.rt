@@ -6,14 +6,15 @@ use crate::events::{are_right, block};
 use crate::sending::{flushes, relay, send_block, send_blocks};
 use crate::taking::takes_batch;
 use dsr_file::EventPart;
+use dsr_records::Block;
 use dsr_relay::{Feed, Tap};
 use std::alloc::Global;
 use std::sync::Wait;
 use std::test::Fail;
 
-/// Sends the block of the next place if the feed has an old one for it. Returns the number of the old one, 0 if that is
-/// empty.
-fn exchanged<R: Wait>(rt: &R, alloc: Global, feed: &mut Feed) -> Option<u64>
+/// Sends a block as that of the next place if the feed has an old one for it. Returns the number of the old one, 0 if that
+/// is empty.
+fn exchanged_for<R: Wait>(rt: &R, feed: &mut Feed, block: &mut Block) -> Option<u64>
     requires going { has_ended feed.old.sent ≡ false }
     requires few { (0 < length feed.old.sent) × (length feed.old.sent < 100000) }
     ensures name { feed.new.name ≡ feed.old.name }
@@ -22,13 +23,25 @@ fn exchanged<R: Wait>(rt: &R, alloc: Global, feed: &mut Feed) -> Option<u64>
     ensures some { 0 < length feed.new.sent }
 {
     let place = feed.sent_count();
-    let EventPart::Block(mut block) = block(alloc, place)? else {
-        return None;
-    };
-    if !feed.send_block(rt, place, &mut block) {
+    if !feed.send_block(rt, place, block) {
         return None;
     }
     Some(block.id.as_str().parse::<u64>().unwrap_or(0))
+}
+
+/// The same with the block that `block` makes for that place.
+fn exchanged<R: Wait>(rt: &R, alloc: Global, feed: &mut Feed) -> Option<u64>
+    requires going { has_ended feed.old.sent ≡ false }
+    requires few { (0 < length feed.old.sent) × (length feed.old.sent < 100000) }
+    ensures name { feed.new.name ≡ feed.old.name }
+    ensures going { has_ended feed.new.sent ≡ false }
+    ensures few { length feed.new.sent ≤ length feed.old.sent + 1 }
+    ensures some { 0 < length feed.new.sent }
+{
+    let EventPart::Block(mut block) = block(alloc, feed.sent_count())? else {
+        return None;
+    };
+    exchanged_for(rt, feed, &mut block)
 }
 
 /// Takes a batch of five blocks from this place on, and returns whether all were right.

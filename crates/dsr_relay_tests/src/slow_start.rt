@@ -19,47 +19,31 @@ fn slow_relay(alloc: Global, capacity: u32) -> Result<(Feed, Tap), Fail>
     Ok((feed, tap))
 }
 
-/// Sends a file of 3,000 blocks through such a relay, and returns how many of its events were right when they were taken by
-/// batches.
-fn by_batches<H: Threads + Wait + Copy + Send + 'static>(
+/// Sends a file of 3,000 blocks through such a relay. Returns how many of its events were right when they were taken, by
+/// batches or one by one.
+fn right_events<H: Threads + Wait + Copy + Send + 'static>(
     rt: &H,
     alloc: Global,
     capacity: u32,
+    by_batches: bool,
 ) -> Result<u64, Fail> {
     let own_rt = *rt;
     let (feed, mut tap) = slow_relay(alloc, capacity)?;
     let sender = thread::spawn(rt, move || send_file(&own_rt, alloc, feed, 3000))?;
-    let right = take_batches(rt, &mut tap);
-    let _feed = sender.join(rt);
-    Ok(right)
-}
-
-/// The same, one event at a time.
-fn one_by_one<H: Threads + Wait + Copy + Send + 'static>(
-    rt: &H,
-    alloc: Global,
-    capacity: u32,
-) -> Result<u64, Fail> {
-    let own_rt = *rt;
-    let (feed, mut tap) = slow_relay(alloc, capacity)?;
-    let sender = thread::spawn(rt, move || send_file(&own_rt, alloc, feed, 3000))?;
-    let right = take_file(rt, &mut tap);
+    let right = if by_batches {
+        take_batches(rt, &mut tap)
+    } else {
+        take_file(rt, &mut tap)
+    };
     let _feed = sender.join(rt);
     Ok(right)
 }
 
 #[test]
-fn a_slow_start_loses_no_batch(rt: HostRuntime) -> Result<(), Fail> {
+fn a_slow_start_loses_nothing(rt: HostRuntime) -> Result<(), Fail> {
     for capacity in [1, 2, 3, 7, 8, 16, 17, 40] {
-        assert_eq!(rt; by_batches(&rt, rt.alloc(), capacity)?, 3002);
-    }
-    Ok(())
-}
-
-#[test]
-fn a_slow_start_loses_no_event(rt: HostRuntime) -> Result<(), Fail> {
-    for capacity in [1, 2, 3, 7, 8, 16, 17, 40] {
-        assert_eq!(rt; one_by_one(&rt, rt.alloc(), capacity)?, 3002);
+        assert_eq!(rt; right_events(&rt, rt.alloc(), capacity, true)?, 3002);
+        assert_eq!(rt; right_events(&rt, rt.alloc(), capacity, false)?, 3002);
     }
     Ok(())
 }
