@@ -11,6 +11,9 @@ use dsr_records::{LayoutError, LayoutFault};
 use itoa::Buffer;
 use std::io::Write;
 
+/// The exit status of a run that failed.
+pub const UNFINISHED: u8 = 3;
+
 /// The exit status of a run.
 pub fn exit_status(outcome: &Result<Status, RunError>) -> u8
     ensures { result ≡ status_number outcome.now }
@@ -18,7 +21,7 @@ pub fn exit_status(outcome: &Result<Status, RunError>) -> u8
     match outcome {
         Ok(Status::Clean) => 0,
         Ok(Status::Remarks) => 1,
-        Err(_) => 3,
+        Err(_) => UNFINISHED,
     }
 }
 

@@ -5,7 +5,8 @@ ghost use Rattle.dsr_records.specs.Layouts.{standard_layout};
 use crate::arguments::asked;
 use crate::command::{Asked, CommandFault};
 use crate::faults::{
-    exit_status, write_bad_layout, write_cannot_open, write_cannot_read, write_fault, write_line,
+    UNFINISHED, exit_status, write_bad_layout, write_cannot_open, write_cannot_read, write_fault,
+    write_line,
 };
 use crate::inputs::{Input, Inputs, OpenError, open_inputs};
 use crate::layout_file::{LayoutReadError, read_layout};
@@ -27,9 +28,6 @@ use std::{env, fs, io};
 
 /// The status for a fault of the command line, of a file or of the layout.
 const REFUSED: u8 = 2;
-
-/// The status if the run could not be finished.
-const UNFINISHED: u8 = 3;
 
 /// Does what the program's arguments ask for, and returns the exit status. Errors are written to `fault`.
 pub fn serve<

@@ -13,7 +13,7 @@ const PAUSE: u64 = 500;
 /// A line of progress.
 #[derive(Clone, Copy)]
 pub struct ProgressLine {
-    /// The number of files that have ended, or whose reads failed.
+    /// The number of files that were read to their end, or whose reads failed.
     pub done: u64,
     /// The number of all files.
     pub files: usize,
@@ -49,7 +49,7 @@ impl fmt::Display for ProgressLine {
 struct Counts {
     /// The number of bytes read.
     read: AtomicU64,
-    /// The number of files that have ended, or whose reads failed.
+    /// The number of files that were read to their end, or whose reads failed.
     done: AtomicU64,
     /// The time of the last line, in milliseconds since the run began.
     told: AtomicU64,
@@ -106,7 +106,8 @@ impl<H: Clock + Eprint + Copy> Progress<H> {
         }
     }
 
-    /// Counts a read of `bytes` bytes, 0 at the end, and writes a line if the last one was half a second ago.
+    /// Counts a read of `bytes` bytes, 0 at the end or if the read failed, and writes a line if the last one was at least
+    /// half a second ago.
     pub fn count(&self, bytes: usize) {
         if bytes == 0 {
             self.counts.done.fetch_add(1, Ordering::SeqCst);

@@ -15,17 +15,14 @@ const MOST_BLOCKS: u64 = 1 << 37;
 /// The number of blocks that wait, so that the clock is read once for all of them.
 const WAITING: usize = 4096;
 
-/// The number of blocks in a message of a relay.
-const MESSAGE: usize = 32;
-
 /// What was measured.
 #[derive(Clone, Copy, Drop)]
 pub struct Figures {
-    /// The number of blocks that were booked.
+    /// The number of blocks that the books took, booked or rejected.
     pub blocks: u64,
     /// The number of lines of the ledger.
     pub lines: usize,
-    /// The nanoseconds of booking a block.
+    /// The mean nanoseconds that the books took for a block.
     pub block: u128,
     /// The nanoseconds of making the report.
     pub report: u128,
@@ -49,20 +46,11 @@ fn book(books: &mut Books, block: &Block) -> Result<bool, NoMemory> {
     Ok(true)
 }
 
-/// Books the blocks of a message, and returns how many the books took.
-fn book_message(books: &mut Books, blocks: &[Block]) -> Result<u64, NoMemory> {
-    let mut booked = 0u64;
-    for block in blocks {
-        booked = booked.wrapping_add(u64::from(book(books, block)?));
-    }
-    Ok(booked)
-}
-
 /// Books all blocks, and returns how many the books took.
 fn book_all(books: &mut Books, blocks: &[Block]) -> Result<u64, NoMemory> {
     let mut booked = 0u64;
-    for message in blocks.chunks(MESSAGE) {
-        booked = booked.wrapping_add(book_message(books, message)?);
+    for block in blocks {
+        booked = booked.wrapping_add(u64::from(book(books, block)?));
     }
     Ok(booked)
 }

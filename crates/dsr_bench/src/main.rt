@@ -24,7 +24,7 @@ fn wants_books<R: Env + AllocGlobal>(rt: &R) -> io::Result<bool> {
     Ok(words.next().is_some_and(|word| word.as_str() == "--books"))
 }
 
-/// Reads a report file and drops its events.
+/// Reads a report file, and prints the number of its events and bytes.
 fn measure_reader<R: AllocGlobal + Clock + Print, S: Read>(
     rt: &R,
     input: &mut S,

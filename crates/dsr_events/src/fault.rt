@@ -1,6 +1,7 @@
 //! The endings, outcomes and faults of a file.
 ghost use Rattle.std.specs.Prelude.{◌≡◌};
 ghost use Rattle.dsr_events.specs.Names.{name_of, column_named};
+ghost use Rattle.dsr_events.specs.Ends.{is_memory};
 
 use dsr_records::Column;
 
@@ -127,4 +128,16 @@ pub enum Outcome {
         /// The fault.
         fault: FileFault,
     },
+}
+
+impl Outcome {
+    /// Whether the file ended because memory was refused.
+    pub fn is_memory(self) -> bool
+        ensures { result ≡ is_memory self }
+    {
+        match self {
+            Outcome::Whole => false,
+            Outcome::Fault { line: _, fault } => matches!(fault, FileFault::Memory),
+        }
+    }
 }

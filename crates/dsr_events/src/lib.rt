@@ -22,7 +22,8 @@
 //! ```
 //!
 //! **The promise.** An opening has no two summaries with the same identifier, and an event's place is below 2^37. What
-//! an orderly list of events is stands in `specs/Orderly.antt`: event i has place i, and Ended is the last.
+//! an orderly list of events is stands in `specs/Orderly.antt`: event i has place i, Opened may only be the first, a
+//! block may not be the first, and only the last may be Ended.
 //!
 //! **Where to begin.** `specs/Orderly.antt` and `specs/Placed.antt`; then `src/event.rt`.
 #![tactic(auto)]

@@ -31,7 +31,7 @@ use Rattle.dsr_file.specs.Texts.{AllGood, first_from, counts_fault, taken, outco
 use Rattle.dsr_file.specs.Runs.{ended, known_events, HasEvents}
 use Rattle.dsr_file.specs.Grammars.{Keeps, LineSteps}
 use Rattle.dsr_file.specs.Stages.{column_at}
-use Rattle.dsr_file.specs.Standing.{Stands, StandsAt, SameText, AtEnd, FaultyGives}
+use Rattle.dsr_file.specs.Standing.{Stands, StandsAt, SameText, AtEnd, EndsAfter}
 use Rattle.dsr_file.proofs.StageLemmas.{column_kept}
 use Rattle.dsr_file.proofs.LineLemmas.{first_at}
 use Rattle.dsr_file.proofs.LawLemmas.{fault_is_final_lem}
@@ -112,7 +112,7 @@ module _ (layout : LayoutTable) (r : FileReader) (b : List ℕ) (es : List Place
       (steps (map (reading layout) a.whole) a.keeps))
 
   pub good_last : (new : FileReader) (o : Outcome) (e : Placed) → step ≡ Good → o ≡ outcome_at (column_at h.stage) endings.Whole (h.lines + 1)
-      → FaultyGives r.place closed o e new → SameText r new → new.place ≡ r.place + 1 → Stands layout new b (es ++ e ∷ [])
+      → EndsAfter r.place closed o e new → SameText r new → new.place ≡ r.place + 1 → Stands layout new b (es ++ e ∷ [])
   good_last new o e s os gives same p =
       let ls = map (reading layout) a.whole in
       let d = did Good s in
@@ -126,7 +126,7 @@ module _ (layout : LayoutTable) (r : FileReader) (b : List ℕ) (es : List Place
       (going_is _ _ _ (placed_more es (events_of (records ls)) (option_to_list closed) r.place a.events_are a.place_is) (sym d.2)) gives same p
 
   pub faulty_last : (new : FileReader) (f : FileFault) (e : Placed) → step ≡ Faulty f
-      → FaultyGives r.place closed (outcomes.Fault (r.grammar.lines + 1) f) e new → SameText r new → new.place ≡ r.place + 1
+      → EndsAfter r.place closed (outcomes.Fault (r.grammar.lines + 1) f) e new → SameText r new → new.place ≡ r.place + 1
       → Stands layout new b (es ++ e ∷ [])
   faulty_last new f e s gives same p =
       let ls = map (reading layout) a.whole in

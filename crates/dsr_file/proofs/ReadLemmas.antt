@@ -21,7 +21,8 @@ use Rattle.dsr_events.specs.Orderly.{has_ended}
 use Rattle.dsr_file.specs.Readings.{records}
 use Rattle.dsr_file.specs.Parts.{events_of, last_of}
 use Rattle.dsr_file.specs.Texts.{events_so_far, placed, readings, text_events, so_far}
-use Rattle.dsr_file.specs.Runs.{FileText, ended, by_memory, BeginsEvents, HasEvents, IsCutOff, EndsWith}
+use Rattle.dsr_events.specs.Ends.{is_memory}
+use Rattle.dsr_file.specs.Runs.{FileText, ended, BeginsEvents, HasEvents, IsCutOff, EndsWith}
 use Rattle.dsr_file.specs.ReadCounts.{Answered, AddsRead}
 use Rattle.dsr_file.specs.Sources.{Told, Gave, before_last, HasEarlier, Stopped, IsRead, IsRefused}
 use Rattle.dsr_file.specs.Standing.{Stands, StandsAt, IsDone}
@@ -327,7 +328,7 @@ fed_done layout r b piece es o ending f d =
     )
 
 abbrev part_by_memory : EventPart → Bool
-part_by_memory (Ended o) = by_memory o
+part_by_memory (Ended o) = is_memory o
 part_by_memory _ = false
 
 abbrev last_by_memory : Option Placed → Bool
@@ -336,7 +337,7 @@ last_by_memory (Some e) = part_by_memory e.part
 
 -- unless memory was refused, the events are all
 pub all_kept : (layout : LayoutTable) (b : List ℕ) (ending : Ending) (es : List Placed) (o : Outcome) (t : Bool)
-    → HasEvents layout b (Some ending) es × EndsWith es o → t ≡ by_memory o → t ≡ false → es ≡ text_events layout b ending
+    → HasEvents layout b (Some ending) es × EndsWith es o → t ≡ is_memory o → t ≡ false → es ≡ text_events layout b ending
 all_kept layout b ending es o t (inl h, ends) m f = h
 all_kept layout b ending es o t (inr c, (before, is)) m f =
     let front = placed 0 (events_of (records c.before)) in

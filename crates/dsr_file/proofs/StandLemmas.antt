@@ -36,7 +36,7 @@ use Rattle.dsr_file.specs.Texts.{AllGood, first_from, events_so_far, placed, rea
 use Rattle.dsr_file.specs.Runs.{ended, known_events, known_lines, BeginsEvents, IsCutOff, EndsWith}
 use Rattle.dsr_file.specs.Grammars.{Keeps, LineSteps, TakesMemory}
 use Rattle.dsr_file.specs.Cutting.{CutsTo, CutSteps}
-use Rattle.dsr_file.specs.Standing.{Stands, StandsAt, SameText, AtLine, AtAnswer, AtCut, FaultyGives, IsDone}
+use Rattle.dsr_file.specs.Standing.{Stands, StandsAt, SameText, AtLine, AtAnswer, AtCut, EndsAfter, IsDone}
 use Rattle.dsr_file.proofs.LawLemmas.{no_ended, ended_placed}
 use Rattle.dsr_file.proofs.ReaderLemmas.{placed-append, length-placed, readings_short, readings_long, fault_events, good_events}
 
@@ -73,7 +73,7 @@ pub ended_again : (place n : ℕ) (o : Outcome) (e : Placed) (part : EventPart) 
 ended_again place n o e part view is = ap (λ k. record { place = k; part = part }) (sym (ap (λ x. x.place) (view ∙ is))) ∙ view
 
 pub given_again : (place n : ℕ) (told : Option EventPart) (o : Outcome) (e : Placed) (r : FileReader) (part : EventPart) → record { place = n; part = part } ≡ e
-    → FaultyGives place told o e r
+    → EndsAfter place told o e r
     → record { place = place; part = part } ≡ e
 given_again place n None o e r part view gives = ended_again place n o e part view gives.1
 given_again place n (Some q) o e r part view gives = ap (λ k. record { place = k; part = part }) (sym (ap (λ x. x.place) (view ∙ gives.1))) ∙ view
@@ -82,7 +82,7 @@ given_again place n (Some q) o e r part view gives = ap (λ k. record { place = 
 pub gives_stands : (layout : LayoutTable) (r new : FileReader) (b : List ℕ) (es : List Placed) (part : Option EventPart) (o : Outcome) (e : Placed)
     → r.layout ≡ layout → r.given ≡ length b → r.place ≡ length es
     → known_events layout b new.ending ≡ (es ++ placed r.place (option_to_list part)) ++ ended (length (es ++ placed r.place (option_to_list part))) o ∷ []
-    → has_ended (es ++ placed r.place (option_to_list part)) ≡ false → FaultyGives r.place part o e new → SameText r new → new.place ≡ r.place + 1
+    → has_ended (es ++ placed r.place (option_to_list part)) ≡ false → EndsAfter r.place part o e new → SameText r new → new.place ≡ r.place + 1
     → Stands layout new b (es ++ e ∷ [])
 gives_stands layout r new b es part o e la gi pl all none gives same p = record {
   layout_is = same.layout ∙ la;
@@ -93,7 +93,7 @@ gives_stands layout r new b es part o e la gi pl all none gives same p = record 
   where
     by_part : (part : Option EventPart) → known_events layout b new.ending
         ≡ (es ++ placed r.place (option_to_list part)) ++ ended (length (es ++ placed r.place (option_to_list part))) o ∷ []
-        → has_ended (es ++ placed r.place (option_to_list part)) ≡ false → FaultyGives r.place part o e new → StandsAt layout new.phase new b (es ++ e ∷ [])
+        → has_ended (es ++ placed r.place (option_to_list part)) ≡ false → EndsAfter r.place part o e new → StandsAt layout new.phase new b (es ++ e ∷ [])
     by_part None all none gives = subst (λ x. StandsAt layout x new b (es ++ e ∷ [])) (sym gives.0) (
       inl (
           ap (λ x. es ++ x ∷ []) gives.1
@@ -179,7 +179,7 @@ module _ (layout : LayoutTable) (r : FileReader) (number : ℕ) (step : Step) (c
       let so = placed_more es (events_of (records ls)) (option_to_list closed) r.place a.events_are a.place_is in
       ap (placed 0) events ∙ sym (placed_more (es ++ placed r.place (option_to_list closed)) _ (Ended (outcomes.Fault number f) ∷ []) _ so refl)
 
-  pub faulty_stands : (new : FileReader) (f : FileFault) (e : Placed) → step ≡ Faulty f → FaultyGives r.place closed (outcomes.Fault number f) e new
+  pub faulty_stands : (new : FileReader) (f : FileFault) (e : Placed) → step ≡ Faulty f → EndsAfter r.place closed (outcomes.Fault number f) e new
       → SameText r new → new.place ≡ r.place + 1 → Stands layout new b (es ++ e ∷ [])
   faulty_stands new f e s gives same p =
       gives_stands layout r new b es closed (outcomes.Fault number f) e a.layout_is a.given_is a.place_is

@@ -4,12 +4,11 @@ use mathlib.Core.List.{IsPrefix}
 use Rattle.dsr_records.specs.declared.record.Record.{Record}
 use Rattle.dsr_records.specs.Reads.{has_texts}
 use Rattle.dsr_records.specs.Records.{LayoutTable}
-use Rattle.dsr_events.specs.declared.fault.FileFault.{FileFault}
 use Rattle.dsr_events.specs.declared.fault.FileFault.TheVariants.{Memory}
 use Rattle.dsr_events.specs.declared.fault.Ending.{Ending}
 use Rattle.dsr_events.specs.declared.fault.Ending.TheVariants.{Read}
 use Rattle.dsr_events.specs.declared.fault.Outcome.{Outcome}
-use Rattle.dsr_events.specs.declared.fault.Outcome.TheVariants.{Whole, Fault}
+use Rattle.dsr_events.specs.declared.fault.Outcome.TheVariants.{Fault}
 use Rattle.dsr_events.specs.declared.event.EventPart.TheVariants.{Ended}
 use Rattle.dsr_events.specs.Placed.{Placed}
 use Rattle.dsr_events.specs.Orderly.{has_ended}
@@ -74,12 +73,3 @@ HasEvents layout bytes told es = (es ≡ known_events layout bytes told) ⊎ IsC
 -- the outcome is that of the last event
 abbrev pub EndsWith : List Placed → Outcome → Type 0
 EndsWith es outcome = (before : List Placed) × (es ≡ before ++ ended (length before) outcome ∷ [])
-
-abbrev pub is_memory : FileFault → Bool
-is_memory Memory = true
-is_memory _ = false
-
--- the outcome is that memory was refused
-abbrev pub by_memory : Outcome → Bool
-by_memory Whole = false
-by_memory (Fault line fault) = is_memory fault

@@ -96,9 +96,9 @@ pub record AtAnswer (layout : LayoutTable) (r : FileReader) (number : ℕ) (step
   pub open_is : r.ending ≡ None
 
 -- the event of the last line, if there is one; otherwise the outcome
-abbrev pub FaultyGives : ℕ → Option EventPart → Outcome → Placed → FileReader → Type 0
-FaultyGives place None o e r = (r.phase ≡ Done o) × (e ≡ ended place o)
-FaultyGives place (Some part) o e r = (r.phase ≡ Waiting o) × (e ≡ record { place = place; part = part })
+abbrev pub EndsAfter : ℕ → Option EventPart → Outcome → Placed → FileReader → Type 0
+EndsAfter place None o e r = (r.phase ≡ Done o) × (e ≡ ended place o)
+EndsAfter place (Some part) o e r = (r.phase ≡ Waiting o) × (e ≡ record { place = place; part = part })
 
 -- the cutter has used these bytes and returned this
 pub record AtCut (layout : LayoutTable) (r : FileReader) (cut : Cut) (bytes used : List ℕ) (es : List Placed) : Type 0 where

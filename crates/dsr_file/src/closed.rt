@@ -23,7 +23,7 @@ pub(crate) struct Closed {
     alloc: Global,
     /// The block that was closed, if one was.
     block: Option<BoxedBlock>,
-    /// What was closed, if it is not a block in `block`: then it is None.
+    /// What was closed, if that is not in `block`; None if `block` is Some.
     other: Option<EventPart>,
     /// A block to be overwritten, if there is one.
     spare: Option<BoxedBlock>,
@@ -83,7 +83,7 @@ impl Closed {
         }
     }
 
-    /// Closes this part.
+    /// Sets what was closed to this part. A block that was there before is dropped.
     pub(crate) fn set(&mut self, part: EventPart)
         ensures { self.new ≡ Some part }
     {
@@ -91,7 +91,7 @@ impl Closed {
         self.other = Some(part);
     }
 
-    /// Closes this block.
+    /// Sets what was closed to this block.
     pub(crate) fn set_block(&mut self, block: BoxedBlock)
         requires { self.old ≡ None }
         ensures { self.new ≡ Some (EventPart.Block block) }
@@ -129,10 +129,8 @@ impl Closed {
         ensures event { result ≡ event_at place self.old }
         ensures none { self.new ≡ None }
     {
-        match self.take() {
-            Some(part) => Some(Event { place, part }),
-            None => None,
-        }
+        let part = self.take()?;
+        Some(Event { place, part })
     }
 
     /// The block to be overwritten, if there is one. What was closed is lost.

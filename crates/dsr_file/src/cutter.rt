@@ -6,6 +6,7 @@ use crate::line_feed::line_end;
 use dsr_cells::NoMemory;
 use std::alloc::Global;
 
+/// The maximum length of a line in bytes, without its line feed.
 const LINE_LIMIT: usize = 8192;
 
 /// The result of using bytes of a piece.
@@ -122,6 +123,7 @@ impl Cutter {
         (end + 1, Cut::Kept)
     }
 
+    /// Appends bytes to the line. The room was allocated by `new`, so this cannot fail.
     fn append(&mut self, front: &[u8])
         requires short { length self.old.bytes.items + length front.now ≤ 8192 }
         requires fresh { self.old.fresh ≡ false }

@@ -193,6 +193,7 @@ impl Grammar {
         }
     }
 
+    /// Counts a skipped line.
     fn skip_line(&mut self)
         requires { self.old.lines < 2 ^ 40 - 1 }
         ensures steps { (ls : List Reading) → Keeps self.old ls
@@ -203,6 +204,7 @@ impl Grammar {
         self.skipped_lines += 1;
     }
 
+    /// Counts a record of a skipped type.
     fn skip_record(&mut self)
         requires { self.old.lines < 2 ^ 40 - 1 }
         ensures steps { (ls : List Reading) → Keeps self.old ls
@@ -388,14 +390,12 @@ impl Grammar {
         }
     }
 
+    /// The fault of FOOT's counts, if the record is FOOT and has one.
     fn fault_at_foot(&self, foot: Option<Foot>) -> Option<FileFault>
         requires { self.now.lines < 2 ^ 40 }
         ensures { result ≡ option_and_then (kept_count_fault self.now) foot }
     {
-        match foot {
-            Some(foot) => self.count_fault(foot),
-            None => None,
-        }
+        self.count_fault(foot?)
     }
 }
 
@@ -418,6 +418,7 @@ fn is_skipped(text: &str) -> bool
     bytes.is_empty() || bytes[0] == b'#'
 }
 
+/// The fault of a file that a fault of a line is.
 fn file_fault(fault: RecordFault) -> FileFault
     ensures { result ≡ file_fault fault }
 {
@@ -430,19 +431,17 @@ fn file_fault(fault: RecordFault) -> FileFault
     }
 }
 
+/// The record, if it is FOOT.
 fn foot_in(item: &Record) -> Option<Foot>
     ensures { result ≡ foot_in item.now }
 {
     match item {
-        Record::Foot(foot) => Some(Foot {
-            lines: foot.lines,
-            summaries: foot.summaries,
-            blocks: foot.blocks,
-        }),
+        Record::Foot(foot) => Some(*foot),
         _ => None,
     }
 }
 
+/// 1 for a summary, otherwise 0.
 fn summary_count(item: &Record) -> u64
     ensures { result ≡ summary_count item.now }
 {

@@ -13,8 +13,8 @@
 //!    last: Whole, or the first fault with its line. It takes the lines of each piece
 //!    (`reader/lines`) and the last line (`reader/ending`), makes the events (`reader/events`), and
 //!    knows how far it has come (`reader/phase`).
-//! 5. [`read_file`] (`reading`) reads a [`Source`] (`source`) to its end, as often as its limit allows
-//!    (`read_count`), and puts the events into a [`Sink`] (`sink`), by the loop in `feeding`. A closed
+//! 5. [`read_file`] (`reading`) reads a [`Source`] (`source`), which counts its reads (`read_count`), to its end or to
+//!    the limit on reads, and puts the events into a [`Sink`] (`sink`), by the loop in `feeding`. A closed
 //!    block is exchanged for an old one of the sink ([`Sink::put_block`]), so that it is not moved and
 //!    the next one seldom needs new memory. [`FileReader::reuse`] does the same for a caller of `take`.
 //! 6. [`whole_events`] (`whole`) gives all events of a text at once, in an [`EventList`]

@@ -33,8 +33,8 @@ fn run_of_64(piece: &[u8], at: usize) -> usize
     }
 }
 
-/// The index of the first line feed, or the length if there is none, for few bytes. Not inlined, since a piece ends in
-/// them once.
+/// The index of the first line feed, or the length if there is none, for fewer than 64 bytes. Not inlined, since only the
+/// lines in the last 64 bytes of a piece need it.
 #[inline(never)]
 fn end_of_few(piece: &[u8]) -> usize
     ensures bound { result ≤ length piece.now }

@@ -19,12 +19,13 @@ use dsr_cells::NoMemory;
 use dsr_events::{Ending, Event, Outcome};
 use dsr_records::{Block, BoxedBlock, Layout};
 use std::alloc::Global;
+use std::mem;
 
-/// The boxed block, if there is one, with this block written over it.
-fn written_over(spare: Option<BoxedBlock>, block: Block) -> Option<BoxedBlock> {
-    let mut boxed = spare?;
-    let _old = boxed.replace(block);
-    Some(boxed)
+/// Exchanges the boxed block, if there is one, for this block, and drops the one that is left.
+fn write_over(spare: &mut Option<BoxedBlock>, mut block: Block) {
+    if let Some(boxed) = spare {
+        mem::swap(boxed.get_mut(), &mut block);
+    }
 }
 
 /// Reads a file by a layout: takes its bytes in pieces, and gives its events one by one.
@@ -86,8 +87,7 @@ impl FileReader {
         ensures left { events_left self.new ≡ events_left self.old }
         ensures ending { ending_told self.new ≡ ending_told self.old }
     {
-        let spare = written_over(self.over_spare().into_spare(), block);
-        self.keep(spare);
+        write_over(&mut self.spare, block);
     }
 
     /// Keeps a block, if there is one, whose memory is used for the next one.
@@ -161,6 +161,8 @@ impl FileReader {
     }
 
     /// Uses bytes of a piece, up to the next event. Returns how many, and the event. A waiting outcome is given first.
+    ///
+    /// Conditions: `finish` was not called, and at most 2^36 bytes are given in all.
     pub fn take(&mut self, piece: &[u8]) -> (usize, Option<Event>)
         requires open { ending_told self.old ≡ None }
         requires room { bytes_used self.old + length piece.now ≤ 2 ^ 36 }

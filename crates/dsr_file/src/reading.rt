@@ -29,6 +29,7 @@ pub enum ReadFileError {
 
 /// Reads a file by a layout and puts its events into an empty sink. Returns the outcome, which was put last.
 /// It makes at most `max_reads` reads, each of at most 4,096 bytes, and none after the file has ended.
+/// Conditions: `max_reads` is 1 to 2^24, and no read of the source has failed.
 ///
 /// # Errors
 ///

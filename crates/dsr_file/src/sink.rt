@@ -14,6 +14,7 @@ pub trait Sink {
     /// The events that it took.
     ghost list: { Self → List Placed };
 
+    /// Its name, which no call changes.
     ghost name: { Self → Self.Name };
 
     /// Adds the event to the list. The list with the event is a run of some text.

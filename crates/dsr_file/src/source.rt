@@ -17,7 +17,7 @@ pub trait Source {
     /// The bytes that it has left, if they are known, whether a read has failed, and the count of its reads.
     ghost told: { Self → Told };
 
-    /// Reads bytes into the front of the piece. Returns how many; 0 is the end.
+    /// Reads bytes into the front of the piece, which is not empty. Returns how many; 0 is the end.
     ///
     /// # Errors
     ///

@@ -16,6 +16,12 @@ use dsr_records::{Block, BoxedBlock, CheckedLine, Kind, Record, Summary};
 use std::alloc::Global;
 use std::mem;
 
+/// The maximum number of summaries of a file.
+const MOST_SUMMARIES: usize = 1000;
+
+/// The maximum number of records of a block.
+const MOST_RECORDS: usize = 64;
+
 /// What the last record is: the column of the place table.
 #[derive(Clone, Copy)]
 pub(crate) enum Before {
@@ -78,7 +84,7 @@ fn twice_or_many(summaries: &Summaries, id: &str) -> Option<FileFault>
     if has_summary(summaries, id) {
         return Some(FileFault::SummaryTwice);
     }
-    if summaries.len() >= 1000 {
+    if summaries.len() >= MOST_SUMMARIES {
         Some(FileFault::ManySummaries)
     } else {
         None
@@ -93,7 +99,7 @@ fn number_or_long(block: &Block, id: &str) -> Option<FileFault>
     if !is_same(id, block.id.as_str()) {
         return Some(FileFault::BlockNumber);
     }
-    if block.len() >= 64 {
+    if block.len() >= MOST_RECORDS {
         Some(FileFault::LongBlock)
     } else {
         None
@@ -214,6 +220,7 @@ impl Stage {
         Ok(())
     }
 
+    /// Adds a summary to the opening. If memory is refused, nothing changes.
     fn add_summary(&mut self, summary: Summary) -> Result<(), NoMemory>
         requires { IsNew self.old summary.id }
         ensures next { OnOk result (self.new ≡ stage_after self.old (Record.Summary summary)) }

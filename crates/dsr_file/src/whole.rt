@@ -2,7 +2,7 @@
 ghost use Rattle.std.specs.Prelude.{◌≡◌, ◌++◌, ◌+◌, ◌≤◌, ◌^◌, [], length, List, ℕ, Some, None, IfOk};
 ghost use Rattle.dsr_records.specs.Records.{LayoutTable};
 ghost use Rattle.dsr_file.specs.Texts.{text_events};
-ghost use Rattle.dsr_file.specs.Runs.{HasEvents, EndsWith, is_memory, by_memory};
+ghost use Rattle.dsr_file.specs.Runs.{HasEvents, EndsWith};
 ghost use Rattle.dsr_file.specs.Standing.{Stands, bytes_used, ending_told};
 ghost use Rattle.dsr_file.specs.Feeding.{IsKnown};
 
@@ -12,11 +12,11 @@ use crate::feeding::{feed, finish_all};
 use crate::reader::FileReader;
 use crate::sink::Sink;
 use dsr_cells::NoMemory;
-use dsr_events::{Ending, Event, FileFault, Outcome};
+use dsr_events::{Ending, Event, Outcome};
 use dsr_records::Layout;
 use std::alloc::Global;
 
-/// All events of the text with these bytes and this ending.
+/// All events of the text with these bytes and this ending. Condition: at most 2^36 bytes.
 ///
 /// # Errors
 ///
@@ -32,7 +32,7 @@ pub fn whole_events(
 {
     let mut events = EventList::new(alloc);
     let outcome = read_whole(alloc, layout, bytes, ending, &mut events)?;
-    if ends_for_memory(outcome) {
+    if outcome.is_memory() {
         return Err(NoMemory);
     }
     Ok(events)
@@ -81,23 +81,4 @@ fn give_all<S: Sink>(
         return Ok(file.outcome());
     }
     finish_all(file, ending, sink)
-}
-
-/// Whether a file ended because memory was refused.
-fn ends_for_memory(outcome: Outcome) -> bool
-    ensures { result ≡ by_memory outcome }
-{
-    match outcome {
-        Outcome::Whole => false,
-        Outcome::Fault { line: _, fault } => is_memory(fault),
-    }
-}
-
-fn is_memory(fault: FileFault) -> bool
-    ensures { result ≡ is_memory fault }
-{
-    match fault {
-        FileFault::Memory => true,
-        _ => false,
-    }
 }

@@ -16,7 +16,7 @@ use Rattle.dsr_ledger.specs.declared.kept.Kept.{Kept}
 use Rattle.dsr_ledger.specs.declared.ledger.recordings.Ledger.{Ledger}
 use Rattle.dsr_ledger.specs.declared.verdict.Verdict.{Verdict}
 use Rattle.dsr_ledger.specs.Files.{File, Filed, standing, opened, summaries_of, with_block, with_outcome}
-use Rattle.dsr_ledger.specs.Bookings.{place_named}
+use Rattle.dsr_ledger.specs.Bookings.{summary_key_named}
 use Rattle.dsr_ledger.specs.Numbered.{Grows}
 use Rattle.dsr_ledger.specs.Verdicts.{verdict_in, verdict_after}
 use Rattle.dsr_ledger.specs.Openings.{openings_of}
@@ -66,7 +66,7 @@ numbered_reached kept k f r is =
 all_keep : (a b : Ledger) (fs : List FileBooks) → Grows (key_number a) (key_number b) → AllByRecursion (IsNumberedFile a) fs
     → AllByRecursion (IsNumberedFile b) fs
 all_keep a b fs grows =
-    each_weaker (IsNumberedFile a) (IsNumberedFile b) (λ f. numbered_grows a b (place_named (summaries_of f.opening)) f.summaries grows) fs
+    each_weaker (IsNumberedFile a) (IsNumberedFile b) (λ f. numbered_grows a b (summary_key_named (summaries_of f.opening)) f.summaries grows) fs
 
 -- what the result of one file means for the books
 pub record Answered {A : Type 0} (f g : FileBooks) (b : BlockParts) (res : Result Verdict A) (old new : Kept) (k : ℕ) : Type 0 where

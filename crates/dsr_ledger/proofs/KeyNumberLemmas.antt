@@ -10,7 +10,7 @@ use Rattle.dsr_ledger.specs.declared.file.summaries.SummaryState.{SummaryState}
 use Rattle.dsr_ledger.specs.declared.ledger.recordings.Ledger.{Ledger}
 use Rattle.dsr_ledger.specs.declared.ledger.summary_key.SummaryKey.{SummaryKey}
 use Rattle.dsr_ledger.specs.declared.verdict.Verdict.{Verdict}
-use Rattle.dsr_ledger.specs.Bookings.{place_of, place_named}
+use Rattle.dsr_ledger.specs.Bookings.{summary_key_of, summary_key_named}
 use Rattle.dsr_ledger.specs.Files.{summaries_of}
 use Rattle.dsr_ledger.specs.FileSteps.{IsNumberedFile, IsSameFile, TakesBlock}
 use Rattle.dsr_ledger.specs.Numbered.{Grows}
@@ -49,35 +49,35 @@ pub key_here : (a b : Ledger) (place : List ℕ → Option SummaryKey) (m : Summ
 key_here a b place m id n same h at = key_of b n (number_at m id) (place id) at (numbered_grows a b place m (same_keys a b same) h id)
 
 -- no summaries
-pub none_numbered : (ledger : Ledger) (m : Summaries) → ((id : List ℕ) → shown_at m id ≡ None) → AreNumbered ledger (place_named []) m
+pub none_numbered : (ledger : Ledger) (m : Summaries) → ((id : List ℕ) → shown_at m id ≡ None) → AreNumbered ledger (summary_key_named []) m
 none_numbered ledger m none id = record { both = ap (λ o. is_some (option_map (λ s. s.key) o)) (none id); number_is = λ n k e f. absurd (not_Some k f) }
 
 -- one more summary
-one_more : (a b : Ledger) (n : ℕ) (s : Summary) → Grows (key_number a) (key_number b) → key_number b (place_of s) ≡ Some n → (o : Option ℕ)
+one_more : (a b : Ledger) (n : ℕ) (s : Summary) → Grows (key_number a) (key_number b) → key_number b (summary_key_of s) ≡ Some n → (o : Option ℕ)
     (p : Option SummaryKey) (id : List ℕ) → IsNumberOf a o p
-    → IsNumberOf b (first_of o (option_map (λ x. n) (named id s))) (first_of p (option_map place_of (named id s)))
+    → IsNumberOf b (first_of o (option_map (λ x. n) (named id s))) (first_of p (option_map summary_key_of (named id s)))
 one_more a b n s grows is None (Some key) id h = absurd (true≢false (sym h.both))
 one_more a b n s grows is (Some m) None id h = absurd (true≢false h.both)
 one_more a b n s grows is (Some m) (Some key) id h = number_grows a b (Some m) (Some key) grows h
 one_more a b n s grows is None None id h =
-    elim (bytes_eq id s.id) as (λ c. IsNumberOf b (option_map (λ x. n) (cond c (Some s) None)) (option_map place_of (cond c (Some s) None))) [
-      | true ↦ record { both = refl; number_is = λ m k e f. ap (key_number b) (sym (same_Some (place_of s) k f)) ∙ is ∙ e }
+    elim (bytes_eq id s.id) as (λ c. IsNumberOf b (option_map (λ x. n) (cond c (Some s) None)) (option_map summary_key_of (cond c (Some s) None))) [
+      | true ↦ record { both = refl; number_is = λ m k e f. ap (key_number b) (sym (same_Some (summary_key_of s) k f)) ∙ is ∙ e }
       | false ↦ record { both = refl; number_is = λ m k e f. absurd (not_Some m e) }
     ]
 
 pub numbered_push : (a b : Ledger) (n : ℕ) (ss : List Summary) (s : Summary) (old new : Summaries) → Grows (key_number a) (key_number b)
-    → key_number b (place_of s) ≡ Some n
-    → ((id : List ℕ) → shown_at new id ≡ first_of (shown_at old id) (option_map (λ x. nothing_found n) (named id s))) → AreNumbered a (place_named ss) old
-    → AreNumbered b (place_named (ss ++ s ∷ [])) new
+    → key_number b (summary_key_of s) ≡ Some n
+    → ((id : List ℕ) → shown_at new id ≡ first_of (shown_at old id) (option_map (λ x. nothing_found n) (named id s))) → AreNumbered a (summary_key_named ss) old
+    → AreNumbered b (summary_key_named (ss ++ s ∷ [])) new
 numbered_push a b n ss s old new grows is added h id =
     let key : SummaryState → ℕ = λ x. x.key in
     let number : number_at new id ≡ first_of (number_at old id) (option_map (λ x. n) (named id s)) =
     ap (option_map key) (added id) ∙ map-first_of key (shown_at old id) (option_map (λ x. nothing_found n) (named id s))
     ∙ ap (first_of (number_at old id)) (twice (named id s)) in
-    let place = ap (option_map place_of) (find-push id ss s) ∙ map-first_of place_of (find (λ x. bytes_eq id x.id) ss) (named id s) in
-    subst (λ o. IsNumberOf b o (place_named (ss ++ s ∷ []) id)) (sym number) (
+    let place = ap (option_map summary_key_of) (find-push id ss s) ∙ map-first_of summary_key_of (find (λ x. bytes_eq id x.id) ss) (named id s) in
+    subst (λ o. IsNumberOf b o (summary_key_named (ss ++ s ∷ []) id)) (sym number) (
     subst (IsNumberOf b (first_of (number_at old id) (option_map (λ x. n) (named id s)))) (sym place) (
-    one_more a b n s grows is (number_at old id) (place_named ss id) id (h id)))
+    one_more a b n s grows is (number_at old id) (summary_key_named ss id) id (h id)))
   where
     twice : (o : Option Summary) → option_map (λ x. x.key) (option_map (λ x. nothing_found n) o) ≡ option_map (λ x. n) o
     twice None = refl
@@ -87,9 +87,9 @@ numbered_push a b n ss s old new grows is added h id =
 stays : (a b : Ledger) (f g : FileBooks) → b.summary_keys ≡ a.summary_keys → g.opening ≡ f.opening
     → ((id : List ℕ) → number_at g.summaries id ≡ number_at f.summaries id) → IsNumberedFile a f → IsNumberedFile b g
 stays a b f g same opening numbers h id =
-    subst (IsNumberOf b (number_at g.summaries id)) (λ i. place_named (summaries_of (sym opening i)) id) (
-    subst (λ o. IsNumberOf b o (place_named (summaries_of f.opening) id)) (sym (numbers id)) (
-    numbered_grows a b (place_named (summaries_of f.opening)) f.summaries (same_keys a b same) h id))
+    subst (IsNumberOf b (number_at g.summaries id)) (λ i. summary_key_named (summaries_of (sym opening i)) id) (
+    subst (λ o. IsNumberOf b o (summary_key_named (summaries_of f.opening) id)) (sym (numbers id)) (
+    numbered_grows a b (summary_key_named (summaries_of f.opening)) f.summaries (same_keys a b same) h id))
 
 pub numbered_after : {E : Type 0} (res : Result Verdict E) (a b : Ledger) (f g : FileBooks) (x : BlockParts) → b.summary_keys ≡ a.summary_keys
     → IfOk res (λ v. TakesBlock f g a b x v) → OnErr res (IsSameFile f g) → IsNumberedFile a f → IsNumberedFile b g

@@ -14,7 +14,7 @@ use Rattle.dsr_ledger.specs.declared.verdict.Verdict.TheVariants.{Booked, Reject
 use Rattle.dsr_ledger.specs.Files.{File, Filed, standing, filed, filed_after, summaries_of}
 use Rattle.dsr_ledger.specs.Verdicts.{verdict, judged, judged_in}
 use Rattle.dsr_ledger.specs.declared.ledger.summary_key.SummaryKey.{SummaryKey}
-use Rattle.dsr_ledger.specs.Bookings.{Booking, booked_under, usage_bookings, block_bookings, place_named, verdict_bookings, filed_bookings, bookings}
+use Rattle.dsr_ledger.specs.Bookings.{Booking, booked_under, usage_bookings, block_bookings, summary_key_named, verdict_bookings, filed_bookings, bookings}
 use Rattle.dsr_ledger.specs.Ranges.{IsInRange}
 use Rattle.dsr_ledger.specs.FileSteps.{IsBlockInRange}
 use Rattle.dsr_ledger.specs.Order.{IsSmall, AreSmall}
@@ -45,7 +45,7 @@ few_usages place isrc works (u ∷ us) =
 
 few_booked : (summaries : List Summary) (b : BlockParts) → length (block_bookings summaries b) ≤ length b.usages
 unfolding block_bookings
-few_booked summaries b = few_usages (place_named summaries) b.resource.isrc b.works b.usages
+few_booked summaries b = few_usages (summary_key_named summaries) b.resource.isrc b.works b.usages
 
 few_verdict : (summaries : List Summary) (b : BlockParts) (v : Verdict) → length (verdict_bookings summaries (b, v)) ≤ length b.usages
 few_verdict summaries b Booked = few_booked summaries b
@@ -93,8 +93,8 @@ small_under isrc works u (Some place) h = (h, tt)
 small_block : (summaries : List Summary) (b : BlockParts) → IsBlockInRange b → AllByRecursion HasSmallNumbers (block_bookings summaries b)
 unfolding block_bookings
 small_block summaries b h =
-    all_flat HasSmallNumbers IsInRange (λ u. booked_under b.resource.isrc b.works u (place_named summaries u.summary_id))
-    (λ u k. small_under b.resource.isrc b.works u (place_named summaries u.summary_id) k) b.usages h.range
+    all_flat HasSmallNumbers IsInRange (λ u. booked_under b.resource.isrc b.works u (summary_key_named summaries u.summary_id))
+    (λ u k. small_under b.resource.isrc b.works u (summary_key_named summaries u.summary_id) k) b.usages h.range
 
 small_verdict : (summaries : List Summary) (b : BlockParts) (v : Verdict) → IsBlockInRange b → AllByRecursion HasSmallNumbers (verdict_bookings summaries (b, v))
 small_verdict summaries b Booked h = small_block summaries b h

@@ -22,7 +22,7 @@ use Rattle.dsr_ledger.specs.declared.verdict.Verdict.{Verdict}
 use Rattle.dsr_ledger.specs.declared.verdict.Verdict.TheVariants.{Booked, Rejected}
 use Rattle.dsr_ledger.specs.Files.{File, Filed, filed_after, standing, summaries_of}
 use Rattle.dsr_ledger.specs.Verdicts.{first_reason, is_foreign, is_doubled, names_unknown, share_total, verdict_by, verdict, judged}
-use Rattle.dsr_ledger.specs.Bookings.{verdict_bookings, block_bookings, filed_bookings, bookings, place_named}
+use Rattle.dsr_ledger.specs.Bookings.{verdict_bookings, block_bookings, filed_bookings, bookings, summary_key_named}
 use Rattle.dsr_ledger.specs.Findings.{usages_in}
 use Rattle.dsr_ledger.specs.Summaries.{shown_at, sums_with, no_sums, ShownFits}
 use Rattle.dsr_ledger.specs.Ranges.{IsInRange, SumsFit}
@@ -56,13 +56,13 @@ booked_shares s seen known b e = ltb-false 1000000 (share_total b.works) (booked
 
 length-verdict_bookings : (os : List Summary) (b : BlockParts) (v : Verdict) → IsBlockInRange b → length (verdict_bookings os (b, v)) ≤ 63
 unfolding block_bookings
-length-verdict_bookings os b Booked h = let l = length-usage_bookings (place_named os) b.resource.isrc b.works b.usages in let few = h.few in omega arith
+length-verdict_bookings os b Booked h = let l = length-usage_bookings (summary_key_named os) b.resource.isrc b.works b.usages in let few = h.few in omega arith
 length-verdict_bookings os b (Rejected r) h = omega arith
 
 small_verdict_bookings : (os : List Summary) (b : BlockParts) (v : Verdict) → IsBlockInRange b → (v ≡ Booked → share_total b.works ≤ 1000000)
     → AllByRecursion IsSmall (verdict_bookings os (b, v))
 unfolding block_bookings
-small_verdict_bookings os b Booked h s = small_usage_bookings (place_named os) b.resource.isrc b.works b.usages (s refl) h.range
+small_verdict_bookings os b Booked h s = small_usage_bookings (summary_key_named os) b.resource.isrc b.works b.usages (s refl) h.range
 small_verdict_bookings os b (Rejected r) h s = tt
 
 length-judged_bookings : (s : Standing) (os : List Summary) (e bs : List BlockParts) → AllByRecursion IsBlockInRange bs

@@ -17,7 +17,7 @@ use Rattle.dsr_ledger.specs.declared.verdict.Verdict.TheVariants.{Booked, Reject
 use Rattle.dsr_ledger.specs.Files.{File, Filed, filed, summaries_of}
 use Rattle.dsr_ledger.specs.Verdicts.{is_foreign, is_doubled, names_unknown, first_reason, verdict_by, judged, judged_in, share_total}
 use Rattle.dsr_ledger.specs.declared.ledger.summary_key.SummaryKey.{SummaryKey}
-use Rattle.dsr_ledger.specs.Bookings.{Booking, booked_under, block_bookings, place_named, verdict_bookings, filed_bookings, bookings}
+use Rattle.dsr_ledger.specs.Bookings.{Booking, booked_under, block_bookings, summary_key_named, verdict_bookings, filed_bookings, bookings}
 use Rattle.dsr_ledger.proofs.EachLemmas.{each_append}
 
 abbrev pub IsWhole : Booking → Type 0
@@ -74,8 +74,8 @@ all_judged stands summaries earlier (b ∷ blocks) = (booked_whole stands _ _ b,
 block_whole : (summaries : List Summary) (b : BlockParts) → share_total b.works ≤ 1000000 → AllByRecursion IsWhole (block_bookings summaries b)
 unfolding block_bookings
 block_whole summaries b h =
-    all_flat IsWhole (λ _. Unit {0}) (λ u. booked_under b.resource.isrc b.works u (place_named summaries u.summary_id))
-    (λ u _. under_whole b.resource.isrc b.works u (place_named summaries u.summary_id) h) b.usages (all_of (λ _. Unit {0}) (λ _. tt) b.usages)
+    all_flat IsWhole (λ _. Unit {0}) (λ u. booked_under b.resource.isrc b.works u (summary_key_named summaries u.summary_id))
+    (λ u _. under_whole b.resource.isrc b.works u (summary_key_named summaries u.summary_id) h) b.usages (all_of (λ _. Unit {0}) (λ _. tt) b.usages)
 
 verdict_whole : (summaries : List Summary) (b : BlockParts) (v : Verdict) → (v ≡ Booked → share_total b.works ≤ 1000000)
     → AllByRecursion IsWhole (verdict_bookings summaries (b, v))

@@ -14,8 +14,8 @@ use Rattle.dsr_ledger.specs.Files.{File, Filed, filed, summaries_of}
 use Rattle.dsr_ledger.specs.Verdicts.{judged_in}
 
 -- the territory, use type and currency of a summary, under which its usages count
-abbrev pub place_of : Summary → SummaryKey
-place_of s = record { territory = s.territory; use_type = s.use_type; currency = s.currency }
+abbrev pub summary_key_of : Summary → SummaryKey
+summary_key_of s = record { territory = s.territory; use_type = s.use_type; currency = s.currency }
 
 -- the key of a ledger line: an ISRC, with the territory, use type and currency of a summary
 abbrev pub key_under : List ℕ → SummaryKey → Key
@@ -28,21 +28,21 @@ pub record Booking : Type 0 where
   pub works : List WorkParts
 
 -- the summary key of the first summary with this identifier
-abbrev pub place_named : List Summary → List ℕ → Option SummaryKey
-place_named summaries id = option_map place_of (find (λ s. bytes_eq id s.id) summaries)
+abbrev pub summary_key_named : List Summary → List ℕ → Option SummaryKey
+summary_key_named summaries id = option_map summary_key_of (find (λ s. bytes_eq id s.id) summaries)
 
 -- the booking of a usage whose summary has this key; none if it names no summary
 abbrev pub booked_under : List ℕ → List WorkParts → Usage → Option SummaryKey → List Booking
 booked_under isrc works u None = []
 booked_under isrc works u (Some p) = record { key = key_under isrc p; usage = u; works = works } ∷ []
 
--- the bookings of a block's usages, in order, where `place` gives the summary key of an identifier
+-- the bookings of a block's usages, in order, where `key_of` gives the summary key of an identifier
 abbrev pub usage_bookings : (List ℕ → Option SummaryKey) → List ℕ → List WorkParts → List Usage → List Booking
-usage_bookings place isrc works us = flat_map (λ u. booked_under isrc works u (place u.summary_id)) us
+usage_bookings key_of isrc works us = flat_map (λ u. booked_under isrc works u (key_of u.summary_id)) us
 
 -- the bookings of a block that is booked
 unfoldable pub block_bookings : List Summary → BlockParts → List Booking
-block_bookings summaries b = usage_bookings (place_named summaries) b.resource.isrc b.works b.usages
+block_bookings summaries b = usage_bookings (summary_key_named summaries) b.resource.isrc b.works b.usages
 
 -- the bookings of a block with its verdict: none if it is rejected
 abbrev pub verdict_bookings : List Summary → BlockParts × Verdict → List Booking

@@ -5,7 +5,7 @@ use Rattle.dsr_records.specs.Blocks.{BlockParts}
 use Rattle.dsr_ledger.specs.declared.file.FileBooks.{FileBooks}
 use Rattle.dsr_ledger.specs.declared.verdict.Verdict.{Verdict}
 use Rattle.dsr_ledger.specs.IdSteps.{is_in}
-use Rattle.dsr_ledger.specs.Bookings.{place_named, verdict_bookings}
+use Rattle.dsr_ledger.specs.Bookings.{summary_key_named, verdict_bookings}
 use Rattle.dsr_ledger.specs.Files.{summaries_of}
 use Rattle.dsr_ledger.specs.Findings.{rejects_from}
 use Rattle.dsr_ledger.specs.Ranges.{IsInRange}
@@ -17,7 +17,7 @@ use Rattle.dsr_ledger.specs.declared.key.Key.{Key}
 
 -- each summary of the file has the number of its key in the ledger
 abbrev pub IsNumberedFile : Ledger → FileBooks → Type 0
-IsNumberedFile ledger f = AreNumbered ledger (place_named (summaries_of f.opening)) f.summaries
+IsNumberedFile ledger f = AreNumbered ledger (summary_key_named (summaries_of f.opening)) f.summaries
 
 -- the two states represent the same file
 pub record IsSameFile (f g : FileBooks) : Type 0 where

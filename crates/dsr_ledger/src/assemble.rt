@@ -37,6 +37,7 @@ struct Told {
     differences: Differences,
 }
 
+/// What the report takes from these files before they are moved.
 fn told_of(alloc: Global, files: &[FileBooks]) -> Result<Told, NoMemory>
     ensures lines { IfOk result (λ told. told.lines ≡ map line_kept files.now) }
     ensures own { IfOk result (λ told. (n : ℕ)

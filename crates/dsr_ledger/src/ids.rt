@@ -69,8 +69,8 @@ fn number_of(bytes: &[u8]) -> u64
 }
 
 #[tactic(auto, unfolding(crate::specs::Ids::rank_of))]
-/// An identifier's rank: by its length, then by its last eight bytes. Decimal numbers rank in their
-/// order.
+/// An identifier's rank: by its length, then by its last eight bytes. Decimal numbers of up to eight digits, without
+/// leading zeros, rank in their order.
 fn rank(id: &Text) -> u128
     ensures { result ≡ rank_of id.now }
 {

@@ -2,7 +2,7 @@
 ghost use Rattle.std.specs.Prelude.{◌≡◌, ◌+◌, ◌<◌, List, [], ◌∷◌, ◌++◌, ℕ, Some, IfOk, length};
 ghost use Rattle.std.specs.List.{list_any};
 ghost use Rattle.dsr_ledger.specs.Files.{opened, is_same_report, has_number_of, is_of_report, first_head, standing, summaries_of};
-ghost use Rattle.dsr_ledger.specs.Bookings.{place_named};
+ghost use Rattle.dsr_ledger.specs.Bookings.{summary_key_named};
 ghost use Rattle.dsr_ledger.specs.FileSteps.{IsNumberedFile};
 ghost use Rattle.dsr_ledger.specs.Recordings.{KeepsKeys};
 ghost use Rattle.dsr_ledger.specs.Summaries.{sums_at, found_in, AreNumbered};
@@ -96,7 +96,7 @@ fn summaries_of(
 ) -> Result<Summaries, NoMemory>
     ensures keeps { KeepsKeys ledger.old ledger.new }
     ensures sums { IfOk result (λ m. (id : List ℕ) → sums_at m id ≡ found_in stated.now [] id) }
-    ensures numbers { IfOk result (λ m. AreNumbered ledger.new (place_named stated.now) m) }
+    ensures numbers { IfOk result (λ m. AreNumbered ledger.new (summary_key_named stated.now) m) }
 {
     let mut summaries = Summaries::with_room(alloc, seeded, stated.len())?;
     for summary in stated {
@@ -117,7 +117,7 @@ fn summaries_for(
     ensures sums { IfOk result (λ m. (id : List ℕ)
         → sums_at m id ≡ found_in (summaries_of opening.now) [] id) }
     ensures numbers { IfOk result (λ m.
-        AreNumbered ledger.new (place_named (summaries_of opening.now)) m) }
+        AreNumbered ledger.new (summary_key_named (summaries_of opening.now)) m) }
 {
     match opening {
         Some(opening) => summaries_of(ledger, alloc, seeded, opening.summaries.as_slice()),

@@ -30,7 +30,7 @@ pub struct FileLine {
     pub outcome: Outcome,
 }
 
-/// A summary whose numbers are not those of the usages that name it.
+/// A summary that states other usages or another amount than the usages that name it add up to.
 #[derive(Drop)]
 pub struct Difference {
     /// The file's place in the order given, from 1.
@@ -112,9 +112,9 @@ pub struct Report {
     pub key: Option<ReportKey>,
     /// The line of each file, in the order given.
     pub files: FileLines,
-    /// The numbers of the report's files that were not given, ascending.
+    /// The numbers from 1 to NumberOfFiles that no file with the standing Ours has, ascending; none without a key.
     pub missing: Numbers,
-    /// The summaries whose numbers are not those of their usages.
+    /// The differences of the files that are Ours and ended whole, by file and then in file order.
     pub differences: Differences,
     /// The ledger: the booked usages and amounts, and each party's part.
     pub ledger: LedgerLines,

@@ -3,7 +3,7 @@
 /// The standing of a file in the report.
 #[derive(Clone, Copy, PartialEq, Eq)]
 pub enum Standing {
-    /// Its opening has the report's key, and no earlier file has its number.
+    /// Its opening has the report's key, and no earlier file of the report has its number.
     Ours,
     /// Its opening has another key.
     Foreign,

@@ -141,6 +141,9 @@ fn has_others(bytes: &[u8], count: usize) -> bool
         .is_some()
 }
 
+/// The maximum number of cells of a line.
+const MOST_CELLS: usize = 64;
+
 /// Whether a line has more than 64 cells, that is, at least 64 TABs, so that at most `line.len() - 64` of
 /// its bytes are others.
 #[tactic(auto, using(crate::proofs::Tabs::many_cells))]
@@ -148,7 +151,7 @@ fn has_others(bytes: &[u8], count: usize) -> bool
 fn counts_many_cells(line: &str) -> bool
     ensures { result ≡ nat_lt 64 (length (cells line.now)) }
 {
-    line.len() >= 64 && !has_others(line.as_bytes(), line.len() - 64)
+    line.len() >= MOST_CELLS && !has_others(line.as_bytes(), line.len() - MOST_CELLS)
 }
 
 /// Whether a line has more than 64 cells. A line of fewer than 64 bytes has not, and for most longer ones
@@ -159,10 +162,10 @@ fn has_many_cells(line: &str, whole: &Rest<'_>) -> bool
     requires { whole.now.text.now ≡ line.now }
     ensures { result ≡ nat_lt 64 (length (cells line.now)) }
 {
-    if line.len() < 64 {
+    if line.len() < MOST_CELLS {
         return false;
     }
-    whole.may_have_more(64) && counts_many_cells(line)
+    whole.may_have_more(MOST_CELLS) && counts_many_cells(line)
 }
 
 /// Checks the cells of a kind's columns. Returns the line's record, not yet copied, or the first fault.

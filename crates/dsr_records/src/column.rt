@@ -4,6 +4,9 @@ ghost use Rattle.dsr_records.specs.Tables.{columns_of, column_name, may_be_empty
 
 use crate::kinds::{Column, Kind};
 
+/// The maximum number of columns of a kind.
+pub(crate) const MOST_COLUMNS: usize = 7;
+
 impl Column {
     /// The name of the column.
     pub fn name(self) -> &'static str

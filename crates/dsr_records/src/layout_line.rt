@@ -78,7 +78,8 @@ impl TypeName {
         self.start == start && self.continues_as(name)
     }
 
-    /// The same, if the first four bytes are known to be equal.
+    /// The same, if the two starts are known to be equal: both names are shorter than four bytes, or their first four bytes
+    /// are equal.
     #[inline(always)]
     fn continues_as(&self, name: &str) -> bool
         requires { start_of self.now ≡ start_of name.now }

@@ -6,7 +6,7 @@ ghost use Rattle.std.specs.Str.{is_utf8};
 ghost use Rattle.dsr_cells.specs.Lines.{without_return};
 ghost use Rattle.dsr_records.specs.Layouts.{empty_layout, is_type_text, is_type_byte, kind_named, position_of, positions_from, with_line, with_text, with_piece, with_lines, layout_of, cell_at, is_left_out};
 
-use crate::column::{column_may_be_empty, columns};
+use crate::column::{MOST_COLUMNS, column_may_be_empty, columns};
 use crate::kinds::{Column, Kind};
 use crate::layout::{Layout, place};
 use crate::layout_fault::{LayoutError, LayoutFault};
@@ -16,6 +16,15 @@ use crate::positions::Positions;
 use arrayvec::ArrayVec;
 use dsr_cells::{cell, read_number};
 use std::str;
+
+/// The maximum number of bytes of a layout.
+const MOST_BYTES: usize = 65536;
+
+/// The maximum length of a line of a layout in bytes, without its line feed.
+const LINE_LIMIT: usize = 8192;
+
+/// The greatest position of a column.
+const LAST_POSITION: u64 = 63;
 
 /// The kind that a role's name stands for.
 fn read_kind_name(name: &str) -> Option<Kind>
@@ -57,14 +66,14 @@ fn read_position(column: Column, text: &str) -> Option<Option<u8>>
         return Some(None);
     }
     let position = read_number(text)?;
-    if position < 1 || position > 63 {
+    if position < 1 || position > LAST_POSITION {
         return None;
     }
     Some(Some(position as u8))
 }
 
 /// The positions of the columns, from cell 2 of a layout line.
-fn read_positions(line: &str, columns: &[Column]) -> Option<ArrayVec<Option<u8>, 7>>
+fn read_positions(line: &str, columns: &[Column]) -> Option<ArrayVec<Option<u8>, MOST_COLUMNS>>
     requires { length columns.now ≤ 7 }
     ensures { option_map (λ p. p.items) result ≡ positions_from line.now columns.now 2 }
 {
@@ -128,7 +137,7 @@ impl Layout {
         ensures { MatchResult result (λ _. with_piece self.old piece.now ≡ Ok self.new)
             (λ fault. with_piece self.old piece.now ≡ Err fault) }
     {
-        if piece.len() > 8192 {
+        if piece.len() > LINE_LIMIT {
             return Err(LayoutFault::LongLine);
         }
         match read_text(piece) {
@@ -145,7 +154,7 @@ impl Layout {
     pub fn read(bytes: &[u8]) -> Result<Layout, LayoutError>
         ensures { result ≡ layout_of bytes.now }
     {
-        if bytes.len() > 65536 {
+        if bytes.len() > MOST_BYTES {
             return Err(LayoutError {
                 line: 1,
                 fault: LayoutFault::Large,

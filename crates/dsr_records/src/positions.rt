@@ -2,6 +2,7 @@
 ghost use Rattle.std.specs.Prelude.{◌≡◌, ◌≤◌, [], length, true};
 ghost use Rattle.dsr_records.specs.Rows.{IsInOrder};
 
+use crate::column::MOST_COLUMNS;
 use arrayvec::ArrayVec;
 use std::marker::Model;
 
@@ -23,7 +24,7 @@ fn are_in_order(places: &[Option<u8>]) -> bool
 /// The positions of a kind's columns, in the order of the columns. Contracts see them as their list.
 #[derive(Drop)]
 pub(crate) struct Positions {
-    places: ArrayVec<Option<u8>, 7>,
+    places: ArrayVec<Option<u8>, MOST_COLUMNS>,
     /// If true, they are 1, 2, 3 and so on, as in the standard layout.
     in_order: bool,
 }
@@ -41,7 +42,7 @@ impl Model for Positions {
 
 impl Positions {
     /// These positions.
-    pub(crate) fn of(places: ArrayVec<Option<u8>, 7>) -> Positions
+    pub(crate) fn of(places: ArrayVec<Option<u8>, MOST_COLUMNS>) -> Positions
         ensures { result ≡ places.items }
     {
         let in_order = are_in_order(places.as_slice());
@@ -86,7 +87,8 @@ impl Positions {
     }
 }
 
-fn copy_places(from: &ArrayVec<Option<u8>, 7>) -> ArrayVec<Option<u8>, 7>
+/// Equal positions, as a list.
+fn copy_places(from: &ArrayVec<Option<u8>, MOST_COLUMNS>) -> ArrayVec<Option<u8>, MOST_COLUMNS>
     ensures { result.items ≡ from.now.items }
 {
     let mut copy = ArrayVec::new();

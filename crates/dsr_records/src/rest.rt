@@ -129,7 +129,7 @@ impl<'l> Rest<'l> {
         self.tabs != 0
     }
 
-    /// The same text, whose next 64 bytes were searched.
+    /// The same text, with its first 64 bytes searched. Those that were known to have no TAB are searched again.
     #[inline(always)]
     pub(crate) fn searched_on(self) -> Rest<'l>
         ensures { result.text ≡ self.entry.text }

@@ -17,15 +17,18 @@ use dsr_cells::{
     read_usages, values,
 };
 
-/// The first shares of a list cell, at most four. Most works have no more, so their cells are read only once.
+/// The first shares of a list cell, at most four. Most works have fewer, so their cells are read only once.
 pub(crate) type FirstShares = ArrayVec<Share, 4>;
+
+/// The greatest number of files of a report.
+const MOST_FILES: u64 = 9999;
 
 /// The file number that a text spells: 1 to 9999.
 fn file_number(text: &str) -> Option<u32>
     ensures { result ≡ file_number_of text.now }
 {
     let number = read_number(text)?;
-    if number < 1 || number > 9999 {
+    if number < 1 || number > MOST_FILES {
         return None;
     }
     Some(number as u32)
@@ -189,7 +192,8 @@ fn add_share(first: &mut FirstShares, share: Share)
     }
 }
 
-/// The number of shares in a list cell; None if a raw part is not a share. The first four are written over `first`.
+/// The number of shares in a list cell; None if a raw part is not a share. The first four are added to `first`, which is
+/// empty.
 fn count_shares(cell: &str, first: &mut FirstShares) -> Option<usize>
     requires { first.old.items ≡ [] }
     ensures count { result ≡ share_count cell.now }
@@ -204,8 +208,8 @@ fn count_shares(cell: &str, first: &mut FirstShares) -> Option<usize>
     Some(count)
 }
 
-/// The number of shares in the cell of the column Shares, which may be missing. The first four are written over
-/// `first`.
+/// The number of shares in the cell of the column Shares, which may be missing. The first four are added to `first`,
+/// which is empty.
 #[inline(always)]
 pub(crate) fn read_share_count(
     row: &Row<'_>,

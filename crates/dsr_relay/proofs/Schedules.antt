@@ -9,13 +9,14 @@ use Rattle.dsr_events.specs.Orderly.{IsOrderly, has_ended}
 use Rattle.dsr_events.specs.OrderlyLaws.{ended_whole}
 use Rattle.dsr_relay.specs.Messages.{IsMessage}
 use Rattle.dsr_relay.specs.Lanes.{Lane, Step, put, get, IsPrefix, Puts, Gets, Moves, file_of, Happens, Leads, IsFresh}
-use Rattle.dsr_relay.specs.Laws.{joined, IsInOrder, InEverySchedule, LeavesOthers, IsNeverStuck, IsBounded, IsDelivered}
+use Rattle.dsr_relay.specs.Messages.{events_of}
+use Rattle.dsr_relay.specs.Laws.{IsInOrder, InEverySchedule, LeavesOthers, IsNeverStuck, IsBounded, IsDelivered}
 use Rattle.dsr_relay.proofs.Messages.{append_nil}
 use Rattle.dsr_relay.proofs.Lanes.{all_get, all_set, all_from, all_map, set_else, map_kept, map_same, total, total_set, total_below}
 
-joined_push : (ms : List (List Placed)) (m : List Placed) → joined (ms ++ m ∷ []) ≡ joined ms ++ m
-joined_push [] m = append_nil m
-joined_push (n ∷ ms) m = ap (λ l. n ++ l) (joined_push ms m) ∙ sym (append_assoc n (joined ms) m)
+events_of_push : (ms : List (List Placed)) (m : List Placed) → events_of (ms ++ m ∷ []) ≡ events_of ms ++ m
+events_of_push [] m = append_nil m
+events_of_push (n ∷ ms) m = ap (λ l. n ++ l) (events_of_push ms m) ∙ sym (append_assoc n (events_of ms) m)
 
 messages_push : (ms : List (List Placed)) (m : List Placed) → AllByRecursion IsMessage ms → IsMessage m → AllByRecursion IsMessage (ms ++ m ∷ [])
 messages_push [] m h size = (size, tt)
@@ -26,7 +27,7 @@ pub record IsGood (l : Lane) : Type 0 where
   pub orderly : IsOrderly l.source
   pub ends : has_ended l.source ≡ true
   pub has_place : 1 ≤ l.capacity
-  pub in_order : l.taken ++ joined l.queue ≡ l.sent
+  pub in_order : l.taken ++ events_of l.queue ≡ l.sent
   pub of_source : IsPrefix l.sent l.source
   pub fits : length l.queue ≤ l.capacity
   pub messages : AllByRecursion IsMessage l.queue
@@ -36,7 +37,7 @@ fresh_good l h = record {
   orderly = h.orderly;
   ends = h.ends;
   has_place = h.has_place;
-  in_order = (λ i. h.empty.2 i ++ joined (h.empty.1 i)) ∙ sym h.empty.0;
+  in_order = (λ i. h.empty.2 i ++ events_of (h.empty.1 i)) ∙ sym h.empty.0;
   of_source = (l.source, ap (λ s. s ++ l.source) (sym h.empty.0));
   fits = omega (arith, ap length h.empty.1, h.has_place);
   messages = subst (AllByRecursion IsMessage) (sym h.empty.1) tt;
@@ -47,7 +48,7 @@ puts_good m l k p h = subst IsGood (sym p.after_it) record {
   orderly = h.orderly;
   ends = h.ends;
   has_place = h.has_place;
-  in_order = ap (λ e. l.taken ++ e) (joined_push l.queue m) ∙ sym (append_assoc l.taken (joined l.queue) m) ∙ ap (λ e. e ++ m) h.in_order;
+  in_order = ap (λ e. l.taken ++ e) (events_of_push l.queue m) ∙ sym (append_assoc l.taken (events_of l.queue) m) ∙ ap (λ e. e ++ m) h.in_order;
   of_source = p.next;
   fits = omega (arith, length-append l.queue (m ∷ []), p.room);
   messages = messages_push l.queue m h.messages p.size;
@@ -58,7 +59,7 @@ gets_good l k g h = subst IsGood (sym g.after_it) record {
   orderly = h.orderly;
   ends = h.ends;
   has_place = h.has_place;
-  in_order = append_assoc l.taken g.message (joined g.rest) ∙ ap (λ q. l.taken ++ joined q) (sym g.front) ∙ h.in_order;
+  in_order = append_assoc l.taken g.message (events_of g.rest) ∙ ap (λ q. l.taken ++ events_of q) (sym g.front) ∙ h.in_order;
   of_source = h.of_source;
   fits = omega (arith, ap length g.front, h.fits);
   messages = (subst (AllByRecursion IsMessage) g.front h.messages).1;
@@ -121,7 +122,7 @@ total_sum f ls = go ls ∙ sym (sum-map f ls)
 
 half_done : (l : Lane) → IsGood l → done l ≤ 2 * length l.source
 unfolding done
-half_done l h = omega (arith, ap length h.in_order, length-append l.taken (joined l.queue), ap length h.of_source.1, length-append l.sent h.of_source.0)
+half_done l h = omega (arith, ap length h.in_order, length-append l.taken (events_of l.queue), ap length h.of_source.1, length-append l.sent h.of_source.0)
 
 pub in_every_schedule : InEverySchedule
 in_every_schedule first lanes steps fresh h =
@@ -170,7 +171,7 @@ can_move lanes k l h at none = by_queue l.queue refl
 
     by_queue : (queue : List (List Placed)) → l.queue ≡ queue → (step : Step) × (next : List Lane) × (file_of step ≡ k) × Happens step lanes next
     by_queue [] is =
-        let same : l.taken ≡ l.sent = sym (append_nil l.taken) ∙ ap (λ q. l.taken ++ joined q) (sym is) ∙ h.in_order in
+        let same : l.taken ≡ l.sent = sym (append_nil l.taken) ∙ ap (λ q. l.taken ++ events_of q) (sym is) ∙ h.in_order in
         sends is h.of_source.0 h.of_source.1 (ap has_ended (sym same) ∙ none)
     by_queue (m ∷ rest) is =
         moves (get k) (record l { queue = rest; taken = l.taken ++ m }) refl record { message = m; rest = rest; front = is; after_it = refl }
@@ -191,6 +192,6 @@ delivered first lanes steps fresh h no_more =
     all_taken : (l : Lane) → IsGood l → (b : Bool) → has_ended l.taken ≡ b → (has_ended l.taken ≡ false → ⊥) → l.taken ≡ l.source
     all_taken l g false is stuck = absurd (stuck is)
     all_taken l g true is stuck =
-        let whole : l.source ≡ l.taken ++ (joined l.queue ++ g.of_source.0) =
-        g.of_source.1 ∙ ap (λ s. s ++ g.of_source.0) (sym g.in_order) ∙ append_assoc l.taken (joined l.queue) g.of_source.0 in
-        sym (whole ∙ ap (λ r. l.taken ++ r) (ended_whole l.taken (joined l.queue ++ g.of_source.0) (subst IsOrderly whole g.orderly) is) ∙ append_nil l.taken)
+        let whole : l.source ≡ l.taken ++ (events_of l.queue ++ g.of_source.0) =
+        g.of_source.1 ∙ ap (λ s. s ++ g.of_source.0) (sym g.in_order) ∙ append_assoc l.taken (events_of l.queue) g.of_source.0 in
+        sym (whole ∙ ap (λ r. l.taken ++ r) (ended_whole l.taken (events_of l.queue ++ g.of_source.0) (subst IsOrderly whole g.orderly) is) ∙ append_nil l.taken)

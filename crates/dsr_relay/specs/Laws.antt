@@ -1,18 +1,13 @@
 -- The laws of the relays of all files. They hold in every schedule, for any number of files.
-use Rattle.std.specs.Prelude.{◌≡◌, ℕ, ◌*◌, ◌≤◌, false, List, [], ◌∷◌, ◌++◌, length, map, sum, Some, slice_get}
+use Rattle.std.specs.Prelude.{◌≡◌, ℕ, ◌*◌, ◌≤◌, false, List, ◌++◌, length, map, sum, Some, slice_get}
 use Rattle.std.specs.List.{AllByRecursion}
-use Rattle.dsr_events.specs.Placed.{Placed}
 use Rattle.dsr_events.specs.Orderly.{has_ended}
+use Rattle.dsr_relay.specs.Messages.{events_of}
 use Rattle.dsr_relay.specs.Lanes.{Lane, Step, file_of, IsPrefix, Happens, Leads, IsFresh}
-
--- the events of the messages, one message after another
-abbrev pub joined : List (List Placed) → List Placed
-joined [] = []
-joined (message ∷ messages) = message ++ joined messages
 
 -- what was taken, followed by the queue, is what was sent, a prefix of the source; and the queue is within its capacity
 pub record IsInOrder (lane : Lane) : Type 0 where
-  pub in_order : lane.taken ++ joined lane.queue ≡ lane.sent
+  pub in_order : lane.taken ++ events_of lane.queue ≡ lane.sent
   pub of_source : IsPrefix lane.sent lane.source
   pub fits : length lane.queue ≤ lane.capacity
 

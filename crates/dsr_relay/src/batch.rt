@@ -16,7 +16,7 @@ use std::marker::Model;
 use std::mem;
 
 /// The maximum number of events in a batch.
-const MOST_EVENTS: usize = 32;
+pub(crate) const MOST_EVENTS: usize = 32;
 
 /// The stale events in a batch's memory are freed once more than this many bytes were counted for them.
 const MOST_STALE: usize = 256 * 1024;

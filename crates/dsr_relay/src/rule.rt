@@ -25,6 +25,7 @@ pub trait Capacity {
     ghost capacity: { ℕ };
 }
 
+/// The 0 is not used: a call at `Brand` picks the capacity in its proof.
 impl Capacity for Brand {
     ghost capacity = { 0 };
 }

@@ -90,7 +90,7 @@ fn print_events<P: Print, R: Read>(rt: &P, file: &mut FileReader, reader: &mut R
 
 fn main(rt: HostRuntime) -> io::Result<()> {
     let Ok(mut file) = FileReader::new(rt.alloc(), &Layout::standard()) else {
-        return println!(rt; "out of memory");
+        return Err(io::ErrorKind::OutOfMemory.into());
     };
     print_events(&rt, &mut file, &mut rt.stdin())
 }

@@ -83,9 +83,9 @@ impl FileReader {
         match step {
             Step::Good => {
                 let outcome = self.grammar.outcome(Ending::Whole);
-                self.faulty(closed, outcome)
+                self.end_after(closed, outcome)
             }
-            Step::Faulty(fault) => self.faulty(closed, Outcome::Fault { line, fault }),
+            Step::Faulty(fault) => self.end_after(closed, Outcome::Fault { line, fault }),
             Step::NoMemory => self.end(Outcome::Fault {
                 line,
                 fault: FileFault::Memory,

@@ -10,7 +10,7 @@ use crate::reader::phase::Phase;
 use dsr_events::{Event, EventPart, FileFault, Outcome};
 
 impl FileReader {
-    ghost use Rattle.dsr_file.specs.Standing.{SameBut, SameText, FaultyGives};
+    ghost use Rattle.dsr_file.specs.Standing.{SameBut, SameText, EndsAfter};
     ghost use Rattle.dsr_file.specs.ReaderSteps.{AppliesStep};
     ghost use Rattle.dsr_file.specs.Runs.{ended};
     ghost use Rattle.dsr_file.specs.declared.reader.phase.Phase.TheVariants as phases;
@@ -54,7 +54,7 @@ impl FileReader {
     }
 
     /// Gives an event, and keeps the outcome, which comes next.
-    fn last(&mut self, part: EventPart, outcome: Outcome) -> Event
+    fn give_before_end(&mut self, part: EventPart, outcome: Outcome) -> Event
         requires { self.old.place + 1 ≤ self.old.given + 2 }
         ensures event { result ≡ record { place = self.old.place; part = part } }
         ensures place { self.new.place ≡ self.old.place + 1 }
@@ -65,15 +65,15 @@ impl FileReader {
         self.event(part)
     }
 
-    /// Gives the event of the last line and keeps the outcome; without an event, gives the outcome.
-    pub(super) fn faulty(&mut self, part: Option<EventPart>, outcome: Outcome) -> Event
+    /// Ends the file after this content: gives its event and keeps the outcome; without content, gives the outcome.
+    pub(super) fn end_after(&mut self, part: Option<EventPart>, outcome: Outcome) -> Event
         requires { self.old.place + 1 ≤ self.old.given + 2 }
-        ensures gives { FaultyGives self.old.place part outcome result self.new }
+        ensures gives { EndsAfter self.old.place part outcome result self.new }
         ensures place { self.new.place ≡ self.old.place + 1 }
         ensures same { SameText self.old self.new }
     {
         match part {
-            Some(part) => self.last(part, outcome),
+            Some(part) => self.give_before_end(part, outcome),
             None => self.end(outcome),
         }
     }
@@ -124,15 +124,15 @@ impl FileReader {
         match step {
             Step::Good => self.good(part),
             Step::Faulty(fault) => {
-                let event = self.faulty(part.take(), Outcome::Fault { line, fault });
+                let event = self.end_after(part.take(), Outcome::Fault { line, fault });
                 part.set(event.part);
             }
             Step::NoMemory => {
-                let event = self.end(Outcome::Fault {
+                let outcome = Outcome::Fault {
                     line,
                     fault: FileFault::Memory,
-                });
-                part.set(event.part);
+                };
+                self.close_with(outcome, part);
             }
         }
     }

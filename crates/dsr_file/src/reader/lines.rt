@@ -10,13 +10,13 @@ use crate::cutter::Cut;
 use crate::grammar::Step;
 use crate::reader::FileReader;
 use crate::reader::phase::Phase;
-use dsr_events::{Event, FileFault, Outcome};
+use dsr_events::{FileFault, Outcome};
 
 impl FileReader {
     ghost use Rattle.dsr_file.specs.Standing.{Stands, IsDone, SameText, bytes_used, events_left, ending_told};
     ghost use Rattle.dsr_file.specs.ReaderSteps.{UsesBytes, AppliesCut, TakesLine};
     ghost use Rattle.dsr_file.specs.Cutting.{FitsCut};
-    ghost use Rattle.dsr_file.specs.Runs.{ended, BeginsEvents, HasEvents};
+    ghost use Rattle.dsr_file.specs.Runs.{BeginsEvents, HasEvents};
     ghost use Rattle.dsr_file.specs.declared.reader.phase.Phase.TheVariants as phases;
 
     /// Uses bytes of a piece, up to the next event, which `part` becomes: its place is that of the reader before. Returns
@@ -177,25 +177,11 @@ impl FileReader {
         ensures reading { IfNone part.new (self.new.phase ≡ phases.Reading) }
         ensures place { IfNone part.new (self.new.place ≡ self.old.place) }
     {
-        let event = self.long_line();
-        part.set(event.part);
-    }
-
-    /// Ends the file at a line that is too long.
-    fn long_line(&mut self) -> Event
-        requires reading { self.old.phase ≡ phases.Reading }
-        requires room { self.old.place + 1 ≤ self.old.given }
-        ensures event { result ≡ ended self.old.place (Outcome.Fault (self.old.grammar.lines + 1)
-            FileFault.LongLine) }
-        ensures place { self.new.place ≡ self.old.place + 1 }
-        ensures same { SameText self.old self.new }
-        ensures done { self.new.phase ≡ phases.Done (Outcome.Fault (self.old.grammar.lines + 1)
-            FileFault.LongLine) }
-    {
         let line = self.grammar.lines + 1;
-        self.end(Outcome::Fault {
+        let outcome = Outcome::Fault {
             line,
             fault: FileFault::LongLine,
-        })
+        };
+        self.close_with(outcome, part);
     }
 }

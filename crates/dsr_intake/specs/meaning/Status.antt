@@ -3,18 +3,11 @@ use Rattle.std.specs.Prelude.{Bool, true, false, ◌&&◌, is_some, if◌then◌
 use Rattle.std.specs.List.{list_all}
 use Rattle.dsr_events.specs.declared.fault.Outcome.{Outcome}
 use Rattle.dsr_events.specs.declared.fault.Outcome.TheVariants.{Whole, Fault}
-use Rattle.dsr_ledger.specs.declared.verdict.Standing.{Standing}
-use Rattle.dsr_ledger.specs.declared.verdict.Standing.TheVariants.{Ours, Foreign, Doubled, Headless}
 use Rattle.dsr_ledger.specs.declared.report.FileLine.{FileLine}
 use Rattle.dsr_ledger.specs.declared.report.Report.{Report}
+use Rattle.dsr_ledger.specs.Findings.{is_ours}
 use Rattle.dsr_intake.specs.declared.statements.verdict.Status.{Status}
 use Rattle.dsr_intake.specs.declared.statements.verdict.Status.TheVariants.{Clean, Remarks}
-
-abbrev pub is_ours : Standing → Bool
-is_ours Ours = true
-is_ours Foreign = false
-is_ours Doubled = false
-is_ours Headless = false
 
 abbrev pub is_whole : Outcome → Bool
 is_whole Whole = true

@@ -7,7 +7,7 @@ ghost use Rattle.dsr_ledger.specs.BooksWords.{Stands, files_count};
 ghost use Rattle.dsr_ledger.specs.Closed.{AreClosed};
 ghost use Rattle.dsr_ledger.specs.Reports.{report_of};
 ghost use Rattle.dsr_ledger.specs.Files.{File};
-ghost use Rattle.dsr_intake.specs.inner.Ends.{is_clean_end, is_memory};
+ghost use Rattle.dsr_intake.specs.inner.Ends.{is_clean_end};
 ghost use Rattle.dsr_intake.specs.meaning.Texts.{file_of};
 ghost use Rattle.dsr_intake.specs.inner.Stops.{IsStopped};
 ghost use Rattle.dsr_intake.specs.inner.Collecting.{with_part, is_opening, first_file, IsGoing, Knows, Changes};
@@ -18,7 +18,7 @@ use crate::pipeline::options::MOST_FILES;
 use crate::pipeline::patience::Patience;
 use crate::pipeline::seed::random_seed;
 use dsr_cells::NoMemory;
-use dsr_file::{Event, EventPart, FileFault, Outcome};
+use dsr_file::{Event, EventPart};
 use dsr_ledger::{Books, ClosedBooks, Report};
 use dsr_relay::{Batch, Closed, Tap};
 use std::alloc::Global;
@@ -32,16 +32,6 @@ fn closed(k: u32) -> CollectError
     ensures { result ≡ CollectError.Closed (k + 1) }
 {
     CollectError::Closed(k + 1)
-}
-
-/// Whether the file ended because memory was refused.
-fn is_memory(outcome: &Outcome) -> bool
-    ensures { result ≡ is_memory outcome.now }
-{
-    match outcome {
-        Outcome::Whole => false,
-        Outcome::Fault { line: _, fault } => matches!(fault, FileFault::Memory),
-    }
 }
 
 /// Books an event of file k after the first.
@@ -60,7 +50,7 @@ fn book_part(books: &mut Books, k: u32, part: &EventPart) -> Result<(), NoMemory
             Ok(())
         }
         EventPart::Ended(outcome) => {
-            if is_memory(outcome) {
+            if outcome.is_memory() {
                 return Err(NoMemory);
             }
             books.end_file(k, *outcome)
@@ -173,7 +163,7 @@ fn open_part(books: &mut Books, k: u32, part: EventPart) -> Result<(), NoMemory>
         }
         EventPart::Block(_) => unreachable!(),
         EventPart::Ended(outcome) => {
-            if is_memory(&outcome) {
+            if outcome.is_memory() {
                 return Err(NoMemory);
             }
             books.open_next(None)?;

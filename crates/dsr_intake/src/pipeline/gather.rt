@@ -155,6 +155,7 @@ fn start_and_collect<
     }
 }
 
+/// Reads the files by threads, joins these, and returns closed books. The options and the number of readers are in range.
 fn gather<
     R: Source + Send + Drop + 'static,
     H: Threads + Wait + RandomSource + Copy + Send + 'static,
@@ -189,6 +190,7 @@ fn gather<
     }
 }
 
+/// An empty list with room for this many items.
 fn with_room<T>(alloc: Global, count: usize) -> Result<Vec<T>, IntakeError>
     ensures empty { IfOk result (λ v. v.items ≡ []) }
     ensures room { IfOk result (λ v. count ≤ vec_capacity v) }
@@ -200,6 +202,7 @@ fn with_room<T>(alloc: Global, count: usize) -> Result<Vec<T>, IntakeError>
     }
 }
 
+/// The error of an intake whose collector stopped.
 fn collect_error(error: CollectError) -> IntakeError
     ensures { IsLate result }
 {

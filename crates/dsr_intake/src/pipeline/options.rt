@@ -21,7 +21,7 @@ pub struct Options {
     pub capacity: u32,
     /// The maximum number of reads of a file: 1 to 16,777,216.
     pub max_reads: u32,
-    /// The places of the records' columns.
+    /// The layout: the record types, the positions of their columns, and the types that are skipped.
     pub layout: Layout,
 }
 

@@ -77,7 +77,7 @@ fn read_and_send<R: Source, H: Wait>(
 ) -> Finished<R>
     requires some_reads { 0 < options.max_reads }
     requires reads { options.max_reads ≤ MOST_READS }
-    requires fresh { (R.told reader).failed ≡ false }
+    requires unfailed { (R.told reader).failed ≡ false }
     requires empty { feed.sent ≡ [] }
     ensures name { result.feed.name ≡ feed.name }
     ensures given { IsGiven options (R.told reader) (R.told result.reader) result.feed.sent }
@@ -108,8 +108,7 @@ fn read_and_send<R: Source, H: Wait>(
 /// Whether memory was refused while the file was read.
 fn wants_memory(answer: &Result<Outcome, ReadFileError>) -> bool {
     match answer {
-        Ok(Outcome::Fault { line: _, fault }) => matches!(fault, FileFault::Memory),
-        Ok(Outcome::Whole) => false,
+        Ok(outcome) => outcome.is_memory(),
         Err(ReadFileError::Memory) => true,
         Err(ReadFileError::Refused(_)) => false,
     }
@@ -144,7 +143,7 @@ pub(crate) fn start<R: Source + Send + Drop + 'static, H: Threads + Wait + Copy 
 ) -> Result<Thread<R>, IntakeError>
     requires some_reads { 0 < options.now.max_reads }
     requires reads { options.now.max_reads ≤ MOST_READS }
-    requires fresh { (R.told reader).failed ≡ false }
+    requires unfailed { (R.told reader).failed ≡ false }
     requires empty { feed.sent ≡ [] }
     ensures late { IfErr result IsLate }
     ensures promise { IfOk result (λ h. (h.promise.reader.value ≡ reader)

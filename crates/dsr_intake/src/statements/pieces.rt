@@ -158,6 +158,7 @@ impl<'a, W: Outlet> Put for Pieces<'a, W> {
     }
 
     fn put_amount(&mut self, amount: i128, is_last: bool) {
+        // `fill_amount` leaves the last byte, so the end of the line is already there.
         let mut cell = [b'\n'; 64];
         let start = fill_amount(&mut cell, amount) - 1;
         cell[start] = b'\t';
@@ -174,7 +175,7 @@ impl<'a, W: Outlet> Put for Pieces<'a, W> {
         false
     }
 
-    /// Whether the outlet has failed.
+    /// Whether the outlet has failed. If so, what waits is dropped, since it is never written.
     fn is_closed(&mut self) -> bool {
         if !self.sender.failed {
             return false;

@@ -28,7 +28,8 @@ pub(crate) trait Put {
     /// Whether bytes are copied when they are put, so that cells that are put often are laid out once.
     fn copies_bytes(&self) -> bool;
 
-    /// Puts the length of some bytes, if only the length of bytes matters: `most` is at least theirs.
+    /// Puts bytes of which only an upper bound of their length, `most`, is known, if only lengths matter here. Returns whether
+    /// it did; otherwise nothing changes.
     fn put_length(&mut self, most: u64) -> bool
         ensures taken { result ≡ true → (bytes : List ℕ) → length bytes ≤ most
             → Puts after self.old self.new bytes }

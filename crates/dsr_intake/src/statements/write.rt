@@ -144,8 +144,9 @@ fn put_statement<P: Put>(put: &mut LedgerPut<'_, P>, days: &[u8], report: &mut L
     put_rejects(&mut put.out, report.rejects);
 }
 
-/// Puts a bound of the length of the ledger's lines, if only lengths matter and it is known without making them.
-fn put_bytes<P: Put>(out: &mut P, ledger: &LentLedger<'_>) -> bool
+/// Puts a bound of the length of the ledger's lines, if only lengths matter and it is known without making them. Returns
+/// whether it did.
+fn put_ledger_bound<P: Put>(out: &mut P, ledger: &LentLedger<'_>) -> bool
     requires { IsReady ledger.now }
     ensures taken { result ≡ true → (lines : List LedgerLineValue) → LinesLent ledger.now lines
         → Puts P.after out.old out.new (flat_map ledger_lines lines) }
@@ -168,7 +169,7 @@ fn put_lines<P: Put>(put: &mut LedgerPut<'_, P>, ledger: &mut LentLedger<'_>)
     ensures put { (lines : List LedgerLineValue) → LinesLent ledger.old lines
         → Puts P.after put.old.out put.new.out (flat_map ledger_lines lines) }
 {
-    if !put_bytes(&mut put.out, ledger) {
+    if !put_ledger_bound(&mut put.out, ledger) {
         ledger.give(put);
     }
 }

@@ -114,7 +114,7 @@ impl Summaries {
         }
     }
 
-    /// The same. Of many summaries, the one at `next`, which may be any number, is tried first.
+    /// The number of a summary. Of many summaries, the one at `next`, which may be any number, is tried first.
     pub fn index_near(&self, id: &Text, next: usize) -> Option<usize>
         ensures { result ≡ index_at self.now id.now }
     {

@@ -58,14 +58,11 @@ fn find_line(lines: &[Line], index: &Index, key: u32, hint: usize) -> Option<usi
     index.find(lines, key)
 }
 
-/// Reserves memory for one more line. The first reserves no more, since most recordings have few.
+/// Reserves memory for one more line. A new recording already has room for those of its first block.
 fn reserve_line(lines: &mut Vec<Line>) -> Result<(), NoMemory>
     ensures items { lines.new.items ≡ lines.old.items }
     ensures room { OnOk result (vec_len lines.new < vec_capacity lines.new) }
 {
-    if lines.is_empty() {
-        lines.reserve_exact(1)?;
-    }
     lines.reserve(1)?;
     Ok(())
 }

@@ -1,6 +1,6 @@
 //! The key that a summary gives to its usages.
 ghost use Rattle.std.specs.Prelude.{◌≡◌, IfOk};
-ghost use Rattle.dsr_ledger.specs.Bookings.{place_of};
+ghost use Rattle.dsr_ledger.specs.Bookings.{summary_key_of};
 
 use dsr_cells::{NoMemory, Text};
 use dsr_records::Summary;
@@ -17,7 +17,7 @@ pub struct SummaryKey {
 impl SummaryKey {
     /// The key of a summary.
     pub fn of(alloc: Global, summary: &Summary) -> Result<SummaryKey, NoMemory>
-        ensures { IfOk result (λ key. key ≡ place_of summary.now) }
+        ensures { IfOk result (λ key. key ≡ summary_key_of summary.now) }
     {
         Ok(SummaryKey {
             territory: summary.territory.copy(alloc)?,

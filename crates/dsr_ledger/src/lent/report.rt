@@ -14,9 +14,9 @@ pub struct LentReport<'a> {
     pub key: &'a Option<ReportKey>,
     /// The line of each file, in the order given.
     pub files: &'a [FileLine],
-    /// The numbers of the report's files that were not given, ascending.
+    /// The numbers from 1 to NumberOfFiles that no file with the standing Ours has, ascending; none without a key.
     pub missing: &'a [u32],
-    /// The summaries whose numbers are not those of their usages.
+    /// The differences of the files that are Ours and ended whole, by file and then in file order.
     pub differences: &'a [Difference],
     /// The ledger: the booked usages and amounts, and each party's part.
     pub ledger: LentLedger<'a>,

@@ -3,12 +3,12 @@
 /// Upper bounds of the lines of a ledger, known without making them.
 #[derive(Clone, Copy)]
 pub struct LedgerSizes {
-    /// Of the recordings.
+    /// The number of recordings.
     pub recordings: usize,
-    /// Of the lines of a recording.
+    /// The number of summary keys; no recording has more lines.
     pub keys: usize,
-    /// Of the parties of a line.
+    /// The number of parties; no line has more.
     pub parties: usize,
-    /// Of the bytes of an ISRC, a territory, a use type, a currency or a name.
+    /// The length, in bytes, of the longest ISRC, territory, use type, currency or party's name.
     pub text: usize,
 }

@@ -3,5 +3,5 @@ use Rattle.dsr_file.proofs.whole.whole_events.Goals as goal
 
 pub returns : goal.returns
 returns c =
-    all_kept c.args.layout.now c.args.bytes.now c.args.ending c.read_whole.new.sink c.in_ok-outcome.outcome c.ends_for_memory.result c.in_ok-outcome.ensures
-    c.ends_for_memory.ensures c.if-ends_for_memory.false
+    all_kept c.args.layout.now c.args.bytes.now c.args.ending c.read_whole.new.sink c.in_ok-outcome.outcome c.is_memory.result c.in_ok-outcome.ensures
+    c.is_memory.ensures c.if-is_memory.false

@@ -1,7 +1,7 @@
 use Rattle.std.proofs.Common.{[], ◌∷◌, ◌++◌, take, sym, ap, ◌∙◌, subst}
 use Rattle.std.specs.Prelude.{option_map}
 use Rattle.std.proofs.lemmas.List.{take_more, take_all}
-use Rattle.dsr_ledger.specs.Bookings.{place_named}
+use Rattle.dsr_ledger.specs.Bookings.{summary_key_named}
 use Rattle.dsr_ledger.specs.Openings.{first_of, named}
 use Rattle.dsr_ledger.specs.Recordings.{key_number}
 use Rattle.dsr_ledger.specs.Summaries.{shown_at, found_in, no_sums, AreNumbered}
@@ -44,7 +44,7 @@ loop-summary-preserved c =
           ∙ ap (λ o. first_of o (option_map (λ x. no_sums) (named id s))) (before.sums id)
           ∙ sym (ap (λ l. found_in l [] id) more ∙ found_in-push id os s);
       numbers =
-          subst (λ l. AreNumbered c.summary_key.new.self (place_named l) c.add.new.self) (sym more) (
+          subst (λ l. AreNumbered c.summary_key.new.self (summary_key_named l) c.add.new.self) (sym more) (
           numbered_push c.loop-summary.ledger c.summary_key.new.self n os s was c.add.new.self step.keys
           (ap (key_number c.summary_key.new.self) (sym c.in_ok-of.ensures) ∙ c.in_ok-key.ensures.there) c.in_ok-add.ensures before.numbers);
     }
@@ -55,5 +55,5 @@ returns-clause-sums c = λ id.
 
 pub returns-clause-numbers : goal.returns-clause-numbers
 returns-clause-numbers c =
-    subst (λ l. AreNumbered c.loop-summary.ledger (place_named l) c.loop-summary.summaries)
+    subst (λ l. AreNumbered c.loop-summary.ledger (summary_key_named l) c.loop-summary.summaries)
     (take_all c.loop-summary.summary-index c.args.stated.now c.loop-summary-test.false) c.loop-summary.invariant.numbers

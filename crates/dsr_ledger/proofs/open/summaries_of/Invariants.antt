@@ -1,5 +1,5 @@
 use Rattle.std.proofs.Common.{◌≡◌, ℕ, List, [], take}
-use Rattle.dsr_ledger.specs.Bookings.{place_named}
+use Rattle.dsr_ledger.specs.Bookings.{summary_key_named}
 use Rattle.dsr_ledger.specs.Recordings.{KeepsKeys}
 use Rattle.dsr_ledger.specs.Summaries.{sums_at, found_in, AreNumbered}
 use Rattle.dsr_ledger.proofs.open.summaries_of.Given as goal
@@ -8,5 +8,5 @@ abbrev pub invariant-loop-summary : goal.invariant-loop-summary
 invariant-loop-summary l = record {
   keeps : KeepsKeys l.fn.ledger l.ledger;
   sums : (id : List ℕ) → sums_at l.summaries id ≡ found_in (take l.summary-index l.stated) [] id;
-  numbers : AreNumbered l.ledger (place_named (take l.summary-index l.stated)) l.summaries;
+  numbers : AreNumbered l.ledger (summary_key_named (take l.summary-index l.stated)) l.summaries;
 }

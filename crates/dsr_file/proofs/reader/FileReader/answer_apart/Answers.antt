@@ -1,9 +1,9 @@
 use Rattle.std.proofs.Common.{◌∙◌, ◌++◌, ◌∷◌, [], refl, subst, sym}
 use Rattle.dsr_events.specs.declared.fault.Outcome.TheVariants.{Fault}
 use Rattle.std.specs.Option.{option_to_list}
-use Rattle.dsr_file.specs.Standing.{FaultyGives, Stands}
+use Rattle.dsr_file.specs.Standing.{EndsAfter, Stands}
 use Rattle.dsr_file.specs.Texts.{placed}
-use Rattle.dsr_file.proofs.StandLemmas.{good_stands, faulty_stands, memory_stands, ended_again, given_again}
+use Rattle.dsr_file.proofs.StandLemmas.{good_stands, faulty_stands, memory_stands, given_again}
 use Rattle.dsr_file.proofs.reader.FileReader.answer_apart.Goals as goal
 
 pub returns-in-Good-clause-stands : goal.returns-in-Good-clause-stands
@@ -15,18 +15,17 @@ returns-in-Good-clause-stands c = λ layout b es a.
 pub returns-in-Faulty-clause-stands : goal.returns-in-Faulty-clause-stands
 returns-in-Faulty-clause-stands c = λ layout b es a.
     let gives =
-    subst (λ x. FaultyGives c.args.self.now.place x (Fault c.args.line c.in-Faulty.fault) c.faulty-event.result c.faulty-event.new.self)
-    c.take.ensures.value c.faulty-event.ensures.gives in
-    subst (λ o. Stands layout c.faulty-event.new.self b (es ++ placed c.args.self.now.place (option_to_list o))) (sym c.set.ensures)
-    (subst (λ e. Stands layout c.faulty-event.new.self b (es ++ e ∷ []))
-    (sym (given_again c.args.self.now.place _ c.args.part.now _ c.faulty-event.result c.faulty-event.new.self _ c.event.view_is gives))
-    (faulty_stands layout c.args.self.now c.args.line c.args.step c.args.part.now b es a c.faulty-event.new.self c.in-Faulty.fault c.faulty-event.result
-    c.in-Faulty.is gives c.faulty-event.ensures.same c.faulty-event.ensures.place))
+    subst (λ x. EndsAfter c.args.self.now.place x (Fault c.args.line c.in-Faulty.fault) c.end_after-event.result c.end_after-event.new.self)
+    c.take.ensures.value c.end_after-event.ensures.gives in
+    subst (λ o. Stands layout c.end_after-event.new.self b (es ++ placed c.args.self.now.place (option_to_list o))) (sym c.set.ensures)
+    (subst (λ e. Stands layout c.end_after-event.new.self b (es ++ e ∷ []))
+    (sym (given_again c.args.self.now.place _ c.args.part.now _ c.end_after-event.result c.end_after-event.new.self _ c.event.view_is gives))
+    (faulty_stands layout c.args.self.now c.args.line c.args.step c.args.part.now b es a c.end_after-event.new.self c.in-Faulty.fault c.end_after-event.result
+    c.in-Faulty.is gives c.end_after-event.ensures.same c.end_after-event.ensures.place))
 
 pub returns-in-NoMemory-clause-stands : goal.returns-in-NoMemory-clause-stands
 returns-in-NoMemory-clause-stands c = λ layout b es a.
-    subst (λ o. Stands layout c.end-event.new.self b (es ++ placed c.args.self.now.place (option_to_list o))) (sym c.set-in-NoMemory.ensures)
-    (subst (λ e. Stands layout c.end-event.new.self b (es ++ e ∷ []))
-    (sym (ended_again c.args.self.now.place _ _ c.end-event.result _ c.event-in-NoMemory.view_is c.end-event.ensures.event))
-    (memory_stands layout c.args.self.now c.args.line c.args.step c.args.part.now b es a c.end-event.new.self c.end-event.result c.in-NoMemory.is
-    c.end-event.ensures.event c.end-event.ensures.done c.end-event.ensures.same c.end-event.ensures.place))
+    let end = c.close_with.ensures in
+    subst (λ o. Stands layout c.close_with.new.self b (es ++ placed c.args.self.now.place (option_to_list o))) (sym end.part)
+    (memory_stands layout c.args.self.now c.args.line c.args.step c.args.part.now b es a c.close_with.new.self _ c.in-NoMemory.is
+    refl end.done end.same end.place)

@@ -10,8 +10,8 @@ returns-in-Good-clause-stands c = λ layout b es a.
     (subst (λ x. (ls : List Reading) → Keeps c.args.self.now.grammar ls
     → LineSteps ls (reading c.args.self.now.layout x) c.last_line-step.result.0 c.last_line-step.result.1 c.last_line-step.new.self) c.line.ensures.value
     c.last_line-step.ensures.steps)
-    c.faulty.new.self c.outcome-outcome.result c.faulty.result c.in-Good.is c.outcome-outcome.ensures c.faulty.ensures.gives
-    (same_text c.faulty.ensures.same.layout c.faulty.ensures.same.given c.faulty.ensures.same.ending) c.faulty.ensures.place
+    c.end_after.new.self c.outcome-outcome.result c.end_after.result c.in-Good.is c.outcome-outcome.ensures c.end_after.ensures.gives
+    (same_text c.end_after.ensures.same.layout c.end_after.ensures.same.given c.end_after.ensures.same.ending) c.end_after.ensures.place
 
 pub returns-in-Faulty-clause-stands : goal.returns-in-Faulty-clause-stands
 returns-in-Faulty-clause-stands c = λ layout b es a.
@@ -19,9 +19,9 @@ returns-in-Faulty-clause-stands c = λ layout b es a.
     (subst (λ x. (ls : List Reading) → Keeps c.args.self.now.grammar ls
     → LineSteps ls (reading c.args.self.now.layout x) c.last_line-step.result.0 c.last_line-step.result.1 c.last_line-step.new.self) c.line.ensures.value
     c.last_line-step.ensures.steps)
-    c.faulty-in-Faulty.new.self c.in-Faulty.fault c.faulty-in-Faulty.result c.in-Faulty.is c.faulty-in-Faulty.ensures.gives
-    (same_text c.faulty-in-Faulty.ensures.same.layout c.faulty-in-Faulty.ensures.same.given c.faulty-in-Faulty.ensures.same.ending)
-    c.faulty-in-Faulty.ensures.place
+    c.end_after-in-Faulty.new.self c.in-Faulty.fault c.end_after-in-Faulty.result c.in-Faulty.is c.end_after-in-Faulty.ensures.gives
+    (same_text c.end_after-in-Faulty.ensures.same.layout c.end_after-in-Faulty.ensures.same.given c.end_after-in-Faulty.ensures.same.ending)
+    c.end_after-in-Faulty.ensures.place
 
 pub returns-in-NoMemory-clause-stands : goal.returns-in-NoMemory-clause-stands
 returns-in-NoMemory-clause-stands c = λ layout b es a.

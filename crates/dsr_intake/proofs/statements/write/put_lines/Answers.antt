@@ -5,7 +5,7 @@ use Rattle.dsr_intake.specs.inner.Puts.{Puts}
 use Rattle.dsr_intake.proofs.Lines.{nothing}
 use Rattle.dsr_intake.proofs.statements.write.put_lines.Goals as goal
 
-pub returns-then-not-put_bytes-clause-put : goal.returns-then-not-put_bytes-clause-put
-returns-then-not-put_bytes-clause-put g c = λ lines lent.
-    let given = (c.give.ensures.lines lines lent).carries (record { out = c.put_bytes.new.out; key = c.args.put.now.key }) [] (nothing _) in
-    subst (λ out. Puts g.P.Put.after out c.give.new.taker.out (flat_map ledger_lines lines)) (c.if-not-put_bytes.ensures.refused refl) given
+pub returns-then-not-put_ledger_bound-clause-put : goal.returns-then-not-put_ledger_bound-clause-put
+returns-then-not-put_ledger_bound-clause-put g c = λ lines lent.
+    let given = (c.give.ensures.lines lines lent).carries (record { out = c.put_ledger_bound.new.out; key = c.args.put.now.key }) [] (nothing _) in
+    subst (λ out. Puts g.P.Put.after out c.give.new.taker.out (flat_map ledger_lines lines)) (c.if-not-put_ledger_bound.ensures.refused refl) given

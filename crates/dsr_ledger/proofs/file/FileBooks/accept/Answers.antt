@@ -1,7 +1,7 @@
 use Rattle.std.proofs.Common.{◌≡◌, ◌≤◌, append-nil, length, refl, sym, ap, ◌∙◌, subst, arith}
 use Rattle.std.specs.Prelude.{option_map}
 use Rattle.std.specs.List.{AllByRecursion}
-use Rattle.dsr_ledger.specs.Bookings.{place_named, usage_bookings, block_bookings}
+use Rattle.dsr_ledger.specs.Bookings.{summary_key_named, usage_bookings, block_bookings}
 use Rattle.dsr_ledger.specs.Files.{summaries_of}
 use Rattle.dsr_ledger.specs.Ranges.{IsInRange}
 use Rattle.dsr_ledger.specs.Tallies.{tally_plus, key_tally, TallyFits}
@@ -12,13 +12,13 @@ use Rattle.dsr_ledger.proofs.FitLemmas.{fewer_sums, fewer_tallies}
 use Rattle.dsr_ledger.proofs.file.FileBooks.accept.Goals as goal
 
 pub fill-requires : goal.fill-requires
-fill-requires c = (place_named (summaries_of c.args.self.now.opening), c.args.block.now.usages, c.requires.numbered, c.requires.found)
+fill-requires c = (summary_key_named (summaries_of c.args.self.now.opening), c.args.block.now.usages, c.requires.numbered, c.requires.found)
 
 pub add_usages-requires-clause-planned : goal.add_usages-requires-clause-planned
 add_usages-requires-clause-planned c =
     let usages : c.as_slice.result.now ≡ c.args.block.now.usages = c.as_slice.ensures ∙ ap (λ b. b.usages) c.block.view_is in
     let works : c.as_slice-works.result.now ≡ c.args.block.now.works = c.as_slice-works.ensures ∙ ap (λ b. b.works) c.block.view_is in
-    let place = place_named (summaries_of c.args.self.now.opening) in (
+    let place = summary_key_named (summaries_of c.args.self.now.opening) in (
       c.args.isrc,
       c.as_slice-works.result.now,
       place,
@@ -44,7 +44,7 @@ unfolding block_bookings
 returns-clause-ok c =
     let usages : c.as_slice.result.now ≡ c.args.block.now.usages = c.as_slice.ensures ∙ ap (λ b. b.usages) c.block.view_is in
     let works : c.as_slice-works.result.now ≡ c.args.block.now.works = c.as_slice-works.ensures ∙ ap (λ b. b.works) c.block.view_is in
-    let place = place_named (summaries_of c.args.self.now.opening) in
+    let place = summary_key_named (summaries_of c.args.self.now.opening) in
     let planned =
     subst (λ us. IsPlanned c.fill.new.ledger c.args.self.now.summaries place c.args.isrc c.as_slice-works.result.now us c.fill.new.self) (sym usages)
     (c.in_ok-fill.ensures.planned place c.args.block.now.usages c.requires.numbered c.requires.found) in
