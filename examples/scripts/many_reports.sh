@@ -3,7 +3,8 @@
 # folder for each report, with its files. Writes FOLDER/REPORT.statement and .errors next to it, and prints a line
 # for each report: its exit status and its name, in the order of the names.
 # Each report is one run, and runs share nothing, so on a cluster each report can be one task of a job array.
-# With GNU parallel: parallel -j RUNS 'dsr {}/*.tsv > {}.statement 2> {}.errors; echo $? {/}' ::: FOLDER/*/
+# With GNU parallel:
+# find FOLDER -mindepth 1 -maxdepth 1 -type d | parallel -j RUNS 'dsr {}/*.tsv > {}.statement 2> {}.errors; echo $? {/}'
 set -euo pipefail
 export DSR=$1
 folder=$2
