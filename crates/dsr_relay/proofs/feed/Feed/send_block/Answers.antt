@@ -10,8 +10,8 @@ use Rattle.dsr_relay.specs.Feeds.{feed_view, sent_of}
 use Rattle.dsr_relay.proofs.Sending.{sends_again, sent_out, batch_goes, full_goes}
 use Rattle.dsr_relay.proofs.feed.Feed.send_block.Goals as goal
 
-pub invariant_of-self-then-events-lt32 : goal.invariant_of-self-then-events-lt32
-invariant_of-self-then-events-lt32 g c =
+pub invariant_of-self-then-events-lt-MOST_EVENTS : goal.invariant_of-self-then-events-lt-MOST_EVENTS
+invariant_of-self-then-events-lt-MOST_EVENTS g c =
     let f = c.self.inside in
     let e = block_event c.args.place c.args.block.now in
     let out = events_of (out_of (view f.pass)) in
@@ -21,7 +21,7 @@ invariant_of-self-then-events-lt32 g c =
     record {
       seat = c.self.invariant.seat;
       knows = c.self.invariant.knows;
-      waits = omega (arith, ap length c.events.ensures, c.if-events-lt32.true);
+      waits = omega (arith, ap length c.events.ensures, c.if-events-lt-MOST_EVENTS.true);
       orderly = subst IsOrderly (sym same) asked;
       count = omega (arith, orderly_next (sent_of f) e [] asked, ap length same, length-append (sent_of f) (e ∷ []));
     }
@@ -57,7 +57,7 @@ returns-in_default-clause-sent g c = λ _.
     ∙ sym (append_assoc out f.batch (e ∷ [])) in
     let seat = c.send_out.ensures.seat in
     let was = c.self.invariant.seat in
-    let full : 32 ≤ length (f.batch ++ e ∷ []) = omega (arith, ap length added, ap length c.events.ensures, c.if-events-lt32.false) in
+    let full : 32 ≤ length (f.batch ++ e ∷ []) = omega (arith, ap length added, ap length c.events.ensures, c.if-events-lt-MOST_EVENTS.false) in
     let batch = went.1 ∙ sym (batch_goes f.batch e (full_goes f.batch c.args.place c.args.block.now full c.self.invariant.waits)) in
     let next : feed_view (record f { pass = c.send_out.new.pass; batch = c.send_out.new.batch; count = c.args.place + 1 })
     ≡ record (feed_view f) { sent = sent_of f ++ e ∷ []; batch = batch_after f.batch e } =
