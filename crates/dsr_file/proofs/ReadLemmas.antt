@@ -95,6 +95,7 @@ no_reads layout told r es s = record {
   consumed = consumes_self told.remaining;
   few = omega arith;
   most = omega arith;
+  last_small = λ some. absurd (omega (arith, some));
   stands = s;
   known = subst (λ xs. IsPrefix xs es) (sym (nothing_known layout)) (es, refl);
   earlier = subst (λ xs. IsPrefix xs es) (sym (ap (so_far layout) (none_before told.reads) ∙ nothing_known layout)) (es, refl);
@@ -140,6 +141,9 @@ module _ (layout : LayoutTable) (before mid after : Told) (reads limit : ℕ) (f
   answered = answered_more before.reads mid.reads after.reads reads reads 1 1 r.answered
       (counts.0.0, λ low. omega (arith, some, counts.0.1 (omega (arith, some))))
 
+  small : after.reads.last ≤ 4096
+  small = omega (arith, counts.1, few)
+
   abbrev gave : Gave limit before after (r.given ++ piece)
   gave = record {
     reads = reads + 1;
@@ -149,6 +153,7 @@ module _ (layout : LayoutTable) (before mid after : Told) (reads limit : ℕ) (f
     limited = omega (arith, less);
     least = simp length-append (omega (arith, r.few, some));
     most = simp length-append (omega (arith, r.most, few));
+    last_small = λ _. small;
   }
 
   -- the bytes given before it
@@ -211,6 +216,7 @@ module _ (layout : LayoutTable) (before mid after : Told) (reads limit : ℕ) (f
     consumed = consumed;
     few = simp length-append (omega (arith, r.few, some));
     most = simp length-append (omega (arith, r.most, few));
+    last_small = λ _. small;
     stands = subst (λ x. Stands layout new (r.given ++ x) fs) (all f.whole) f.stands;
     known = subst (λ xs. IsPrefix xs fs) put (prefix_self fs);
     earlier = earlier grows;
@@ -261,6 +267,7 @@ module _ (layout : LayoutTable) (before mid after : Told) (reads limit : ℕ) (f
     limited = omega (arith, less);
     least = r.few;
     most = r.most;
+    last_small = λ _. omega (arith, counts.1);
   }
 
   abbrev ended_gave : Consumes mid.remaining after.remaining [] → Gave limit before after r.given
@@ -299,6 +306,7 @@ module _ (layout : LayoutTable) (before after : Told) (limit : ℕ) (file : File
     limited = omega arith;
     least = r.few;
     most = r.most;
+    last_small = r.last_small;
   }
 
   pub limit_read : before.failed ≡ false → HasEvents layout r.given (Some endings.Reads) fs → IsRead layout limit before after fs

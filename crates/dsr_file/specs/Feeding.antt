@@ -1,5 +1,5 @@
 -- The state of a reader and a sink while a source is read.
-use Rattle.std.specs.Prelude.{◌≡◌, ℕ, ◌*◌, ◌≤◌, ◌⊎◌, false, List, ◌++◌, length, take, None}
+use Rattle.std.specs.Prelude.{◌≡◌, ℕ, ◌*◌, ◌<◌, ◌≤◌, ◌⊎◌, false, List, ◌++◌, length, take, None}
 use Rattle.std.specs.Io.KnownBytes.{Consumes}
 use mathlib.Core.List.{IsPrefix}
 use Rattle.dsr_records.specs.Records.{LayoutTable}
@@ -37,6 +37,7 @@ pub record Reads (layout : LayoutTable) (before after : Told) (reads : ℕ) (r :
   pub consumed : Consumes before.remaining after.remaining given
   pub few : reads ≤ length given
   pub most : length given ≤ 4096 * reads
+  pub last_small : 0 < reads → after.reads.last ≤ 4096
   pub stands : Stands layout r given es
   pub known : IsPrefix (so_far layout given) es
   pub earlier : HasEarlier layout after.reads given es

@@ -1,5 +1,5 @@
 -- The bytes that a source gave, and the events that were put while it was read.
-use Rattle.std.specs.Prelude.{◌≡◌, ℕ, ◌+◌, ◌-◌, ◌*◌, ◌≤◌, ◌⊎◌, Bool, true, false, List, [], ◌∷◌, ◌++◌, length, take, Option, None, Some}
+use Rattle.std.specs.Prelude.{◌≡◌, ℕ, ◌+◌, ◌-◌, ◌*◌, ◌<◌, ◌≤◌, ◌⊎◌, Bool, true, false, List, [], ◌∷◌, ◌++◌, length, take, Option, None, Some}
 use Rattle.std.specs.Io.KnownBytes.{Consumes, IsAtEnd}
 use mathlib.Core.List.{IsPrefix}
 use Rattle.dsr_records.specs.Records.{LayoutTable}
@@ -18,7 +18,8 @@ pub record Told : Type 0 where
   pub failed : Bool
   pub reads : ReadCount
 
--- a source gave these bytes, and no read was made beyond the limit: each read gave 1 to 4,096 of them, or none
+-- a source gave these bytes, and no read was made beyond the limit: each read gave some of them, or none, and the last one
+-- at most 4,096. Whoever reads cannot know which read will be the last, so this holds of each.
 pub record Gave (limit : ℕ) (before after : Told) (given : List ℕ) : Type 0 where
   pub reads : ℕ
   pub filled : ℕ
@@ -27,6 +28,7 @@ pub record Gave (limit : ℕ) (before after : Told) (given : List ℕ) : Type 0 
   pub limited : reads ≤ limit
   pub least : filled ≤ length given
   pub most : length given ≤ 4096 * filled
+  pub last_small : 0 < reads → after.reads.last ≤ 4096
 
 -- how the bytes given ended: the last read gave none, because nothing was left or it failed; or each of the reads that
 -- the limit allows gave some
