@@ -1,12 +1,17 @@
 -- What a command line asks for. How its words are parsed by a command's rules is clap's definition.
-use Rattle.std.specs.Prelude.{◌≡◌, ◌≤◌, ℕ, Bool, pos, true, false, List, [], ◌∷◌, Option, Some, None, codes, unwrap_or}
+use Rattle.std.specs.Prelude.{◌≡◌, ◌≢◌, ◌≤◌, ℕ, Bool, pos, true, false, List, [], ◌∷◌, Option, Some, None, codes, unwrap_or}
 use Rattle.std.specs.Str.Parse.{IsNumeral, digits_value, without_leading_plus}
 use Rattle.clap.specs.Lexer.{usize_max}
 use Rattle.clap.specs.Words.{App, Row, Rule, Text, all_of, fault_of, first_of, matches_of, new_app, new_rule, one_of, with_rule}
 use Rattle.clap.specs.Simple.{on_top}
 use Rattle.clap.specs.declared.builder.action.ArgAction.TheVariants.{Set, SetTrue, Append}
 use Rattle.clap.specs.declared.builder.value_parser.ValueParser.TheVariants as vp
+use Rattle.clap.specs.Kinds.{Kinds, IsAmong}
+use Rattle.clap.specs.declared.error.kind.ErrorKind.{ErrorKind}
+use Rattle.clap.specs.declared.error.kind.ErrorKind.TheVariants.{DisplayHelp, DisplayVersion, OutOfMemory}
 use Rattle.dsr.specs.declared.command.Asked.{Asked}
+use Rattle.dsr.specs.declared.command.CommandFault.{CommandFault}
+use Rattle.dsr.specs.declared.command.CommandFault.TheVariants.{Help, Refused, Memory}
 
 -- an option with one value
 abbrev pub option_rule : Text → Rule
@@ -57,3 +62,22 @@ pub record IsAskedBy (rows : List Row) (asked : Asked) : Type 0 where
   pub files : asked.files ≡ unwrap_or (all_of (codes "FILE") rows) []
   pub layout : asked.layout ≡ first_of (codes "layout") rows
   pub progress : IsFlagAsked (one_of (codes "progress") rows) asked.progress
+
+-- the kind of error that stands for a text that was asked for: the help or the version
+abbrev pub is_request : ErrorKind → Bool
+is_request DisplayHelp = true
+is_request DisplayVersion = true
+is_request _ = false
+
+-- the answer to an error of this kind; memory may be refused in any case
+abbrev pub Answers : ErrorKind → CommandFault → Type 0
+Answers kind (Help text) = is_request kind ≡ true
+Answers kind (Refused text) = (is_request kind ≡ false) × (kind ≢ OutOfMemory)
+Answers kind Memory = Unit {0}
+
+-- the answer to a command line that has errors of these kinds: a text if one of them asks for it, or a refusal if one of them
+-- does not; memory may be refused in any case
+abbrev pub IsFaultOf : Kinds → CommandFault → Type 0
+IsFaultOf kinds (Help text) = (kind : ErrorKind) × IsAmong kind kinds × (is_request kind ≡ true)
+IsFaultOf kinds (Refused text) = (kind : ErrorKind) × IsAmong kind kinds × (is_request kind ≡ false)
+IsFaultOf kinds Memory = Unit {0}

@@ -12,15 +12,19 @@ pub record IsTaken (before after : Option (List ℕ)) (bytes : List ℕ) : Type 
   pub most : length bytes ≤ 65537
   pub whole : IsAtEnd after ⊎ (length bytes ≡ 65537)
 
+-- a read failed or memory was refused; at most 65,537 bytes were read
+abbrev pub IsCutShort : Option (List ℕ) → Option (List ℕ) → Type 0
+IsCutShort before after = (bytes : List ℕ) × Consumes before after bytes × (length bytes ≤ 65537)
+
 -- the result is that of the bytes that were read, unless a read failed or memory was refused
 abbrev pub IsLayoutAnswer : Option (List ℕ) → Option (List ℕ) → Result LayoutTable LayoutReadError → Type 0
 IsLayoutAnswer before after (Ok layout) = (bytes : List ℕ) × IsTaken before after bytes × (layout_of bytes ≡ Ok layout)
 IsLayoutAnswer before after (Err (Bad error)) = (bytes : List ℕ) × IsTaken before after bytes × (layout_of bytes ≡ Err error)
-IsLayoutAnswer before after (Err Read) = Unit {0}
-IsLayoutAnswer before after (Err Memory) = Unit {0}
+IsLayoutAnswer before after (Err Read) = IsCutShort before after
+IsLayoutAnswer before after (Err Memory) = IsCutShort before after
 
--- an error without a layout's bytes: a read failed or memory was refused
-abbrev pub IsNoBytes : LayoutReadError → Type 0
-IsNoBytes Read = Unit {0}
-IsNoBytes (Bad error) = ⊥
-IsNoBytes Memory = Unit {0}
+-- an error without a layout's bytes
+abbrev pub IsNoBytes : Option (List ℕ) → Option (List ℕ) → LayoutReadError → Type 0
+IsNoBytes before after Read = IsCutShort before after
+IsNoBytes before after (Bad error) = ⊥
+IsNoBytes before after Memory = IsCutShort before after

@@ -1,8 +1,9 @@
 //! Reading the command line.
-ghost use Rattle.std.specs.Prelude.{◌≡◌, ◌≤◌, ℕ, IfOk, OnOk, false, [], codes, map, option_map, unwrap_or};
+ghost use Rattle.std.specs.Prelude.{◌≡◌, ◌≤◌, ℕ, IfOk, IfErr, OnOk, false, [], codes, map, option_map, unwrap_or};
 ghost use Rattle.std.specs.String.{string_bytes};
+ghost use Rattle.clap.specs.Values.{kind_of};
 ghost use Rattle.clap.specs.Words.{all_of, app_of, fault_of, first_of, found_of, matches_of, one_of, one_text, rows_of, rule_of};
-ghost use Rattle.dsr.specs.CommandLine.{IsAskedBy, IsNumberAsked, IsFlagAsked, bare_command, command_line, names_rule, number_rule, option_rule, flag_rule};
+ghost use Rattle.dsr.specs.CommandLine.{Answers, IsAskedBy, IsFaultOf, IsNumberAsked, IsFlagAsked, bare_command, command_line, names_rule, number_rule, option_rule, flag_rule};
 
 use crate::command::{Asked, CommandFault, Names};
 use clap::error::ErrorKind;
@@ -137,6 +138,7 @@ pub fn asked(alloc: Global, words: &[String]) -> Result<Asked, CommandFault>
     ensures reads { IfOk result (λ a. (1 ≤ a.max_reads) × (a.max_reads ≤ 16777216)) }
     ensures taken { OnOk result (fault_of command_line (map string_bytes words.now) ≡ []) }
     ensures asked { IfOk result (IsAskedBy (matches_of command_line (map string_bytes words.now))) }
+    ensures fault { IfErr result (IsFaultOf (fault_of command_line (map string_bytes words.now))) }
 {
     let Ok(command) = command(alloc) else {
         return Err(CommandFault::Memory);
@@ -222,7 +224,9 @@ fn read_layout_name(alloc: Global, matches: &ArgMatches<'_>) -> Result<Option<Te
 }
 
 /// Why the command line was refused, or the text that it asks for.
-fn fault_of_error(alloc: Global, error: Error) -> CommandFault {
+fn fault_of_error(alloc: Global, error: Error) -> CommandFault
+    ensures { Answers (kind_of error) result }
+{
     let Ok(string) = error.to_string(alloc) else {
         return CommandFault::Memory;
     };
@@ -230,7 +234,7 @@ fn fault_of_error(alloc: Global, error: Error) -> CommandFault {
         return CommandFault::Memory;
     };
     match error.kind() {
-        ErrorKind::DisplayHelp | ErrorKind::DisplayVersion => CommandFault::Shown(text),
+        ErrorKind::DisplayHelp | ErrorKind::DisplayVersion => CommandFault::Help(text),
         ErrorKind::OutOfMemory => CommandFault::Memory,
         _ => CommandFault::Refused(text),
     }

@@ -23,7 +23,7 @@ pub struct Asked {
 #[derive(Drop)]
 pub enum CommandFault {
     /// It asks for this text to be printed: the help, or the version.
-    Shown(Text),
+    Help(Text),
     /// It is refused, and this text says why.
     Refused(Text),
     /// Memory was refused.

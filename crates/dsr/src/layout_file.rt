@@ -36,7 +36,7 @@ pub fn read_layout<R: Read>(alloc: Global, reader: &mut R) -> Result<Layout, Lay
 fn read_bytes<R: Read>(alloc: Global, reader: &mut R) -> Result<Vec<u8>, LayoutReadError>
     ensures taken { IfOk result (λ v. IsTaken (R.remaining reader.old)
         (R.remaining reader.new) v.items) }
-    ensures refused { IfErr result IsNoBytes }
+    ensures refused { IfErr result (IsNoBytes (R.remaining reader.old) (R.remaining reader.new)) }
 {
     let mut bytes = Vec::new(alloc);
     let mut piece = [0; 4096];

@@ -53,7 +53,7 @@ pub fn serve<
     };
     match asked(alloc, &words) {
         Ok(asked) => read_and_print(rt, alloc, &asked, out, fault),
-        Err(CommandFault::Shown(text)) => show(&text, out, fault),
+        Err(CommandFault::Help(text)) => show(&text, out, fault),
         Err(CommandFault::Refused(text)) => {
             let _ = fault.write_all(text.as_str().as_bytes());
             REFUSED

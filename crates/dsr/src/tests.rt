@@ -82,7 +82,7 @@ fn refused_words(rt: HostRuntime) -> Result<(), AllocError> {
 fn help(rt: HostRuntime) -> Result<(), AllocError> {
     let answer = asked_by(rt.alloc(), &["--help"])?;
     assert!(rt;
-        matches!(&answer, Err(CommandFault::Shown(text)) if text.as_str().contains("--layout"))
+        matches!(&answer, Err(CommandFault::Help(text)) if text.as_str().contains("--layout"))
     );
     Ok(())
 }
@@ -91,7 +91,7 @@ fn help(rt: HostRuntime) -> Result<(), AllocError> {
 fn version(rt: HostRuntime) -> Result<(), AllocError> {
     let answer = asked_by(rt.alloc(), &["--version"])?;
     assert!(rt;
-        matches!(&answer, Err(CommandFault::Shown(text)) if text.as_str().starts_with("dsr "))
+        matches!(&answer, Err(CommandFault::Help(text)) if text.as_str().starts_with("dsr "))
     );
     Ok(())
 }
