@@ -1,16 +1,14 @@
 //! Tests of the command line, the layout file, and the lines on standard error.
 use crate::arguments::asked;
 use crate::command::{Asked, CommandFault, Names};
-use crate::faults::{
-    exit_status, write_bad_layout, write_cannot_open, write_cannot_read, write_fault,
-};
+use crate::faults::{write_bad_layout, write_cannot_open, write_cannot_read, write_fault};
 use crate::inputs::{OpenError, open_inputs};
 use crate::layout_file::{LayoutReadError, read_layout};
 use crate::print::{print_text, write_parts};
 use crate::progress::ProgressLine;
 use dsr_cells::Text;
 use dsr_file::Source;
-use dsr_intake::{IntakeError, Options, RunError, Status, ToWrite, run};
+use dsr_intake::{IntakeError, RunError};
 use dsr_records::{LayoutError, LayoutFault};
 use std::alloc::{AllocError, Global};
 use std::fs;
@@ -22,10 +20,6 @@ fn asked_by(alloc: Global, words: &[&str]) -> Result<Result<Asked, CommandFault>
         strings.push(String::from_str(alloc, word)?)?;
     }
     Ok(asked(alloc, &strings))
-}
-
-fn is_refused(answer: &Result<Asked, CommandFault>) -> bool {
-    matches!(answer, Err(CommandFault::Refused(text)) if !text.as_str().is_empty())
 }
 
 #[test]
@@ -63,36 +57,6 @@ fn the_greatest_numbers_and_names(rt: HostRuntime) -> Result<(), AllocError> {
     assert_eq!(rt; asked.files.len(), 2);
     assert!(rt; matches!(asked.files.get(0), Some(name) if name.as_str() == "A"));
     assert!(rt; matches!(asked.files.get(1), Some(name) if name.as_str() == "B"));
-    Ok(())
-}
-
-#[test]
-fn refused_words(rt: HostRuntime) -> Result<(), AllocError> {
-    let alloc = rt.alloc();
-    assert!(rt; is_refused(&asked_by(alloc, &["--capacity", "0"])?));
-    assert!(rt; is_refused(&asked_by(alloc, &["--capacity", "1025"])?));
-    assert!(rt; is_refused(&asked_by(alloc, &["--capacity", "x"])?));
-    assert!(rt; is_refused(&asked_by(alloc, &["--max-reads", "0"])?));
-    assert!(rt; is_refused(&asked_by(alloc, &["--max-reads", "16777217"])?));
-    assert!(rt; is_refused(&asked_by(alloc, &["--colour"])?));
-    Ok(())
-}
-
-#[test]
-fn help(rt: HostRuntime) -> Result<(), AllocError> {
-    let answer = asked_by(rt.alloc(), &["--help"])?;
-    assert!(rt;
-        matches!(&answer, Err(CommandFault::Help(text)) if text.as_str().contains("--layout"))
-    );
-    Ok(())
-}
-
-#[test]
-fn version(rt: HostRuntime) -> Result<(), AllocError> {
-    let answer = asked_by(rt.alloc(), &["--version"])?;
-    assert!(rt;
-        matches!(&answer, Err(CommandFault::Help(text)) if text.as_str().starts_with("dsr "))
-    );
     Ok(())
 }
 
@@ -198,18 +162,6 @@ fn a_text_that_has_no_room(rt: HostRuntime) {
 }
 
 #[test]
-fn a_status_for_each_end(rt: HostRuntime) {
-    assert_eq!(rt; exit_status(&Ok(Status::Clean)), 0);
-    assert_eq!(rt; exit_status(&Ok(Status::Remarks)), 1);
-    assert_eq!(rt; exit_status(&Err(RunError::Memory)), 3);
-    assert_eq!(rt;
-        exit_status(&Err(RunError::Intake(IntakeError::NoFiles))),
-        3
-    );
-    assert_eq!(rt; exit_status(&Err(RunError::Write { written: 0 })), 3);
-}
-
-#[test]
 fn a_line_of_progress(rt: HostRuntime) -> Result<(), AllocError> {
     let alloc = rt.alloc();
     let mut line = ProgressLine {
@@ -271,32 +223,6 @@ fn each_name_has_its_own_file(rt: HostRuntime) -> Result<(), AllocError> {
     for (input, byte) in inputs.iter_mut().zip([b'2', b'1']) {
         assert!(rt; first_byte(input) == Some(byte));
     }
-    Ok(())
-}
-
-/// A report in one file, with two blocks.
-const CLEAN: &str = "\
-HEAD\tR1\t1\t1\t2024-01-01\t2024-01-31\tS\tL\n\
-SY01\tS1\tGB\tOnDemandStream\tGBP\t30\t1.5\n\
-AS01\t1\tGBABC2400001\tSong\tBand\n\
-MW01\t1\tW1\tSong\tP1|P2\t50|25\n\
-SU01\t1\tS1\t10\t0.5\n\
-AS01\t2\tGBABC2400002\tOther\tBand\n\
-SU01\t2\tS1\t20\t1\n\
-FOOT\t8\t1\t2\n";
-
-#[test]
-fn a_file_that_the_test_wrote(rt: HostRuntime) -> Result<(), AllocError> {
-    let alloc = rt.alloc();
-    assert!(rt; fs::write(&rt, "clean.tsv", CLEAN).is_ok());
-    let names = name_list(alloc, "clean.tsv")?;
-    let Ok(mut inputs) = open_inputs(&rt, alloc, &names) else {
-        assert!(rt; false);
-        return Ok(());
-    };
-    let mut out = ToWrite::new(Vec::new(alloc));
-    let answer = run(&rt, alloc, &mut inputs, Options::standard(), &mut out);
-    assert!(rt; answer == Ok(Status::Clean));
     Ok(())
 }
 

@@ -207,10 +207,10 @@ fn is_read_no_further(alloc: Global, bytes: &[u8]) -> bool {
 
 /// A source that gives one byte a read is read up to its end, or up to the line at which memory is refused.
 #[test]
-fn no_read_after_the_end(rt: HostRuntime) -> Result<(), AllocError> {
-    let bytes = text(rt.alloc(), FILE, "", b"\n")?;
-    assert!(rt; is_read_no_further(rt.alloc(), bytes.as_slice()));
-    Ok(())
+fn no_read_after_the_end(rt: HostRuntime) {
+    if let Ok(bytes) = text(rt.alloc(), FILE, "", b"\n") {
+        assert!(rt; is_read_no_further(rt.alloc(), bytes.as_slice()));
+    }
 }
 
 #[test]

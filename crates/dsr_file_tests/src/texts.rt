@@ -100,20 +100,6 @@ pub fn cut_at(cut: usize) -> (&'static str, &'static str) {
     found
 }
 
-#[test]
-fn cut_by_a_failed_read(rt: HostRuntime) -> Result<(), AllocError> {
-    let bytes = text(rt.alloc(), FILE, "", b"\n")?;
-    for cut in 0..bytes.len() + 1 {
-        let (letters, told) = cut_at(cut);
-        let front = &bytes.as_slice()[..cut];
-        assert!(rt;
-            comes_to(rt.alloc(), front, Ending::Read, letters, told),
-            "{cut}"
-        );
-    }
-    Ok(())
-}
-
 /// Where a file is truncated, and its events and end.
 const BROKEN: [(usize, &str, &str); 5] = [
     (153, "OE", "6 MissingCell BlockId"),

@@ -1,7 +1,7 @@
 //! Reports as lines of text.
 use crate::making::report_of;
 use dsr_cells::{Day, NoMemory, write_amount, write_day};
-use dsr_file::{FileFault, Outcome};
+use dsr_file::Outcome;
 use dsr_ledger::{Difference, FileLine, LedgerLine, Reason, Reject, Report, ReportKey, Standing};
 use std::alloc::Global;
 use std::test::Fail;
@@ -64,7 +64,7 @@ impl Page {
             Outcome::Whole => self.cell("Whole"),
             Outcome::Fault { line, fault } => {
                 self.number(i128::from(line))?;
-                self.cell(fault_name(fault))
+                self.cell(fault.name())
             }
         }
     }
@@ -166,13 +166,6 @@ impl Page {
             self.reject(reject)?;
         }
         Ok(())
-    }
-}
-
-fn fault_name(fault: FileFault) -> &'static str {
-    match fault {
-        FileFault::NoFoot => "NoFoot",
-        _ => "another fault",
     }
 }
 

@@ -164,7 +164,7 @@ pub fn as_seen(event: &Event) -> Seen {
 pub fn are_right(events: &[Event], first: u64) -> bool {
     for (i, event) in events.iter().enumerate() {
         let place = first.wrapping_add(i as u64);
-        if !(is_opened(event) || is_block(event, place) || is_end(event, place)) {
+        if event.place != place || as_seen(event) == Seen::Other {
             return false;
         }
     }

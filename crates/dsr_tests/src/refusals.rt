@@ -5,50 +5,13 @@ use crate::page::Page;
 use crate::runs::{gives, options};
 use crate::script::{After, Script, Step};
 use crate::texts::{CLEAN, CLEAN_STATEMENT};
-use dsr_intake::{IntakeError, RunError, Status, ToWrite, run};
+use dsr_intake::{RunError, Status, ToWrite, run};
 use std::alloc::{AllocError, Global};
 use std::io;
 use std::io::Write;
 use std::random::RandomSource;
 use std::sync::Wait;
 use std::thread::Threads;
-
-/// Whether a run on this number of readers ends with this error and writes nothing.
-fn refuses<H: Threads + Wait + RandomSource + Copy + Send + 'static>(
-    rt: &H,
-    alloc: Global,
-    count: usize,
-    capacity: u32,
-    max_reads: u32,
-    error: IntakeError,
-) -> Result<bool, AllocError> {
-    let mut readers = Vec::new(alloc);
-    for _ in 0..count {
-        readers.push(Script::alone(alloc, CLEAN, Step::Full, After::End)?)?;
-    }
-    let mut page = Page::new(alloc);
-    let answer = run(
-        rt,
-        alloc,
-        &mut readers,
-        options(capacity, max_reads),
-        &mut page,
-    );
-    Ok(answer == Err(RunError::Intake(error)) && page.bytes().is_empty() && readers.len() == count)
-}
-
-#[test]
-fn what_is_refused_before_anything_is_read(rt: HostRuntime) -> Result<(), AllocError> {
-    let alloc = rt.alloc();
-    assert!(rt; refuses(&rt, alloc, 0, 16, 100, IntakeError::NoFiles)?);
-    assert!(rt; refuses(&rt, alloc, 65, 16, 100, IntakeError::TooManyFiles)?);
-    assert!(rt; refuses(&rt, alloc, 65, 0, 0, IntakeError::TooManyFiles)?);
-    assert!(rt; refuses(&rt, alloc, 1, 0, 100, IntakeError::Capacity)?);
-    assert!(rt; refuses(&rt, alloc, 1, 1025, 0, IntakeError::Capacity)?);
-    assert!(rt; refuses(&rt, alloc, 1, 16, 0, IntakeError::Reads)?);
-    assert!(rt; refuses(&rt, alloc, 1, 16, 16_777_217, IntakeError::Reads)?);
-    Ok(())
-}
 
 /// How a run on the clean report ends on this page.
 fn writes<H: Threads + Wait + RandomSource + Copy + Send + 'static>(
@@ -165,31 +128,6 @@ fn a_read_that_fails_after_every_byte(rt: HostRuntime) -> Result<(), AllocError>
                 expected.as_bytes()
             )
         );
-    }
-    Ok(())
-}
-
-/// The clean report line by line, with each read failing in turn.
-#[test]
-fn each_read_fails_in_turn(rt: HostRuntime) -> Result<(), AllocError> {
-    let alloc = rt.alloc();
-    let mut given = 0;
-    for line in CLEAN.split(|byte| *byte == b'\n') {
-        assert!(rt; given <= CLEAN.len());
-        let text = &CLEAN[..given];
-        let expected = failed_statement(alloc, text)?;
-        let readers = vec![in alloc; Script::alone(alloc, text, Step::Line, After::Failure)?]?;
-        assert!(rt;
-            gives(
-                &rt,
-                alloc,
-                readers,
-                options(16, 100),
-                Status::Remarks,
-                expected.as_bytes()
-            )
-        );
-        given += line.len() + 1;
     }
     Ok(())
 }

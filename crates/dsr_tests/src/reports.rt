@@ -2,30 +2,11 @@
 use crate::runs::{gives, options};
 use crate::script::{After, Script, Step};
 use crate::texts::{
-    ALL_READS, CLEAN, CLEAN_STATEMENT, EVERY_REJECT, EVERY_REJECT_STATEMENT, FIRST_OF_THREE,
-    NO_REPORT_READS, SECOND_CUT, THIRD_OF_THREE, THREE_STATEMENT,
+    ALL_READS, CLEAN, CLEAN_STATEMENT, FIRST_OF_THREE, NO_REPORT_READS, SECOND_CUT, THIRD_OF_THREE,
+    THREE_STATEMENT,
 };
 use dsr_intake::Status;
 use std::alloc::AllocError;
-
-#[test]
-fn a_clean_report_at_every_capacity(rt: HostRuntime) -> Result<(), AllocError> {
-    let alloc = rt.alloc();
-    for capacity in [1, 16, 1024] {
-        let readers = vec![in alloc; Script::alone(alloc, CLEAN, Step::Full, After::End)?]?;
-        assert!(rt;
-            gives(
-                &rt,
-                alloc,
-                readers,
-                options(capacity, 100),
-                Status::Clean,
-                CLEAN_STATEMENT
-            )
-        );
-    }
-    Ok(())
-}
 
 #[test]
 fn a_clean_report_by_bytes_and_by_lines(rt: HostRuntime) -> Result<(), AllocError> {
@@ -43,23 +24,6 @@ fn a_clean_report_by_bytes_and_by_lines(rt: HostRuntime) -> Result<(), AllocErro
             )
         );
     }
-    Ok(())
-}
-
-#[test]
-fn every_block_for_another_reason(rt: HostRuntime) -> Result<(), AllocError> {
-    let alloc = rt.alloc();
-    let readers = vec![in alloc; Script::alone(alloc, EVERY_REJECT, Step::Line, After::End)?]?;
-    assert!(rt;
-        gives(
-            &rt,
-            alloc,
-            readers,
-            options(1, 1000),
-            Status::Remarks,
-            EVERY_REJECT_STATEMENT
-        )
-    );
     Ok(())
 }
 

@@ -95,7 +95,7 @@ impl Script {
             Wait::Never => true,
             Wait::First => own > 1 || reaches(&self.other, 1, 10_000_000),
             Wait::Unless(reads) => self.at < self.text.len()
-                || !reaches(&self.other, reads, 10_000_000),
+                || !reaches(&self.other, reads, 1_000_000),
         }
     }
 }

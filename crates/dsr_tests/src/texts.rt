@@ -98,38 +98,6 @@ pub const NO_REPORT_READS: &[u8] = b"\
 NOREPORT\n\
 FILE\t1\t-\tHeadless\t0\tFault\t6\tReads\n";
 
-/// A report whose blocks are rejected, each for another reason.
-pub const EVERY_REJECT: &[u8] = b"\
-HEAD\tR1\t1\t1\t2024-01-01\t2024-01-31\tS\tL\n\
-SY01\tS1\tGB\tOnDemandStream\tGBP\t60\t6\n\
-AS01\t1\tGBABC2400001\tSong\tBand\n\
-SU01\t1\tS1\t10\t1\n\
-AS01\t1\tGBABC2400002\tOther\tBand\n\
-SU01\t1\tS1\t10\t1\n\
-AS01\t3\t\tSong\tBand\n\
-SU01\t3\tS1\t10\t1\n\
-AS01\t4\tgbabc2400001\tSong\tBand\n\
-SU01\t4\tS1\t10\t1\n\
-AS01\t5\tGBABC2400003\tSong\tBand\n\
-SU01\t5\tS9\t10\t1\n\
-AS01\t6\tGBABC2400004\tSong\tBand\n\
-MW01\t6\tW1\tSong\tP1|P2\t60|60\n\
-SU01\t6\tS1\t10\t1\n\
-FOOT\t16\t1\t6\n";
-
-/// The statement of that report.
-pub const EVERY_REJECT_STATEMENT: &[u8] = b"\
-REPORT\tR1\t1\t2024-01-01\t2024-01-31\t31\n\
-FILE\t1\t1\tOurs\t6\tWhole\n\
-SUMMARY\t1\tS1\t60\t50\t6.0000000000\t5.0000000000\n\
-LEDGER\tGBABC2400001\tGB\tOnDemandStream\tGBP\t10\t1.0000000000\n\
-UNCLAIMED\tGBABC2400001\tGB\tOnDemandStream\tGBP\t1.0000000000\n\
-REJECT\t1\t2\t1\tDoubledBlock\n\
-REJECT\t1\t3\t3\tNoIsrc\n\
-REJECT\t1\t4\t4\tBadIsrc\n\
-REJECT\t1\t5\t5\tUnknownSummary\n\
-REJECT\t1\t6\t6\tShareOver\n";
-
 /// The statement of the first of two files and of a second one with a hundred blocks.
 pub const HUNDRED_AND_ONE_STATEMENT: &[u8] = b"\
 REPORT\tR1\t2\t2024-01-01\t2024-01-31\t31\n\
