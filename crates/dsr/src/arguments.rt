@@ -1,8 +1,8 @@
 //! Reading the command line.
-ghost use Rattle.std.specs.Prelude.{◌≡◌, ◌≤◌, ℕ, IfOk, IfErr, OnOk, false, [], codes, map, option_map, unwrap_or};
+ghost use Rattle.std.specs.Prelude.{◌≡◌, ◌≤◌, IfOk, IfErr, OnOk, false, [], codes, map, unwrap_or};
 ghost use Rattle.std.specs.String.{string_bytes};
 ghost use Rattle.clap.specs.Values.{kind_of};
-ghost use Rattle.clap.specs.Words.{all_of, app_of, fault_of, first_of, found_of, matches_of, one_of, one_text, rows_of, rule_of};
+ghost use Rattle.clap.specs.Words.{all_of, app_of, fault_of, first_of, found_of, matches_of, one_text, rows_of, rule_of};
 ghost use Rattle.dsr.specs.CommandLine.{Answers, IsAskedBy, IsFaultOf, IsNumberAsked, IsFlagAsked, bare_command, command_line, names_rule, number_rule, option_rule, flag_rule};
 
 use crate::command::{Asked, CommandFault, Names};

@@ -30,6 +30,3 @@ fn main(rt: HostRuntime) -> ExitCode {
     let mut fault = rt.stderr();
     ExitCode::from(program::serve(&rt, rt.stdout(), &mut fault))
 }
-
-#[cfg(test)]
-mod tests;

@@ -1,5 +1,5 @@
 //! Sources whose reads are counted, for `--progress`.
-ghost use Rattle.std.specs.Prelude.{◌≡◌, false, All, IfOk, map};
+ghost use Rattle.std.specs.Prelude.{◌≡◌, IfOk, map};
 
 use crate::inputs::{Input, Inputs};
 use crate::progress::Progress;

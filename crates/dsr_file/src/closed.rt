@@ -1,5 +1,5 @@
 //! What a line closes, in a place that is lent from the sink's caller down to the stage.
-ghost use Rattle.std.specs.Prelude.{◌≡◌, ◌++◌, ◌∷◌, ◌<◌, ◌^◌, [], true, false, IfOk, IfErr, OnOk, OnErr, IfSome, Some, None, is_some};
+ghost use Rattle.std.specs.Prelude.{◌≡◌, ◌++◌, ◌∷◌, ◌<◌, ◌^◌, [], true, false, IfOk, OnOk, OnErr, IfSome, Some, None, is_some};
 ghost use Rattle.std.specs.Option.{option_to_list};
 ghost use Rattle.dsr_records.specs.declared.kinds.Kind.TheVariants as kinds;
 ghost use Rattle.dsr_records.specs.Blocks.{OpensBlock};

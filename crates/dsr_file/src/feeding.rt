@@ -2,9 +2,8 @@
 ghost use Rattle.std.specs.Prelude.{◌≡◌, ◌++◌, ◌∷◌, [], ◌+◌, ◌≤◌, ◌^◌, length, List, ℕ, Some, None, OnOk, IfOk, IfErr, IfSome};
 ghost use mathlib.Core.List.{IsPrefix};
 ghost use Rattle.dsr_records.specs.Records.{LayoutTable};
-ghost use Rattle.dsr_events.specs.Placed.{Placed};
-ghost use Rattle.dsr_file.specs.Runs.{IsSomeRun, BeginsEvents, HasEvents, EndsWith};
-ghost use Rattle.dsr_file.specs.Standing.{Stands, bytes_used, ending_told, events_left};
+ghost use Rattle.dsr_file.specs.Runs.{BeginsEvents, HasEvents, EndsWith};
+ghost use Rattle.dsr_file.specs.Standing.{Stands, bytes_used, ending_told};
 ghost use Rattle.dsr_file.specs.Feeding.{IsKnown, Fed, FedSome};
 
 use crate::closed::Closed;

@@ -1,5 +1,5 @@
 //! Reading a file from a source to its end.
-ghost use Rattle.std.specs.Prelude.{◌≡◌, [], ◌<◌, ◌≤◌, ◌^◌, false, length, None, IfOk, OnOk, IfErr};
+ghost use Rattle.std.specs.Prelude.{◌≡◌, [], ◌<◌, ◌≤◌, ◌^◌, false, None, IfOk, OnOk, IfErr};
 ghost use Rattle.dsr_records.specs.Records.{LayoutTable};
 ghost use Rattle.dsr_file.specs.Runs.{EndsWith};
 ghost use Rattle.dsr_file.specs.Sources.{IsRead, IsRefused};

@@ -1,5 +1,5 @@
 -- Lines that are taken one after another.
-use Rattle.std.proofs.Common.{◌≡◌, List, [], ◌∷◌, ◌++◌, append_assoc, append-nil, sym, subst}
+use Rattle.std.proofs.Common.{◌≡◌, List, [], ◌++◌, append_assoc, append-nil, sym, subst}
 use Rattle.dsr_ledger.specs.declared.report.LedgerLine.{LedgerLine}
 use Rattle.dsr_ledger.specs.Taking.{Takes}
 

@@ -1,5 +1,5 @@
 -- The parts of a line in the order of the parties' names, and the lines of a recording in key order.
-use Rattle.std.specs.Prelude.{◌≡◌, ℕ, List, ◌++◌, Option, Some, All, position, map, filter, length, slice_get, slice_index}
+use Rattle.std.specs.Prelude.{◌≡◌, ℕ, List, Option, Some, All, position, map, filter, length, slice_get, slice_index}
 use Rattle.std.specs.Option.{option_and_then}
 use Rattle.std.specs.Ordering.{is_lt, nat_cmp}
 use Rattle.std.specs.Str.{bytes_eq}

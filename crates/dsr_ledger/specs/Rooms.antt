@@ -1,5 +1,5 @@
 -- Room in the lists from which the lines of the ledger are made.
-use Rattle.std.specs.Prelude.{◌≡◌, ◌≤◌, List, All, length, vec_capacity}
+use Rattle.std.specs.Prelude.{◌≡◌, ◌≤◌, All, length, vec_capacity}
 use Rattle.dsr_ledger.specs.declared.assemble.lists.Lists.{Lists}
 use Rattle.dsr_ledger.specs.declared.assemble.lists.PartLists.{PartLists}
 use Rattle.dsr_ledger.specs.declared.ledger.line.Line.{Line}

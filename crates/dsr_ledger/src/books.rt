@@ -31,7 +31,7 @@ pub struct Books {
 }
 
 impl Books {
-    ghost use Rattle.std.specs.Prelude.{◌≡◌, ◌<◌, ℕ, List, [], ◌∷◌, ◌++◌, Option, map, length, IfOk, IsOk, MatchResult};
+    ghost use Rattle.std.specs.Prelude.{◌≡◌, ◌<◌, List, [], ◌∷◌, ◌++◌, Option, map, length, IfOk, IsOk, MatchResult};
     ghost use Rattle.dsr_ledger.specs.Files.{File, standing, opened, with_block, with_outcome};
     ghost use Rattle.dsr_ledger.specs.Verdicts.{verdict_in};
     ghost use Rattle.dsr_ledger.specs.Books.{has_opening_in, ended_in, blocks_in};

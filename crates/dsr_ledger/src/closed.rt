@@ -6,7 +6,7 @@ use crate::ledger::recordings::Ledger;
 use crate::lent::copies::Copies;
 use crate::lent::ledger::LentLedger;
 use crate::lent::report::LentReport;
-use crate::report::{Differences, FileLines, Numbers, Rejects, Report, ReportKey};
+use crate::report::{Differences, FileLines, LedgerLines, Numbers, Rejects, Report, ReportKey};
 use dsr_cells::NoMemory;
 use std::alloc::Global;
 
@@ -26,7 +26,9 @@ pub struct ClosedBooks {
 impl ClosedBooks {
     ghost use Rattle.std.specs.Prelude.{◌≡◌, IfOk, List};
     ghost use Rattle.dsr_ledger.specs.Closed.{AreClosed};
+    ghost use Rattle.dsr_ledger.specs.Bookings.{bookings};
     ghost use Rattle.dsr_ledger.specs.Files.{File};
+    ghost use Rattle.dsr_ledger.specs.Ledger.{ledger};
     ghost use Rattle.dsr_ledger.specs.Lent.{IsReady, IsLent};
     ghost use Rattle.dsr_ledger.specs.Reports.{report_of};
 
@@ -59,11 +61,7 @@ impl ClosedBooks {
         ensures { (files : List File) → AreClosed self files
             → IfOk result (λ r. r ≡ report_of files) }
     {
-        let mut copies = Copies::new(self.alloc);
-        self.report()?.ledger.give(&mut copies);
-        if copies.refused {
-            return Err(NoMemory);
-        }
+        let lines = self.copied_lines()?;
         let ClosedBooks {
             key,
             files,
@@ -77,8 +75,21 @@ impl ClosedBooks {
             files,
             missing,
             differences,
-            ledger: copies.lines,
+            ledger: lines,
             rejects,
         })
+    }
+
+    /// Copies of the lines of the ledger.
+    fn copied_lines(&self) -> Result<LedgerLines, NoMemory>
+        ensures { (files : List File) → AreClosed self.now files
+            → IfOk result (λ ls. ls ≡ ledger (bookings files)) }
+    {
+        let mut copies = Copies::new(self.alloc);
+        self.report()?.ledger.give(&mut copies);
+        if copies.refused {
+            return Err(NoMemory);
+        }
+        Ok(copies.lines)
     }
 }

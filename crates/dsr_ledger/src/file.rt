@@ -1,5 +1,5 @@
 //! The books' state of a file.
-ghost use Rattle.std.specs.Prelude.{◌≡◌, ◌+◌, ◌<◌, ◌^◌, ◌≤◌, ◌∷◌, ◌++◌, [], ℕ, List, OnOk, OnErr, IfOk, Some, map, if◌then◌else◌, true};
+ghost use Rattle.std.specs.Prelude.{◌≡◌, ◌+◌, ◌<◌, ◌^◌, ◌≤◌, ℕ, List, OnOk, OnErr, IfOk, Some, map};
 ghost use Rattle.std.specs.Option.{ForSome};
 ghost use Rattle.dsr_ledger.specs.Verdicts.{share_total, verdict_by};
 ghost use Rattle.dsr_ledger.specs.Files.{Filed};

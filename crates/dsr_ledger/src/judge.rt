@@ -1,5 +1,5 @@
 //! The verdict of a block.
-ghost use Rattle.std.specs.Prelude.{◌≡◌, ◌≤◌, ℕ, List, sum, nat_lt, not, true, map, Some, OnOk, IfOk, MatchResult};
+ghost use Rattle.std.specs.Prelude.{◌≡◌, ◌≤◌, nat_lt, not, true, map, Some, OnOk, IfOk, MatchResult};
 ghost use Rattle.std.specs.List.{list_any};
 ghost use Rattle.dsr_ledger.specs.Summaries.{is_known, index_at};
 ghost use Rattle.dsr_ledger.specs.Verdicts.{names_unknown, share_total, verdict_by};

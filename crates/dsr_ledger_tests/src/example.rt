@@ -1,17 +1,10 @@
 //! The example of dsr_ledger.
-use crate::making::{events_of, report};
-use dsr_file::{Event, EventPart, Opening, Outcome};
-use dsr_ledger::Books;
+use crate::making::all_ended;
+use dsr_file::{Event, EventList, EventPart, Opening, Outcome};
+use dsr_ledger::{Books, Report};
 use dsr_records::Block;
+use std::alloc::Global;
 use std::test::Fail;
-
-/// A file of one block.
-const TEXT: &str = "HEAD\tR1\t1\t1\t2024-01-01\t2024-01-31\tS\tL
-SY01\tS1\tGB\tOnDemandStream\tGBP\t400\t2.4
-AS01\tB1\tGBAYE0601498
-SU01\tB1\tS1\t400\t2.4
-FOOT\t5\t1\t1
-";
 
 /// Opens the first file.
 fn open(books: &mut Books, opening: Opening) -> Result<(), Fail> {
@@ -46,19 +39,27 @@ fn hand_in(books: &mut Books, event: Event) -> Result<(), Fail> {
     }
 }
 
-/// The report of one file has one line of the ledger.
-#[test]
-fn the_report_of_one_file(rt: HostRuntime) -> Result<(), Fail> {
-    let mut events = events_of(rt.alloc(), TEXT)?;
-    let mut books = Books::new(rt.alloc(), 1)?;
+/// Passes all events of the first file to the books.
+fn hand_in_all(books: &mut Books, events: &mut EventList) -> Result<(), Fail> {
     for _ in 0..events.len() {
         if let Some(event) = events.next() {
-            hand_in(&mut books, event)?;
+            hand_in(books, event)?;
         }
     }
-    // `report` returns `books.into_report()`, once all files have ended.
-    let report = report(books)??;
-    let amount = report.ledger.get(0).map(|line| line.amount);
-    assert_eq!(rt; amount, Some(24_000_000_000));
     Ok(())
+}
+
+/// The report of one file with these events.
+///
+/// # Errors
+///
+/// A failure of the test: the file does not take one of the events or does not end, or out of memory.
+pub fn report_of(alloc: Global, events: &mut EventList) -> Result<Report, Fail> {
+    let mut books = Books::new(alloc, 1)?;
+    hand_in_all(&mut books, events)?;
+    // `all_ended` asks the books whether each file is opened and has ended.
+    if !all_ended(&books) {
+        return Err(Fail::new("a file that has not ended"));
+    }
+    Ok(books.into_report()?)
 }

@@ -17,9 +17,9 @@
 //! /// An example: the end of a file goes from one end of a relay to the other.
 //! fn an_end_goes_through(rt: HostRuntime) -> Result<(), Fail> {
 //!     let (mut feed, mut tap) = relay(rt.alloc(), 16)?;
-//!     assert!(rt; send_ended(&rt, &mut feed).is_ok());
-//!     assert!(rt; takes_end(&rt, &mut tap, 0));
-//!     assert!(rt; tap.ended());
+//!     let is_sent = send_ended(&rt, &mut feed);
+//!     let is_taken = takes_end(&rt, &mut tap, 0);
+//!     assert!(rt; is_sent && is_taken && tap.ended());
 //!     let settled = tap.take_in(feed);
 //!     assert_eq!(rt; (settled.taken, settled.left), (1, 0));
 //!     Ok(())

@@ -85,42 +85,26 @@ fn a_block_is_sent_for_a_stale_one(rt: HostRuntime) -> Result<(), Fail> {
     Ok(())
 }
 
-/// A batch is sent with the block that fills it.
-#[test]
-fn a_block_that_fills_a_batch_sends_it(rt: HostRuntime) -> Result<(), Fail> {
-    let alloc: Global = rt.alloc();
-    let (mut feed, mut tap) = relay(alloc, 1)?;
-    assert!(rt; send_blocks(&rt, alloc, &mut feed, 30));
-    assert_eq!(rt; exchanged(&rt, alloc, &mut feed), Some(0));
-    assert!(rt; !tap.ended());
-    assert_eq!(rt; takes_batch(&rt, &mut tap), Some(32));
-    Ok(())
+/// Sends a batch for which many bytes were read, takes it and gives it back. Returns whether its blocks were freed: the
+/// next block is exchanged for an empty one.
+fn blocks_are_freed<R: Wait>(rt: &R, alloc: Global, feed: &mut Feed, tap: &mut Tap) -> bool
+    requires { (feed.old.sent ≡ []) × (tap.old.taken ≡ []) }
+{
+    if !send_blocks(rt, alloc, feed, 2) {
+        return false;
+    }
+    feed.note_bytes(256 * 1024);
+    feed.batch_bytes() == 256 * 1024
+        && flushes(rt, feed)
+        && feed.batch_bytes() == 0
+        && takes_batch(rt, tap) == Some(3)
+        && send_block(rt, alloc, feed)
+        && exchanged(rt, alloc, feed) == Some(0)
 }
 
-/// If the tap is gone, the block that would fill a batch is not sent.
-#[test]
-fn a_block_that_fills_a_batch_comes_back(rt: HostRuntime) -> Result<(), Fail> {
-    let alloc: Global = rt.alloc();
-    let (mut feed, tap) = relay(alloc, 1)?;
-    assert!(rt; send_blocks(&rt, alloc, &mut feed, 30));
-    drop(tap);
-    assert!(rt; exchanged(&rt, alloc, &mut feed).is_none());
-    assert_eq!(rt; feed.sent_count(), 31);
-    Ok(())
-}
-
-/// The blocks of a batch for which many bytes were read are freed once it is given back.
 #[test]
 fn a_block_of_many_bytes_is_freed(rt: HostRuntime) -> Result<(), Fail> {
-    let alloc: Global = rt.alloc();
-    let (mut feed, mut tap) = relay(alloc, 1)?;
-    assert!(rt; send_blocks(&rt, alloc, &mut feed, 2));
-    feed.note_bytes(256 * 1024);
-    assert_eq!(rt; feed.batch_bytes(), 256 * 1024);
-    assert!(rt; flushes(&rt, &mut feed));
-    assert_eq!(rt; feed.batch_bytes(), 0);
-    assert_eq!(rt; takes_batch(&rt, &mut tap), Some(3));
-    assert!(rt; send_block(&rt, alloc, &mut feed));
-    assert_eq!(rt; exchanged(&rt, alloc, &mut feed), Some(0));
+    let (mut feed, mut tap) = relay(rt.alloc(), 1)?;
+    assert!(rt; blocks_are_freed(&rt, rt.alloc(), &mut feed, &mut tap));
     Ok(())
 }

@@ -1,5 +1,5 @@
 //! What a test sends: the opening of a file, its blocks and its end.
-ghost use Rattle.std.specs.Prelude.{◌≡◌, ◌+◌, ◌<◌, ◌≤◌, true, false, [], length, IfOk, OnOk, OnErr};
+ghost use Rattle.std.specs.Prelude.{◌≡◌, ◌+◌, ◌<◌, ◌≤◌, true, false, [], length, IfOk};
 ghost use Rattle.dsr_events.specs.Orderly.{has_ended, is_ended, MayStandAt};
 
 use crate::events::{block, ended, is_end, opened};
@@ -24,22 +24,18 @@ pub fn relay(alloc: Global, capacity: u32) -> Result<(Feed, Tap), Fail>
     }
 }
 
-/// Sends a part with the next place.
-///
-/// # Errors
-///
-/// If the tap is gone, the event is returned and nothing changes.
-pub fn send_part<R: Wait>(rt: &R, feed: &mut Feed, part: EventPart) -> Result<(), Event>
+/// Sends a part with the next place, and returns whether it was taken. If the tap is gone, nothing changes.
+pub fn send_part<R: Wait>(rt: &R, feed: &mut Feed, part: EventPart) -> bool
     requires going { has_ended feed.old.sent ≡ false }
     requires few { length feed.old.sent < 100000 }
     requires part { MayStandAt (length feed.old.sent) part }
     ensures name { feed.new.name ≡ feed.old.name }
-    ensures sent { OnOk result ((length feed.new.sent ≡ length feed.old.sent + 1)
-        × (has_ended feed.new.sent ≡ is_ended part)) }
-    ensures refused { OnErr result (feed.new ≡ feed.old) }
+    ensures sent { result ≡ true → (length feed.new.sent ≡ length feed.old.sent + 1)
+        × (has_ended feed.new.sent ≡ is_ended part) }
+    ensures refused { result ≡ false → feed.new ≡ feed.old }
 {
     let place = feed.sent_count();
-    feed.send(rt, Event { place, part })
+    feed.send(rt, Event { place, part }).is_ok()
 }
 
 /// Sends the opening, and returns whether it was taken.
@@ -50,13 +46,10 @@ pub fn send_opened<R: Wait>(rt: &R, alloc: Global, feed: &mut Feed) -> bool
     ensures few { length feed.new.sent ≤ 1 }
     ensures sent { result ≡ true → length feed.new.sent ≡ 1 }
 {
-    let Some(part) = opened(alloc) else {
-        return false;
-    };
-    let Ok(()) = send_part(rt, feed, part) else {
-        return false;
-    };
-    true
+    match opened(alloc) {
+        Some(part) => send_part(rt, feed, part),
+        None => false,
+    }
 }
 
 /// Sends the block of the next place, and returns whether it was taken.
@@ -68,13 +61,10 @@ pub fn send_block<R: Wait>(rt: &R, alloc: Global, feed: &mut Feed) -> bool
     ensures few { length feed.new.sent ≤ length feed.old.sent + 1 }
     ensures sent { result ≡ true → length feed.new.sent ≡ length feed.old.sent + 1 }
 {
-    let Some(part) = block(alloc, feed.sent_count()) else {
-        return false;
-    };
-    let Ok(()) = send_part(rt, feed, part) else {
-        return false;
-    };
-    true
+    match block(alloc, feed.sent_count()) {
+        Some(part) => send_part(rt, feed, part),
+        None => false,
+    }
 }
 
 /// Sends Opened, then blocks, and returns whether all were taken.
@@ -97,16 +87,11 @@ pub fn send_blocks<R: Wait>(rt: &R, alloc: Global, feed: &mut Feed, blocks: u64)
     true
 }
 
-/// Sends Ended.
-///
-/// # Errors
-///
-/// If the tap is gone, the event is returned and nothing changes.
-pub fn send_ended<R: Wait>(rt: &R, feed: &mut Feed) -> Result<(), Event>
+/// Sends Ended, and returns whether it was taken. If the tap is gone, nothing changes.
+pub fn send_ended<R: Wait>(rt: &R, feed: &mut Feed) -> bool
     requires going { has_ended feed.old.sent ≡ false }
     requires few { length feed.old.sent < 100000 }
     ensures name { feed.new.name ≡ feed.old.name }
-    ensures refused { OnErr result (feed.new ≡ feed.old) }
 {
     send_part(rt, feed, ended())
 }
@@ -134,10 +119,9 @@ pub fn send_file<R: Wait>(rt: &R, alloc: Global, mut feed: Feed, blocks: u64) ->
     ensures { result.name ≡ feed.name }
 {
     let _sent = send_blocks(rt, alloc, &mut feed, blocks);
-    let Ok(()) = send_ended(rt, &mut feed) else {
-        return feed;
-    };
-    let _ = feed.flush(rt);
+    if send_ended(rt, &mut feed) {
+        let _ = feed.flush(rt);
+    }
     feed
 }
 
@@ -147,8 +131,10 @@ pub fn ended_comes_back<R: Wait>(rt: &R, feed: &mut Feed, place: u64) -> bool
     requires few { length feed.old.sent < 100000 }
     ensures { result ≡ true → feed.new ≡ feed.old }
 {
-    let Err(event) = send_ended(rt, feed) else {
-        return false;
-    };
-    is_end(&event, place)
+    let next = feed.sent_count();
+    let part = ended();
+    match feed.send(rt, Event { place: next, part }) {
+        Ok(()) => false,
+        Err(event) => is_end(&event, place),
+    }
 }

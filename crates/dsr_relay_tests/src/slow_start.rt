@@ -61,8 +61,8 @@ fn a_feed_that_waits_for_memory_ends_with_its_tap(rt: HostRuntime) -> Result<(),
     let alloc: Global = rt.alloc();
     let (feed, mut tap) = slow_relay(alloc, 16)?;
     let sender = thread::spawn(&rt, move || sends_blocks(&rt, alloc, feed))?;
-    assert!(rt; takes_opened(&rt, &mut tap));
+    let is_opened = takes_opened(&rt, &mut tap);
     mem::drop(tap);
-    assert!(rt; !sender.join(&rt));
+    assert!(rt; !sender.join(&rt) && is_opened);
     Ok(())
 }

@@ -25,12 +25,10 @@ fn a_feed_moves_to_a_thread(rt: HostRuntime) -> Result<(), Fail> {
     let (feed, mut tap) = relay(alloc, 1)?;
     let promise = SameRelay(Snapshot::of(&feed));
     let sender = thread::spawn_with(&rt, promise, move || send_file(&rt, alloc, feed, 0))?;
-    assert!(rt; takes_opened(&rt, &mut tap));
-    assert!(rt; !tap.ended());
-    assert!(rt; takes_end(&rt, &mut tap, 1));
-    assert!(rt; tap.ended());
+    let is_opened = takes_opened(&rt, &mut tap) && !tap.ended();
+    let is_ended = is_opened && takes_end(&rt, &mut tap, 1) && tap.ended();
     let settled = tap.take_in(sender.join(&rt));
-    assert_eq!(rt; (settled.taken, settled.left), (2, 0));
+    assert_eq!(rt; (is_ended, settled.taken, settled.left), (true, 2, 0));
     Ok(())
 }
 
@@ -45,8 +43,8 @@ fn take_first<R: Wait>(rt: &R, mut tap: Tap) -> bool
 fn a_tap_moves_to_a_thread(rt: HostRuntime) -> Result<(), Fail> {
     let (feed, tap) = relay(rt.alloc(), 1)?;
     let taker = thread::spawn(&rt, move || take_first(&rt, tap))?;
-    assert!(rt; send_and_leave(&rt, rt.alloc(), feed));
-    assert!(rt; taker.join(&rt));
+    let is_sent = send_and_leave(&rt, rt.alloc(), feed);
+    assert!(rt; taker.join(&rt) && is_sent);
     Ok(())
 }
 
@@ -56,9 +54,10 @@ fn many_blocks_through_one_place(rt: HostRuntime) -> Result<(), Fail> {
     let (feed, mut tap) = relay(alloc, 1)?;
     let promise = SameRelay(Snapshot::of(&feed));
     let sender = thread::spawn_with(&rt, promise, move || send_file(&rt, alloc, feed, 20_000))?;
-    assert_eq!(rt; take_file(&rt, &mut tap), 20_002);
-    assert!(rt; tap.ended());
+    let right = take_file(&rt, &mut tap);
+    let has_ended = tap.ended();
     let settled = tap.take_in(sender.join(&rt));
+    assert_eq!(rt; (right, has_ended), (20_002, true));
     assert_eq!(rt; (settled.taken, settled.left), (20_002, 0));
     Ok(())
 }
@@ -69,9 +68,10 @@ fn batches_through_one_place(rt: HostRuntime) -> Result<(), Fail> {
     let (feed, mut tap) = relay(alloc, 1)?;
     let promise = SameRelay(Snapshot::of(&feed));
     let sender = thread::spawn_with(&rt, promise, move || send_file(&rt, alloc, feed, 2000))?;
-    assert_eq!(rt; take_batches(&rt, &mut tap), 2002);
-    assert!(rt; tap.ended());
+    let right = take_batches(&rt, &mut tap);
+    let has_ended = tap.ended();
     let settled = tap.take_in(sender.join(&rt));
+    assert_eq!(rt; (right, has_ended), (2002, true));
     assert_eq!(rt; (settled.taken, settled.left), (2002, 0));
     Ok(())
 }

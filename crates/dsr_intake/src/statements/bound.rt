@@ -1,5 +1,5 @@
 //! An upper bound of the bytes that are put, computed without formatting them.
-ghost use Rattle.std.specs.Prelude.{◌≡◌, ◌≤◌, ◌+◌, ℕ, length};
+ghost use Rattle.std.specs.Prelude.{◌≤◌, ◌+◌, ℕ, length};
 ghost use Rattle.dsr_intake.specs.inner.Bound.{IsUpTo};
 
 use crate::statements::put::Put;

@@ -31,10 +31,10 @@ fn lay_key(room: &mut SliceBuffer<'_>, line: &LentLine<'_>) -> bool
     ensures { result ≡ true → room.new ≡ tabbed (key_cells line.now) }
 {
     room.clear();
-    lay_cell(room, line.isrc().as_bytes())
-        && lay_cell(room, line.territory().as_bytes())
-        && lay_cell(room, line.use_type().as_bytes())
-        && lay_cell(room, line.currency().as_bytes())
+    lay_cell(room, line.isrc.as_bytes())
+        && lay_cell(room, line.territory.as_str().as_bytes())
+        && lay_cell(room, line.use_type.as_str().as_bytes())
+        && lay_cell(room, line.currency.as_str().as_bytes())
 }
 
 /// Appends a cell, after a tab. Returns whether it fits.
@@ -61,8 +61,8 @@ pub(crate) fn put_key<P: Put>(out: &mut P, key: Option<&[u8]>, line: &LentLine<'
 fn put_key_cells<P: Put>(out: &mut P, line: &LentLine<'_>)
     ensures { Puts P.after out.old out.new (tabbed (key_cells line.now)) }
 {
-    put_text(out, line.isrc().as_bytes());
-    put_text(out, line.territory().as_bytes());
-    put_text(out, line.use_type().as_bytes());
-    put_text(out, line.currency().as_bytes())
+    put_text(out, line.isrc.as_bytes());
+    put_text(out, line.territory.as_str().as_bytes());
+    put_text(out, line.use_type.as_str().as_bytes());
+    put_text(out, line.currency.as_str().as_bytes())
 }

@@ -144,8 +144,8 @@ fn put_sums<P: Put>(out: &mut P, key: Option<&[u8]>, line: &LentLine<'_>)
 {
     out.put(b"LEDGER");
     put_key(out, key, line);
-    put_signed(out, line.usages());
-    put_last_amount(out, line.amount());
+    put_signed(out, line.usages);
+    put_last_amount(out, line.amount);
 }
 
 /// Puts the lines of a key's parties. `key` has the key's cells, if they fit.
@@ -153,7 +153,7 @@ fn put_parties<P: Put>(out: &mut P, key: Option<&[u8]>, line: &LentLine<'_>)
     requires { IfSome key (λ k. k.now ≡ tabbed (key_cells line.now)) }
     ensures { Puts P.after out.old out.new (flat_map (party_line line.now) line.now.parties) }
 {
-    for party in line.parties() {
+    for party in line.parties {
         put_party(out, key, line, party);
     }
 }
@@ -176,7 +176,7 @@ fn put_unclaimed<P: Put>(out: &mut P, key: Option<&[u8]>, line: &LentLine<'_>)
 {
     out.put(b"UNCLAIMED");
     put_key(out, key, line);
-    put_last_amount(out, line.unclaimed());
+    put_last_amount(out, line.unclaimed);
 }
 
 /// Puts the line of a rejected block.

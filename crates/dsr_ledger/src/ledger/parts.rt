@@ -1,12 +1,11 @@
 //! The parts of a line: what it owes the party at each seat.
-ghost use Rattle.std.specs.Prelude.{◌≡◌, ◌≤◌, ◌<◌, ◌+◌, ◌^◌, ◌+ℤ◌, ◌*ℤ◌, pos, ℕ, List, Option, None, Some, [], ◌∷◌, ◌++◌, IfOk, OnOk, OnErr, length, map, nat_eq, take, unsigned_abs, if◌then◌else◌};
-ghost use Rattle.std.specs.List.{position};
+ghost use Rattle.std.specs.Prelude.{◌≡◌, ◌≤◌, ◌<◌, ◌+◌, ◌^◌, ◌+ℤ◌, ◌*ℤ◌, pos, ℕ, List, Option, None, Some, [], ◌∷◌, ◌++◌, IfOk, OnOk, OnErr, length, map, unsigned_abs, if◌then◌else◌};
 ghost use Rattle.std.specs.Int.{w128};
 ghost use Rattle.std.specs.Int.RustNames.{FitsSigned, int_div};
 ghost use Rattle.std.specs.Str.{bytes_eq};
 ghost use Rattle.std.proofs.Props.{props};
 ghost use Rattle.dsr_ledger.specs.Indexes.{AreIndexed};
-ghost use Rattle.dsr_ledger.specs.Numbered.{IsNumbered, AreApart, AreBelow, place_in, place_by};
+ghost use Rattle.dsr_ledger.specs.Numbered.{IsNumbered, AreApart, AreBelow};
 ghost use Rattle.dsr_ledger.specs.Owed.{nothing_owed, owed_with, owed_kept, owed_at_place, owed_in, owed_plus, owed_for, part_seats, part_in, parts_size, PartsGrow};
 ghost use Rattle.dsr_ledger.specs.Parts.{part_of};
 ghost use Rattle.dsr_ledger.specs.Seated.{HaveSeats, HasPart, HaveParts, AreSeatsBelow};

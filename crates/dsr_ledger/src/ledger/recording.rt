@@ -1,7 +1,6 @@
 //! A recording: the seats of its parties, and its lines.
-ghost use Rattle.std.specs.Prelude.{◌≡◌, ◌<◌, true, OnOk, nat_eq, take, length};
+ghost use Rattle.std.specs.Prelude.{◌≡◌, ◌<◌, true, OnOk, nat_eq, length};
 ghost use Rattle.std.specs.Vec.{vec_len, vec_capacity};
-ghost use Rattle.std.specs.List.{position};
 ghost use Rattle.std.proofs.Props.{props};
 ghost use Rattle.dsr_ledger.specs.Indexes.{AreIndexed};
 ghost use Rattle.dsr_ledger.specs.Numbered.{AreApart, place_in};

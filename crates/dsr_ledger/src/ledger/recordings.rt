@@ -29,7 +29,7 @@ pub struct Ledger {
 }
 
 impl Ledger {
-    ghost use Rattle.std.specs.Prelude.{◌≤◌, ◌^◌, Option, IfOk, OnOk, IfSome, None, map, if◌then◌else◌};
+    ghost use Rattle.std.specs.Prelude.{◌≤◌, ◌^◌, Option, IfOk, IfSome, None, map, if◌then◌else◌};
     ghost use Rattle.dsr_ledger.specs.declared.key.Key.{Key};
     ghost use Rattle.dsr_ledger.specs.Bookings.{key_under};
     ghost use Rattle.dsr_ledger.specs.Keys.{key_eq};

@@ -16,13 +16,23 @@ fn write_line(alloc: Global, line: &str, block: &mut Block) -> Result<(), Fail> 
     Ok(())
 }
 
+/// Writes the records of lines into a block.
+fn write_lines(alloc: Global, lines: &[&str], block: &mut Block) -> Result<(), Fail> {
+    for line in lines {
+        write_line(alloc, line, block)?;
+    }
+    Ok(())
+}
+
 /// A block of a resource and a usage.
 #[test]
 fn a_block_of_two_lines(rt: HostRuntime) -> Result<(), Fail> {
+    let lines = ["AS01\tB1\tGBAYE0601498", "SU01\tB1\tS1\t400\t2.4"];
     let mut block = Block::empty(rt.alloc());
-    write_line(rt.alloc(), "AS01\tB1\tGBAYE0601498", &mut block)?;
-    write_line(rt.alloc(), "SU01\tB1\tS1\t400\t2.4", &mut block)?;
-    assert_eq!(rt; block.resource.isrc.as_str(), "GBAYE0601498");
-    assert_eq!(rt; block.usages.len(), 1);
+    write_lines(rt.alloc(), &lines, &mut block)?;
+    assert_eq!(rt;
+        (block.resource.isrc.as_str(), block.usages.len()),
+        ("GBAYE0601498", 1)
+    );
     Ok(())
 }

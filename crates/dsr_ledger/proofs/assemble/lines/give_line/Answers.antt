@@ -1,6 +1,6 @@
 use Rattle.std.proofs.Math.Logic.{∥∥₁_elim}
 use Rattle.std.proofs.Props.{props}
-use Rattle.std.proofs.Common.{◌≡◌, ◌++◌, ◌∷◌, [], List, ℕ, length, to_z, of_z, rules, sym, ◌∙◌, ap, subst, ◌+◌, ◌<◌, ◌≤◌, ◌^◌}
+use Rattle.std.proofs.Common.{◌≡◌, ◌∷◌, [], List, ℕ, length, to_z, of_z, rules, sym, ◌∙◌, ap, subst, ◌+◌, ◌<◌, ◌≤◌, ◌^◌}
 use Rattle.std.specs.Prelude.{vec_capacity, Option, sum_by, unsigned_abs, ◌-ℤ◌}
 use Rattle.std.specs.Option.{option_map_or}
 use Rattle.std.specs.Int.{w128}

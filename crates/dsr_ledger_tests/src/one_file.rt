@@ -1,0 +1,21 @@
+//! The example on a file of one block.
+use crate::example::report_of;
+use crate::making::events_of;
+use std::test::Fail;
+
+/// A file of one block.
+const TEXT: &str = "HEAD\tR1\t1\t1\t2024-01-01\t2024-01-31\tS\tL
+SY01\tS1\tGB\tOnDemandStream\tGBP\t400\t2.4
+AS01\tB1\tGBAYE0601498
+SU01\tB1\tS1\t400\t2.4
+FOOT\t5\t1\t1
+";
+
+#[test]
+fn the_report_of_one_file(rt: HostRuntime) -> Result<(), Fail> {
+    let mut events = events_of(rt.alloc(), TEXT)?;
+    let report = report_of(rt.alloc(), &mut events)?;
+    let amount = report.ledger.get(0).map(|line| line.amount);
+    assert_eq!(rt; amount, Some(24_000_000_000));
+    Ok(())
+}

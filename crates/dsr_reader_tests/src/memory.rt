@@ -1,0 +1,111 @@
+//! Calls that take memory, each once: None if it is refused, else whether the value is right.
+use dsr_cells::{
+    Day, Share, Shares, Text, read_texts, read_texts_into, unescape, write_amount, write_day,
+};
+use dsr_file::{Ending, Event, EventList, whole_events};
+use dsr_records::{Block, Layout, Resource, Usage, Work, read_record};
+use std::alloc::Global;
+use std::default::MadeWith;
+
+/// A text that is too long to be kept in place.
+const LONG: &str = "a title of more than thirty bytes";
+
+fn unescaped(alloc: Global) -> Option<bool> {
+    Some(unescape(alloc, "\\|").ok()?.as_str() == "|")
+}
+
+fn copied(alloc: Global) -> Option<bool> {
+    let text = Text::copy_of(alloc, LONG).ok()?;
+    Some(text.copy(alloc).ok()?.as_str() == LONG)
+}
+
+/// More shares than a list stores in place.
+fn pushed(alloc: Global) -> Option<bool> {
+    let mut shares = Shares::new(alloc);
+    for _ in 0..9 {
+        shares.push(Share::default()).ok()?;
+    }
+    Some(shares.len() == 9)
+}
+
+/// Texts that are written over others.
+fn written_over(alloc: Global) -> Option<bool> {
+    let mut texts = read_texts(alloc, "a|b").ok()?;
+    read_texts_into(alloc, "c|a title of more than thirty bytes|d|e", &mut texts).ok()?;
+    Some(texts.len() == 4 && texts.get(1)?.as_str() == LONG)
+}
+
+fn written(alloc: Global) -> Option<bool> {
+    let mut out = Vec::new(alloc);
+    write_amount(5, &mut out).ok()?;
+    write_day(Day::read("2024-02-29")?, &mut out).ok()?;
+    Some(out.as_slice() == b"0.00000000052024-02-29".as_slice())
+}
+
+fn recorded(alloc: Global) -> Option<bool> {
+    let line = "AS01\t1\tGBABC2400001\ta title of more than thirty bytes";
+    let record = read_record(alloc, &Layout::standard(), line);
+    record.is_ok().then_some(true)
+}
+
+/// Pushes a work and a usage into a new block.
+fn push_both(alloc: Global, block: &mut Block) -> Option<bool> {
+    if block.len() > 62 {
+        return Some(false);
+    }
+    block.push_work(Work::made_with(alloc)).ok()?;
+    block.push_usage(Usage::made_with(alloc)).ok()?;
+    Some(block.len() == 3)
+}
+
+fn opened(alloc: Global) -> Option<bool> {
+    match Block::open(alloc, Resource::made_with(alloc)) {
+        Ok(mut block) => push_both(alloc, &mut block),
+        Err(_) => None,
+    }
+}
+
+fn listed(alloc: Global) -> Option<bool> {
+    let mut events = EventList::new(alloc);
+    let is_pushed = events.push(Event::default()).is_ok();
+    is_pushed.then_some(events.len() == 1)
+}
+
+/// The events of a file of one block.
+fn read(alloc: Global) -> Option<bool> {
+    let text =
+        b"HEAD\tR1\t1\t1\t2024-01-01\t2024-01-31\nAS01\t1\nSU01\t1\tS1\t1\t1\nFOOT\t4\t0\t1\n";
+    match whole_events(alloc, &Layout::standard(), text, Ending::Whole) {
+        Ok(events) => Some(events.len() == 3),
+        Err(_) => None,
+    }
+}
+
+/// What each of these functions returns.
+fn answers(alloc: Global) -> [Option<bool>; 9] {
+    [
+        unescaped(alloc),
+        copied(alloc),
+        pushed(alloc),
+        written_over(alloc),
+        written(alloc),
+        recorded(alloc),
+        opened(alloc),
+        listed(alloc),
+        read(alloc),
+    ]
+}
+
+#[test]
+fn each_call_finds_its_memory(rt: HostRuntime) {
+    for answer in answers(rt.alloc()) {
+        assert!(rt; answer == Some(true));
+    }
+}
+
+#[test]
+fn no_call_is_wrong_without_memory(rt: HostRuntime) {
+    for answer in answers(rt.alloc()) {
+        assert!(rt; answer != Some(false));
+    }
+}
