@@ -62,7 +62,7 @@ pub fn serve<
     }
 }
 
-/// The arguments after the program's name.
+/// The arguments after the program's name. The error is the exit status; its line has been written.
 fn words<H: Env + AllocGlobal, F: Write>(
     rt: &H,
     alloc: Global,
@@ -96,7 +96,7 @@ fn show<W: Write + Drop, F: Write>(text: &Text, out: W, fault: &mut F) -> u8 {
     }
 }
 
-/// Reads the files of the report and prints its statement.
+/// Reads the files of the report and prints its statement. Returns the exit status.
 fn read_and_print<
     H: Files<File = File>
         + io::Input<Reader = StdinLock<'static>>
@@ -158,7 +158,8 @@ fn run_watched<
     run(rt, alloc, &mut watched, Box::into_inner(options), out)
 }
 
-/// The options that a command line asks for, with the standard layout if it names none.
+/// The options that a command line asks for, with the standard layout if it names none. The error is the exit status; its
+/// line has been written.
 fn options_of<H: Files<File = File>, F: Write>(
     rt: &H,
     alloc: Global,
@@ -180,7 +181,8 @@ fn options_of<H: Files<File = File>, F: Write>(
     }
 }
 
-/// The layout in the named file, or the standard one if none is named.
+/// The layout in the named file, or the standard one if none is named. The error is the exit status; its line has been
+/// written.
 fn layout_of<H: Files<File = File>, F: Write>(
     rt: &H,
     alloc: Global,
@@ -201,7 +203,7 @@ fn layout_of<H: Files<File = File>, F: Write>(
     }
 }
 
-/// Writes why there is no layout.
+/// Writes why there is no layout, and returns the exit status.
 fn layout_refused<F: Write>(name: &Text, error: LayoutReadError, fault: &mut F) -> u8 {
     match error {
         LayoutReadError::Read => {
@@ -216,20 +218,26 @@ fn layout_refused<F: Write>(name: &Text, error: LayoutReadError, fault: &mut F) 
     }
 }
 
-/// Writes that a file cannot be opened.
-fn cannot_open<F: Write>(name: &Text, fault: &mut F) -> u8 {
+/// Writes that a file cannot be opened, and returns the exit status.
+fn cannot_open<F: Write>(name: &Text, fault: &mut F) -> u8
+    ensures { result ≡ 2 }
+{
     write_cannot_open(name, fault);
     REFUSED
 }
 
-/// Writes that the arguments are refused.
-fn refuse<F: Write>(text: &str, fault: &mut F) -> u8 {
+/// Writes why the arguments are refused, and returns the exit status.
+fn refuse<F: Write>(text: &str, fault: &mut F) -> u8
+    ensures { result ≡ 2 }
+{
     write_line(text, fault);
     REFUSED
 }
 
-/// Writes that memory was refused before anything was read.
-fn no_memory<F: Write>(fault: &mut F) -> u8 {
+/// Writes that memory was refused before a file of the report was read, and returns the exit status.
+fn no_memory<F: Write>(fault: &mut F) -> u8
+    ensures { result ≡ 3 }
+{
     write_line("out of memory", fault);
     UNFINISHED
 }

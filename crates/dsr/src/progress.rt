@@ -13,7 +13,8 @@ const PAUSE: u64 = 500;
 /// A line of progress.
 #[derive(Clone, Copy)]
 pub struct ProgressLine {
-    /// The number of files that were read to their end, or whose reads failed.
+    /// The number of files that were read to their end, or whose reads failed. A file whose reading stops at a fault or at
+    /// the limit on reads never counts.
     pub done: u64,
     /// The number of all files.
     pub files: usize,

@@ -65,7 +65,7 @@ impl<T, const N: usize> InlineItems<T, N> {
         self.len = 0;
     }
 
-    /// Removes the last item of the list. It becomes a stale one; nothing is dropped.
+    /// Removes the last item of the list. It becomes a stale one; nothing is dropped. Condition: the list is not empty.
     pub fn shorten(&mut self)
         requires { 0 < length self.old }
         ensures { self.new ≡ take (length self.old - 1) self.old }
@@ -75,7 +75,7 @@ impl<T, const N: usize> InlineItems<T, N> {
 
     /// The last item, for writing.
     #[inline(always)]
-    pub fn last_mut(&mut self) -> &mut T
+    fn last_mut(&mut self) -> &mut T
         requires { 0 < length self.old }
         ensures* writes_back { sem 𝓛 (lends_last T.row N.row self.entry result) }
         ensures value { result.now ≡ slice_index_or self.old (length self.old - 1) result.now }
@@ -133,13 +133,9 @@ impl<T: MadeWith<Global> + Drop, const N: usize> InlineItems<T, N> {
         }
     }
 
-    /// Makes the list longer by one item of any value.
-    ///
-    /// # Errors
-    ///
-    /// `NoMemory`: out of memory; the list is unchanged.
+    /// Makes the list longer by one item of any value. If memory is refused, the list is unchanged.
     #[inline(always)]
-    pub fn lengthen(&mut self) -> Result<(), NoMemory>
+    fn lengthen(&mut self) -> Result<(), NoMemory>
         ensures { MatchResult result (λ _. IsOneMore self.old self.new) (λ _. self.new ≡ self.old) }
     {
         if self.len < self.items.len() {

@@ -3,7 +3,7 @@ use Rattle.std.specs.Prelude.{ℕ, Bool, true, false}
 use Rattle.dsr_file.specs.declared.reader.phase.Phase.{Phase}
 use Rattle.dsr_file.specs.declared.reader.phase.Phase.TheVariants.{Reading, Waiting, Done}
 
--- how many may have come
+-- how many events may have come beyond the number of bytes used
 abbrev pub allowance : Phase → ℕ
 allowance Reading = 0
 allowance (Waiting o) = 2

@@ -20,7 +20,7 @@ use Rattle.dsr_file.specs.Parts.{parts, closed, last_of, block_limit, summaries}
 abbrev pub summary_limit : ℕ
 summary_limit = 1000
 
--- what the last record is: the column of the place table
+-- what the last record is: the column of the place table; `records` leaves skipped ones out, so the last case never occurs
 abbrev pub column : Option Record → Before
 column None = Nothing
 column (Some (Head h)) = Front

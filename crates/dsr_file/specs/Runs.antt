@@ -53,7 +53,8 @@ pub record IsCutOff (ls : List Reading) (es : List Placed) : Type 0 where
   pub takes : has_texts item ≡ true
   pub events_are : es ≡ placed 0 (events_of (records before) ++ Ended (Fault (length before + 1) Memory) ∷ [])
 
--- the known lines of bytes, and their events: as long as more may come, or with the ending
+-- the known lines of bytes, and their events: as long as more may come (the last piece is then no line yet, as with the
+-- ending Read), or with the ending
 abbrev pub known_lines : LayoutTable → List ℕ → Option Ending → List Reading
 known_lines layout bytes None = readings layout bytes Read
 known_lines layout bytes (Some ending) = readings layout bytes ending

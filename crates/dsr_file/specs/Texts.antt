@@ -64,7 +64,7 @@ abbrev pub outcome : List Reading → Ending → First → Outcome
 outcome ls ending AllGood = end_of (records ls) ending (length ls + 1)
 outcome ls ending (At before l f) = outcomes.Fault (length before + 1) f
 
--- the events of lines, and of lines after which more may come: these have no Ended as long as all lines are good
+-- the events of the lines of a text with this ending
 unfoldable pub events : List Reading → Ending → List EventPart
 events ls ending =
     let first = first_from [] ls in events_of (taken ls first) ++ Ended (outcome ls ending first) ∷ []
@@ -73,6 +73,7 @@ abbrev pub ended_so_far : First → List EventPart
 ended_so_far AllGood = []
 ended_so_far (At before l f) = Ended (outcomes.Fault (length before + 1) f) ∷ []
 
+-- the events of lines after which more may come: without Ended as long as all lines are good
 unfoldable pub events_so_far : List Reading → List EventPart
 events_so_far ls = let first = first_from [] ls in events_of (taken ls first) ++ ended_so_far first
 
@@ -89,6 +90,7 @@ readings layout bytes ending = map (reading layout) (lines bytes ending)
 abbrev pub text_events : LayoutTable → List ℕ → Ending → List Placed
 text_events layout bytes ending = placed 0 (events (readings layout bytes ending) ending)
 
--- the events of bytes, whatever follows them
+-- the events of bytes, whatever follows them. The ending Read says only that the last piece is no line yet, unless it is
+-- already too long
 abbrev pub so_far : LayoutTable → List ℕ → List Placed
 so_far layout bytes = placed 0 (events_so_far (readings layout bytes endings.Read))

@@ -2,7 +2,8 @@
 ghost use Rattle.std.specs.Prelude.{◌≡◌};
 ghost use Rattle.dsr_file.specs.ReadCounts.{AddsRead, no_reads};
 
-/// The number of reads that a source has answered, the number of those that gave bytes, and the bytes of the last one.
+/// The number of reads that a source has answered, the number of those that gave bytes, and the bytes of the last one. No
+/// code asks for them: contracts say with them how many reads were made.
 #[derive(Clone, Copy, PartialEq, Eq)]
 pub struct ReadCount {
     answered: u64,

@@ -214,6 +214,7 @@ impl FileReader {
             → Stands layout self.new b es
             → HasEvents layout b (Some (first_ending self.old ending)) es) }
         ensures done { IfNone result (IsDone self.new) }
+        ensures after { IsDone self.old → result ≡ None }
         ensures progress { OnSome result (events_left self.new < events_left self.old) }
     {
         self.set_ending(ending);

@@ -167,7 +167,7 @@ impl Stage {
     }
 
     /// Takes a record that does not belong to a block and has no fault; `closed` becomes what it
-    /// closes. If memory is refused, nothing changes.
+    /// closes.
     pub(crate) fn add(
         &mut self,
         alloc: Global,
@@ -199,7 +199,7 @@ impl Stage {
     }
 
     /// Opens the block of a resource line, which has no fault, over the old block in `closed`, which
-    /// becomes what the line closes. If memory is refused, nothing is closed.
+    /// becomes what the line closes.
     #[inline(always)]
     pub(crate) fn open(
         &mut self,
@@ -220,7 +220,7 @@ impl Stage {
         Ok(())
     }
 
-    /// Adds a summary to the opening. If memory is refused, nothing changes.
+    /// Adds a summary to the opening.
     fn add_summary(&mut self, summary: Summary) -> Result<(), NoMemory>
         requires { IsNew self.old summary.id }
         ensures next { OnOk result (self.new ≡ stage_after self.old (Record.Summary summary)) }
@@ -233,7 +233,7 @@ impl Stage {
         Ok(())
     }
 
-    /// Takes the work or the usage of a line, which has no fault. If memory is refused, nothing changes.
+    /// Takes the work or the usage of a line, which has no fault.
     #[inline(always)]
     pub(crate) fn add_member(
         &mut self,

@@ -1,5 +1,5 @@
 //! All events of a text.
-ghost use Rattle.std.specs.Prelude.{◌≡◌, ◌++◌, ◌+◌, ◌≤◌, ◌^◌, [], length, List, ℕ, Some, None, IfOk};
+ghost use Rattle.std.specs.Prelude.{◌≡◌, ◌++◌, ◌+◌, ◌≤◌, ◌^◌, [], length, List, ℕ, Some, None, Ok, IfOk};
 ghost use Rattle.dsr_records.specs.Records.{LayoutTable};
 ghost use Rattle.dsr_file.specs.Texts.{text_events};
 ghost use Rattle.dsr_file.specs.Runs.{HasEvents, EndsWith};
@@ -53,10 +53,17 @@ fn read_whole<S: Sink>(
 {
     let mut file = FileReader::new(alloc, layout)?;
     let mut part = file.nothing_closed();
-    let Ok(outcome) = give_all(&mut file, &mut part, bytes, ending, sink) else {
-        return Err(NoMemory);
-    };
-    Ok(outcome)
+    without_event(give_all(&mut file, &mut part, bytes, ending, sink))
+}
+
+/// The same result, without the event that the sink refused.
+fn without_event(answer: Result<Outcome, Event>) -> Result<Outcome, NoMemory>
+    ensures { IfOk result (λ outcome. answer ≡ Ok outcome) }
+{
+    match answer {
+        Ok(outcome) => Ok(outcome),
+        Err(_) => Err(NoMemory),
+    }
 }
 
 /// Gives the rest of a text to a reader, and its events to a sink.

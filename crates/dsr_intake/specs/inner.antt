@@ -1,4 +1,4 @@
--- The definitions that relate the code to them.
+-- The definitions that relate the code to those of `meaning`.
 pub mod Ends
 pub mod Stops
 pub mod Ready

@@ -15,13 +15,12 @@ use Rattle.dsr_ledger.specs.declared.file.summaries.Summaries.{Summaries}
 use Rattle.dsr_ledger.specs.declared.file.FileBooks.{FileBooks}
 use Rattle.dsr_ledger.specs.declared.kept.Kept.{Kept}
 use Rattle.dsr_ledger.specs.declared.closed.ClosedBooks.{ClosedBooks}
-use Rattle.dsr_ledger.specs.declared.report.ReportKey.{ReportKey}
 use Rattle.dsr_ledger.specs.Sums.{int_sum_by}
 use Rattle.dsr_ledger.specs.Files.{File, Filed, filed, filed_after, standing, summaries_of, first_head}
 use Rattle.dsr_ledger.specs.Findings.{is_ours, ended_whole, usages_in, naming, difference, differs, differences_in, differences, has_number, is_there}
 use Rattle.dsr_ledger.specs.Findings.{missing_for, rejects_in, rejects}
 use Rattle.dsr_ledger.specs.Summaries.{sums_at, sums_with, no_sums, found_in}
-use Rattle.dsr_ledger.specs.Openings.{openings_of, first_of}
+use Rattle.dsr_ledger.specs.Openings.{openings_of}
 use Rattle.dsr_ledger.specs.Bookings.{bookings}
 use Rattle.dsr_ledger.specs.Reports.{key_of, outcome_of, file_line, report_head, missing}
 use Rattle.dsr_ledger.specs.Closed.{AreClosed}
@@ -143,13 +142,6 @@ differences_stand f d s =
     ∙ ap (λ l. if is_ours d.standing && ended_whole d.file.outcome then filter differs l else [])
     (differences_found d.place f.summaries us [] ss ss refl s.summaries)
     ∙ both_or_none (is_ours d.standing) (ended_whole d.file.outcome) differs (map (difference d.place us) ss)
-
--- the key, file after file
-pub key_step : (key : Option ReportKey) (o : Option OpeningParts) (os : List (Option OpeningParts))
-    → first_of (first_of key (option_map (λ x. key_of x.head) o)) (option_map key_of (first_head os)) ≡ first_of key (option_map key_of (first_head (o ∷ os)))
-key_step (Some k) o os = refl
-key_step None (Some o) os = refl
-key_step None None os = refl
 
 short_files : (files : List File) → AllByRecursion IsSmallFile files → AllByRecursion (IsShort (2 ^ 37)) files
 short_files [] h = tt

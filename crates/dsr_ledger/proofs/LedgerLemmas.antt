@@ -5,10 +5,8 @@ use Rattle.std.specs.Prelude.{Option, None, Some, Result, Ok, Err, OnOk, OnErr, 
 use Rattle.std.specs.Option.{option_and_then}
 use Rattle.std.specs.List.{position}
 use Rattle.std.specs.Map.{lookup}
-use Rattle.std.specs.Bool.{Decides}
 use Rattle.std.specs.Str.{bytes_eq}
 use Rattle.std.specs.Cmp.Lexicographic.{nat_list_eq_equiv}
-use Rattle.std.proofs.lemmas.Bool.{and_from, and_parts}
 use Rattle.std.proofs.lemmas.List.Quantifiers.{position-Some}
 use Rattle.std.proofs.lemmas.Option.{slice_get-map, get_or_from_slice_get}
 use Rattle.std.proofs.lemmas.Slice.Eq.{bytes_eq-Decides}
@@ -28,23 +26,7 @@ use Rattle.dsr_ledger.proofs.IndexMapLemmas.{own_value, written, written_here}
 use Rattle.dsr_ledger.proofs.NumberedLemmas.{same_Some, not_Some, grows_more, places_are_numbered}
 use Rattle.dsr_ledger.proofs.PlaceByLemmas.{same_number, by_number, by_numbered, by_new_key, by_new_number}
 use Rattle.dsr_ledger.proofs.RecordingLemmas.{lines_seated}
-
-summary_key_is : (a b : SummaryKey) → summary_key_eq a b ≡ true → a ≡ b
-summary_key_is a b h =
-    let first = and_parts _ _ h in
-    let second = and_parts _ _ first.1 in
-    let territory = (bytes_eq-Decides a.territory b.territory).0 first.0 in
-    let use_type = (bytes_eq-Decides a.use_type b.use_type).0 second.0 in
-    let currency = (bytes_eq-Decides a.currency b.currency).0 second.1 in
-    λ i. record { territory = territory i; use_type = use_type i; currency = currency i }
-
-summary_key-itself : (a : SummaryKey) → summary_key_eq a a ≡ true
-summary_key-itself a =
-    and_from _ _ ((bytes_eq-Decides a.territory a.territory).1 refl)
-    (and_from _ _ ((bytes_eq-Decides a.use_type a.use_type).1 refl) ((bytes_eq-Decides a.currency a.currency).1 refl))
-
-pub same_summary_key : (a b : SummaryKey) → Decides (summary_key_eq a b) (a ≡ b)
-same_summary_key a b = (summary_key_is a b, λ e. subst (λ k. summary_key_eq a k ≡ true) e (summary_key-itself a))
+use Rattle.dsr_ledger.proofs.SummaryKeyLemmas.{same_summary_key}
 
 pub parties_are_numbered : (ks : List (List ℕ)) → IsNumbered (λ q. position (bytes_eq q) ks) (length ks)
 parties_are_numbered ks = places_are_numbered bytes_eq bytes_eq-Decides ks

@@ -2,7 +2,6 @@ pub mod SumLemmas
 pub mod IndexMapLemmas
 pub mod NumberedLemmas
 pub mod PlaceByLemmas
-pub mod TieLemmas
 pub mod IndexLemmas
 pub mod ItemLemmas
 pub mod PartLemmas

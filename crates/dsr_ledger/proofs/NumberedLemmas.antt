@@ -15,11 +15,6 @@ same_Some x y e = ap (λ o. unwrap_or o x) e
 pub not_Some : {X : Type 0} (x : X) → None ≡ Some x → ⊥
 not_Some x e = absurd (cc)
 
--- what a key has after one was added: the new number, or what it had
-pub either : {X : Type 0} (b : Bool) (x y : X) (o : Option X) → cond b (Some x) o ≡ Some y → ((b ≡ true) × (x ≡ y)) ⊎ ((b ≡ false) × (o ≡ Some y))
-either true x y o e = inl (refl, same_Some x y e)
-either false x y o e = inr (refl, e)
-
 module _ {K : Type 0} (same : K → K → Bool) (decides : (a b : K) → Decides (same a b) (a ≡ b)) where
   pub grows_more : (old new : K → Option ℕ) (k : K) (n : ℕ) → old k ≡ None → ((q : K) → new q ≡ cond (same k q) (Some n) (old q)) → Grows old new
   grows_more old new k n none is q i e =

@@ -35,7 +35,8 @@ pub record IsBlockInRange (b : BlockParts) : Type 0 where
   pub few : length b.usages ≤ 63
   pub range : AllByRecursion IsInRange b.usages
 
--- the file has one more block, with this verdict; nothing is said of the identifiers
+-- the file has one more block, with this verdict, the ledger has the block's bookings added, and the block is in range;
+-- nothing is said of the identifiers
 pub record TakesBlock (f g : FileBooks) (old new : Ledger) (b : BlockParts) (v : Verdict) : Type 0 where
   pub place : g.place ≡ f.place
   pub opening : g.opening ≡ f.opening

@@ -57,7 +57,7 @@ part_for parties numbers parts = numbered_by (place_by (party_in parties) number
 abbrev pub line_for : List SummaryKey → List Line → SummaryKey → Option Line
 line_for keys ls = numbered_by (key_in keys) (λ l. l.key) ls
 
--- borrowed names with borrowed values
+-- the values of borrowed keys, each with the value of what is borrowed with it
 abbrev pub lent : {K V : Type 0} → List (Bor K × Bor V) → List (K × V)
 lent es = map (λ e. (e.0.now, e.1.now)) es
 
@@ -65,7 +65,7 @@ lent es = map (λ e. (e.0.now, e.1.now)) es
 abbrev pub keyed : List (ℕ × (Bor SummaryKey × Bor Line)) → List (SummaryKey × Line)
 keyed es = map (λ e. (e.1.0.now, e.1.1.now)) es
 
--- borrowed names with their places
+-- the values of borrowed keys, with their numbers
 abbrev pub named_places : {K : Type 0} → List (Bor K × ℕ) → List (K × ℕ)
 named_places es = map (λ e. (e.0.now, e.1)) es
 

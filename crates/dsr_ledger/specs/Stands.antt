@@ -41,7 +41,7 @@ FilesStand place earlier (f ∷ fs) (file ∷ files) =
 abbrev pub LedgerStands : Ledger → List Booking → Type 0
 LedgerStands ledger bs = (key : Key) → tally_at ledger key ≡ key_tally bs key
 
--- a block was taken with this verdict: its file has one more block, and the ledger has its bookings added
+-- a block in range was taken with this verdict: its file has one more block, and the ledger has its bookings added
 pub record Took (d : Filed) (b : BlockParts) (v : Verdict) (g : FileBooks) (old new : Ledger) : Type 0 where
   pub is_verdict : v ≡ verdict_of d b
   pub stands : FileStands g (with_one d b)

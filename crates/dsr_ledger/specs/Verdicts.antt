@@ -79,6 +79,7 @@ judged_in d = judged d.standing (summaries_of d.file.opening) [] d.file.blocks
 abbrev pub verdict_of : Filed → BlockParts → Verdict
 verdict_of d b = verdict d.standing (summaries_of d.file.opening) d.file.blocks b
 
+-- the verdict of the next block of a file; no block is taken of a file that is not there, so the value for None is never used
 abbrev pub verdict_after : Option Filed → BlockParts → Verdict
 verdict_after None b = Booked
 verdict_after (Some d) b = verdict_of d b

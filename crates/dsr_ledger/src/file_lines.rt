@@ -8,7 +8,7 @@ use dsr_cells::{Items, NoMemory};
 use dsr_events::Outcome;
 use std::alloc::Global;
 
-/// The line of a file that ended.
+/// The line of a file that ended. (Whole stands in for the outcome of one that has not; no report is made of such a file.)
 fn file_line(file: &FileBooks) -> FileLine
     ensures { result ≡ line_kept file.now }
 {

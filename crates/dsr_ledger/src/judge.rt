@@ -11,7 +11,8 @@ use dsr_records::{Block, Usage, Work};
 
 /// Finds the numbers of the summaries that usages name. Returns whether each usage names one.
 ///
-/// Usages mostly name summaries in file order, so of many summaries the one after the last one found is tried first.
+/// Usages mostly name summaries in file order, so of many summaries the one after the last one found is tried first: at the
+/// beginning the one after the last of an earlier block, which `numbers` still has.
 #[inline(never)]
 fn find_summaries(
     summaries: &Summaries,
@@ -57,7 +58,8 @@ fn shares_over(works: &[Work]) -> bool
 
 #[tactic(auto, unfolding(crate::specs::Verdicts::verdict_by))]
 /// The recording of a block that is booked, or why it is rejected. If it is booked, `numbers` has
-/// the numbers of the summaries that its usages name. An ISRC that is `hint` is read quicker.
+/// the numbers of the summaries that its usages name; before, it has those of an earlier block. An ISRC that is `hint` is
+/// read quicker.
 pub fn judge(
     standing: Standing,
     seen: bool,

@@ -8,12 +8,12 @@ use std::alloc::Global;
 use std::marker::Model;
 
 /// This many parties are stored in the list itself, more on the heap.
-const FEW: usize = 2;
+const FEW_PARTIES: usize = 2;
 
-/// The parties of a line, by the bytes of their names. Contracts see it as their list.
+/// A list of parties; in a line of a report they are by the bytes of their names. Contracts see it as the list.
 #[derive(Drop)]
 pub struct Parties {
-    lines: SmallVec<PartyLine, FEW>,
+    lines: SmallVec<PartyLine, FEW_PARTIES>,
 }
 
 impl Model for Parties {

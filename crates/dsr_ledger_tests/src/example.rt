@@ -53,7 +53,7 @@ fn hand_in_all(books: &mut Books, events: &mut EventList) -> Result<(), Fail> {
 ///
 /// # Errors
 ///
-/// A failure of the test: the file does not take one of the events or does not end, or out of memory.
+/// A failure of the test: the file does not end, or out of memory.
 pub fn report_of(alloc: Global, events: &mut EventList) -> Result<Report, Fail> {
     let mut books = Books::new(alloc, 1)?;
     hand_in_all(&mut books, events)?;

@@ -95,6 +95,6 @@ fn is_read_no_further(alloc: Global, bytes: &[u8]) -> bool {
 }
 
 #[test]
-fn no_read_after_the_end_or_without_memory(rt: HostRuntime) {
+fn no_read_after_the_end(rt: HostRuntime) {
     assert!(rt; is_read_no_further(rt.alloc(), FILE.as_bytes()));
 }

@@ -1,5 +1,5 @@
 //! Checking lines, and copying the records of lines without a fault.
-ghost use Rattle.std.specs.Prelude.{◌≡◌, ◌==◌, ◌+◌, ◌<◌, not, true, length, map, count_by};
+ghost use Rattle.std.specs.Prelude.{◌≡◌, ◌+◌, ◌<◌, true, length, map};
 ghost use Rattle.std.specs.Prelude.{Ok, Err, IfOk, OnOk, OnErr, MatchResult, nat_lt, drop};
 ghost use Rattle.std.specs.Option.{option_map};
 ghost use Rattle.dsr_cells.specs.Cells.{cells};
@@ -22,7 +22,7 @@ use crate::layout_line::RoleLine;
 use crate::record::Record;
 use crate::rest::Rest;
 use crate::row::Row;
-use dsr_cells::NoMemory;
+use dsr_cells::{NoMemory, count_cells};
 use std::alloc::Global;
 use std::marker::Model;
 
@@ -93,6 +93,7 @@ impl<'l> CheckedLine<'l> {
     }
 
     /// Writes a new block of the line's resource, without works and usages, over a block.
+    /// Condition: the record is a resource.
     ///
     /// # Errors
     ///
@@ -130,28 +131,15 @@ impl<'l> CheckedLine<'l> {
     }
 }
 
-/// Whether more than `count` of the bytes are not TABs.
-fn has_others(bytes: &[u8], count: usize) -> bool
-    ensures { result ≡ nat_lt count (count_by (λ b. not (b == 9)) bytes.now) }
-{
-    bytes
-        .iter()
-        .filter(|byte| **byte != b'\t')
-        .nth(count)
-        .is_some()
-}
-
 /// The maximum number of cells of a line.
 const MOST_CELLS: usize = 64;
 
-/// Whether a line has more than 64 cells, that is, at least 64 TABs, so that at most `line.len() - 64` of
-/// its bytes are others.
-#[tactic(auto, using(crate::proofs::Tabs::many_cells))]
+/// Whether a line has more than 64 cells. Not inlined, since few lines need it.
 #[inline(never)]
 fn counts_many_cells(line: &str) -> bool
     ensures { result ≡ nat_lt 64 (length (cells line.now)) }
 {
-    line.len() >= MOST_CELLS && !has_others(line.as_bytes(), line.len() - MOST_CELLS)
+    count_cells(line) > MOST_CELLS
 }
 
 /// Whether a line has more than 64 cells. A line of fewer than 64 bytes has not, and for most longer ones
@@ -220,11 +208,12 @@ impl<'l> TypedLine<'l> {
     ///
     /// # Errors
     ///
-    /// `Many`: the line has more than 64 cells. `Unknown`: the layout does not have its record type.
+    /// `Many`: the line has more than 64 cells. `Unknown`: the layout does not have its record type. The typed line is
+    /// unchanged.
     #[inline(always)]
     pub fn find(&mut self, layout: &Layout, line: &'l str) -> Result<(), RecordFault>
         ensures { MatchResult result (λ _. self.new ≡ record_of layout.now line.now)
-            (λ fault. record_of layout.now line.now ≡ Err fault) }
+            (λ fault. (record_of layout.now line.now ≡ Err fault) × (self.new ≡ self.old)) }
     {
         let whole = Rest::of(line);
         if has_many_cells(line, &whole) {

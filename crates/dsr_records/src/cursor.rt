@@ -89,8 +89,8 @@ impl<'l> Cursor<'l> {
         }
     }
 
-    /// The cell at an index, if the cursor is there. All calls in it that are not inlined return a
-    /// number, so a loop over it can keep the cursor in registers.
+    /// The cell at an index, if the cursor is there. Inlined, and the calls in it return only numbers, so that a loop over
+    /// it keeps the cursor in registers.
     #[inline(always)]
     pub(crate) fn cell_here(&mut self, place: u8) -> Option<&'l str>
         ensures value { IfSome result (λ c. slice_get self.old place ≡ Some c.now) }

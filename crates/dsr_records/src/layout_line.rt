@@ -20,7 +20,7 @@ pub(crate) fn start(name: &str) -> u32
     u32::from_le_bytes([bytes[0], bytes[1], bytes[2], bytes[3]])
 }
 
-/// Whether two texts are equal; not inlined, since it is rarely called.
+/// Whether two texts are equal; not inlined, since only record types that do not have four bytes need it.
 #[cold]
 #[inline(never)]
 fn is_same(text: &str, other: &str) -> bool
@@ -78,8 +78,8 @@ impl TypeName {
         self.start == start && self.continues_as(name)
     }
 
-    /// The same, if the two starts are known to be equal: both names are shorter than four bytes, or their first four bytes
-    /// are equal.
+    /// The same, if the two starts are known to be equal: both names are shorter than four bytes, their first four bytes are
+    /// equal, or one is shorter and the other begins with four zero bytes.
     #[inline(always)]
     fn continues_as(&self, name: &str) -> bool
         requires { start_of self.now ≡ start_of name.now }

@@ -2,25 +2,32 @@
 -- good.
 use Rattle.std.specs.Prelude.{◌≡◌, ℕ, ◌+◌, ◌-◌, ◌<◌, ◌≤◌, List, [], ◌∷◌}
 
--- how many batches are given back together; how many were never filled, and how many of these may be; and how many are
--- being filled, in the channel, emptied and not given back yet, and given back
+-- numbers of batches
 pub record Pool : Type 0 where
+  -- how many are given back together
   pub together : ℕ
+  -- how many were never filled, and how many of these may still be
   pub unused : ℕ
   pub more : ℕ
+  -- how many are being filled, are in the channel, are emptied and not given back yet, and are given back
   pub filling : ℕ
   pub queued : ℕ
   pub kept : ℕ
   pub back : ℕ
 
--- the feed takes a batch that was given back, or else one that was never filled; it may use one more of these; it sends its
--- batch; the tap empties a batch and keeps it, or gives all that it has back
+-- the steps, the first four of the feed
 pub data Turn : Type 0 where
+  -- it takes a batch that was given back
   reuse : Turn
+  -- it takes one that was never filled
   begin : Turn
+  -- it may use one more of these
   allow : Turn
+  -- it sends its batch
   send : Turn
+  -- the tap empties a batch and keeps it
   keep : Turn
+  -- the tap gives all that it keeps back
   give : Turn
 
 -- what a step changes

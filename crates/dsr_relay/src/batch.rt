@@ -31,11 +31,11 @@ pub struct Batch {
     slots: Vec<Event>,
     /// The number of events, including those that were taken out.
     count: usize,
-    /// The number of events that were taken out. Each left a placeholder.
+    /// The number of events that were taken out from the front. Each left a placeholder.
     out: usize,
     /// The bytes of the file that were noted while the batch was filled.
     bytes: usize,
-    /// The bytes counted for earlier rounds, since the slots were last empty.
+    /// The bytes counted for earlier rounds, since the slots were last filled with empty blocks.
     stale: usize,
 }
 

@@ -42,7 +42,7 @@ impl Pace {
         true
     }
 
-    /// Notes that a batch is filled, for the first time or again.
+    /// Notes that a batch is taken to be filled, for the first time or again.
     pub(crate) fn note_filled(&mut self) {
         self.filled = self.filled.wrapping_add(1);
         if self.filled >= BATCHES_PER_MORE {

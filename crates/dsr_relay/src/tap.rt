@@ -39,7 +39,7 @@ impl Model for Tap {
 }
 
 impl Tap {
-    /// Takes the next event. If there is none yet, the call waits.
+    /// Takes the next event. If there is none yet, the call waits. Condition: Ended was not taken.
     ///
     /// # Errors
     ///
@@ -119,6 +119,7 @@ impl Tap {
 
     /// Takes the held events of the last message, or else the next message. If there is none yet, the call waits.
     /// A batch should be given back before the next one is taken, since the feed has no other memory.
+    /// Condition: Ended was not taken.
     ///
     /// # Errors
     ///
@@ -144,7 +145,7 @@ impl Tap {
     }
 
     /// Takes the held events of the last message, or else the next message. The call does not wait: if there is no
-    /// message, yet or at all, the batch is empty.
+    /// message, yet or at all, the batch is empty. Condition: Ended was not taken.
     pub fn take_ready<R: Wait>(&mut self, rt: &R) -> Batch
         requires { has_ended self.old.taken ≡ false }
         ensures taken { self.new ≡ record self.old { taken = self.old.taken ++ result; held = [] } }
@@ -225,7 +226,8 @@ impl Tap {
         self.held.events().len() as u32
     }
 
-    /// Joins the two ends of one relay, and returns what was taken and what is left of what was sent. It never waits.
+    /// Joins the two ends of one relay, and returns what was taken and what is left of what was sent: at most 32 events for
+    /// each message of the capacity, and 62 more. It never waits.
     pub fn take_in(self, feed: Feed) -> Settled
         requires { self.name ≡ feed.name }
         ensures taken { result.taken ≡ self.taken }

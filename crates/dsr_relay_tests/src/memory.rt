@@ -91,7 +91,7 @@ fn a_file_goes_through_or_no_memory(rt: HostRuntime) {
         return;
     };
     let taken = take_batches(&rt, &mut tap);
-    let has_ended = tap.ended();
+    assert!(rt; tap.ended());
     let feed = sender.join(&rt);
-    assert!(rt; has_ended && taken == feed.sent_count());
+    assert_eq!(rt; taken, feed.sent_count());
 }

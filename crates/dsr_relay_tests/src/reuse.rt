@@ -85,15 +85,37 @@ fn a_block_is_sent_for_a_stale_one(rt: HostRuntime) -> Result<(), Fail> {
     Ok(())
 }
 
-/// Sends a batch for which many bytes were read, takes it and gives it back. Returns whether its blocks were freed: the
-/// next block is exchanged for an empty one.
+/// Whether the block that fills a batch is exchanged too, and sends the batch.
+fn the_last_block_is_exchanged<R: Wait>(
+    rt: &R,
+    alloc: Global,
+    feed: &mut Feed,
+    tap: &mut Tap,
+) -> bool
+    requires { (feed.old.sent ≡ []) × (tap.old.taken ≡ []) }
+{
+    send_blocks(rt, alloc, feed, 30)
+        && exchanged(rt, alloc, feed) == Some(0)
+        && takes_batch(rt, tap) == Some(32)
+}
+
+#[test]
+fn a_block_that_fills_a_batch_is_exchanged(rt: HostRuntime) -> Result<(), Fail> {
+    let (mut feed, mut tap) = relay(rt.alloc(), 1)?;
+    assert!(rt; the_last_block_is_exchanged(&rt, rt.alloc(), &mut feed, &mut tap));
+    Ok(())
+}
+
+/// Sends a batch for which many bytes were read, some of them before its first event, takes it and gives it back. Returns
+/// whether its blocks were freed: the next block is exchanged for an empty one.
 fn blocks_are_freed<R: Wait>(rt: &R, alloc: Global, feed: &mut Feed, tap: &mut Tap) -> bool
     requires { (feed.old.sent ≡ []) × (tap.old.taken ≡ []) }
 {
+    feed.note_bytes(128 * 1024);
     if !send_blocks(rt, alloc, feed, 2) {
         return false;
     }
-    feed.note_bytes(256 * 1024);
+    feed.note_bytes(128 * 1024);
     feed.batch_bytes() == 256 * 1024
         && flushes(rt, feed)
         && feed.batch_bytes() == 0

@@ -26,9 +26,9 @@ fn a_feed_moves_to_a_thread(rt: HostRuntime) -> Result<(), Fail> {
     let promise = SameRelay(Snapshot::of(&feed));
     let sender = thread::spawn_with(&rt, promise, move || send_file(&rt, alloc, feed, 0))?;
     let is_opened = takes_opened(&rt, &mut tap) && !tap.ended();
-    let is_ended = is_opened && takes_end(&rt, &mut tap, 1) && tap.ended();
+    assert!(rt; is_opened && takes_end(&rt, &mut tap, 1));
     let settled = tap.take_in(sender.join(&rt));
-    assert_eq!(rt; (is_ended, settled.taken, settled.left), (true, 2, 0));
+    assert_eq!(rt; (settled.taken, settled.left), (2, 0));
     Ok(())
 }
 
@@ -54,10 +54,8 @@ fn many_blocks_through_one_place(rt: HostRuntime) -> Result<(), Fail> {
     let (feed, mut tap) = relay(alloc, 1)?;
     let promise = SameRelay(Snapshot::of(&feed));
     let sender = thread::spawn_with(&rt, promise, move || send_file(&rt, alloc, feed, 20_000))?;
-    let right = take_file(&rt, &mut tap);
-    let has_ended = tap.ended();
+    assert_eq!(rt; take_file(&rt, &mut tap), 20_002);
     let settled = tap.take_in(sender.join(&rt));
-    assert_eq!(rt; (right, has_ended), (20_002, true));
     assert_eq!(rt; (settled.taken, settled.left), (20_002, 0));
     Ok(())
 }
@@ -68,10 +66,8 @@ fn batches_through_one_place(rt: HostRuntime) -> Result<(), Fail> {
     let (feed, mut tap) = relay(alloc, 1)?;
     let promise = SameRelay(Snapshot::of(&feed));
     let sender = thread::spawn_with(&rt, promise, move || send_file(&rt, alloc, feed, 2000))?;
-    let right = take_batches(&rt, &mut tap);
-    let has_ended = tap.ended();
+    assert_eq!(rt; take_batches(&rt, &mut tap), 2002);
     let settled = tap.take_in(sender.join(&rt));
-    assert_eq!(rt; (right, has_ended), (2002, true));
     assert_eq!(rt; (settled.taken, settled.left), (2002, 0));
     Ok(())
 }

@@ -25,7 +25,7 @@ is_opening (part.Opened o) = true
 is_opening (part.Block b) = false
 is_opening (part.Ended o) = false
 
--- the file by its first event
+-- the file by its first event; that is never a block, so the value for Block is never used
 abbrev pub first_file : EventPart → File
 first_file (part.Opened o) = opened (Some o)
 first_file (part.Block b) = opened None

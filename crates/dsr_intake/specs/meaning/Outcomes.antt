@@ -39,12 +39,14 @@ pub record IsUntouched (before after : Written) : Type 0 where
   pub unflushed : after.unflushed ≡ before.unflushed
 
 -- nothing was written, or the first bytes of the statement of the texts, and the outlet failed
-abbrev pub IsUnwritten : (List FileText → Type 0) → (List FileText → List ℕ) → Written → Written → RunError → Type 0
-IsUnwritten gave statement before after (error.Intake e) = IsUntouched before after
-IsUnwritten gave statement before after error.Memory = (texts : List FileText) × gave texts × IsUntouched before after
-IsUnwritten gave statement before after (error.Write written) =
-    (texts : List FileText) × gave texts × (written ≤ length (statement texts))
-    × IsCut (take written (statement texts)) before after
+abbrev pub IsUnwritten : {R : Type 0} → (R → Told) → Options → List R → List R → Written → Written → RunError → Type 0
+IsUnwritten told options readers left before after (error.Intake e) = IsUntouched before after
+IsUnwritten told options readers left before after error.Memory =
+    (texts : List FileText) × GaveEach told options readers left texts × IsUntouched before after
+IsUnwritten told options readers left before after (error.Write written) =
+    (texts : List FileText) × GaveEach told options readers left texts
+    × (written ≤ length (statement_of (report_of_texts options.layout texts)))
+    × IsCut (take written (statement_of (report_of_texts options.layout texts))) before after
 
 -- an error that is not one of the options or of the number of files
 abbrev pub IsLateRun : RunError → Type 0

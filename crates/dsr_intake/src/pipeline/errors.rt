@@ -44,7 +44,7 @@ pub enum RunError {
     /// There is no report, and nothing was written.
     #[error("{0}")]
     Intake(IntakeError),
-    /// Out of memory for the statement; nothing was written.
+    /// Out of memory for the statement, or it may have 2^64 - 1 bytes or more; nothing was written.
     #[error("out of memory")]
     Memory,
     /// A write or the flush failed; exactly `written` first bytes of the statement were written.

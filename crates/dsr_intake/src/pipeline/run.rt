@@ -1,9 +1,7 @@
 //! Reading the files of a report and writing its statement.
 ghost use Rattle.std.specs.Prelude.{◌≡◌, false, List, All, IfOk, IfErr, Err, MatchOption, vec_len};
 ghost use Rattle.dsr_file.specs.Runs.{FileText};
-ghost use Rattle.dsr_intake.specs.meaning.Texts.{GaveEach, report_of_texts};
 ghost use Rattle.dsr_intake.specs.meaning.Options.{refusal_of};
-ghost use Rattle.dsr_intake.specs.meaning.Statement.{statement_of};
 ghost use Rattle.dsr_intake.specs.meaning.Outcomes.{IsReported, IsUnwritten, IsLateRun};
 
 use crate::outlet::Outlet;
@@ -24,8 +22,8 @@ use std::thread::Threads;
 ///
 /// # Errors
 ///
-/// `Intake` and `Memory`: nothing was written or flushed. `Write`: exactly the first `written` bytes
-/// of the statement were written, and the outlet has failed.
+/// `Intake` and `Memory`: nothing was written or flushed (`Memory` also if the statement may have 2^64 - 1 bytes or more).
+/// `Write`: exactly the first `written` bytes of the statement were written, and the outlet has failed.
 pub fn run<
     R: Source + Send + Drop + 'static,
     W: Outlet,
@@ -42,9 +40,7 @@ pub fn run<
     ensures reported { IfOk result (λ status. (texts : List FileText)
         × IsReported R.told options readers.old.items readers.new.items
         (W.told out.old) (W.told out.new) texts status) }
-    ensures unwritten { IfErr result (IsUnwritten
-        (GaveEach R.told options readers.old.items readers.new.items)
-        (λ texts. statement_of (report_of_texts options.layout texts))
+    ensures unwritten { IfErr result (IsUnwritten R.told options readers.old.items readers.new.items
         (W.told out.old) (W.told out.new)) }
     ensures refused { MatchOption (refusal_of (vec_len readers.old) options)
         (IfErr result IsLateRun)

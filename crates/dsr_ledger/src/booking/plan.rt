@@ -15,12 +15,13 @@ use dsr_cells::{Isrc, NoMemory};
 use dsr_records::Work;
 use std::alloc::Global;
 
-/// The plan of a block's additions. The lists are filled anew for each block.
+/// The plan of a block's additions. The lists are filled anew for each block; until then they and the recording are those of
+/// an earlier block, perhaps of another file, and serve as hints.
 #[derive(Drop)]
 pub struct Plan {
     /// The numbers of the usages' summaries.
     pub summaries: Vec<usize>,
-    /// The number of the recording.
+    /// The number of the recording; 0 before the first block.
     pub recording: usize,
     /// The shares of all works, concatenated.
     pub shares: Vec<SeatShare>,

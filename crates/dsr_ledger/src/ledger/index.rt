@@ -114,7 +114,7 @@ impl Index {
         Index { numbers: None }
     }
 
-    /// The place of a number in a list. Callers mostly know the place, so the search stands out of line.
+    /// The place of a number in a list. Callers mostly find the place by a hint, so this is not inlined.
     #[inline(never)]
     pub fn find<T: Numbered>(&self, items: &[T], number: u32) -> Option<usize>
         requires { AreIndexed (map T.number_of items.now) self.now }

@@ -12,7 +12,7 @@ pub returns-in-Err-clause-steps : goal.returns-in-Err-clause-steps
 returns-in-Err-clause-steps c = λ ls k.
     rw (
       of_utf8_record c.args.layout.now c.args.text.now _ (sym c.is_skipped.ensures ∙ c.if-is_skipped.false)
-          (sym c.in-Err.ensures),
+          (sym c.in-Err.ensures.0),
       c.file_fault.ensures,
       c.requires.none,
     )

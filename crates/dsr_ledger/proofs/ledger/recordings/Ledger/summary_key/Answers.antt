@@ -7,7 +7,8 @@ use Rattle.dsr_ledger.specs.declared.ledger.summary_key.SummaryKey.{SummaryKey}
 use Rattle.dsr_ledger.specs.SummaryKeys.{summary_key_eq, summary_key_in}
 use Rattle.dsr_ledger.specs.Recordings.{party_number, key_number}
 use Rattle.dsr_ledger.proofs.NumberedLemmas.{place_more, grows_more}
-use Rattle.dsr_ledger.proofs.LedgerLemmas.{same_summary_key, key_kept}
+use Rattle.dsr_ledger.proofs.LedgerLemmas.{key_kept}
+use Rattle.dsr_ledger.proofs.SummaryKeyLemmas.{same_summary_key}
 use Rattle.dsr_ledger.proofs.ledger.recordings.Ledger.summary_key.Goals as goal
 
 pub returns-clause-keeps : goal.returns-clause-keeps

@@ -1,1 +1,0 @@
--- Numbers that compare equal are the same.
