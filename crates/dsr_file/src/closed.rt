@@ -83,12 +83,12 @@ impl Closed {
         }
     }
 
-    /// Sets what was closed to this part. A block that was there before is dropped.
+    /// Sets what was closed to this part. What it was before is dropped.
     pub(crate) fn set(&mut self, part: EventPart)
         ensures { self.new ≡ Some part }
     {
-        self.block = None;
-        self.other = Some(part);
+        drop(self.block.take());
+        drop(self.other.replace(part));
     }
 
     /// Sets what was closed to this block.
@@ -133,9 +133,11 @@ impl Closed {
         Some(Event { place, part })
     }
 
-    /// The block to be overwritten, if there is one. What was closed is lost.
-    pub(crate) fn into_spare(self) -> Option<BoxedBlock> {
-        self.spare
+    /// The block to be overwritten, if there is one. What was closed is dropped.
+    pub(crate) fn into_spare(mut self) -> Option<BoxedBlock> {
+        let spare = self.spare.take();
+        drop(self);
+        spare
     }
 
     /// Writes the block of a resource line over the spare one. It takes the place of the open block, which is closed.
@@ -220,7 +222,7 @@ impl Closed {
             return;
         };
         if let Err(back) = sink.put(event) {
-            *refused = Some(back);
+            drop(refused.replace(back));
         }
     }
 }

@@ -358,7 +358,9 @@ impl Grammar {
         let mut closed = Closed::over(alloc, None);
         let mut step = Step::Good;
         self.line(alloc, layout, line, &mut closed, &mut step);
-        (step, closed.take())
+        let part = closed.take();
+        drop(closed);
+        (step, part)
     }
 
     /// The outcome of a text that ends after these lines.

@@ -24,35 +24,35 @@
 //! `crates/example_reader` is a small program that does the same with a real file:
 //!
 //! ```
-//! /// What a call of the reader gave.
-//! fn kind_of(event: &Option<Event>) -> &'static str {
-//!     let Some(event) = event else {
-//!         return "nothing";
-//!     };
-//!     match &event.part {
+//! /// The name of a kind of event.
+//! fn name_of(part: &EventPart) -> &'static str {
+//!     match part {
 //!         EventPart::Opened(_) => "opening",
 //!         EventPart::Block(_) => "block",
 //!         EventPart::Ended(_) => "end",
 //!     }
 //! }
 //!
-//! /// What each of two pieces of a file gives, where a piece gives one event at most, and then its end.
-//! fn kinds_of(alloc: Global, first: &[u8], second: &[u8]) -> Result<[&'static str; 3], Fail> {
-//!     if first.len() > 4096 || second.len() > 4096 {
-//!         return Err(Fail::new("a long piece"));
-//!     }
-//!     let mut file = FileReader::new(alloc, &Layout::standard())?;
-//!     let (_, of_first) = file.take(first);
-//!     let (_, of_second) = file.take(second);
-//!     let of_end = file.finish(Ending::Whole);
-//!     Ok([kind_of(&of_first), kind_of(&of_second), kind_of(&of_end)])
+//! /// What a call of the reader gave.
+//! fn kind_of(event: Option<Event>) -> &'static str {
+//!     let kind = match &event {
+//!         Some(event) => name_of(&event.part),
+//!         None => "nothing",
+//!     };
+//!     drop(event);
+//!     kind
 //! }
 //!
 //! /// The opening of a file comes once its FOOT is whole, and then its end.
 //! fn a_file_in_two_pieces(rt: HostRuntime) -> Result<(), Fail> {
-//!     let first = b"HEAD\tR1\t1\t1\t2024-01-01\t2024-01-31\tS\tL\nFO";
-//!     let kinds = kinds_of(rt.alloc(), first, b"OT\t2\t0\t0\n")?;
-//!     assert_eq!(rt; kinds, ["nothing", "opening", "end"]);
+//!     let mut file = FileReader::new(rt.alloc(), &Layout::standard())?;
+//!     let (_, event) = file.take(b"HEAD\tR1\t1\t1\t2024-01-01\t2024-01-31\tS\tL\nFO");
+//!     let first = kind_of(event);
+//!     let (_, event) = file.take(b"OT\t2\t0\t0\n");
+//!     let second = kind_of(event);
+//!     let third = kind_of(file.finish(Ending::Whole));
+//!     drop(file);
+//!     assert_eq!(rt; [first, second, third], ["nothing", "opening", "end"]);
 //!     Ok(())
 //! }
 //! ```

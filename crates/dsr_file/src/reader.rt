@@ -26,6 +26,7 @@ fn write_over(spare: &mut Option<BoxedBlock>, mut block: Block) {
     if let Some(boxed) = spare {
         mem::swap(boxed.get_mut(), &mut block);
     }
+    drop(block);
 }
 
 /// Reads a file by a layout: takes its bytes in pieces, and gives its events one by one.

@@ -56,7 +56,10 @@ pub fn read_file<R: Source, S: Sink>(
         return Err(ReadFileError::Memory);
     };
     let mut part = file.nothing_closed();
-    error_of(read_all(&mut file, &mut part, reader, sink, max_reads))
+    let answer = read_all(&mut file, &mut part, reader, sink, max_reads);
+    drop(part);
+    drop(file);
+    error_of(answer)
 }
 
 /// The same result, with the event that the sink refused as a `ReadFileError`.

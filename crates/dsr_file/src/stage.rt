@@ -183,18 +183,23 @@ impl Stage {
     {
         match item {
             Record::Head(head) => {
-                *self = Stage::Front(Opening {
+                let front = Stage::Front(Opening {
                     head,
                     summaries: Summaries::new(alloc),
                 });
+                drop(mem::replace(self, front));
                 Ok(())
             }
             Record::Summary(summary) => self.add_summary(summary),
             Record::Foot(_) => {
+                drop(item);
                 self.close(Stage::Closed, closed);
                 Ok(())
             }
-            _ => Ok(()),
+            _ => {
+                drop(item);
+                Ok(())
+            }
         }
     }
 
@@ -225,12 +230,17 @@ impl Stage {
         requires { IsNew self.old summary.id }
         ensures next { OnOk result (self.new ≡ stage_after self.old (Record.Summary summary)) }
     {
-        if let Stage::Front(opening) = self {
-            if opening.summaries.push(summary).is_err() {
-                return Err(NoMemory);
+        let Stage::Front(opening) = self else {
+            drop(summary);
+            return Ok(());
+        };
+        match opening.summaries.push(summary) {
+            Ok(()) => Ok(()),
+            Err(refused) => {
+                drop(refused);
+                Err(NoMemory)
             }
         }
-        Ok(())
     }
 
     /// Takes the work or the usage of a line, which has no fault.

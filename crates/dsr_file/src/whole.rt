@@ -53,7 +53,10 @@ fn read_whole<S: Sink>(
 {
     let mut file = FileReader::new(alloc, layout)?;
     let mut part = file.nothing_closed();
-    without_event(give_all(&mut file, &mut part, bytes, ending, sink))
+    let answer = give_all(&mut file, &mut part, bytes, ending, sink);
+    drop(part);
+    drop(file);
+    without_event(answer)
 }
 
 /// The same result, without the event that the sink refused.
@@ -62,7 +65,10 @@ fn without_event(answer: Result<Outcome, Event>) -> Result<Outcome, NoMemory>
 {
     match answer {
         Ok(outcome) => Ok(outcome),
-        Err(_) => Err(NoMemory),
+        Err(event) => {
+            drop(event);
+            Err(NoMemory)
+        }
     }
 }
 

@@ -1,6 +1,6 @@
 //! Calls that take memory, each once: None if it is refused, else whether the value is right.
 use dsr_cells::{
-    Day, Share, Shares, Text, read_texts, read_texts_into, unescape, write_amount, write_day,
+    Day, Share, Shares, Text, Texts, read_texts, read_texts_into, unescape, write_amount, write_day,
 };
 use dsr_file::{Ending, Event, EventList, whole_events};
 use dsr_records::{Block, Layout, ReadRecordError, Resource, Usage, Work, read_record};
@@ -28,11 +28,17 @@ fn pushed(alloc: Global) -> Option<bool> {
     Some(shares.len() == 9)
 }
 
-/// Texts that are written over others.
+/// Writes texts over others.
+fn write_over(alloc: Global, texts: &mut Texts) -> Option<bool> {
+    read_texts_into(alloc, "c|a title of more than thirty bytes|d|e", texts).ok()?;
+    Some(texts.len() == 4 && texts.get(1)?.as_str() == LONG)
+}
+
 fn written_over(alloc: Global) -> Option<bool> {
     let mut texts = read_texts(alloc, "a|b").ok()?;
-    read_texts_into(alloc, "c|a title of more than thirty bytes|d|e", &mut texts).ok()?;
-    Some(texts.len() == 4 && texts.get(1)?.as_str() == LONG)
+    let is_right = write_over(alloc, &mut texts);
+    drop(texts);
+    is_right
 }
 
 fn written(alloc: Global) -> Option<bool> {
@@ -54,7 +60,10 @@ const LINES: [&str; 5] = [
 /// Whether a line without a fault is read.
 fn is_read(alloc: Global, line: &str) -> Option<bool> {
     match read_record(alloc, &Layout::standard(), line) {
-        Ok(_) => Some(true),
+        Ok(record) => {
+            drop(record);
+            Some(true)
+        }
         Err(ReadRecordError::Memory) => None,
         Err(ReadRecordError::Fault(_)) => Some(false),
     }
@@ -81,15 +90,23 @@ fn push_both(alloc: Global, block: &mut Block) -> Option<bool> {
 
 fn opened(alloc: Global) -> Option<bool> {
     match Block::open(alloc, Resource::made_with(alloc)) {
-        Ok(mut block) => push_both(alloc, &mut block),
+        Ok(mut block) => {
+            let is_right = push_both(alloc, &mut block);
+            drop(block);
+            is_right
+        }
         Err(_) => None,
     }
 }
 
 fn listed(alloc: Global) -> Option<bool> {
     let mut events = EventList::new(alloc);
-    let is_pushed = events.push(Event::default()).is_ok();
-    is_pushed.then_some(events.len() == 1)
+    let refused = events.push(Event::default()).err();
+    let is_pushed = refused.is_none();
+    drop(refused);
+    let is_right = events.len() == 1;
+    drop(events);
+    is_pushed.then_some(is_right)
 }
 
 /// The events of a file of one block.
@@ -97,7 +114,11 @@ fn read(alloc: Global) -> Option<bool> {
     let text =
         b"HEAD\tR1\t1\t1\t2024-01-01\t2024-01-31\nAS01\t1\nSU01\t1\tS1\t1\t1\nFOOT\t4\t0\t1\n";
     match whole_events(alloc, &Layout::standard(), text, Ending::Whole) {
-        Ok(events) => Some(events.len() == 3),
+        Ok(events) => {
+            let is_right = events.len() == 3;
+            drop(events);
+            Some(is_right)
+        }
         Err(_) => None,
     }
 }

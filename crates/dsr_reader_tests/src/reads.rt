@@ -91,7 +91,10 @@ fn is_read_no_further(alloc: Global, bytes: &[u8]) -> bool {
         count: ReadCount::new(),
     };
     let answer = read_file(alloc, &Layout::standard(), &mut source, &mut events, 1000);
-    is_number_right(source.reads, reads_to_end(&answer, bytes))
+    let wanted = reads_to_end(&answer, bytes);
+    drop(answer);
+    drop(events);
+    is_number_right(source.reads, wanted)
 }
 
 #[test]

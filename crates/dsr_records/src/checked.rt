@@ -208,8 +208,8 @@ impl<'l> TypedLine<'l> {
     ///
     /// # Errors
     ///
-    /// `Many`: the line has more than 64 cells. `Unknown`: the layout does not have its record type. The typed line is
-    /// unchanged.
+    /// `Many`: the line has more than 64 cells. `Unknown`: the layout does not have its record type. After either, the typed
+    /// line is as it was before.
     #[inline(always)]
     pub fn find(&mut self, layout: &Layout, line: &'l str) -> Result<(), RecordFault>
         ensures { MatchResult result (λ _. self.new ≡ record_of layout.now line.now)

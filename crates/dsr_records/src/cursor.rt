@@ -140,7 +140,6 @@ impl<'l> Cursor<'l> {
         if place == self.next {
             return Some(self.rest);
         }
-        let rest = rest_elsewhere(self.line, self.rest, self.next, place)?;
-        Some(rest)
+        rest_elsewhere(self.line, self.rest, self.next, place)
     }
 }

@@ -27,7 +27,7 @@ const MOST_UNNOTED: usize = 4096;
 /// The events of one message of a relay, and their memory. Contracts see those that were not taken out.
 #[derive(Drop)]
 pub struct Batch {
-    /// The events and, from index `count`, stale ones of earlier rounds.
+    /// The events and, from index `count`, stale ones: of earlier rounds, or of empty blocks.
     slots: Vec<Event>,
     /// The number of events, including those that were taken out.
     count: usize,
@@ -141,18 +141,15 @@ impl Batch {
         self.bytes
     }
 
-    /// Appends an event. If there is no room, the event is returned.
+    /// Appends an event, over the stale one in its slot. If there is no slot for it, the event is returned.
     pub(crate) fn push(&mut self, event: Event) -> Result<(), Event>
         ensures { MatchResult result (λ _. self.new ≡ self.old ++ event ∷ [])
             (λ back. (back ≡ event) × (self.new ≡ self.old)) }
     {
-        if self.count < self.slots.len() {
-            self.slots[self.count] = event;
-        } else if self.slots.len() < self.slots.capacity() {
-            self.slots.push_reserved(event);
-        } else {
+        if self.count >= self.slots.len() {
             return Err(event);
         }
+        self.slots[self.count] = event;
         self.count += 1;
         Ok(())
     }
@@ -208,10 +205,11 @@ impl Batch {
             → self.old ≡ events ++ block_event place last ∷ []
             → (self.new ≡ events) × (block.new ≡ last) }
     {
-        if let Some(event) = self.take_last() {
-            if let EventPart::Block(last) = event.part {
-                *block = last;
+        if let Some(mut event) = self.take_last() {
+            if let EventPart::Block(last) = &mut event.part {
+                mem::swap(block, last);
             }
+            drop(event);
         }
     }
 

@@ -137,7 +137,7 @@ impl Supply {
     fn free<R: Wait>(&mut self, rt: &R) {
         self.unused.clear();
         for _ in 0..self.receiver.len() {
-            let _ = self.receiver.try_recv(rt);
+            drop(self.receiver.try_recv(rt));
         }
     }
 
@@ -153,12 +153,13 @@ impl Returns {
     /// Gives the memory of a batch back, if it has any, once there are several. The call neither waits nor allocates.
     pub(crate) fn give<R: Wait>(&mut self, rt: &R, batch: Batch) {
         if !batch.has_room() {
+            drop(batch);
             return;
         }
         if self.kept.len() < self.kept.capacity() {
             self.kept.push_reserved(batch);
         } else {
-            let _ = self.sender.try_send(rt, batch);
+            drop(self.sender.try_send(rt, batch));
         }
         if self.kept.len() >= self.together {
             self.give_kept(rt);
@@ -169,7 +170,7 @@ impl Returns {
     fn give_kept<R: Wait>(&mut self, rt: &R) {
         for _ in 0..self.kept.len() {
             if let Some(batch) = self.kept.pop() {
-                let _ = self.sender.try_send(rt, batch);
+                drop(self.sender.try_send(rt, batch));
             }
         }
     }

@@ -34,6 +34,8 @@ fn ready_events<R: Wait>(
 fn what_is_there_is_taken(rt: HostRuntime) -> Result<(), Fail> {
     let (mut feed, mut tap) = relay(rt.alloc(), 2)?;
     let events = ready_events(&rt, rt.alloc(), &mut feed, &mut tap);
+    drop(feed);
+    drop(tap);
     assert_eq!(rt; events, Some([0, 32, 0, 8]));
     Ok(())
 }

@@ -12,10 +12,11 @@ use std::test::Fail;
 #[test]
 fn a_dropped_feed_closes(rt: HostRuntime) -> Result<(), Fail> {
     let (feed, mut tap) = relay(rt.alloc(), 1)?;
-    assert!(rt; send_and_leave(&rt, rt.alloc(), feed));
+    let is_sent = send_and_leave(&rt, rt.alloc(), feed);
     let is_opened = takes_opened(&rt, &mut tap);
     let is_closed = !tap.ended() && takes_place(&rt, &mut tap).is_none();
-    assert!(rt; is_opened && is_closed);
+    drop(tap);
+    assert!(rt; is_sent && is_opened && is_closed);
     Ok(())
 }
 
@@ -37,6 +38,8 @@ fn a_closed_tap_hands_back(rt: HostRuntime) -> Result<(), Fail> {
     let (mut feed, tap) = relay(rt.alloc(), 2)?;
     let is_sent = send_opened(&rt, rt.alloc(), &mut feed) && flushes(&rt, &mut feed);
     drop(tap);
-    assert!(rt; is_sent && all_comes_back(&rt, rt.alloc(), &mut feed));
+    let comes_back = is_sent && all_comes_back(&rt, rt.alloc(), &mut feed);
+    drop(feed);
+    assert!(rt; comes_back);
     Ok(())
 }

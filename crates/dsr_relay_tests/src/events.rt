@@ -57,9 +57,15 @@ fn events(alloc: Global, n: u64) -> Option<EventList> {
 pub fn opened(alloc: Global) -> Option<EventPart>
     ensures { IfSome result (λ part. MayStandAt 0 part × (is_ended part ≡ false)) }
 {
-    match events(alloc, 1)?.next()?.part {
+    let mut events = events(alloc, 1)?;
+    let first = events.next();
+    drop(events);
+    match first?.part {
         EventPart::Opened(opening) => Some(EventPart::Opened(opening)),
-        _ => None,
+        other => {
+            drop(other);
+            None
+        }
     }
 }
 
@@ -69,10 +75,15 @@ pub fn block(alloc: Global, n: u64) -> Option<EventPart>
         × (is_ended part ≡ false)) }
 {
     let mut events = events(alloc, n)?;
-    events.next()?;
-    match events.next()?.part {
+    drop(events.next());
+    let second = events.next();
+    drop(events);
+    match second?.part {
         EventPart::Block(block) => Some(EventPart::Block(block)),
-        _ => None,
+        other => {
+            drop(other);
+            None
+        }
     }
 }
 

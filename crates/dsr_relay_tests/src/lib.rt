@@ -2,10 +2,11 @@
 //!
 //! 1. `example`: the one that the lib.rt of dsr_relay shows.
 //! 2. `events` makes the events that go through a relay, `sending` sends them, and `taking` takes them.
-//! 3. `batches`, `ends` and `reuse`: batches, the two ends, and blocks that are written over old ones.
+//! 3. `batches`: batches that are taken without waiting. `ends`: what a call returns once the other end is gone. `reuse`:
+//!    blocks that are exchanged for stale ones.
 //! 4. `memory`: refused allocations. `threads` and `slow_start`: a file that goes from one thread to another.
 //!
-//! They are a separate crate, since a crate with tests is proved a second time with them.
+//! The tests are a separate crate, since a crate with tests is proved a second time with them.
 #![tactic(auto)]
 
 #[cfg(test)]

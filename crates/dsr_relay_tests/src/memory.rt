@@ -74,9 +74,14 @@ fn sends_take_no_memory(rt: HostRuntime) {
     let Ok((mut feed, mut tap)) = open_relay(alloc, 1) else {
         return;
     };
-    if send_opened(&rt, alloc, &mut feed) && feed.sent_count() == 1 {
-        assert!(rt; passes_file(&rt, alloc, &mut feed, &mut tap));
-    }
+    let is_right = if send_opened(&rt, alloc, &mut feed) && feed.sent_count() == 1 {
+        passes_file(&rt, alloc, &mut feed, &mut tap)
+    } else {
+        true
+    };
+    drop(feed);
+    drop(tap);
+    assert!(rt; is_right);
 }
 
 /// A file goes from thread to thread. If an allocation is refused it has fewer blocks, and what was
@@ -91,7 +96,11 @@ fn a_file_goes_through_or_no_memory(rt: HostRuntime) {
         return;
     };
     let taken = take_batches(&rt, &mut tap);
-    assert!(rt; tap.ended());
+    let has_ended = tap.ended();
+    drop(tap);
     let feed = sender.join(&rt);
-    assert_eq!(rt; taken, feed.sent_count());
+    let sent = feed.sent_count();
+    drop(feed);
+    assert!(rt; has_ended);
+    assert_eq!(rt; taken, sent);
 }

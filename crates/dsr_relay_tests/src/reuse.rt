@@ -38,10 +38,13 @@ fn exchanged<R: Wait>(rt: &R, alloc: Global, feed: &mut Feed) -> Option<u64>
     ensures few { length feed.new.sent ≤ length feed.old.sent + 1 }
     ensures some { 0 < length feed.new.sent }
 {
-    let EventPart::Block(mut block) = block(alloc, feed.sent_count())? else {
-        return None;
+    let mut part = block(alloc, feed.sent_count())?;
+    let number = match &mut part {
+        EventPart::Block(block) => exchanged_for(rt, feed, block),
+        _ => None,
     };
-    exchanged_for(rt, feed, &mut block)
+    drop(part);
+    number
 }
 
 /// Takes a batch of five blocks from this place on, and returns whether all were right.
@@ -81,7 +84,10 @@ fn blocks_are_exchanged<R: Wait>(rt: &R, alloc: Global, feed: &mut Feed, tap: &m
 #[test]
 fn a_block_is_sent_for_a_stale_one(rt: HostRuntime) -> Result<(), Fail> {
     let (mut feed, mut tap) = relay(rt.alloc(), 1)?;
-    assert!(rt; blocks_are_exchanged(&rt, rt.alloc(), &mut feed, &mut tap));
+    let is_right = blocks_are_exchanged(&rt, rt.alloc(), &mut feed, &mut tap);
+    drop(feed);
+    drop(tap);
+    assert!(rt; is_right);
     Ok(())
 }
 
@@ -102,7 +108,10 @@ fn the_last_block_is_exchanged<R: Wait>(
 #[test]
 fn a_block_that_fills_a_batch_is_exchanged(rt: HostRuntime) -> Result<(), Fail> {
     let (mut feed, mut tap) = relay(rt.alloc(), 1)?;
-    assert!(rt; the_last_block_is_exchanged(&rt, rt.alloc(), &mut feed, &mut tap));
+    let is_right = the_last_block_is_exchanged(&rt, rt.alloc(), &mut feed, &mut tap);
+    drop(feed);
+    drop(tap);
+    assert!(rt; is_right);
     Ok(())
 }
 
@@ -127,6 +136,9 @@ fn blocks_are_freed<R: Wait>(rt: &R, alloc: Global, feed: &mut Feed, tap: &mut T
 #[test]
 fn a_block_of_many_bytes_is_freed(rt: HostRuntime) -> Result<(), Fail> {
     let (mut feed, mut tap) = relay(rt.alloc(), 1)?;
-    assert!(rt; blocks_are_freed(&rt, rt.alloc(), &mut feed, &mut tap));
+    let is_right = blocks_are_freed(&rt, rt.alloc(), &mut feed, &mut tap);
+    drop(feed);
+    drop(tap);
+    assert!(rt; is_right);
     Ok(())
 }

@@ -35,7 +35,10 @@ pub fn send_part<R: Wait>(rt: &R, feed: &mut Feed, part: EventPart) -> bool
     ensures refused { result ≡ false → feed.new ≡ feed.old }
 {
     let place = feed.sent_count();
-    feed.send(rt, Event { place, part }).is_ok()
+    let refused = feed.send(rt, Event { place, part }).err();
+    let is_sent = refused.is_none();
+    drop(refused);
+    is_sent
 }
 
 /// Sends the opening, and returns whether it was taken.
@@ -108,7 +111,9 @@ pub fn flushes<R: Wait>(rt: &R, feed: &mut Feed) -> bool
 pub fn send_and_leave<R: Wait>(rt: &R, alloc: Global, mut feed: Feed) -> bool
     requires { feed.sent ≡ [] }
 {
-    send_opened(rt, alloc, &mut feed) && flushes(rt, &mut feed)
+    let is_sent = send_opened(rt, alloc, &mut feed) && flushes(rt, &mut feed);
+    drop(feed);
+    is_sent
 }
 
 /// Sends a whole file of `blocks` blocks, and returns the feed. If memory is refused the file has fewer blocks, and ends all
@@ -135,6 +140,10 @@ pub fn ended_comes_back<R: Wait>(rt: &R, feed: &mut Feed, place: u64) -> bool
     let part = ended();
     match feed.send(rt, Event { place: next, part }) {
         Ok(()) => false,
-        Err(event) => is_end(&event, place),
+        Err(event) => {
+            let is_same = is_end(&event, place);
+            drop(event);
+            is_same
+        }
     }
 }

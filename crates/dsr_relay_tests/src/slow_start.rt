@@ -7,8 +7,8 @@ use dsr_relay::{Feed, Tap};
 use std::alloc::Global;
 use std::sync::Wait;
 use std::test::Fail;
+use std::thread;
 use std::thread::Threads;
-use std::{mem, thread};
 
 /// A new relay, whose feed starts slowly.
 fn slow_relay(alloc: Global, capacity: u32) -> Result<(Feed, Tap), Fail>
@@ -35,7 +35,8 @@ fn right_events<H: Threads + Wait + Copy + Send + 'static>(
     } else {
         take_file(rt, &mut tap)
     };
-    let _feed = sender.join(rt);
+    drop(sender.join(rt));
+    drop(tap);
     Ok(right)
 }
 
@@ -52,7 +53,9 @@ fn a_slow_start_loses_nothing(rt: HostRuntime) -> Result<(), Fail> {
 fn sends_blocks<R: Wait>(rt: &R, alloc: Global, mut feed: Feed) -> bool
     requires { feed.sent ≡ [] }
 {
-    send_blocks(rt, alloc, &mut feed, 3000)
+    let is_sent = send_blocks(rt, alloc, &mut feed, 3000);
+    drop(feed);
+    is_sent
 }
 
 /// The first event is taken and nothing is given back, so the feed waits for memory until the tap is dropped.
@@ -62,7 +65,7 @@ fn a_feed_that_waits_for_memory_ends_with_its_tap(rt: HostRuntime) -> Result<(),
     let (feed, mut tap) = slow_relay(alloc, 16)?;
     let sender = thread::spawn(&rt, move || sends_blocks(&rt, alloc, feed))?;
     let is_opened = takes_opened(&rt, &mut tap);
-    mem::drop(tap);
+    drop(tap);
     assert!(rt; !sender.join(&rt) && is_opened);
     Ok(())
 }

@@ -12,7 +12,11 @@ fn take_one<R: Wait>(rt: &R, tap: &mut Tap) -> Option<(u64, Seen)>
     ensures { tap.new.name ≡ tap.old.name }
 {
     match tap.take(rt) {
-        Ok(event) => Some((event.place, as_seen(&event))),
+        Ok(event) => {
+            let seen = (event.place, as_seen(&event));
+            drop(event);
+            Some(seen)
+        }
         Err(_) => None,
     }
 }
@@ -94,6 +98,7 @@ pub fn take_batches<R: Wait>(rt: &R, tap: &mut Tap) -> u64
             return taken;
         };
         if !are_right(batch.events(), taken) {
+            drop(batch);
             return taken;
         }
         taken = taken.wrapping_add(batch.events().len() as u64);

@@ -36,7 +36,9 @@ fn a_feed_moves_to_a_thread(rt: HostRuntime) -> Result<(), Fail> {
 fn take_first<R: Wait>(rt: &R, mut tap: Tap) -> bool
     requires { tap.taken ≡ [] }
 {
-    takes_opened(rt, &mut tap)
+    let is_opened = takes_opened(rt, &mut tap);
+    drop(tap);
+    is_opened
 }
 
 #[test]

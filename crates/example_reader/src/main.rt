@@ -30,7 +30,9 @@ fn show<P: Print>(rt: &P, event: &Event) -> io::Result<()> {
 
 /// Prints an event that is no longer needed.
 fn print_event<P: Print>(rt: &P, event: Event) -> io::Result<()> {
-    show(rt, &event)
+    let printed = show(rt, &event);
+    drop(event);
+    printed
 }
 
 /// Passes a piece to the reader, and prints each event that it returns.
@@ -92,5 +94,7 @@ fn main(rt: HostRuntime) -> io::Result<()> {
     let Ok(mut file) = FileReader::new(rt.alloc(), &Layout::standard()) else {
         return Err(io::ErrorKind::OutOfMemory.into());
     };
-    print_events(&rt, &mut file, &mut rt.stdin())
+    let printed = print_events(&rt, &mut file, &mut rt.stdin());
+    drop(file);
+    printed
 }

@@ -86,10 +86,13 @@ impl FileReader {
                 self.end_after(closed, outcome)
             }
             Step::Faulty(fault) => self.end_after(closed, Outcome::Fault { line, fault }),
-            Step::NoMemory => self.end(Outcome::Fault {
-                line,
-                fault: FileFault::Memory,
-            }),
+            Step::NoMemory => {
+                drop(closed);
+                self.end(Outcome::Fault {
+                    line,
+                    fault: FileFault::Memory,
+                })
+            }
         }
     }
 }

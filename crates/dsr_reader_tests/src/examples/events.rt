@@ -10,6 +10,8 @@ fn a_bad_cell_ends_the_file(rt: HostRuntime) -> Result<(), Fail> {
     assert_eq!(rt; fault.name(), "BadCell");
     assert!(rt; fault.column() == Some(Column::Amount));
     let end = EventPart::Ended(Outcome::Fault { line: 7, fault });
-    assert!(rt; end.is_ended());
+    let is_end = end.is_ended();
+    drop(end);
+    assert!(rt; is_end);
     Ok(())
 }

@@ -10,4 +10,4 @@ also_of P Q from (Err e) is h f = tt
 pub returns : goal.returns
 returns g c =
     let known = subst (λ es. Stands c.args.layout.now c.in_ok-file.file [] es) (sym c.requires.empty) c.in_ok-file.ensures.stands in
-    also_of _ _ c.give_all.result c.without_event.result c.without_event.ensures c.give_all.ensures (λ o h. h c.args.layout.now [] known)
+    also_of _ _ c.give_all-answer.result c.without_event.result c.without_event.ensures c.give_all-answer.ensures (λ o h. h c.args.layout.now [] known)
