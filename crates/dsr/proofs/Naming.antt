@@ -1,5 +1,5 @@
 -- Sources in the order of their names.
-use Rattle.std.proofs.Common.{◌≡◌, ◌∙◌, ◌+◌, ◌<◌, ℕ, List, [], ◌∷◌, ◌++◌, Option, Some, ap, ap₂, sym, length, take, map, slice_index_or}
+use Rattle.std.proofs.Common.{◌≡◌, ◌∙◌, ◌+◌, ◌<◌, ℕ, List, [], ◌∷◌, ◌++◌, Some, ap, ap₂, sym, length, take, map, slice_index_or}
 use Rattle.std.proofs.lemmas.List.{get_or_default, map-append, take_more}
 use Rattle.dsr.specs.Inputs.{IsRefusal, IsRefusalOf}
 use Rattle.dsr.specs.declared.inputs.Input.{Input}

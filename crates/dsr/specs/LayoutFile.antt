@@ -23,8 +23,8 @@ IsLayoutAnswer before after (Err (Bad error)) = (bytes : List ℕ) × IsTaken be
 IsLayoutAnswer before after (Err Read) = IsCutShort before after
 IsLayoutAnswer before after (Err Memory) = IsCutShort before after
 
--- an error without a layout's bytes
-abbrev pub IsNoBytes : Option (List ℕ) → Option (List ℕ) → LayoutReadError → Type 0
-IsNoBytes before after Read = IsCutShort before after
-IsNoBytes before after (Bad error) = ⊥
-IsNoBytes before after Memory = IsCutShort before after
+-- the error of reading the bytes, which is never Bad
+abbrev pub IsReadError : Option (List ℕ) → Option (List ℕ) → LayoutReadError → Type 0
+IsReadError before after Read = IsCutShort before after
+IsReadError before after (Bad error) = ⊥
+IsReadError before after Memory = IsCutShort before after

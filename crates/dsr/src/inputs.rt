@@ -51,7 +51,7 @@ pub struct Input {
 }
 
 impl Input {
-    /// A source that has not failed.
+    /// The source of what this reader gives. It has not failed.
     fn new(name: Option<Text>, reader: InputReader) -> Input
         ensures name { result.name ≡ name }
         ensures unfailed { (⟦<Input as Source>⟧.told result).failed ≡ false }

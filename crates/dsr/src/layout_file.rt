@@ -1,6 +1,6 @@
 //! Reading a layout file.
 ghost use Rattle.std.specs.Prelude.{IfOk, IfErr};
-ghost use Rattle.dsr.specs.LayoutFile.{IsTaken, IsLayoutAnswer, IsNoBytes};
+ghost use Rattle.dsr.specs.LayoutFile.{IsTaken, IsLayoutAnswer, IsReadError};
 
 use dsr_records::{Layout, LayoutError};
 use std::alloc::Global;
@@ -20,8 +20,8 @@ pub enum LayoutReadError {
 /// The most bytes that are read: one more than a layout may have.
 const MOST_BYTES: usize = 65_537;
 
-/// The layout that the reader's bytes spell, or their first fault. At most 65,537 bytes are read, and every read
-/// but the last gives at least one.
+/// The layout that the reader's bytes spell, or their first fault. At most 65,537 bytes are read, in reads of which
+/// every one but the last gives at least one byte.
 pub fn read_layout<R: Read>(alloc: Global, reader: &mut R) -> Result<Layout, LayoutReadError>
     ensures { IsLayoutAnswer (R.remaining reader.old) (R.remaining reader.new) result }
 {
@@ -36,7 +36,7 @@ pub fn read_layout<R: Read>(alloc: Global, reader: &mut R) -> Result<Layout, Lay
 fn read_bytes<R: Read>(alloc: Global, reader: &mut R) -> Result<Vec<u8>, LayoutReadError>
     ensures taken { IfOk result (λ v. IsTaken (R.remaining reader.old)
         (R.remaining reader.new) v.items) }
-    ensures refused { IfErr result (IsNoBytes (R.remaining reader.old) (R.remaining reader.new)) }
+    ensures refused { IfErr result (IsReadError (R.remaining reader.old) (R.remaining reader.new)) }
 {
     let mut bytes = Vec::new(alloc);
     let mut piece = [0; 4096];

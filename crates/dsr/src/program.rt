@@ -1,6 +1,9 @@
 //! From the program's arguments to its exit status.
-ghost use Rattle.std.specs.Prelude.{◌≡◌, false, All, IfOk, None};
+ghost use Rattle.std.specs.Prelude.{◌≡◌, false, List, All, IfOk, IfErr, Err, None, MatchOption, vec_len};
 ghost use Rattle.dsr_records.specs.Layouts.{standard_layout};
+ghost use Rattle.dsr_file.specs.Runs.{FileText};
+ghost use Rattle.dsr_intake.specs.meaning.Options.{refusal_of};
+ghost use Rattle.dsr_intake.specs.meaning.Outcomes.{IsReported, IsUnwritten, IsLateRun};
 
 use crate::arguments::asked;
 use crate::command::{Asked, CommandFault};
@@ -12,7 +15,7 @@ use crate::inputs::{Input, Inputs, OpenError, open_inputs};
 use crate::layout_file::{LayoutReadError, read_layout};
 use crate::print::print_text;
 use crate::watched::watch;
-use dsr_cells::Text;
+use dsr_cells::{NoMemory, Text};
 use dsr_file::Source;
 use dsr_intake::{Options, Outlet, RunError, Status, ToWrite, run};
 use dsr_records::Layout;
@@ -26,7 +29,7 @@ use std::thread::Threads;
 use std::time::Clock;
 use std::{env, fs, io};
 
-/// The status for a fault of the command line, of a file or of the layout.
+/// The exit status for a command line, a file or a layout that is refused.
 const REFUSED: u8 = 2;
 
 /// Does what the program's arguments ask for, and returns the exit status. Errors are written to `fault`.
@@ -62,7 +65,8 @@ pub fn serve<
     }
 }
 
-/// The arguments after the program's name. The error is the exit status; its line has been written.
+/// The arguments after the program's name. The error is the exit status; standard error has its line, as far as it took
+/// it.
 fn words<H: Env + AllocGlobal, F: Write>(
     rt: &H,
     alloc: Global,
@@ -115,7 +119,7 @@ fn read_and_print<
         Ok(options) => options,
         Err(status) => return status,
     };
-    let mut inputs = match open_inputs(rt, alloc, &asked.files) {
+    let inputs = match open_inputs(rt, alloc, &asked.files) {
         Ok(inputs) => inputs,
         Err(OpenError::CannotOpen(name)) => return cannot_open(&name, fault),
         Err(OpenError::Memory) => return no_memory(fault),
@@ -124,13 +128,7 @@ fn read_and_print<
     let answer = if asked.progress {
         run_watched(rt, alloc, inputs, options, &mut outlet)
     } else {
-        run(
-            rt,
-            alloc,
-            &mut inputs,
-            Box::into_inner(options),
-            &mut outlet,
-        )
+        run_sources(rt, alloc, inputs, options, &mut outlet)
     };
     if let Err(error) = &answer {
         write_fault(error, fault);
@@ -152,14 +150,40 @@ fn run_watched<
     requires sources { All (λ i. (⟦<Input as Source>⟧.told i).failed ≡ false) inputs.items }
     requires outlet { (W.told out.old).failed ≡ false }
 {
-    let Ok(mut watched) = watch(rt, alloc, inputs) else {
-        return Err(RunError::Memory);
-    };
-    run(rt, alloc, &mut watched, Box::into_inner(options), out)
+    match watch(rt, alloc, inputs) {
+        Ok(watched) => run_sources(rt, alloc, watched, options, out),
+        Err(NoMemory) => Err(RunError::Memory),
+    }
 }
 
-/// The options that a command line asks for, with the standard layout if it names none. The error is the exit status; its
-/// line has been written.
+/// Reads these sources and writes their statement.
+fn run_sources<
+    R: Source + Send + Drop + 'static,
+    H: Threads + Wait + RandomSource + Copy + Send + 'static,
+    W: Outlet,
+>(
+    rt: &H,
+    alloc: Global,
+    sources: Vec<R>,
+    options: Box<Options>,
+    out: &mut W,
+) -> Result<Status, RunError>
+    requires sources { All (λ r. (R.told r).failed ≡ false) sources.items }
+    requires outlet { (W.told out.old).failed ≡ false }
+    ensures reported { IfOk result (λ status. (left : List R) × (texts : List FileText)
+        × IsReported R.told options.value sources.items left
+        (W.told out.old) (W.told out.new) texts status) }
+    ensures unwritten { IfErr result (λ error. (left : List R) × IsUnwritten R.told options.value
+        sources.items left (W.told out.old) (W.told out.new) error) }
+    ensures refused { MatchOption (refusal_of (vec_len sources) options.value)
+        (IfErr result IsLateRun) (λ e. result ≡ Err (RunError.Intake e)) }
+{
+    let mut sources = sources;
+    run(rt, alloc, &mut sources, Box::into_inner(options), out)
+}
+
+/// The options that a command line asks for, with the standard layout if it names none; in a box, since a layout takes
+/// about 2 kB. The error is the exit status; standard error has its line, as far as it took it.
 fn options_of<H: Files<File = File>, F: Write>(
     rt: &H,
     alloc: Global,
@@ -181,8 +205,8 @@ fn options_of<H: Files<File = File>, F: Write>(
     }
 }
 
-/// The layout in the named file, or the standard one if none is named. The error is the exit status; its line has been
-/// written.
+/// The layout in the named file, or the standard one if none is named. The error is the exit status; standard error has
+/// its line, as far as it took it.
 fn layout_of<H: Files<File = File>, F: Write>(
     rt: &H,
     alloc: Global,

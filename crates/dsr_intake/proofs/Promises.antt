@@ -1,5 +1,5 @@
 -- A thread's list of events, by the result of reading its file.
-use Rattle.std.proofs.Common.{◌≡◌, false, List, [], ◌∷◌, inl, inr, ap, Result, Ok, Err, IfErr}
+use Rattle.std.proofs.Common.{◌≡◌, false, List, [], ◌∷◌, inl, inr, ap, refl, Result, Ok, Err, IfErr}
 use Rattle.std.specs.Prelude.{OnOk}
 use Rattle.dsr_events.specs.declared.fault.Outcome.{Outcome}
 use Rattle.dsr_file.specs.declared.reading.ReadFileError.{ReadFileError}
@@ -34,3 +34,16 @@ module _ (options : Options) (before after : Told) (sent : List Placed) where
   given_from_answer (Ok o) read refused = given_from_read read
   given_from_answer (Err Memory) read refused = given_from_unclean (ap ends_clean refused.1)
   given_from_answer (Err (Refused e)) read refused = given_from_refused e refused
+
+  -- what a thread gave is the same after it sent the end of a file of which nothing was read
+  pub given_at_end : (answer : Result Outcome ReadFileError) (sent_last : List Placed) → IsGiven options before after sent
+      → (answer ≡ Err Memory → ends_clean sent_last ≡ false) → ((answer ≡ Err Memory → ⊥) → sent_last ≡ sent) → IsGiven options before after sent_last
+  given_at_end (Ok o) last given memory other = let same : last ≡ sent = other (λ e. absurd (cc)) in rw same given
+  given_at_end (Err Memory) last given memory other = let unclean : ends_clean last ≡ false = memory refl in record { given = λ clean. cc }
+  given_at_end (Err (Refused e)) last given memory other = let same : last ≡ sent = other (λ e. absurd (cc)) in rw same given
+
+  pub nothing_was_put : (answer : Result Outcome ReadFileError) → answer ≡ Err Memory
+      → IfErr answer (IsRefusal options.layout options.max_reads before after sent) → sent ≡ []
+  nothing_was_put (Ok o) is refused = absurd (cc)
+  nothing_was_put (Err Memory) is refused = refused.1
+  nothing_was_put (Err (Refused e)) is refused = absurd (cc)

@@ -9,3 +9,4 @@ pub mod Puts
 pub mod Bound
 pub mod Laid
 pub mod Read
+pub mod Unfinished

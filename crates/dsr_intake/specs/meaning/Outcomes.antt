@@ -1,5 +1,5 @@
 -- The results of a run: the statement of the texts was written, or what was written if it fails.
-use Rattle.std.specs.Prelude.{◌≡◌, ℕ, ◌≤◌, List, length, take, false}
+use Rattle.std.specs.Prelude.{◌≡◌, ◌≤◌, List, length, take, false}
 use Rattle.std.specs.Io.KnownBytes.{Keeps}
 use Rattle.dsr_file.specs.Runs.{FileText}
 use Rattle.dsr_file.specs.Sources.{Told}

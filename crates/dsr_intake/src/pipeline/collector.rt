@@ -167,8 +167,7 @@ fn open_part(books: &mut Books, k: u32, part: EventPart) -> Result<(), NoMemory>
                 return Err(NoMemory);
             }
             books.open_next(None)?;
-            books.end_file(k, outcome)?;
-            Ok(())
+            books.end_file(k, outcome)
         }
     }
 }
@@ -279,6 +278,23 @@ fn take_all<H: Wait>(rt: &H, books: &mut Books, taps: &mut Vec<Tap>) -> Result<(
     unreachable!()
 }
 
+/// Takes all events of the taps into empty books.
+fn book_all<H: Wait>(rt: &H, books: &mut Books, taps: &mut Vec<Tap>) -> Result<(), CollectError>
+    requires most { vec_len taps.old ≤ MOST_FILES }
+    requires fresh { All (λ t. t.taken ≡ []) taps.old.items }
+    requires empty { Stands books.old [] }
+    requires files { files_count books.old ≡ vec_len taps.old }
+    ensures names { map (λ t. t.name) taps.new.items ≡ map (λ t. t.name) taps.old.items }
+    ensures files { files_count books.new ≡ files_count books.old }
+    ensures tapped { OnOk result (All IsTapped taps.new.items) }
+    ensures ended { OnOk result (All (λ t. has_ended t.taken ≡ true) taps.new.items) }
+    ensures stands { OnOk result (Stands books.new (map (λ t. file_of t.taken) taps.new.items)) }
+    ensures stopped { IfErr result (IsStopped taps.new.items) }
+{
+    open_all(rt, books, taps)?;
+    take_all(rt, books, taps)
+}
+
 /// Takes all events of the taps into books of their files, and closes them.
 ///
 /// # Errors
@@ -302,8 +318,7 @@ pub(crate) fn collect_books<H: Wait + RandomSource>(
     let Ok(mut books) = Books::with_seed(alloc, taps.len() as u32, random_seed(rt)) else {
         return Err(CollectError::Memory);
     };
-    open_all(rt, &mut books, taps)?;
-    take_all(rt, &mut books, taps)?;
+    book_all(rt, &mut books, taps)?;
     match books.close() {
         Ok(books) => Ok(books),
         Err(NoMemory) => Err(CollectError::Memory),

@@ -7,11 +7,11 @@ use dsr_relay::{Feed, Name};
 use std::marker::Model;
 use std::sync::Wait;
 
-/// A batch is sent once more than this many bytes of the file were read for it.
+/// A batch is sent as soon as more than this many bytes of the file were read for it.
 const MOST_WAITING: usize = 64 * 1024;
 
-/// Sends the batch if many bytes were read for it, so that what waits in a relay is bounded in bytes too. If the
-/// tap is gone the batch may stay.
+/// Sends the batch if many bytes were read for it, so that what waits in a relay is bounded in bytes too. If the tap is
+/// gone, the batch may stay unsent.
 fn send_large_batch<H: Wait>(rt: &H, feed: &mut Feed)
     ensures sent { feed.new.sent ≡ feed.old.sent }
     ensures name { feed.new.name ≡ feed.old.name }

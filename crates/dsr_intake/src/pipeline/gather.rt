@@ -180,6 +180,7 @@ fn gather<
             Ok(books)
         }
         Err(error) => {
+            // Without the taps no thread waits for room in its relay, so all of them end.
             drop(taps);
             if join_all(rt, threads) {
                 Err(IntakeError::Memory)

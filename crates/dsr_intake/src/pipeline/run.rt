@@ -1,8 +1,17 @@
 //! Reading the files of a report and writing its statement.
-ghost use Rattle.std.specs.Prelude.{◌≡◌, false, List, All, IfOk, IfErr, Err, MatchOption, vec_len};
+ghost use Rattle.std.specs.Prelude.{◌≡◌, false, List, All, OnOk, IfOk, IfErr, Err, MatchOption, vec_len};
 ghost use Rattle.dsr_file.specs.Runs.{FileText};
+ghost use Rattle.dsr_ledger.specs.declared.report.Report.{Report};
+ghost use Rattle.dsr_ledger.specs.Closed.{AreClosed};
+ghost use Rattle.dsr_ledger.specs.Files.{File};
+ghost use Rattle.dsr_ledger.specs.Lent.{IsReady, IsLent};
+ghost use Rattle.dsr_ledger.specs.Reports.{report_of};
 ghost use Rattle.dsr_intake.specs.meaning.Options.{refusal_of};
 ghost use Rattle.dsr_intake.specs.meaning.Outcomes.{IsReported, IsUnwritten, IsLateRun};
+ghost use Rattle.dsr_intake.specs.meaning.Statement.{statement_of};
+ghost use Rattle.dsr_intake.specs.meaning.Status.{status_of};
+ghost use Rattle.dsr_intake.specs.meaning.Written.{IsFlushed};
+ghost use Rattle.dsr_intake.specs.inner.Unfinished.{IsUnfinished};
 
 use crate::outlet::Outlet;
 use crate::pipeline::errors::{IntakeError, RunError};
@@ -11,14 +20,16 @@ use crate::pipeline::options::Options;
 use crate::statements::status::lent_status;
 use crate::statements::verdict::Status;
 use crate::statements::write::{room_for, write_statement};
+use dsr_cells::NoMemory;
 use dsr_file::Source;
+use dsr_ledger::{ClosedBooks, LentReport};
 use std::alloc::Global;
 use std::random::RandomSource;
 use std::sync::Wait;
 use std::thread::Threads;
 
-/// Reads the files, and writes their statement in pieces. All memory that writing needs is allocated
-/// before the first byte is written.
+/// Reads the files, and writes their statement in pieces. All memory that writing needs is allocated before the first byte
+/// is written.
 ///
 /// # Errors
 ///
@@ -46,18 +57,54 @@ pub fn run<
         (IfErr result IsLateRun)
         (λ e. (result ≡ Err (RunError.Intake e)) × (readers.new ≡ readers.old)) }
 {
-    let books = match read_books(rt, alloc, readers, &options) {
-        Ok(books) => books,
-        Err(error) => return Err(RunError::Intake(error)),
-    };
-    let Ok(mut report) = books.report() else {
-        return Err(RunError::Intake(IntakeError::Memory));
-    };
-    let Ok(room) = room_for(alloc, &mut report) else {
+    match read_books(rt, alloc, readers, &options) {
+        Ok(books) => write_books(alloc, &books, out),
+        Err(error) => Err(RunError::Intake(error)),
+    }
+}
+
+/// Writes the statement of closed books, and returns whether it has remarks.
+fn write_books<W: Outlet>(
+    alloc: Global,
+    books: &ClosedBooks,
+    out: &mut W,
+) -> Result<Status, RunError>
+    ensures written { (files : List File) → AreClosed books.now files → OnOk result
+        (IsFlushed (statement_of (report_of files)) (W.told out.old) (W.told out.new)) }
+    ensures status { (files : List File) → AreClosed books.now files
+        → IfOk result (λ status. status ≡ status_of (report_of files)) }
+    ensures unfinished { (files : List File) → AreClosed books.now files
+        → IfErr result (IsUnfinished (report_of files) (W.told out.old) (W.told out.new)) }
+    ensures late { IfErr result IsLateRun }
+{
+    match books.report() {
+        Ok(mut report) => write_report(alloc, &mut report, out),
+        Err(NoMemory) => Err(RunError::Intake(IntakeError::Memory)),
+    }
+}
+
+/// Writes the statement of a lent report, and returns whether it has remarks. All memory that writing needs is
+/// allocated before the first byte is written.
+fn write_report<W: Outlet>(
+    alloc: Global,
+    report: &mut LentReport<'_>,
+    out: &mut W,
+) -> Result<Status, RunError>
+    requires ready { IsReady report.old.ledger }
+    ensures same { (r : Report) → IsLent report.old r → IsLent report.new r }
+    ensures written { (r : Report) → IsLent report.old r
+        → OnOk result (IsFlushed (statement_of r) (W.told out.old) (W.told out.new)) }
+    ensures status { (r : Report) → IsLent report.old r
+        → IfOk result (λ status. status ≡ status_of r) }
+    ensures unfinished { (r : Report) → IsLent report.old r
+        → IfErr result (IsUnfinished r (W.told out.old) (W.told out.new)) }
+    ensures late { IfErr result IsLateRun }
+{
+    let Ok(room) = room_for(alloc, report) else {
         return Err(RunError::Memory);
     };
-    match write_statement(room, &mut report, out) {
-        Ok(()) => Ok(lent_status(&report)),
+    match write_statement(room, report, out) {
+        Ok(()) => Ok(lent_status(report)),
         Err(written) => Err(RunError::Write { written }),
     }
 }

@@ -1,5 +1,8 @@
 //! The threads, each of which reads a file and sends its events.
-ghost use Rattle.std.specs.Prelude.{◌≡◌, ◌<◌, ◌≤◌, false, List, [], ◌++◌, IfOk, IfErr};
+ghost use Rattle.std.specs.Prelude.{◌≡◌, ◌≢◌, ◌<◌, ◌≤◌, false, List, [], ◌++◌, Err, IfOk, IfErr};
+ghost use Rattle.dsr_events.specs.declared.event.EventPart.TheVariants as part;
+ghost use Rattle.dsr_events.specs.declared.fault.FileFault.TheVariants as fault;
+ghost use Rattle.dsr_events.specs.declared.fault.Outcome.TheVariants as outcome;
 ghost use Rattle.dsr_events.specs.Placed.{Placed};
 ghost use Rattle.dsr_events.specs.Orderly.{IsOrderly};
 ghost use Rattle.dsr_intake.specs.meaning.Options.{IsLate};
@@ -93,11 +96,8 @@ fn read_and_send<R: Source, H: Wait>(
     );
     let mut feed = sink.into_feed();
     let memory = wants_memory(&answer);
-    match answer {
-        Ok(_) => {}
-        Err(ReadFileError::Memory) => send_memory(rt, &mut feed),
-        Err(ReadFileError::Refused(_)) => {}
-    }
+    send_end(rt, &mut feed, &answer);
+    drop(answer);
     Finished {
         reader,
         feed,
@@ -114,23 +114,40 @@ fn wants_memory(answer: &Result<Outcome, ReadFileError>) -> bool {
     }
 }
 
-/// Sends the end of a file of which nothing was read, since memory was refused.
-fn send_memory<H: Wait>(rt: &H, feed: &mut Feed)
-    requires { feed.old.sent ≡ [] }
+/// Sends the end of the file if memory was refused for its reader, which then put no event.
+fn send_end<H: Wait>(rt: &H, feed: &mut Feed, answer: &Result<Outcome, ReadFileError>)
+    requires { answer.now ≡ Err ReadFileError.Memory → feed.old.sent ≡ [] }
     ensures name { feed.new.name ≡ feed.old.name }
-    ensures unclean { ends_clean feed.new.sent ≡ false }
+    ensures memory { answer.now ≡ Err ReadFileError.Memory → ends_clean feed.new.sent ≡ false }
+    ensures other { answer.now ≢ Err ReadFileError.Memory → feed.new ≡ feed.old }
+{
+    match answer {
+        Err(ReadFileError::Memory) => send_memory(rt, feed),
+        _ => {}
+    }
+}
+
+/// The end of a file of which nothing was read, since memory was refused.
+fn memory_end() -> Event
+    ensures { result ≡ record { place = 0; part = part.Ended (outcome.Fault 1 fault.Memory) } }
 {
     let outcome = Outcome::Fault {
         line: 1,
         fault: FileFault::Memory,
     };
-    let _ = feed.send(
-        rt,
-        Event {
-            place: 0,
-            part: EventPart::Ended(outcome),
-        },
-    );
+    Event {
+        place: 0,
+        part: EventPart::Ended(outcome),
+    }
+}
+
+/// Sends the end of a file of which nothing was read, since memory was refused. If the tap is gone, nothing is sent.
+fn send_memory<H: Wait>(rt: &H, feed: &mut Feed)
+    requires { feed.old.sent ≡ [] }
+    ensures name { feed.new.name ≡ feed.old.name }
+    ensures unclean { ends_clean feed.new.sent ≡ false }
+{
+    drop(feed.send(rt, memory_end()));
 }
 
 /// Starts the thread that reads a file.

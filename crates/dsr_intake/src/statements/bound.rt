@@ -52,12 +52,14 @@ impl Put for Bound {
         false
     }
 
+    /// Only lengths matter to a bound.
     fn put_length(&mut self, most: u64) -> bool {
         self.add(most);
         true
     }
 
-    fn is_closed(&mut self) -> bool {
+    /// A bound never fails.
+    fn drop_if_failed(&mut self) -> bool {
         false
     }
 }

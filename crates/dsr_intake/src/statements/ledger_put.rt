@@ -20,7 +20,7 @@ impl<'a, P: Put> TakeLines for LedgerPut<'a, P> {
 
     /// Nothing is put once the outlet has failed.
     fn take_line(&mut self, line: &LentLine<'_>) {
-        if self.out.is_closed() {
+        if self.out.drop_if_failed() {
             return;
         }
         put_ledger(&mut self.out, &mut self.key, line);

@@ -175,8 +175,8 @@ impl<'a, W: Outlet> Put for Pieces<'a, W> {
         false
     }
 
-    /// Whether the outlet has failed. If so, what waits is dropped, since it is never written.
-    fn is_closed(&mut self) -> bool {
+    /// Once the outlet has failed, what waits is never written.
+    fn drop_if_failed(&mut self) -> bool {
         if !self.sender.failed {
             return false;
         }

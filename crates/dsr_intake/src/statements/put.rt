@@ -35,8 +35,9 @@ pub(crate) trait Put {
             → Puts after self.old self.new bytes }
         ensures refused { result ≡ false → self.new ≡ self.old };
 
-    /// Whether what is put from now on is dropped.
-    fn is_closed(&mut self) -> bool
-        ensures closed { result ≡ true → (bytes : List ℕ) → Puts after self.old self.new bytes }
-        ensures open { result ≡ false → self.new ≡ self.old };
+    /// If the destination has failed, drops the bytes that wait; any further bytes then count as put. Returns whether it has
+    /// failed; if not, nothing changes.
+    fn drop_if_failed(&mut self) -> bool
+        ensures dropped { result ≡ true → (bytes : List ℕ) → Puts after self.old self.new bytes }
+        ensures kept { result ≡ false → self.new ≡ self.old };
 }

@@ -1,10 +1,10 @@
-//! Whether a statement has remarks.
+//! Whether a statement has remarks. The type is not in `status`, since a function there has the same name but for its case.
 
 /// Whether a statement has remarks that need attention.
 #[derive(Debug, Clone, Copy, PartialEq, Eq)]
 pub enum Status {
     /// Every file is there, once and whole, no block is rejected, and every summary agrees.
     Clean,
-    /// One of these does not hold.
+    /// At least one of these does not hold.
     Remarks,
 }

@@ -109,6 +109,7 @@ pub(crate) fn write_statement<W: Outlet>(
         ..
     } = put;
     let answer = pieces.finish();
+    // Ends the borrow of the outlet, so that the clauses can say what it took.
     pieces.into_outlet();
     answer
 }
@@ -138,7 +139,7 @@ fn put_statement<P: Put>(put: &mut LedgerPut<'_, P>, days: &[u8], report: &mut L
 {
     put_head(&mut put.out, report.key, days);
     put_files(&mut put.out, report.files);
-    put_numbers(&mut put.out, report.missing);
+    put_missing_files(&mut put.out, report.missing);
     put_differences(&mut put.out, report.differences);
     put_lines(put, &mut report.ledger);
     put_rejects(&mut put.out, report.rejects);
@@ -186,10 +187,10 @@ fn put_files<P: Put>(out: &mut P, files: &[FileLine])
 }
 
 /// Puts the lines of the missing files.
-fn put_numbers<P: Put>(out: &mut P, numbers: &[u32])
-    ensures { Puts P.after out.old out.new (flat_map missing_line numbers.now) }
+fn put_missing_files<P: Put>(out: &mut P, missing: &[u32])
+    ensures { Puts P.after out.old out.new (flat_map missing_line missing.now) }
 {
-    for number in numbers {
+    for number in missing {
         put_missing(out, *number);
     }
 }

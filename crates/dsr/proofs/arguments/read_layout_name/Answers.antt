@@ -1,4 +1,4 @@
-use Rattle.std.proofs.Common.{◌≡◌, codes, rules}
+use Rattle.std.proofs.Common.{codes, rules}
 use Rattle.clap.specs.Words.{found_of}
 use Rattle.clap.proofs.WalkLemmas.{first_value-rows}
 use Rattle.dsr.proofs.arguments.read_layout_name.Goals as goal

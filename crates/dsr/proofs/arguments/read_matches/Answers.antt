@@ -1,4 +1,4 @@
-use Rattle.std.proofs.Common.{◌≡◌, ap, subst, codes}
+use Rattle.std.proofs.Common.{ap, subst, codes}
 use Rattle.clap.specs.Words.{found_of, one_text}
 use Rattle.clap.proofs.WalkLemmas.{one_text-rows}
 use Rattle.dsr.specs.CommandLine.{IsNumberAsked, IsFlagAsked}

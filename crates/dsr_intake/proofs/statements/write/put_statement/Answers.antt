@@ -9,7 +9,9 @@ pub returns-clause-put : goal.returns-clause-put
 unfolding statement_of
 returns-clause-put g c = λ r is.
     let ledger = c.put_lines.ensures.put r.ledger is.ledger in
-    let puts =
-    then (turn c.put_head.ensures (ap head_line is.key)) (then (turn c.put_files.ensures (ap (file_lines 1) is.files)) (then (turn c.put_numbers.ensures (ap (flat_map missing_line) is.missing))
-    (then (turn c.put_differences.ensures (ap (flat_map difference_line) is.differences)) (then ledger (turn c.put_rejects.ensures (ap (flat_map reject_line) is.rejects)))))) in
+    let files = then (turn c.put_head.ensures (ap head_line is.key)) (turn c.put_files.ensures (ap (file_lines 1) is.files)) in
+    let missing = turn c.put_missing_files.ensures (ap (flat_map missing_line) is.missing) in
+    let differences = turn c.put_differences.ensures (ap (flat_map difference_line) is.differences) in
+    let rejects = turn c.put_rejects.ensures (ap (flat_map reject_line) is.rejects) in
+    let puts = then files (then missing (then differences (then ledger rejects))) in
     turn puts (search (rules, append_assoc, append-nil))
