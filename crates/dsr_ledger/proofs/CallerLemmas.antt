@@ -49,10 +49,7 @@ can_book books files k h o e b = record {
 }
 
 pub can_end : (books : Books) (files : List File) (k : ℕ) → Stands books files → k < length files → ended_in files k ≡ false → CanEnd books k
-can_end books files k h below e = record {
-  opened = subst (λ n. k < n) (sym (opened_is books files h)) below;
-  going = ended_told books.kept files h k ∙ e;
-}
+can_end books files k h below e = record { opened = subst (λ n. k < n) (sym (opened_is books files h)) below; going = ended_told books.kept files h k ∙ e }
 
 pub all_ended : (books : Books) (files : List File) → Stands books files → length files ≡ files_count books
     → ((k : ℕ) → k < length files → ended_in files k ≡ true) → AllEnded books

@@ -1,5 +1,5 @@
 -- Room for the recordings and the lines of a ledger.
-use Rattle.std.proofs.Common.{◌≡◌, ℕ, ◌<◌, ◌≤◌, List, length, get_or, refl, sym, ◌∙◌, subst, Bor}
+use Rattle.std.proofs.Common.{arith, ◌≡◌, ℕ, ◌<◌, List, length, get_or, refl, sym, ◌∙◌, subst, Bor}
 use Rattle.std.specs.Prelude.{All, Some, slice_get}
 use Rattle.dsr_ledger.specs.declared.assemble.lists.Lists.{Lists}
 use Rattle.dsr_ledger.specs.declared.assemble.lists.PartLists.{PartLists}
@@ -10,7 +10,8 @@ use Rattle.dsr_ledger.specs.Rooms.{HasPartRoom, HasRoom, SamePartRoom, SameRoom}
 use Rattle.dsr_ledger.specs.Listed.{key_in, line_for}
 use Rattle.dsr_ledger.specs.Numbered.{place_by}
 use Rattle.dsr_ledger.specs.Tallies.{line_keys}
-use Rattle.dsr_ledger.proofs.ListedLemmas.{all_there, taken}
+use Rattle.dsr_ledger.proofs.ListedLemmas.{all_there}
+use Rattle.dsr_ledger.proofs.NumberedLemmas.{taken}
 
 -- a line of a recording has room if each has
 pub line_room : (P : Line → Type 0) (ks : List SummaryKey) (ls : List Line) (k : SummaryKey) (l : Line) → line_for ks ls k ≡ Some l → All P ls → P l
@@ -18,19 +19,14 @@ line_room P ks ls k l at all = let i = taken (slice_get ls) (place_by (key_in ks
 
 -- room that stays the same
 pub part_room_of : (old new : PartLists) {l : Line} → SamePartRoom old new → HasPartRoom old l → HasPartRoom new l
-part_room_of old new {l} same room = record {
-  names = subst (λ n. length l.parts.items.items ≤ n) (sym same.names) room.names;
-  parties = subst (λ n. length l.parts.items.items ≤ n) (sym same.parties) room.parties;
-}
+part_room_of old new same room = record { names = omega (arith, same.names, room.names); parties = omega (arith, same.parties, room.parties) }
 
 pub part_room_then : (a b c : PartLists) → SamePartRoom a b → SamePartRoom b c → SamePartRoom a c
 part_room_then a b c f g = record { names = g.names ∙ f.names; parties = g.parties ∙ f.parties }
 
 pub room_of : (old new : Lists) {r : Recording} → SameRoom old new → HasRoom old r → HasRoom new r
-room_of old new {r} same room = record {
-  lines = subst (λ n. length r.lines.items ≤ n) (sym same.order) room.lines;
-  parts = λ i d below. part_room_of old.parts new.parts same.parts (room.parts i d below);
-}
+room_of old new same room =
+    record { lines = omega (arith, same.order, room.lines); parts = λ i d below. part_room_of old.parts new.parts same.parts (room.parts i d below) }
 
 pub same_room : (a : Lists) → SameRoom a a
 same_room a = record { order = refl; parts = record { names = refl; parties = refl } }
@@ -39,5 +35,4 @@ same_room a = record { order = refl; parts = record { names = refl; parties = re
 pub item_room : (lists : Lists) (es items : List (Bor (List ℕ) × Bor Recording)) → items ≡ es → All (λ e. HasRoom lists e.1.now) es → (i : ℕ)
     (e : Bor (List ℕ) × Bor Recording) → i < length items → e ≡ get_or items i e → HasRoom lists e.1.now
 item_room lists es items same all i e below is =
-    let h : All (λ e. HasRoom lists e.1.now) items = subst (All (λ e. HasRoom lists e.1.now)) (sym same) all in
-    subst (λ x. HasRoom lists x.1.now) (sym is) (h i e below)
+    subst (λ x. HasRoom lists x.1.now) (sym is) (subst (All (λ e. HasRoom lists e.1.now)) (sym same) all i e below)

@@ -2,6 +2,7 @@
 use Rattle.std.specs.Prelude.{ℕ, ◌^◌, ◌≤◌, Bool, false, is_some, List, [], length, slice_get}
 use Rattle.std.specs.Option.{option_map_or}
 use Rattle.std.specs.List.{AllByRecursion}
+use Rattle.dsr_ledger.specs.Limits.{most_blocks}
 use Rattle.dsr_ledger.specs.declared.kept.Kept.{Kept}
 use Rattle.dsr_ledger.specs.Files.{File}
 use Rattle.dsr_ledger.specs.Bookings.{bookings}
@@ -13,9 +14,9 @@ pub record Stands (kept : Kept) (files : List File) : Type 0 where
   pub each : FilesStand 1 [] kept.files.items files
   pub ledger : LedgerStands kept.ledger (bookings files)
 
--- a file has at most 2^37 blocks, each in range
+-- a file has at most so many blocks, each in range
 pub record IsSmallFile (file : File) : Type 0 where
-  pub few : length file.blocks ≤ 2 ^ 37
+  pub few : length file.blocks ≤ most_blocks
   pub range : AllByRecursion IsBlockInRange file.blocks
 
 -- the state of the books represents some files within the limits, and each summary has the number of its key

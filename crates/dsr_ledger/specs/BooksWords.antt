@@ -1,6 +1,7 @@
 -- The books, as a caller sees them.
 use Rattle.std.specs.Prelude.{◌≡◌, ℕ, ◌^◌, ◌<◌, Bool, true, false, is_some, List, length, slice_get}
 use Rattle.std.specs.Option.{option_map_or}
+use Rattle.dsr_ledger.specs.Limits.{most_blocks}
 use Rattle.dsr_ledger.specs.declared.books.Books.{Books}
 use Rattle.dsr_ledger.specs.Files.{File}
 use Rattle.dsr_ledger.specs.Books as inner
@@ -29,11 +30,11 @@ ended_at books k = option_map_or (λ f. is_some f.outcome) (slice_get books.kept
 abbrev pub blocks_at : Books → ℕ → ℕ
 blocks_at books k = option_map_or (λ f. f.blocks) (slice_get books.kept.files.items k) 0
 
--- file k can take a block: it has an opening, has not ended, and has fewer than 2^37 blocks
+-- file k can take a block: it has an opening, has not ended, and has fewer than the most blocks
 pub record CanBook (books : Books) (k : ℕ) : Type 0 where
   pub opening : has_opening_at books k ≡ true
   pub going : ended_at books k ≡ false
-  pub room : blocks_at books k < 2 ^ 37
+  pub room : blocks_at books k < most_blocks
 
 -- file k can be ended: it is opened and has not ended
 pub record CanEnd (books : Books) (k : ℕ) : Type 0 where

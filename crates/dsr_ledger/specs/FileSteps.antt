@@ -2,6 +2,7 @@
 use Rattle.std.specs.Prelude.{◌≡◌, ℕ, ◌+◌, ◌≤◌, List, [], ◌∷◌, ◌++◌, length, option_map}
 use Rattle.std.specs.List.{AllByRecursion}
 use Rattle.dsr_records.specs.Blocks.{BlockParts}
+use Rattle.dsr_ledger.specs.Limits.{most_usages}
 use Rattle.dsr_ledger.specs.declared.file.FileBooks.{FileBooks}
 use Rattle.dsr_ledger.specs.declared.verdict.Verdict.{Verdict}
 use Rattle.dsr_ledger.specs.IdSteps.{is_in}
@@ -32,7 +33,7 @@ pub record IsSameFile (f g : FileBooks) : Type 0 where
 
 -- a block has at most 63 usages, each in range
 pub record IsBlockInRange (b : BlockParts) : Type 0 where
-  pub few : length b.usages ≤ 63
+  pub few : length b.usages ≤ most_usages
   pub range : AllByRecursion IsInRange b.usages
 
 -- the file has one more block, with this verdict, the ledger has the block's bookings added, and the block is in range;

@@ -1,4 +1,5 @@
 -- The definitions to be trusted: what a report is.
+pub mod Limits
 pub mod Sums
 pub mod Files
 pub mod Verdicts

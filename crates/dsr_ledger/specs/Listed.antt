@@ -82,12 +82,8 @@ AreOrdered keys ranks = (n m : ℕ) (a b : SummaryKey) → slice_get keys n ≡ 
     → is_lt (nat_cmp (slice_index ranks n) (slice_index ranks m)) ≡ is_lt (summary_key_cmp a b)
 
 -- the ledger lines of the keys that have a booking
-abbrev pub booked_lines : {V : Type 0} → List Booking → List (Key × V) → List LedgerLine
-booked_lines bs es = map (λ e. line_of e.0 (at_key e.0 bs)) (filter (λ e. (key_tally bs e.0).is_booked) es)
-
--- the lines of a recording, by the ledger's keys
-abbrev pub entries_under : List ℕ → List (SummaryKey × Line) → List (Key × Line)
-entries_under isrc es = map (λ e. (key_under isrc e.0, e.1)) es
+abbrev pub booked_lines : List Booking → List Key → List LedgerLine
+booked_lines bs keys = map (λ key. line_of key (at_key key bs)) (filter (λ key. (key_tally bs key).is_booked) keys)
 
 -- each summary key has in a recording the tally of these bookings
 abbrev pub HasBookings : List (List ℕ) → List SummaryKey → List ℕ → Recording → List Booking → Type 0
@@ -115,8 +111,8 @@ pub record IsSeatedLine (parties : List (List ℕ)) (numbers : List ℕ) (line :
 -- the ledger lines of a recording were taken, in the order of their keys
 pub record AddsLines {T : Type 0} (took : T → T → List LedgerLine → Type 0) (parties : List (List ℕ)) (keys : List SummaryKey) (isrc : List ℕ)
     (r : Recording) (old new : T) : Type 0 where
-  pub entries : List (Key × Line)
-  pub order : IsStrictlySortedBy key_cmp (keys_of entries)
-  pub own : AllByRecursion (λ e. e.0.isrc ≡ isrc) entries
-  pub all : (q : Key) (l : Line) → isrc ≡ q.isrc → line_for keys r.lines.items (summary_key_in q) ≡ Some l → Contains (keys_of entries) q
-  pub lines : (bs : List Booking) → HasBookings parties keys isrc r bs → Takes took old new (booked_lines bs entries)
+  pub whole : List Key
+  pub order : IsStrictlySortedBy key_cmp whole
+  pub own : AllByRecursion (λ key. key.isrc ≡ isrc) whole
+  pub all : (q : Key) (l : Line) → isrc ≡ q.isrc → line_for keys r.lines.items (summary_key_in q) ≡ Some l → Contains whole q
+  pub lines : (bs : List Booking) → HasBookings parties keys isrc r bs → Takes took old new (booked_lines bs whole)

@@ -8,9 +8,5 @@ use Rattle.dsr_ledger.specs.declared.file.FileBooks.{FileBooks}
 abbrev pub openings_of : List FileBooks → List (Option OpeningParts)
 openings_of fs = map (λ f. f.opening) fs
 
-abbrev pub first_of : {X : Type 0} → Option X → Option X → Option X
-first_of None other = other
-first_of (Some x) other = Some x
-
 abbrev pub named : List ℕ → Summary → Option Summary
 named id s = if bytes_eq id s.id then Some s else None

@@ -1,6 +1,7 @@
 -- Bookings whose sums fit into 128 bits.
 use Rattle.std.specs.Prelude.{◌≡◌, ℕ, Option, ◌≤◌, ◌<◌, ◌^◌, List, length, unsigned_abs}
 use Rattle.std.specs.List.{AllByRecursion}
+use Rattle.dsr_ledger.specs.Limits.{whole_share, amount_bound}
 use Rattle.dsr_ledger.specs.declared.ledger.line.Line.{Line}
 use Rattle.dsr_ledger.specs.declared.ledger.recordings.Ledger.{Ledger}
 use Rattle.dsr_ledger.specs.Bookings.{Booking}
@@ -12,8 +13,8 @@ use Rattle.dsr_ledger.specs.Stands.{LedgerStands}
 -- add up to at most 100 percent
 pub record IsSmall (b : Booking) : Type 0 where
   pub usages : unsigned_abs b.usage.usages ≤ 2 ^ 63
-  pub amount : unsigned_abs b.usage.amount < 10 ^ 22
-  pub whole : share_total b.works ≤ 1000000
+  pub amount : unsigned_abs b.usage.amount < amount_bound
+  pub whole : share_total b.works ≤ whole_share
 
 -- at most 2^49 bookings, each small
 pub record AreSmall (bs : List Booking) : Type 0 where

@@ -1,13 +1,13 @@
 -- The state of the books represents a list of files.
-use Rattle.std.specs.Prelude.{◌≡◌, ℕ, suc, Option, List, [], ◌∷◌, ◌++◌, ⊤, length}
-use Rattle.std.specs.List.{list_any}
+use Rattle.std.specs.Prelude.{◌≡◌, ℕ, Option, List, length}
+use Rattle.std.specs.List.{list_any, AllZip}
 use Rattle.dsr_records.specs.Blocks.{BlockParts}
 use Rattle.dsr_events.specs.Openings.{OpeningParts}
 use Rattle.dsr_ledger.specs.declared.key.Key.{Key}
 use Rattle.dsr_ledger.specs.declared.ledger.recordings.Ledger.{Ledger}
 use Rattle.dsr_ledger.specs.declared.file.FileBooks.{FileBooks}
 use Rattle.dsr_ledger.specs.declared.verdict.Verdict.{Verdict}
-use Rattle.dsr_ledger.specs.Files.{File, Filed, standing, summaries_of, with_one}
+use Rattle.dsr_ledger.specs.Files.{File, Filed, filed_after, summaries_of, with_one}
 use Rattle.dsr_ledger.specs.Verdicts.{has_id, verdict_of}
 use Rattle.dsr_ledger.specs.Bookings.{Booking, verdict_bookings}
 use Rattle.dsr_ledger.specs.Findings.{usages_in, rejects_in}
@@ -30,12 +30,7 @@ pub record FileStands (f : FileBooks) (d : Filed) : Type 0 where
 
 -- each state represents its file, the first at this place, after files with the earlier openings
 abbrev pub FilesStand : ℕ → List (Option OpeningParts) → List FileBooks → List File → Type 0
-FilesStand place earlier [] [] = ⊤
-FilesStand place earlier [] (file ∷ files) = ⊥
-FilesStand place earlier (f ∷ fs) [] = ⊥
-FilesStand place earlier (f ∷ fs) (file ∷ files) =
-    FileStands f (record { place = place; standing = standing earlier file.opening; file = file })
-    × FilesStand (suc place) (earlier ++ file.opening ∷ []) fs files
+FilesStand place earlier fs files = AllZip FileStands fs (filed_after place earlier files)
 
 -- the ledger has for each key the tally of these bookings
 abbrev pub LedgerStands : Ledger → List Booking → Type 0

@@ -34,14 +34,11 @@ sums_at summaries id = option_map (λ s. s.sums) (shown_at summaries id)
 abbrev pub number_at : Summaries → List ℕ → Option ℕ
 number_at summaries id = option_map (λ s. s.key) (shown_at summaries id)
 
--- this number is that of this summary key, or there is neither
-pub record IsNumberOf (ledger : Ledger) (number : Option ℕ) (key : Option SummaryKey) : Type 0 where
-  pub both : is_some number ≡ is_some key
-  pub number_is : (n : ℕ) (k : SummaryKey) → number ≡ Some n → key ≡ Some k → key_number ledger k ≡ Some n
-
--- each summary has the number of its key, where `place` gives the summary key of an identifier
+-- each summary has the number of its key, where `place` gives the summary key of an identifier; an identifier has a
+-- summary if it has a key
 abbrev pub AreNumbered : Ledger → (List ℕ → Option SummaryKey) → Summaries → Type 0
-AreNumbered ledger place summaries = (id : List ℕ) → IsNumberOf ledger (number_at summaries id) (place id)
+AreNumbered ledger place summaries =
+    (id : List ℕ) → option_map (key_number ledger) (place id) ≡ option_map Some (number_at summaries id)
 
 -- the sums with the usages added that name the summary
 abbrev pub sums_with : List ℕ → List Usage → Sums → Sums

@@ -2,6 +2,7 @@
 use Rattle.std.specs.Prelude.{◌≡◌, ℕ, ◌+◌, ◌*◌, ◌^◌, ◌<◌, ℤ, ◌+ℤ◌, Bool, true, ◌||◌, nat_lt, List, [], length, map, Option, Some, slice_get, unsigned_abs}
 use Rattle.std.specs.Option.{option_and_then}
 use Rattle.dsr_records.specs.declared.record.Usage.{Usage}
+use Rattle.dsr_ledger.specs.Limits.{amount_bound}
 use Rattle.dsr_ledger.specs.declared.key.Key.{Key}
 use Rattle.dsr_ledger.specs.declared.ledger.parts.SeatShare.{SeatShare}
 use Rattle.dsr_ledger.specs.declared.ledger.line.Line.{Line}
@@ -54,8 +55,8 @@ tally_with u parts t = record {
 -- n more usages in range can be added within 128 bits
 pub record TallyFits (n : ℕ) (t : Tally) : Type 0 where
   pub usages : unsigned_abs t.usages + n * 2 ^ 63 < 2 ^ 127
-  pub amount : unsigned_abs t.amount + n * 10 ^ 22 < 2 ^ 127
-  pub owed : (q : List ℕ) → unsigned_abs (t.owed q).amount + n * 10 ^ 22 < 2 ^ 127
+  pub amount : unsigned_abs t.amount + n * amount_bound < 2 ^ 127
+  pub owed : (q : List ℕ) → unsigned_abs (t.owed q).amount + n * amount_bound < 2 ^ 127
 
 -- the tally of a line, where `seat` gives the seats of parties
 abbrev pub line_tally : (List ℕ → Option ℕ) → Line → Tally

@@ -7,6 +7,7 @@ use Rattle.dsr_records.specs.declared.record.Summary.{Summary}
 use Rattle.dsr_records.specs.declared.record.Usage.{Usage}
 use Rattle.dsr_records.specs.Works.{WorkParts}
 use Rattle.dsr_records.specs.Blocks.{BlockParts}
+use Rattle.dsr_ledger.specs.Limits.{whole_share}
 use Rattle.dsr_ledger.specs.Files.{File, Filed, filed, summaries_of}
 use Rattle.dsr_ledger.specs.declared.verdict.Standing.{Standing}
 use Rattle.dsr_ledger.specs.declared.verdict.Standing.TheVariants.{Ours, Foreign, Doubled, Headless}
@@ -44,18 +45,23 @@ names_unknown known u = not (known u.summary_id)
 abbrev pub share_total : List WorkParts → ℕ
 share_total works = sum_by (λ w. sum w.shares) works
 
--- the verdict of a block in a file with this standing, where `seen` says whether an earlier block of the file has its
--- BlockId, and `known` which summaries the file has; the shares of all its works may add up to 100 percent, not more
-unfoldable pub verdict_by : Standing → Bool → (List ℕ → Bool) → BlockParts → Verdict
-verdict_by stands seen known b = first_reason (
+-- the reasons to reject a block in a file with this standing, each with whether it applies, where `seen` says whether an
+-- earlier block of the file has its BlockId, and `known` which summaries the file has; the shares of all its works may
+-- add up to 100 percent, not more
+abbrev pub reasons : Standing → Bool → (List ℕ → Bool) → BlockParts → List (Bool × Reason)
+reasons stands seen known b =
     (is_foreign stands, ForeignFile)
     ∷ (is_doubled stands, DoubledFile)
     ∷ (seen, DoubledBlock)
     ∷ (length b.resource.isrc == 0, NoIsrc)
     ∷ (not (is_isrc_text b.resource.isrc), BadIsrc)
     ∷ (list_any (names_unknown known) b.usages, UnknownSummary)
-    ∷ (nat_lt 1000000 (share_total b.works), ShareOver)
-    ∷ [])
+    ∷ (nat_lt whole_share (share_total b.works), ShareOver)
+    ∷ []
+
+-- the verdict of a block, by these reasons
+unfoldable pub verdict_by : Standing → Bool → (List ℕ → Bool) → BlockParts → Verdict
+verdict_by stands seen known b = first_reason (reasons stands seen known b)
 
 -- one of the summaries has this identifier
 abbrev pub is_summary : List Summary → List ℕ → Bool

@@ -3,6 +3,7 @@ ghost use Rattle.std.specs.Prelude.{◌≡◌, ◌≤◌, ℕ, List, IfOk, lengt
 ghost use Rattle.std.specs.List.{flat_map, list_any};
 ghost use Rattle.std.specs.BTreeSet.{contains};
 ghost use Rattle.std.specs.Ordering.{nat_cmp};
+ghost use Rattle.dsr_ledger.specs.Limits.{most_files};
 ghost use Rattle.dsr_ledger.specs.Assembly.{line_kept, is_number_kept, differences_kept};
 ghost use Rattle.dsr_ledger.specs.Files.{File};
 ghost use Rattle.dsr_ledger.specs.Closed.{AreClosed};
@@ -55,7 +56,7 @@ fn told_of(alloc: Global, files: &[FileBooks]) -> Result<Told, NoMemory>
 /// Closes the books of the files: makes the parts of the report other than the lines of the ledger.
 pub fn close(alloc: Global, kept: Kept) -> Result<ClosedBooks, NoMemory>
     requires reached { ∥ IsReached kept ∥₁ }
-    requires few { length kept.files.items ≤ 64 }
+    requires few { length kept.files.items ≤ most_files }
     ensures { (files : List File) → Stands kept files
         → IfOk result (λ books. AreClosed books files) }
 {

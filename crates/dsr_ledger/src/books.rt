@@ -1,5 +1,6 @@
 //! The books of a report.
 ghost use Rattle.std.specs.Prelude.{◌≤◌, length};
+ghost use Rattle.dsr_ledger.specs.Limits.{most_files};
 ghost use Rattle.dsr_ledger.specs.Books.{IsReached};
 
 use crate::assemble::close;
@@ -25,7 +26,7 @@ pub struct Books {
     seeded: Seeded,
     kept: Kept,
     plan: Plan,
-    ghost most: { files ≤ 64 },
+    ghost most: { files ≤ most_files },
     ghost room: { length kept.files.items ≤ files },
     ghost reached: { ∥ IsReached kept ∥₁ },
 }
@@ -46,7 +47,7 @@ impl Books {
     /// `NoMemory`: out of memory for the files.
     pub fn new(alloc: Global, files: u32) -> Result<Books, NoMemory>
         requires some { 1 ≤ files }
-        requires most { files ≤ 64 }
+        requires most { files ≤ most_files }
         ensures stands { IfOk result (λ books. Stands books []) }
         ensures count { IfOk result (λ books. files_count books ≡ files) }
     {
@@ -61,7 +62,7 @@ impl Books {
     /// `NoMemory`: out of memory for the files.
     pub fn with_seed(alloc: Global, files: u32, seed: u64) -> Result<Books, NoMemory>
         requires some { 1 ≤ files }
-        requires most { files ≤ 64 }
+        requires most { files ≤ most_files }
         ensures stands { IfOk result (λ books. Stands books []) }
         ensures count { IfOk result (λ books. files_count books ≡ files) }
     {
@@ -153,6 +154,7 @@ impl Books {
     /// # Errors
     ///
     /// `NoMemory`: out of memory; nothing has changed.
+    #[tactic(auto, using(crate::proofs::BooksLemmas::lines_fit_reached))]
     pub fn book(&mut self, k: u32, block: &Block) -> Result<Verdict, NoMemory>
         requires { CanBook self.old k }
         ensures count { files_count self.new ≡ files_count self.old }

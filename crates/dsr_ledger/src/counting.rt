@@ -10,6 +10,7 @@ use crate::sums::check_range;
 use dsr_records::Usage;
 
 /// Adds a usage to the summary that it names, and to no other.
+#[tactic(auto, using(crate::proofs::ShownLemmas::uncounted))]
 fn count_one(summaries: &mut Summaries, usage: &Usage)
     requires { (id : List ℕ) → ForSome (shown_at summaries.old id) (ShownFits 1) }
     ensures range { IsInRange usage.now }

@@ -1,6 +1,7 @@
 //! The books' state of a file.
 ghost use Rattle.std.specs.Prelude.{◌≡◌, ◌+◌, ◌<◌, ◌^◌, ◌≤◌, ℕ, List, OnOk, OnErr, IfOk, Some, map};
 ghost use Rattle.std.specs.Option.{ForSome};
+ghost use Rattle.dsr_ledger.specs.Limits.{most_usages, whole_share};
 ghost use Rattle.dsr_ledger.specs.Verdicts.{share_total, verdict_by};
 ghost use Rattle.dsr_ledger.specs.Files.{Filed};
 ghost use Rattle.dsr_ledger.specs.Summaries.{shown_at, index_at, is_known, ShownFits};
@@ -53,13 +54,13 @@ impl FileBooks {
     ) -> Result<(), NoMemory>
         requires blocks { self.old.blocks + 1 < 2 ^ 64 }
         requires recording { isrc ≡ block.now.resource.isrc }
-        requires shares { share_total block.now.works ≤ 1000000 }
+        requires shares { share_total block.now.works ≤ whole_share }
         requires found { map (λ u. index_at self.old.summaries u.summary_id) block.now.usages
             ≡ map Some plan.old.summaries.items }
         requires numbered { IsNumberedFile ledger.old self.old }
-        requires ledger_fits { (q : _) → TallyFits 63 (tally_at ledger.old q) }
+        requires ledger_fits { (q : _) → TallyFits most_usages (tally_at ledger.old q) }
         requires summaries_fit { (id : List ℕ)
-            → ForSome (shown_at self.old.summaries id) (ShownFits 63) }
+            → ForSome (shown_at self.old.summaries id) (ShownFits most_usages) }
         ensures ids { self.new.ids ≡ self.old.ids }
         ensures keys { ledger.new.summary_keys ≡ ledger.old.summary_keys }
         ensures err { OnErr result (IsSameFile self.old self.new) }
@@ -85,7 +86,7 @@ impl FileBooks {
     ) -> Result<(), NoMemory>
         requires blocks { self.old.blocks + 1 < 2 ^ 64 }
         requires summaries_fit { (id : List ℕ)
-            → ForSome (shown_at self.old.summaries id) (ShownFits 63) }
+            → ForSome (shown_at self.old.summaries id) (ShownFits most_usages) }
         ensures ids { self.new.ids ≡ self.old.ids }
         ensures err { OnErr result (IsSameFile self.old self.new) }
         ensures ok { OnOk result (TakesBlock self.old self.new ledger.now ledger.now block.now
@@ -114,9 +115,9 @@ impl FileBooks {
     ) -> Result<Verdict, NoMemory>
         requires blocks { self.old.blocks + 1 < 2 ^ 64 }
         requires numbered { IsNumberedFile ledger.old self.old }
-        requires ledger_fits { (q : _) → TallyFits 63 (tally_at ledger.old q) }
+        requires ledger_fits { (q : _) → TallyFits most_usages (tally_at ledger.old q) }
         requires summaries_fit { (id : List ℕ)
-            → ForSome (shown_at self.old.summaries id) (ShownFits 63) }
+            → ForSome (shown_at self.old.summaries id) (ShownFits most_usages) }
         ensures ids { self.new.ids ≡ self.old.ids }
         ensures keys { ledger.new.summary_keys ≡ ledger.old.summary_keys }
         ensures err { OnErr result (IsSameFile self.old self.new) }
@@ -158,9 +159,9 @@ impl FileBooks {
     ) -> Result<Verdict, NoMemory>
         requires blocks { self.old.blocks + 1 < 2 ^ 64 }
         requires numbered { IsNumberedFile ledger.old self.old }
-        requires ledger_fits { (q : _) → TallyFits 63 (tally_at ledger.old q) }
+        requires ledger_fits { (q : _) → TallyFits most_usages (tally_at ledger.old q) }
         requires summaries_fit { (id : List ℕ)
-            → ForSome (shown_at self.old.summaries id) (ShownFits 63) }
+            → ForSome (shown_at self.old.summaries id) (ShownFits most_usages) }
         ensures ok { (d : Filed) → FileStands self.old d
             → IfOk result (λ v. Took d block.now v self.new ledger.old ledger.new) }
         ensures keys { ledger.new.summary_keys ≡ ledger.old.summary_keys }

@@ -1,6 +1,7 @@
 //! The verdict of a block.
 ghost use Rattle.std.specs.Prelude.{◌≡◌, ◌≤◌, nat_lt, not, true, map, Some, OnOk, IfOk, MatchResult};
 ghost use Rattle.std.specs.List.{list_any};
+ghost use Rattle.dsr_ledger.specs.Limits.{whole_share};
 ghost use Rattle.dsr_ledger.specs.Summaries.{is_known, index_at};
 ghost use Rattle.dsr_ledger.specs.Verdicts.{names_unknown, share_total, verdict_by};
 
@@ -41,7 +42,7 @@ fn find_summaries(
 
 /// Whether the shares of all works add up to more than 100 percent.
 fn shares_over(works: &[Work]) -> bool
-    ensures { result ≡ nat_lt 1000000 (share_total works.now) }
+    ensures { result ≡ nat_lt whole_share (share_total works.now) }
 {
     let mut total: u32 = 0;
     for work in works {
@@ -69,7 +70,7 @@ pub fn judge(
     numbers: &mut Vec<usize>,
 ) -> Result<Result<Isrc, Reason>, NoMemory>
     ensures verdict { IfOk result (λ r. MatchResult r
-        (λ isrc. (verdict_by standing seen (is_known summaries.now) block.now ≡ Verdict.Booked) × (isrc ≡ block.now.resource.isrc) × (share_total block.now.works ≤ 1000000))
+        (λ isrc. (verdict_by standing seen (is_known summaries.now) block.now ≡ Verdict.Booked) × (isrc ≡ block.now.resource.isrc) × (share_total block.now.works ≤ whole_share))
         (λ reason. verdict_by standing seen (is_known summaries.now) block.now ≡ Verdict.Rejected reason)) }
     ensures found { IfOk result (λ r. OnOk r
         (map (λ u. index_at summaries.now u.summary_id) block.now.usages

@@ -47,6 +47,7 @@ fn add_absent(absent: &mut Numbers, number: u32, numbers: &BTreeSet<u32>) -> Res
 }
 
 /// The numbers from 1 to `last`, inclusive, that are not in the set, ascending.
+#[tactic(auto, using(crate::proofs::FilesLemmas::filter_range_more))]
 fn absent_numbers(alloc: Global, last: u32, numbers: &BTreeSet<u32>) -> Result<Numbers, NoMemory>
     ensures { IfOk result (λ l. l ≡ filter (λ n. not (contains nat_cmp numbers.now n))
         (range_with_len 1 last)) }

@@ -1,6 +1,7 @@
 //! Opening a file.
 ghost use Rattle.std.specs.Prelude.{◌≡◌, ◌+◌, ◌<◌, List, [], ◌∷◌, ◌++◌, ℕ, Some, IfOk, length};
 ghost use Rattle.std.specs.List.{list_any};
+ghost use Rattle.dsr_ledger.specs.Limits.{most_files};
 ghost use Rattle.dsr_ledger.specs.Files.{opened, is_same_report, has_number_of, is_of_report, first_head, standing, summaries_of};
 ghost use Rattle.dsr_ledger.specs.Bookings.{summary_key_named};
 ghost use Rattle.dsr_ledger.specs.FileSteps.{IsNumberedFile};
@@ -57,6 +58,7 @@ fn has_number(head: &Head, opening: &Option<Opening>) -> bool
 }
 
 /// Whether one of the files is of the same report as the opening and has its file number.
+#[tactic(auto, using(crate::proofs::FilesLemmas::taken_here))]
 fn is_number_taken(files: &[FileBooks], opening: &Opening) -> bool
     ensures { result ≡ list_any (has_number_of opening.now.head) (openings_of files.now) }
 {
@@ -88,6 +90,7 @@ fn standing_after(files: &[FileBooks], opening: &Option<Opening>) -> Standing
 }
 
 /// The states of these summaries, before any usage. Their keys are numbered in the ledger.
+#[tactic(auto, using(std::proofs::lemmas::List::take_all))]
 fn summaries_of(
     ledger: &mut Ledger,
     alloc: Global,
@@ -133,7 +136,7 @@ pub fn open_after(
     seeded: Seeded,
     opening: Option<Opening>,
 ) -> Result<FileBooks, NoMemory>
-    requires { length files.now < 64 }
+    requires { length files.now < most_files }
     ensures keeps { KeepsKeys ledger.old ledger.new }
     ensures numbered { IfOk result (λ f. IsNumberedFile ledger.new f) }
     ensures stands { IfOk result (λ f. FileStands f

@@ -1,8 +1,9 @@
 //! The key of a report and its rejected blocks, moved out of the files.
 ghost use Rattle.std.specs.Prelude.{◌≡◌, ◌++◌, IfOk, OnOk, option_map};
 ghost use Rattle.std.specs.List.{flat_map};
+ghost use Rattle.std.specs.Option.{option_or};
 ghost use Rattle.dsr_ledger.specs.Files.{first_head};
-ghost use Rattle.dsr_ledger.specs.Openings.{openings_of, first_of};
+ghost use Rattle.dsr_ledger.specs.Openings.{openings_of};
 ghost use Rattle.dsr_ledger.specs.Reports.{key_of};
 
 use crate::file::FileBooks;
@@ -26,7 +27,7 @@ fn key_of(head: Head) -> ReportKey
 
 /// The key of a report after one more file, whose earlier files gave this key or none.
 fn key_after(key: Option<ReportKey>, opening: Option<Opening>) -> Option<ReportKey>
-    ensures { result ≡ first_of key (option_map (λ o. key_of o.head) opening) }
+    ensures { result ≡ option_or key (option_map (λ o. key_of o.head) opening) }
 {
     match (key, opening) {
         (Some(key), _) => Some(key),

@@ -63,6 +63,7 @@ impl<'a> SortedLedger<'a> {
     ghost use Rattle.dsr_ledger.specs.SortedLedgers.{IsSorted, HaveRoom};
 
     /// Sorts what the lines of a ledger refer to.
+    #[tactic(auto, using(crate::proofs::ListedLemmas::ranks_ordered))]
     fn of(alloc: Global, books: &'a Ledger) -> Result<SortedLedger<'a>, NoMemory>
         requires small { ∥ AreOfSmall books.now ∥₁ }
         ensures sorted { IfOk result IsSorted }

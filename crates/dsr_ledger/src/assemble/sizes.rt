@@ -20,6 +20,7 @@ fn longest_isrc(recordings: &[(&Isrc, &Recording)]) -> usize
 }
 
 /// The length of the longest of these names, or `least` if that is greater.
+#[tactic(auto, using(std::proofs::lemmas::List::take_all))]
 fn longest_name(names: &[Text], least: usize) -> usize
     ensures least { least ≤ result }
     ensures names { All (λ name. length name ≤ result) names.now }
@@ -42,6 +43,7 @@ fn longest_text(key: &SummaryKey, least: usize) -> usize
 }
 
 /// The length of the longest text of these keys, or `least` if that is greater.
+#[tactic(auto, using(std::proofs::lemmas::List::take_all))]
 fn longest_of_keys(keys: &[SummaryKey], least: usize) -> usize
     ensures least { least ≤ result }
     ensures keys { All (IsKeyWithin result) keys.now }

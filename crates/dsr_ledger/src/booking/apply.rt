@@ -4,6 +4,7 @@ ghost use Rattle.std.specs.List.{AllByRecursion};
 ghost use Rattle.std.specs.Option.{ForSome};
 ghost use Rattle.dsr_records.specs.declared.record.Usage.{Usage};
 ghost use Rattle.dsr_records.specs.Works.{WorkParts};
+ghost use Rattle.dsr_ledger.specs.Limits.{whole_share};
 ghost use Rattle.dsr_ledger.specs.declared.key.Key.{Key};
 ghost use Rattle.dsr_ledger.specs.declared.ledger.summary_key.SummaryKey.{SummaryKey};
 ghost use Rattle.dsr_ledger.specs.Bookings.{booked_under, usage_bookings};
@@ -24,7 +25,7 @@ fn add_usage(ledger: &mut Ledger, summaries: &mut Summaries, plan: &Plan, i: usi
     requires planned { (isrc : List ℕ) × (works : List WorkParts) × (us : List Usage)
         × (place : List ℕ → Option SummaryKey)
         × IsPlanned ledger.old summaries.old place isrc works us plan.now
-        × (slice_get us i ≡ Some usage.now) × (share_total works ≤ 1000000) }
+        × (slice_get us i ≡ Some usage.now) × (share_total works ≤ whole_share) }
     requires ledger_fits { (q : Key) → TallyFits 1 (tally_at ledger.old q) }
     requires summaries_fit { (id : List ℕ) → ForSome (shown_at summaries.old id) (ShownFits 1) }
     ensures range { IsInRange usage.now }
@@ -50,7 +51,7 @@ pub fn add_usages(ledger: &mut Ledger, summaries: &mut Summaries, plan: &Plan, u
     requires planned { (isrc : List ℕ) × (works : List WorkParts)
         × (place : List ℕ → Option SummaryKey)
         × IsPlanned ledger.old summaries.old place isrc works usages.now plan.now
-        × (share_total works ≤ 1000000) }
+        × (share_total works ≤ whole_share) }
     requires ledger_fits { (q : Key) → TallyFits (length usages.now) (tally_at ledger.old q) }
     requires summaries_fit { (id : List ℕ)
         → ForSome (shown_at summaries.old id) (ShownFits (length usages.now)) }

@@ -61,10 +61,10 @@ fn summary_group(id: &Text) -> usize {
 
 impl Summaries {
     ghost use Rattle.std.specs.Prelude.{[], ◌∷◌, ◌<◌, ℕ, List, IfSome, IfOk, OnOk, None, Some, option_map};
-    ghost use Rattle.std.specs.Option.{ForSome};
+    ghost use Rattle.std.specs.Option.{ForSome, option_or};
     ghost use Rattle.indexmap.specs.IndexMap.{index_map_len};
     ghost use Rattle.dsr_ledger.specs.Summaries.{shown_at, sums_at, shown_with, number_at, index_at, ShownFits};
-    ghost use Rattle.dsr_ledger.specs.Openings.{first_of, named};
+    ghost use Rattle.dsr_ledger.specs.Openings.{named};
 
     /// No summaries.
     pub fn new(alloc: Global, seeded: Seeded) -> Summaries
@@ -153,7 +153,7 @@ impl Summaries {
     /// others are unchanged.
     pub fn add(&mut self, alloc: Global, summary: &Summary, key: u32) -> Result<(), NoMemory>
         ensures { OnOk result ((q : List ℕ)
-            → shown_at self.new q ≡ first_of (shown_at self.old q)
+            → shown_at self.new q ≡ option_or (shown_at self.old q)
             (option_map (λ s. nothing_found key) (named q summary.now))) }
     {
         if self.states.contains_key(&summary.id) {

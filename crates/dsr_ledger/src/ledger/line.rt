@@ -1,5 +1,6 @@
 //! A line of a recording: the sums of the bookings of one summary key, and the parties' parts.
 ghost use Rattle.std.specs.Prelude.{◌≡◌, ◌≤◌, ◌^◌, ℕ, List, Option, [], map};
+ghost use Rattle.dsr_ledger.specs.Limits.{amount_bound};
 ghost use Rattle.dsr_ledger.specs.Owed.{part_seats, parts_size};
 ghost use Rattle.dsr_ledger.specs.Parts.{part_of};
 ghost use Rattle.dsr_ledger.specs.Ranges.{IsInRange};
@@ -50,7 +51,7 @@ impl Line {
         requires wide { HaveParts shares.now self.old.parts.items.items }
         requires fits { (n : ℕ) × (seat : List ℕ → Option ℕ) × (es : List (List ℕ × ℕ))
             × HaveSeats seat n shares.now es × TallyFits 1 (line_tally seat self.old)
-            × (parts_size (map (part_of usage.now.amount) es) ≤ 10 ^ 22) }
+            × (parts_size (map (part_of usage.now.amount) es) ≤ amount_bound) }
         ensures range { IsInRange usage.now }
         ensures key { self.new.key ≡ self.old.key }
         ensures seats { part_seats self.new.parts.items.items

@@ -4,6 +4,7 @@ ghost use Rattle.std.specs.Int.{w128};
 ghost use Rattle.std.specs.Int.RustNames.{FitsSigned, int_div};
 ghost use Rattle.std.specs.Str.{bytes_eq};
 ghost use Rattle.std.proofs.Props.{props};
+ghost use Rattle.dsr_ledger.specs.Limits.{amount_bound};
 ghost use Rattle.dsr_ledger.specs.Indexes.{AreIndexed};
 ghost use Rattle.dsr_ledger.specs.Numbered.{IsNumbered, AreApart, AreBelow};
 ghost use Rattle.dsr_ledger.specs.Owed.{nothing_owed, owed_with, owed_kept, owed_at_place, owed_in, owed_plus, owed_for, part_seats, part_in, parts_size, PartsGrow};
@@ -80,7 +81,7 @@ pub struct Parts {
 
 /// A share, in millionths, of an amount in units, rounded toward zero.
 fn share_of(amount: i128, share: u32) -> i128
-    requires { unsigned_abs amount < 10 ^ 22 }
+    requires { unsigned_abs amount < amount_bound }
     ensures { result ≡ int_div (amount *ℤ pos share) (pos 1000000) }
 {
     let product = amount * i128::from(share);
@@ -167,8 +168,8 @@ fn add_parts(parts: &mut [SeatPart], index: &Index, amount: Amount, shares: &[Se
     requires indexed { AreIndexed (part_seats parts.old) index.now }
     requires wide { HaveParts shares.now parts.old }
     requires fits { (n : ℕ) × (seat : List ℕ → Option ℕ) × (es : List (List ℕ × ℕ))
-        × HaveSeats seat n shares.now es × (parts_size (map (part_of amount) es) ≤ 10 ^ 22)
-        × ((q : List ℕ) → unsigned_abs (owed_in parts.old (seat q)).amount + 10 ^ 22 < 2 ^ 127) }
+        × HaveSeats seat n shares.now es × (parts_size (map (part_of amount) es) ≤ amount_bound)
+        × ((q : List ℕ) → unsigned_abs (owed_in parts.old (seat q)).amount + amount_bound < 2 ^ 127) }
     ensures seats { part_seats parts.new ≡ part_seats parts.old }
     ensures owed { (n : ℕ) (seat : List ℕ → Option ℕ) (es : List (List ℕ × ℕ))
         → HaveSeats seat n shares.now es → (q : List ℕ) → owed_in parts.new (seat q)
@@ -247,8 +248,8 @@ impl Parts {
     pub fn add(&mut self, amount: Amount, shares: &[SeatShare])
         requires wide { HaveParts shares.now self.old.items.items }
         requires fits { (n : ℕ) × (seat : List ℕ → Option ℕ) × (es : List (List ℕ × ℕ))
-            × HaveSeats seat n shares.now es × (parts_size (map (part_of amount) es) ≤ 10 ^ 22)
-            × ((q : List ℕ) → unsigned_abs (owed_in self.old.items.items (seat q)).amount + 10 ^ 22 < 2 ^ 127) }
+            × HaveSeats seat n shares.now es × (parts_size (map (part_of amount) es) ≤ amount_bound)
+            × ((q : List ℕ) → unsigned_abs (owed_in self.old.items.items (seat q)).amount + amount_bound < 2 ^ 127) }
         ensures seats { part_seats self.new.items.items ≡ part_seats self.old.items.items }
         ensures owed { (n : ℕ) (seat : List ℕ → Option ℕ) (es : List (List ℕ × ℕ))
             → HaveSeats seat n shares.now es → (q : List ℕ) → owed_in self.new.items.items (seat q)

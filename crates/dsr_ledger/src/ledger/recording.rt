@@ -2,6 +2,7 @@
 ghost use Rattle.std.specs.Prelude.{◌≡◌, ◌<◌, true, OnOk, nat_eq, length};
 ghost use Rattle.std.specs.Vec.{vec_len, vec_capacity};
 ghost use Rattle.std.proofs.Props.{props};
+ghost use Rattle.dsr_ledger.specs.Limits.{amount_bound};
 ghost use Rattle.dsr_ledger.specs.Indexes.{AreIndexed};
 ghost use Rattle.dsr_ledger.specs.Numbered.{AreApart, place_in};
 ghost use Rattle.dsr_ledger.specs.Seats.{seat_numbers};
@@ -217,7 +218,7 @@ impl Recording {
         requires fits { (n : ℕ) × (seat : List ℕ → Option ℕ) × (es : List (List ℕ × ℕ)) × (key : ℕ)
             × HaveSeats seat n shares.now es × (line_in self.old.lines.items key ≡ Some number)
             × TallyFits 1 (lines_tally seat self.old.lines.items (Some key))
-            × (parts_size (map (part_of usage.now.amount) es) ≤ 10 ^ 22) }
+            × (parts_size (map (part_of usage.now.amount) es) ≤ amount_bound) }
         ensures range { IsInRange usage.now }
         ensures seats { self.new.seats ≡ self.old.seats }
         ensures keys { line_keys self.new.lines.items ≡ line_keys self.old.lines.items }

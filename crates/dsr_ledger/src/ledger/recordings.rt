@@ -2,6 +2,7 @@
 ghost use Rattle.std.specs.Prelude.{◌≡◌, ℕ, List, Some, length};
 ghost use Rattle.std.specs.Str.{bytes_eq};
 ghost use Rattle.indexmap.specs.IndexMap.{get};
+ghost use Rattle.dsr_ledger.specs.Limits.{amount_bound};
 ghost use Rattle.dsr_ledger.specs.Numbered.{AreBelow};
 ghost use Rattle.dsr_ledger.specs.Seats.{seat_numbers};
 ghost use Rattle.dsr_ledger.specs.Tallies.{line_keys};
@@ -230,7 +231,7 @@ impl Ledger {
     pub fn add(&mut self, recording: usize, line: usize, usage: &Usage, shares: &[SeatShare])
         requires { (isrc : List ℕ) × (key : SummaryKey) × (es : List (List ℕ × ℕ))
             × IsLineOf self.old isrc key es recording line shares.now
-            × TallyFits 1 (tally_at self.old (key_under isrc key)) × (parts_size (map (part_of usage.now.amount) es) ≤ 10 ^ 22) }
+            × TallyFits 1 (tally_at self.old (key_under isrc key)) × (parts_size (map (part_of usage.now.amount) es) ≤ amount_bound) }
         ensures range { IsInRange usage.now }
         ensures numbers { SameNumbers self.old self.new }
         ensures tally { (isrc : List ℕ) (key : SummaryKey) (es : List (List ℕ × ℕ))

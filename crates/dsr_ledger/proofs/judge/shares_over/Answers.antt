@@ -7,17 +7,11 @@ use Rattle.dsr_ledger.proofs.judge.shares_over.Goals as goal
 
 pub returns-then-parts-total : goal.returns-then-parts-total
 returns-then-parts-total c =
-    let works = c.args.works.now in
-    let shares = c.as_slice-share-items.result.now in
-    let w = c.work-item.result in
-    let s = c.share-item.result in
+    let works = c.args.works.now in let shares = c.as_slice-share-items.result.now in let w = c.work-item.result in let s = c.share-item.result in
     let outer = sum_by_more_le (λ (w : WorkParts). sum w.shares) works c.loop-work.work-index w c.loop-work-test.true in
     let inner = sum_by_more_le (λ x. x) shares c.loop-share.share-index s c.loop-share-test.true in
     let here = ap (λ (w : WorkParts). sum w.shares) c.work-item.is in
     let same = ap sum c.as_slice-share-items.ensures ∙ ap (λ (w : WorkParts). sum w.shares) c.work.view_is in
-    let at = c.share-item.is in
-    let value = c.parts-parts.ensures.value in
-    let so_far = c.loop-share.invariant.so_far in
-    let over = c.if-parts-total.true in
+    let at = c.share-item.is in let value = c.parts-parts.ensures.value in let so_far = c.loop-share.invariant.so_far in let over = c.if-parts-total.true in
     let whole = c.loop-share.invariant.whole in
     sym (lt-ltb 1000000 (share_total works) (omega arith))

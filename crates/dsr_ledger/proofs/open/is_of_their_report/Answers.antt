@@ -3,7 +3,7 @@ use Rattle.std.specs.Prelude.{Some}
 use Rattle.std.proofs.lemmas.List.{drop_all}
 use Rattle.dsr_ledger.specs.Files.{is_of_report, first_head}
 use Rattle.dsr_ledger.specs.Openings.{openings_of}
-use Rattle.dsr_ledger.proofs.OpenLemmas.{same_report-itself}
+use Rattle.dsr_ledger.proofs.FilesLemmas.{same_report-itself}
 use Rattle.dsr_ledger.proofs.open.is_of_their_report.Goals as goal
 
 pub returns : goal.returns

@@ -1,59 +1,37 @@
-use Rattle.std.proofs.Common.{[], ◌∷◌, ◌++◌, take, sym, ap, ◌∙◌, subst}
+use Rattle.std.proofs.Common.{subst, [], ◌∷◌, ◌++◌, take, sym, ap, ◌∙◌}
 use Rattle.std.specs.Prelude.{option_map}
-use Rattle.std.proofs.lemmas.List.{take_more, take_all}
+use Rattle.std.specs.Option.{option_or}
+use Rattle.std.proofs.lemmas.List.{take_more}
 use Rattle.dsr_ledger.specs.Bookings.{summary_key_named}
-use Rattle.dsr_ledger.specs.Openings.{first_of, named}
+use Rattle.dsr_ledger.specs.Openings.{named}
 use Rattle.dsr_ledger.specs.Recordings.{key_number}
 use Rattle.dsr_ledger.specs.Summaries.{shown_at, found_in, no_sums, AreNumbered}
-use Rattle.dsr_ledger.proofs.KeepsLemmas.{keys_stay, keys_twice}
-use Rattle.dsr_ledger.proofs.KeyNumberLemmas.{none_numbered, numbered_push}
-use Rattle.dsr_ledger.proofs.OpenLemmas.{found_in-push, sums_added}
+use Rattle.dsr_ledger.proofs.PlanLemmas.{keys_stay, keys_twice}
+use Rattle.dsr_ledger.proofs.FilesLemmas.{none_numbered, numbered_push, found_in-push, sums_added}
 use Rattle.dsr_ledger.proofs.open.summaries_of.Goals as goal
 
 pub returns-in_err-key-clause-keeps : goal.returns-in_err-key-clause-keeps
-returns-in_err-key-clause-keeps c =
-    keys_twice c.args.ledger.now c.loop-summary.ledger c.summary_key.new.self c.loop-summary.invariant.keeps c.summary_key.ensures.keeps
+returns-in_err-key-clause-keeps c = keys_twice _ _ _ c.loop-summary.invariant.keeps c.summary_key.ensures.keeps
 
 pub returns-in_err-add-clause-keeps : goal.returns-in_err-add-clause-keeps
-returns-in_err-add-clause-keeps c =
-    keys_twice c.args.ledger.now c.loop-summary.ledger c.summary_key.new.self c.loop-summary.invariant.keeps c.summary_key.ensures.keeps
+returns-in_err-add-clause-keeps c = keys_twice _ _ _ c.loop-summary.invariant.keeps c.summary_key.ensures.keeps
 
 pub loop-summary-init : goal.loop-summary-init
 loop-summary-init c =
-    let none = c.in_ok-summaries.ensures in
-    record {
-      keeps = keys_stay c.args.ledger.now;
-      sums = λ id. ap (option_map (λ s. s.sums)) (none id);
-      numbers = none_numbered c.args.ledger.now c.in_ok-summaries.summaries none;
-    }
+    let none = c.in_ok-summaries.ensures in let was = c.args.ledger.now in
+    record { keeps = keys_stay was; sums = λ id. ap (option_map (λ s. s.sums)) (none id); numbers = none_numbered was c.in_ok-summaries.summaries none }
 
 pub loop-summary-preserved : goal.loop-summary-preserved
 loop-summary-preserved c =
-    let i = c.loop-summary.summary-index in
-    let os = take i c.args.stated.now in
-    let s = c.summary-item.result in
-    let n = c.in_ok-key.key in
-    let was = c.loop-summary.summaries in
+    let i = c.loop-summary.summary-index in let os = take i c.args.stated.now in
+    let s = c.summary-item.result in let n = c.in_ok-key.key in let was = c.loop-summary.summaries in
     let more = take_more c.args.stated.now i s c.loop-summary-test.true ∙ ap (λ x. os ++ x ∷ []) (sym c.summary-item.is) in
-    let before = c.loop-summary.invariant in
-    let step = c.summary_key.ensures.keeps in
+    let before = c.loop-summary.invariant in let step = c.summary_key.ensures.keeps in
     record {
       keeps = keys_twice c.args.ledger.now c.loop-summary.ledger c.summary_key.new.self before.keeps step;
-      sums = λ id.
-          ap (option_map (λ x. x.sums)) (c.in_ok-add.ensures id) ∙ sums_added (shown_at was id) n (named id s)
-          ∙ ap (λ o. first_of o (option_map (λ x. no_sums) (named id s))) (before.sums id)
-          ∙ sym (ap (λ l. found_in l [] id) more ∙ found_in-push id os s);
-      numbers =
-          subst (λ l. AreNumbered c.summary_key.new.self (summary_key_named l) c.add.new.self) (sym more) (
+      sums = λ id. ap (option_map (λ x. x.sums)) (c.in_ok-add.ensures id) ∙ sums_added (shown_at was id) n (named id s)
+          ∙ ap (λ o. option_or o (option_map (λ x. no_sums) (named id s))) (before.sums id) ∙ sym (ap (λ l. found_in l [] id) more ∙ found_in-push id os s);
+      numbers = subst (λ l. AreNumbered c.summary_key.new.self (summary_key_named l) c.add.new.self) (sym more) (
           numbered_push c.loop-summary.ledger c.summary_key.new.self n os s was c.add.new.self step.keys
           (ap (key_number c.summary_key.new.self) (sym c.in_ok-of.ensures) ∙ c.in_ok-key.ensures.there) c.in_ok-add.ensures before.numbers);
     }
-
-pub returns-clause-sums : goal.returns-clause-sums
-returns-clause-sums c = λ id.
-    c.loop-summary.invariant.sums id ∙ ap (λ l. found_in l [] id) (take_all c.loop-summary.summary-index c.args.stated.now c.loop-summary-test.false)
-
-pub returns-clause-numbers : goal.returns-clause-numbers
-returns-clause-numbers c =
-    subst (λ l. AreNumbered c.loop-summary.ledger (summary_key_named l) c.loop-summary.summaries)
-    (take_all c.loop-summary.summary-index c.args.stated.now c.loop-summary-test.false) c.loop-summary.invariant.numbers

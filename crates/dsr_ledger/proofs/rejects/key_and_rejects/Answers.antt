@@ -1,31 +1,23 @@
 use Rattle.std.proofs.Common.{◌++◌, append_assoc, sym, ap, ◌∙◌}
 use Rattle.std.specs.Prelude.{option_map}
 use Rattle.std.specs.List.{flat_map}
+use Rattle.std.specs.Option.{option_or}
 use Rattle.std.proofs.lemmas.List.Concat.{flat_map-cons}
 use Rattle.dsr_ledger.specs.declared.file.FileBooks.{FileBooks}
 use Rattle.dsr_ledger.specs.Files.{first_head}
-use Rattle.dsr_ledger.specs.Openings.{openings_of, first_of}
+use Rattle.dsr_ledger.specs.Openings.{openings_of}
 use Rattle.dsr_ledger.specs.Reports.{key_of}
-use Rattle.dsr_ledger.proofs.OpenLemmas.{key_step}
+use Rattle.dsr_ledger.proofs.FilesLemmas.{key_step}
 use Rattle.dsr_ledger.proofs.rejects.key_and_rejects.Goals as goal
 
 pub loop-file-preserved : goal.loop-file-preserved
 loop-file-preserved c =
-    let file = c.in-Some.file in
-    let rest = c.next.new.self.rest.items in
-    let own = λ (f : FileBooks). f.rejects.items in
-    let key = c.loop-file.key in
-    let rejects = c.loop-file.rejects in
+    let file = c.in-Some.file in let rest = c.next.new.self.rest.items in let own = λ (f : FileBooks). f.rejects.items in
+    let key = c.loop-file.key in let rejects = c.loop-file.rejects in
     record {
-      key =
-          ap (λ k. first_of k (option_map key_of (first_head (openings_of rest)))) c.key_after-key.ensures
-          ∙ key_step key file.opening (openings_of rest)
-          ∙ ap (λ fs. first_of key (option_map key_of (first_head (openings_of fs)))) (sym c.in-Some.ensures.steps.0)
-          ∙ c.loop-file.invariant.key;
-      rejects =
-          ap (λ rs. rs ++ flat_map own rest) c.in_ok-add_rejects.ensures
-          ∙ append_assoc rejects file.rejects.items (flat_map own rest)
-          ∙ ap (λ rs. rejects ++ rs) (sym (flat_map-cons own file rest))
-          ∙ ap (λ fs. rejects ++ flat_map own fs) (sym c.in-Some.ensures.steps.0)
+      key = ap (λ k. option_or k (option_map key_of (first_head (openings_of rest)))) c.key_after-key.ensures ∙ key_step key file.opening (openings_of rest)
+          ∙ ap (λ fs. option_or key (option_map key_of (first_head (openings_of fs)))) (sym c.in-Some.ensures.steps.0) ∙ c.loop-file.invariant.key;
+      rejects = ap (λ rs. rs ++ flat_map own rest) c.in_ok-add_rejects.ensures ∙ append_assoc rejects file.rejects.items (flat_map own rest)
+          ∙ ap (λ rs. rejects ++ rs) (sym (flat_map-cons own file rest)) ∙ ap (λ fs. rejects ++ flat_map own fs) (sym c.in-Some.ensures.steps.0)
           ∙ c.loop-file.invariant.rejects;
     }

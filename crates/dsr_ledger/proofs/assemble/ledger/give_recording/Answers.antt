@@ -1,6 +1,9 @@
-use Rattle.std.proofs.Common.{◌≡◌, ℕ, ◌<◌, ◌≤◌, [], ◌∷◌, Bor, List, length, get_or, sym, ap, ◌∙◌, subst}
-use Rattle.std.specs.Prelude.{Some}
+use Rattle.std.proofs.Common.{◌≡◌, ℕ, ◌<◌, [], ◌∷◌, Bor, List, length, get_or, sym, ap, ◌∙◌, subst}
+use Rattle.std.specs.Prelude.{Some, map}
+use Rattle.std.specs.Map.{keys_of}
+use Rattle.std.proofs.lemmas.Simd.{map-map}
 use Rattle.std.proofs.lemmas.List.{take_all, length-map, get_or-map}
+use Rattle.dsr_ledger.specs.declared.key.Key.{Key}
 use Rattle.dsr_ledger.specs.declared.ledger.line.Line.{Line}
 use Rattle.dsr_ledger.specs.declared.ledger.summary_key.SummaryKey.{SummaryKey}
 use Rattle.dsr_ledger.specs.SummaryKeys.{summary_key_cmp, summary_key_in}
@@ -9,13 +12,13 @@ use Rattle.dsr_ledger.specs.Ledger.{at_key, line_of}
 use Rattle.dsr_ledger.specs.Numbered.{place_by}
 use Rattle.dsr_ledger.specs.Recordings.{seat_of}
 use Rattle.dsr_ledger.specs.Taking.{Takes}
-use Rattle.dsr_ledger.specs.Tallies.{line_keys, line_tally, tally_of}
+use Rattle.dsr_ledger.specs.Tallies.{line_tally, tally_of}
 use Rattle.dsr_ledger.specs.Rooms.{HasPartRoom, SamePartRoom}
-use Rattle.dsr_ledger.specs.Listed.{AreDistinctBelow, AreListed, IsSeatedLine, booked_lines, entries_under, keyed, line_for, party_in}
-use Rattle.dsr_ledger.proofs.TakingLemmas.{takes_same}
+use Rattle.dsr_ledger.specs.Listed.{AreListed, IsSeatedLine, booked_lines, keyed, line_for, party_in}
+use Rattle.dsr_ledger.proofs.ReportLemmas.{takes_same, own_tally, seated_line, line_added, line_passed, under_sorted, under_own, under_all}
 use Rattle.dsr_ledger.proofs.RoomLemmas.{line_room, part_room_of, part_room_then}
-use Rattle.dsr_ledger.proofs.ReportLemmas.{own_tally, seated_line, line_added, line_passed, under_sorted, under_own, under_all}
-use Rattle.dsr_ledger.proofs.assemble.ledger.give_recording.Goals.{then-entry, else-entry}
+use Rattle.dsr_ledger.proofs.assemble.ledger.give_recording.Goals.{then-entry, else-entry, After-entry-item}
+use Rattle.dsr_ledger.proofs.assemble.ledger.give_recording.Given.{Over}
 use Rattle.dsr_ledger.proofs.assemble.ledger.give_recording.Goals as goal
 
 abbrev Entry : Type 0
@@ -38,52 +41,38 @@ entry_at ks rs items i e h below is =
     (h.own i (pair e) (subst (λ n. i < n) (sym (length-map items pair)) below))
 
 pub lines_by_key-requires-clause-keys : goal.lines_by_key-requires-clause-keys
-lines_by_key-requires-clause-keys g c =
-    subst (λ ls. AreDistinctBelow (length c.args.tables.now.keys.now) (line_keys ls)) (sym c.as_slice.ensures.value) (record {
-      apart = c.args.recording.now.apart;
-      below = c.requires.recording.lined;
-    })
+lines_by_key-requires-clause-keys g c = rw c.as_slice.ensures.value (record { apart = c.args.recording.now.apart; below = c.requires.recording.lined })
+
+-- the line of this iteration
+at : (g : Over) (c : After-entry-item g) → line_for c.args.tables.now.keys.now c.args.recording.now.lines.items c.entry-item.result.1.0.now
+    ≡ Some c.entry-item.result.1.1.now
+at g c =
+    let ks = c.args.tables.now.keys.now in let rs = c.args.recording.now.lines.items in let items = c.as_slice-entry-items.result.now in
+    let listed = listed_at ks c.as_slice.result.now rs _ items c.as_slice.ensures.value c.as_slice-entry-items.ensures.value c.lines_by_key.ensures.listed in
+    entry_at ks rs items c.loop-entry.entry-index c.entry-item.result listed c.loop-entry-test.true c.entry-item.is
 
 pub give_line-requires-clause-seated : goal.give_line-requires-clause-seated
 give_line-requires-clause-seated g c =
-    let ps = c.args.tables.now.parties.now in
-    let ks = c.args.tables.now.keys.now in
-    let rs = c.args.recording.now.lines.items in
-    let items = c.as_slice-entry-items.result.now in
-    let e = c.entry-item.result in
-    let listed = listed_at ks c.as_slice.result.now rs _ items c.as_slice.ensures.value c.as_slice-entry-items.ensures.value c.lines_by_key.ensures.listed in
-    let at = entry_at ks rs items c.loop-entry.entry-index e listed c.loop-entry-test.true c.entry-item.is in
-    subst (λ ns. IsSeatedLine ps ns e.1.1.now) (sym c.as_slice-numbers.ensures.value)
-    (seated_line ps ks c.args.isrc.now c.args.recording.now c.requires.recording e.1.0.now e.1.1.now at c.as_slice-numbers.ensures.apart)
+    let e = c.entry-item.result.1 in
+    subst (λ ns. IsSeatedLine c.args.tables.now.parties.now ns e.1.now) (sym c.as_slice-numbers.ensures.value)
+    (seated_line c.args.tables.now.parties.now c.args.tables.now.keys.now c.args.isrc.now c.args.recording.now c.requires.recording e.0.now e.1.now
+    (at g (goal.at.give_line-requires-clause-seated g c).After-entry-item) c.as_slice-numbers.ensures.apart)
 
 pub give_line-requires-clause-room : goal.give_line-requires-clause-room
 give_line-requires-clause-room g c =
-    let ks = c.args.tables.now.keys.now in
-    let rs = c.args.recording.now.lines.items in
-    let items = c.as_slice-entry-items.result.now in
-    let e = c.entry-item.result in
-    let listed = listed_at ks c.as_slice.result.now rs _ items c.as_slice.ensures.value c.as_slice-entry-items.ensures.value c.lines_by_key.ensures.listed in
-    let at = entry_at ks rs items c.loop-entry.entry-index e listed c.loop-entry-test.true c.entry-item.is in
-    part_room_of c.args.parts.now _ c.loop-entry.invariant.room (line_room (HasPartRoom c.args.parts.now) ks rs e.1.0.now e.1.1.now at c.requires.parts)
+    let e = c.entry-item.result.1 in
+    part_room_of c.args.parts.now _ c.loop-entry.invariant.room (line_room (HasPartRoom c.args.parts.now) c.args.tables.now.keys.now
+    c.args.recording.now.lines.items e.0.now e.1.now (at g (goal.at.give_line-requires-clause-room g c).After-entry-item) c.requires.parts)
 
 pub loop-entry-preserved : goal.loop-entry-preserved
 loop-entry-preserved g c =
-    let ps = c.args.tables.now.parties.now in
-    let ks = c.args.tables.now.keys.now in
-    let isrc = c.args.isrc.now in
-    let r = c.args.recording.now in
-    let items = c.as_slice-entry-items.result.now in
-    let i = c.loop-entry.entry-index in
-    let e = c.entry-item.result in
-    let l = e.1.1.now in
+    let ps = c.args.tables.now.parties.now in let ks = c.args.tables.now.keys.now in let isrc = c.args.isrc.now in let r = c.args.recording.now in
+    let items = c.as_slice-entry-items.result.now in let i = c.loop-entry.entry-index in let e = c.entry-item.result in let l = e.1.1.now in
     let took = g.T.TakeLines.took in
     let listed =
     listed_at ks c.as_slice.result.now r.lines.items _ items c.as_slice.ensures.value c.as_slice-entry-items.ensures.value c.lines_by_key.ensures.listed in
-    let at = entry_at ks r.lines.items items i e listed c.loop-entry-test.true c.entry-item.is in
-    let key = key_under isrc e.1.0.now in
-    let below = subst (λ n. i < n) (sym (length-map items pair)) c.loop-entry-test.true in
-    let is = ap pair c.entry-item.is ∙ sym (get_or-map pair items i e (pair e) c.loop-entry-test.true) in
-    let old = c.args.taker.now in
+    let at = entry_at ks r.lines.items items i e listed c.loop-entry-test.true c.entry-item.is in let key = key_under isrc e.1.0.now in
+    let old = c.args.taker.now in let name : Entry → Key = λ x. key_under isrc x.1.0.now in
     record {
       lines = λ bs has.
           let tally = own_tally ps ks isrc r c.requires.recording e.1.0.now l at (seat_of (party_in ps) r) ∙ has e.1.0.now in
@@ -91,9 +80,9 @@ loop-entry-preserved g c =
           elim c.if-entry.branch [
             | then-entry w ↦
                 let own = subst (λ ns. line_tally (place_by (party_in ps) ns) l ≡ tally_of (at_key key bs)) (sym c.as_slice-numbers.ensures.value) tally in
-                line_added bs isrc (keyed items) i (pair e) below is took old c.loop-entry.taker c.if-entry.taker so_far
+                line_added bs name items i e c.loop-entry-test.true c.entry-item.is took old c.loop-entry.taker c.if-entry.taker so_far
                 (subst (λ t. Takes took c.loop-entry.taker t (line_of key (at_key key bs) ∷ [])) (sym w.taker-is) (w.give_line.ensures.line (at_key key bs) own)) (sym (ap (λ t. t.is_booked) tally) ∙ w.if-entry.true)
-            | else-entry w ↦ line_passed bs isrc (keyed items) i (pair e) below is took old c.loop-entry.taker c.if-entry.taker so_far
+            | else-entry w ↦ line_passed bs name items i e c.loop-entry-test.true c.entry-item.is took old c.loop-entry.taker c.if-entry.taker so_far
                 w.taker-is (sym (ap (λ t. t.is_booked) tally) ∙ w.if-entry.false)
           ];
       room = elim c.if-entry.branch [
@@ -104,19 +93,15 @@ loop-entry-preserved g c =
 
 pub returns-clause-lines : goal.returns-clause-lines
 returns-clause-lines g c =
-    let isrc = c.args.isrc.now in
-    let items = c.as_slice-entry-items.result.now in
-    let pairs = keyed items in
-    let i = c.loop-entry.entry-index in
-    let listed =
-    listed_at c.args.tables.now.keys.now c.as_slice.result.now c.args.recording.now.lines.items _ items c.as_slice.ensures.value
+    let isrc = c.args.isrc.now in let items = c.as_slice-entry-items.result.now in let ks = keys_of (keyed items) in let i = c.loop-entry.entry-index in
+    let listed = listed_at c.args.tables.now.keys.now c.as_slice.result.now c.args.recording.now.lines.items _ items c.as_slice.ensures.value
     c.as_slice-entry-items.ensures.value c.lines_by_key.ensures.listed in
     record {
-      entries = entries_under isrc pairs;
-      order = under_sorted isrc pairs listed.order;
-      own = under_own isrc pairs;
-      all = λ q l is at. under_all isrc q pairs is (listed.all (summary_key_in q) l at);
-      lines = λ bs has.
-          takes_same (c.loop-entry.invariant.lines bs has) (ap (λ es. booked_lines bs (entries_under isrc es))
-          (take_all i pairs (subst (λ n. n ≤ i) (sym (length-map items pair)) c.loop-entry-test.false)));
+      whole = map (key_under isrc) ks;
+      order = under_sorted isrc ks listed.order;
+      own = under_own isrc ks;
+      all = λ q l is at. under_all isrc q ks is (listed.all (summary_key_in q) l at);
+      lines = λ bs has. takes_same (c.loop-entry.invariant.lines bs has) (ap (booked_lines bs) (
+          ap (map (λ x. key_under isrc x.1.0.now)) (take_all i items c.loop-entry-test.false)
+          ∙ sym (map-map (key_under isrc) (λ x. x.0) (keyed items) ∙ map-map (λ x. key_under isrc x.0) pair items)));
     }

@@ -1,7 +1,7 @@
 use Rattle.std.proofs.Math.Logic.{∥∥₁_elim}
 use Rattle.std.proofs.Props.{props}
-use Rattle.std.proofs.Common.{◌≡◌, ◌∷◌, [], List, ℕ, length, to_z, of_z, rules, sym, ◌∙◌, ap, subst, ◌+◌, ◌<◌, ◌≤◌, ◌^◌}
-use Rattle.std.specs.Prelude.{vec_capacity, Option, sum_by, unsigned_abs, ◌-ℤ◌}
+use Rattle.std.proofs.Common.{◌≡◌, ◌∷◌, [], List, ℕ, to_z, of_z, rules, sym, ◌∙◌, ap, subst, ◌+◌, ◌<◌, ◌^◌}
+use Rattle.std.specs.Prelude.{Option, sum_by, unsigned_abs, ◌-ℤ◌}
 use Rattle.std.specs.Option.{option_map_or}
 use Rattle.std.specs.Int.{w128}
 use Rattle.dsr_ledger.specs.declared.ledger.line.Line.{Line}
@@ -10,25 +10,15 @@ use Rattle.dsr_ledger.specs.Bookings.{Booking}
 use Rattle.dsr_ledger.specs.Keys.{text_cmp}
 use Rattle.dsr_ledger.specs.Ledger.{line_of, party_lines, amount_sum}
 use Rattle.dsr_ledger.specs.Listed.{AreListed, lent, numbered_by, party_in}
-use Rattle.dsr_ledger.specs.Numbered.{AreApart, AreBelow, place_by}
+use Rattle.dsr_ledger.specs.Numbered.{place_by}
 use Rattle.dsr_ledger.specs.Owed.{nothing_owed, owed_for, owed_in, owed_kept, part_seats}
 use Rattle.dsr_ledger.specs.Parts.{all_parts}
 use Rattle.dsr_ledger.specs.Sums.{int_sum_by}
 use Rattle.dsr_ledger.specs.Tallies.{line_tally, tally_of}
 use Rattle.dsr_ledger.specs.declared.report.PartyLine.{PartyLine}
-use Rattle.dsr_ledger.proofs.TakingLemmas.{takes_same}
+use Rattle.dsr_ledger.proofs.ReportLemmas.{takes_same, read_is}
 use Rattle.dsr_ledger.proofs.PartyLemmas.{line_fits, unclaimed_is}
-use Rattle.dsr_ledger.proofs.ReportLemmas.{read_is}
 use Rattle.dsr_ledger.proofs.assemble.lines.give_line.Goals as goal
-
-pub parts_by_name-requires-clause-seats : goal.parts_by_name-requires-clause-seats
-parts_by_name-requires-clause-seats g c = record {
-  apart = subst (λ ps. AreApart (part_seats ps)) (sym c.as_slice.ensures.value) c.as_slice.ensures.apart;
-  below = subst (λ ps. AreBelow (length c.args.numbers.now) (part_seats ps)) (sym c.as_slice.ensures.value) c.requires.seated.within;
-}
-
-pub parts_by_name-requires-clause-room : goal.parts_by_name-requires-clause-room
-parts_by_name-requires-clause-room g c = subst (λ ps. length ps ≤ vec_capacity c.args.lists.now.names) (sym c.as_slice.ensures.value) c.requires.room.names
 
 -- what the parts of a line owe each party
 owed_is : (line : Line) (parts : List SeatPart) (seat : List ℕ → Option ℕ) (bs : List Booking) → parts ≡ line.parts.items.items
@@ -39,8 +29,7 @@ owed_is line parts seat bs same tally q =
 
 pub unclaimed-requires : goal.unclaimed-requires
 unclaimed-requires g c =
-    let line = c.args.entry.now.1.now in
-    let seat : List ℕ → Option ℕ = place_by (party_in c.args.tables.now.parties.now) c.args.numbers.now in
+    let line = c.args.entry.now.1.now in let seat : List ℕ → Option ℕ = place_by (party_in c.args.tables.now.parties.now) c.args.numbers.now in
     let part = numbered_by seat (λ (p : SeatPart). p.seat) c.as_slice.result.now in
     let listed = subst (λ es. AreListed text_cmp part (lent es)) (sym c.as_slice-2.ensures.value) c.parts_by_name.ensures.listed in
     let same : to_z w128 (of_z w128 c.get-amount.result) ≡ line.sums.amount = search rules in
@@ -55,8 +44,7 @@ unclaimed-requires g c =
 pub returns-clause-line : goal.returns-clause-line
 unfolding line_of
 returns-clause-line g c = λ bs is.
-    let line = c.args.entry.now.1.now in
-    let key = c.args.entry.now.0.now in
+    let line = c.args.entry.now.1.now in let key = c.args.entry.now.0.now in
     let seat : List ℕ → Option ℕ = place_by (party_in c.args.tables.now.parties.now) c.args.numbers.now in
     let part = numbered_by seat (λ (p : SeatPart). p.seat) c.as_slice.result.now in
     let listed = subst (λ es. AreListed text_cmp part (lent es)) (sym c.as_slice-2.ensures.value) c.parts_by_name.ensures.listed in

@@ -1,11 +1,10 @@
 use Rattle.std.proofs.Common.{ap, ◌∙◌}
 use Rattle.std.proofs.lemmas.List.{take_all}
 use Rattle.dsr_ledger.specs.Listed.{lent}
-use Rattle.dsr_ledger.proofs.PartyLineLemmas.{seat_lines, party_lines_are}
+use Rattle.dsr_ledger.proofs.PartyLemmas.{seat_lines, party_lines_are}
 use Rattle.dsr_ledger.proofs.assemble.lines.party_lines.Goals as goal
 
 pub returns-clause-lines : goal.returns-clause-lines
-returns-clause-lines c = λ bs part listed is.
-    c.loop-entry.invariant.lines
+returns-clause-lines c = λ bs part listed is. c.loop-entry.invariant.lines
     ∙ ap (λ es. seat_lines (lent es)) (take_all c.loop-entry.entry-index c.args.names.now c.loop-entry-test.false)
     ∙ party_lines_are part (lent c.args.names.now) bs listed is

@@ -14,10 +14,8 @@ use Rattle.dsr_ledger.specs.declared.ledger.parts.SeatPart.{SeatPart}
 use Rattle.dsr_ledger.specs.Numbered.{place_in, place_by}
 use Rattle.dsr_ledger.specs.Owed.{part_seats}
 use Rattle.dsr_ledger.specs.Listed.{AreDistinctBelow, party_in}
-use Rattle.dsr_ledger.proofs.TextLemmas.{text_ties}
-use Rattle.dsr_ledger.proofs.IndexMapLemmas.{number_at}
-use Rattle.dsr_ledger.proofs.NumberedLemmas.{places_are_numbered}
-use Rattle.dsr_ledger.proofs.PlaceByLemmas.{by_numbered}
+use Rattle.std.proofs.lemmas.Map.Text.{is_eq-slice_cmp}
+use Rattle.dsr_ledger.proofs.NumberedLemmas.{places_are_numbered, number_at, by_numbered}
 use Rattle.dsr_ledger.proofs.ListedLemmas.{below_number, own_below, listed}
 use Rattle.dsr_ledger.proofs.assemble.listed.parts_by_name.Goals as goal
 
@@ -35,31 +33,20 @@ pub bounds-numbers-part : goal.bounds-numbers-part
 bounds-numbers-part c = seat_below c.args.parts.now _ c.requires.seats c.loop-part.part-index c.part-item.result c.loop-part-test.true c.part-item.is
 
 pub bounds-tables-number : goal.bounds-tables-number
-bounds-tables-number c =
-    own_below c.args.numbers.now _ c.requires.numbers c.part-item.result.seat (
+bounds-tables-number c = own_below c.args.numbers.now _ c.requires.numbers c.part-item.result.seat (
     seat_below c.args.parts.now _ c.requires.seats c.loop-part.part-index c.part-item.result c.loop-part-test.true c.part-item.is)
 
 pub loop-part-preserved : goal.loop-part-preserved
 loop-part-preserved c =
-    let ps = c.args.tables.now.parties.now in
-    let ns = c.args.numbers.now in
-    let parts = c.args.parts.now in
-    let i = c.loop-part.part-index in
-    let p = c.part-item.result in
-    let n = get_or ns p.seat 0 in
-    let old = c.loop-part.names.items in
+    let ps = c.args.tables.now.parties.now in let ns = c.args.numbers.now in let parts = c.args.parts.now in let i = c.loop-part.part-index in
+    let p = c.part-item.result in let n = get_or ns p.seat 0 in let old = c.loop-part.names.items in
     let below = seat_below parts _ c.requires.seats i p c.loop-part-test.true c.part-item.is in
     let at = slice_get-get_or ps n c.index-tables-number.result (own_below ns _ c.requires.numbers p.seat below) in
     let P = λ (e : Entry). place_by (party_in ps) ns e.0.now ≡ Some e.1.now.seat in
     record {
-      all =
-          ap (map part) c.push_reserved.ensures.items
-          ∙ map_push part old _
-          ∙ ap (λ zs. zs ++ p ∷ []) c.loop-part.invariant.all
-          ∙ ap (λ y. take i parts ++ y ∷ []) c.part-item.is
-          ∙ sym (take_more parts i p c.loop-part-test.true);
-      own =
-          subst (All P) (sym c.push_reserved.ensures.items) (All-push P old _ c.loop-part.invariant.own (
+      all = ap (map part) c.push_reserved.ensures.items ∙ map_push part old _ ∙ ap (λ zs. zs ++ p ∷ []) c.loop-part.invariant.all
+          ∙ ap (λ y. take i parts ++ y ∷ []) c.part-item.is ∙ sym (take_more parts i p c.loop-part-test.true);
+      own = subst (All P) (sym c.push_reserved.ensures.items) (All-push P old _ c.loop-part.invariant.own (
           ap (option_and_then (place_in ns)) (number_at bytes_eq bytes_eq-Decides ps n _ c.args.tables.now.distinct at)
           ∙ c.requires.numbers.apart p.seat n (slice_get-get_or ns p.seat 0 below)));
       many = c.push_reserved.ensures.len ∙ ap (λ n. n + 1) c.loop-part.invariant.many;
@@ -68,10 +55,8 @@ loop-part-preserved c =
 
 pub returns-clause-listed : goal.returns-clause-listed
 returns-clause-listed c =
-    let ps = c.args.tables.now.parties.now in
-    let ns = c.args.numbers.now in
-    let parts = c.args.parts.now in
-    listed bytes_eq bytes_eq-Decides nat_list_cmp_total text_ties (λ (e : Entry). e.0.now) part (place_by (party_in ps) ns)
+    let ps = c.args.tables.now.parties.now in let ns = c.args.numbers.now in let parts = c.args.parts.now in
+    listed bytes_eq bytes_eq-Decides nat_list_cmp_total is_eq-slice_cmp (λ (e : Entry). e.0.now) part (place_by (party_in ps) ns)
     (by_numbered (party_in ps) (length ps) ns (places_are_numbered bytes_eq bytes_eq-Decides ps)).apart (λ (p : SeatPart). p.seat) parts c.requires.seats.apart
     c.loop-part.names.items c.sort_unstable_by.new.self.items
     (c.loop-part.invariant.all ∙ take_all c.loop-part.part-index parts c.loop-part-test.false) c.loop-part.invariant.own c.sort_unstable_by.ensures.permutation

@@ -8,7 +8,7 @@ use Rattle.dsr_ledger.specs.declared.ledger.summary_key.SummaryKey.{SummaryKey}
 use Rattle.dsr_ledger.specs.SummaryKeys.{summary_key_eq, summary_key_cmp}
 use Rattle.dsr_ledger.specs.Listed.{AreListed, key_in, named_places}
 use Rattle.dsr_ledger.proofs.SummaryKeyLemmas.{same_summary_key, summary_key_total}
-use Rattle.dsr_ledger.proofs.RankLemmas.{own_key, write_next, all_ranked}
+use Rattle.dsr_ledger.proofs.ListedLemmas.{own_key, write_next, all_ranked}
 use Rattle.dsr_ledger.proofs.assemble.ranks.ranks_of.Goals as goal
 
 abbrev Entry : Type 0
@@ -28,45 +28,33 @@ named_at es i e below is =
 
 pub index_mut-requires : goal.index_mut-requires
 index_mut-requires c =
-    let ks = c.args.keys.now in
-    let es = c.deref-entry-items.result.now in
+    let ks = c.args.keys.now in let es = c.deref-entry-items.result.now in
     let listed = subst (AreKeys ks) (sym c.deref-entry-items.ensures.value) c.in_ok-order.ensures in
-    let e = c.entry-item.result in
-    let at = named_at es c.loop-rank.rank e c.loop-rank-test.true c.entry-item.is in
+    let e = c.entry-item.result in let all = c.loop-rank.invariant.all in let at = named_at es c.loop-rank.rank e c.loop-rank-test.true c.entry-item.is in
     let within = own_number ks es c.requires listed c.loop-rank.rank (e.0.now, e.1) at in
-    let all = c.loop-rank.invariant.all in
     search rules
 
 pub loop-rank-preserved : goal.loop-rank-preserved
 loop-rank-preserved c =
-    let ks = c.args.keys.now in
-    let es = c.deref-entry-items.result.now in
+    let ks = c.args.keys.now in let es = c.deref-entry-items.result.now in
     let listed = subst (AreKeys ks) (sym c.deref-entry-items.ensures.value) c.in_ok-order.ensures in
-    let i = c.loop-rank.rank in
-    let e = c.entry-item.result in
-    let ranks = c.loop-rank.ranks.items in
-    let all = c.loop-rank.invariant.all in
-    let at = named_at es i e c.loop-rank-test.true c.entry-item.is in
-    let within = own_number ks es c.requires listed i (e.0.now, e.1) at in
+    let i = c.loop-rank.rank in let e = c.entry-item.result in let ranks = c.loop-rank.ranks.items in let all = c.loop-rank.invariant.all in
+    let at = named_at es i e c.loop-rank-test.true c.entry-item.is in let within = own_number ks es c.requires listed i (e.0.now, e.1) at in
     record {
       all = length-set ranks e.1 i ∙ all;
-      written =
-          write_next summary_key_eq same_summary_key summary_key_total ks c.requires (named_places es) listed ranks i (e.0.now, e.1) at
+      written = write_next summary_key_eq same_summary_key summary_key_total ks c.requires (named_places es) listed ranks i (e.0.now, e.1) at
           (subst (λ n. e.1 < n) (sym all) within) c.loop-rank.invariant.written;
     }
 
 pub returns : goal.returns
 returns c =
-    let ks = c.args.keys.now in
-    let es = c.deref-entry-items.result.now in
+    let ks = c.args.keys.now in let es = c.deref-entry-items.result.now in let end = c.loop-rank-test.false in
     let listed = subst (AreKeys ks) (sym c.deref-entry-items.ensures.value) c.in_ok-order.ensures in
-    let end = c.loop-rank-test.false in
     let long = length-map {B = SummaryKey × ℕ} es (λ (x : Entry). (x.0.now, x.1)) in
     record {
       sorted = keys_of (named_places es);
       order = listed.order;
-      ranked =
-          all_ranked summary_key_eq same_summary_key summary_key_total ks c.requires (named_places es) listed c.loop-rank.ranks.items
+      ranked = all_ranked summary_key_eq same_summary_key summary_key_total ks c.requires (named_places es) listed c.loop-rank.ranks.items
           (λ j x less there. c.loop-rank.invariant.written j x (omega (arith, less, end, long)) there);
       all = c.loop-rank.invariant.all;
     }

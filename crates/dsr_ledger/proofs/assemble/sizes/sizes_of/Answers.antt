@@ -5,9 +5,7 @@ use Rattle.dsr_ledger.proofs.assemble.sizes.sizes_of.Goals as goal
 
 pub returns : goal.returns
 returns c =
-    let all = c.longest_of_keys.ensures.least in
-    let names = c.longest_name-name.ensures.least in
-    let n = c.longest_of_keys.result in
+    let all = c.longest_of_keys.ensures.least in let names = c.longest_name-name.ensures.least in let n = c.longest_of_keys.result in
     record {
       recordings = sym (length-map c.args.recordings.now (λ e. e.0.now));
       keys = refl;

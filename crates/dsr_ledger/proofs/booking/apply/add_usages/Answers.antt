@@ -1,63 +1,42 @@
-use Rattle.std.proofs.Common.{◌≡◌, ◌+◌, ◌≤◌, [], ◌∷◌, ◌++◌, take, length, refl, sym, ap, ◌∙◌, subst, arith}
-use Rattle.std.specs.Prelude.{option_map, Option, Some, slice_get}
-use Rattle.std.specs.Option.{ForSome}
+use Rattle.std.proofs.Common.{◌≡◌, ◌+◌, [], ◌∷◌, ◌++◌, take, length, refl, sym, ap, ◌∙◌, subst, arith}
+use Rattle.std.specs.Prelude.{option_map, Some, slice_get}
 use Rattle.std.specs.List.{AllByRecursion}
 use Rattle.std.proofs.lemmas.List.{take_more, length-take}
 use Rattle.std.proofs.lemmas.Option.{slice_get_read}
-use Rattle.dsr_ledger.specs.declared.file.summaries.SummaryState.{SummaryState}
 use Rattle.dsr_ledger.specs.Bookings.{usage_bookings}
+use Rattle.dsr_ledger.specs.Order.{IsSmall}
 use Rattle.dsr_ledger.specs.Ranges.{IsInRange}
 use Rattle.dsr_ledger.specs.Recordings.{tally_at}
-use Rattle.dsr_ledger.specs.Summaries.{shown_at, shown_with, ShownFits}
+use Rattle.dsr_ledger.specs.Summaries.{shown_at, shown_with}
 use Rattle.dsr_ledger.specs.Tallies.{tally_plus, key_tally, TallyFits}
 use Rattle.dsr_ledger.proofs.EachLemmas.{each_append}
-use Rattle.dsr_ledger.proofs.KeepsLemmas.{numbers_stay, numbers_twice, planned_stays}
-use Rattle.dsr_ledger.proofs.PlanLemmas.{shown_none}
+use Rattle.dsr_ledger.proofs.PlanLemmas.{numbers_stay, numbers_twice, planned_stays, shown_none}
 use Rattle.dsr_ledger.proofs.ShownLemmas.{shown_more, shown_fits_at}
-use Rattle.dsr_ledger.proofs.TallyPlusLemmas.{tally_more, tally_plus-none, tally_fits_after, length-usage_bookings, small_usage_bookings}
+use Rattle.dsr_ledger.proofs.TallyPlusLemmas.{tally_more, tally_plus-none, tally_fits_after}
+use Rattle.dsr_ledger.proofs.BooksLemmas.{each_small, each_usage}
 use Rattle.dsr_ledger.proofs.booking.apply.add_usages.Goals as goal
 
 pub add_usage-requires-clause-planned : goal.add_usage-requires-clause-planned
 add_usage-requires-clause-planned c =
-    let i = c.loop-i.i in
-    let us = c.args.usages.now in
-    let u = c.index-usages-i.result in
-    let before = c.loop-i.invariant in
-    let p = c.requires.planned in
-    let at : slice_get us i ≡ Some u = slice_get_read us (length us) i u refl c.loop-i-test.true c.index-usages-i.is in (
-      p.0,
-      p.1,
-      us,
-      p.2,
-      planned_stays c.args.ledger.now c.loop-i.ledger c.args.summaries.now c.loop-i.summaries p.2 p.0 p.1 us c.args.plan.now before.numbers before.index p.3,
-      at,
-      p.4,
-    )
+    let us = c.args.usages.now in let u = c.index-usages-i.result in let h = c.loop-i.invariant in let p = c.requires.planned in
+    let at : slice_get us c.loop-i.i ≡ Some u = slice_get_read us (length us) c.loop-i.i u refl c.loop-i-test.true c.index-usages-i.is in
+    let stays = planned_stays c.args.ledger.now c.loop-i.ledger c.args.summaries.now c.loop-i.summaries p.2 p.0 p.1 us c.args.plan.now h.numbers h.index p.3 in
+    (p.0, p.1, us, p.2, stays, at, p.4)
 
 pub add_usage-requires-clause-ledger_fits : goal.add_usage-requires-clause-ledger_fits
 add_usage-requires-clause-ledger_fits c q =
-    let i = c.loop-i.i in
-    let us = take i c.args.usages.now in
-    let isrc = c.requires.planned.0 in
-    let works = c.requires.planned.1 in
-    let place = c.requires.planned.2 in
-    let bs = usage_bookings place isrc works us in
-    let below = c.loop-i-test.true in
-    let taken : length us ≤ i = omega (arith, length-take i c.args.usages.now) in
-    let few : length bs ≤ i = let h = length-usage_bookings place isrc works us in omega arith in
+    let i = c.loop-i.i in let us = take i c.args.usages.now in let isrc = c.requires.planned.0 in let works = c.requires.planned.1 in
+    let place = c.requires.planned.2 in let bs = usage_bookings place isrc works us in let below = c.loop-i-test.true in
+    let own = each_usage IsSmall place isrc works us (each_small works c.requires.planned.4 us c.loop-i.invariant.range) in
     subst (TallyFits 1) (sym (c.loop-i.invariant.tallies isrc works place c.requires.planned.3 q)) (
-    tally_fits_after (tally_at c.args.ledger.now q) bs q i (length c.args.usages.now) 1 few (omega arith)
-    (small_usage_bookings place isrc works us c.requires.planned.4 c.loop-i.invariant.range) (c.requires.ledger_fits q))
+    tally_fits_after (tally_at c.args.ledger.now q) bs q (length c.args.usages.now) 1 (omega (arith, own.0, length-take i c.args.usages.now)) own.1
+    (c.requires.ledger_fits q))
 
 pub add_usage-requires-clause-summaries_fit : goal.add_usage-requires-clause-summaries_fit
 add_usage-requires-clause-summaries_fit c id =
-    let i = c.loop-i.i in
-    let us = take i c.args.usages.now in
-    let below = c.loop-i-test.true in
-    let taken : length us ≤ i = omega (arith, length-take i c.args.usages.now) in
-    let P : Option SummaryState → Type 0 = λ o. ForSome o (ShownFits 1) in
-    subst P (sym (c.loop-i.invariant.shown id)) (shown_fits_at (shown_at c.args.summaries.now id) id us i (length c.args.usages.now) 1 taken
-    (omega arith) c.loop-i.invariant.range (c.requires.summaries_fit id))
+    let i = c.loop-i.i in let us = take i c.args.usages.now in let below = c.loop-i-test.true in
+    rw (c.loop-i.invariant.shown id) (shown_fits_at (shown_at c.args.summaries.now id) id us (length c.args.usages.now) 1
+    (omega (arith, length-take i c.args.usages.now)) c.loop-i.invariant.range (c.requires.summaries_fit id))
 
 pub loop-i-init : goal.loop-i-init
 loop-i-init c = record {
@@ -70,12 +49,8 @@ loop-i-init c = record {
 
 pub loop-i-preserved : goal.loop-i-preserved
 loop-i-preserved c =
-    let i = c.loop-i.i in
-    let all = c.args.usages.now in
-    let us = take i all in
-    let u = c.index-usages-i.result in
-    let before = c.loop-i.invariant in
-    let step = c.add_usage.ensures in
+    let i = c.loop-i.i in let all = c.args.usages.now in let us = take i all in
+    let u = c.index-usages-i.result in let before = c.loop-i.invariant in let step = c.add_usage.ensures in
     let more : take (i + 1) all ≡ us ++ u ∷ [] = take_more all i u c.loop-i-test.true ∙ ap (λ x. us ++ x ∷ []) (sym c.index-usages-i.is) in
     let at : slice_get all i ≡ Some u = slice_get_read all (length all) i u refl c.loop-i-test.true c.index-usages-i.is in
     record {
@@ -84,8 +59,7 @@ loop-i-preserved c =
       index = λ id. step.index id ∙ before.index id;
       shown = λ id.
           shown_more id us u (shown_at c.args.summaries.now id) (shown_at c.loop-i.summaries id) (shown_at c.add_usage.new.summaries id) (before.shown id)
-          (step.shown id)
-          ∙ ap (λ l. option_map (shown_with id l) (shown_at c.args.summaries.now id)) (sym more);
+          (step.shown id) ∙ ap (λ l. option_map (shown_with id l) (shown_at c.args.summaries.now id)) (sym more);
       tallies = λ isrc works place h q.
           let planned =
           planned_stays c.args.ledger.now c.loop-i.ledger c.args.summaries.now c.loop-i.summaries place isrc works all c.args.plan.now before.numbers

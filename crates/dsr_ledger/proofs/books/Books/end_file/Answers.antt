@@ -3,18 +3,16 @@ use Rattle.std.proofs.Math.Logic.{∥∥₁_map}
 use Rattle.std.proofs.Math.ListN.{length-set}
 use Rattle.std.specs.Vec.{with_item}
 use Rattle.dsr_ledger.specs.declared.kept.Kept.{Kept}
-use Rattle.dsr_ledger.proofs.FilesLemmas.{item_at}
+use Rattle.std.proofs.lemmas.Option.{slice_get_read}
 use Rattle.dsr_ledger.proofs.BooksLemmas.{ended, stands_ended, reached_ended}
 use Rattle.dsr_ledger.proofs.books.Books.end_file.Goals as goal
 
 pub invariant_of-self : goal.invariant_of-self
 invariant_of-self c =
-    let f = c.index_mut-file.result.now in
-    let old = c.args.self.now.kept in
+    let f = c.index_mut-file.result.now in let old = c.args.self.now.kept in
     let new : Kept = record { files = with_item old.files c.args.k (ended f c.args.outcome); ledger = old.ledger } in
-    let at = item_at old.files.items c.args.k f c.requires.opened c.index_mut-file.ensures.value in
-    let long = length-set old.files.items c.args.k (ended f c.args.outcome) in
-    let room = c.args.self.now.room in
+    let at = slice_get_read old.files.items _ c.args.k f refl c.requires.opened c.index_mut-file.ensures.value in
+    let long = length-set old.files.items c.args.k (ended f c.args.outcome) in let room = c.args.self.now.room in
     record {
       most = c.args.self.now.most;
       room = omega arith;
@@ -23,8 +21,7 @@ invariant_of-self c =
 
 pub returns-clause-stands : goal.returns-clause-stands
 returns-clause-stands c = λ files h.
-    let f = c.index_mut-file.result.now in
-    let old = c.args.self.now.kept in
+    let f = c.index_mut-file.result.now in let old = c.args.self.now.kept in
     let new : Kept = record { files = with_item old.files c.args.k (ended f c.args.outcome); ledger = old.ledger } in
-    let at = item_at old.files.items c.args.k f c.requires.opened c.index_mut-file.ensures.value in
+    let at = slice_get_read old.files.items _ c.args.k f refl c.requires.opened c.index_mut-file.ensures.value in
     stands_ended old new files c.args.k f c.args.outcome at refl refl h

@@ -5,8 +5,7 @@ use Rattle.dsr_ledger.proofs.CallerLemmas.{has_opening_told}
 use Rattle.dsr_ledger.proofs.books.Books.has_opening.Goals as goal
 
 pub returns-in-Some-clause-stands : goal.returns-in-Some-clause-stands
-returns-in-Some-clause-stands c =
-    λ files h. c.is_some.ensures ∙ ap (λ o. option_map_or (λ f. is_some f.opening) o false) c.in-Some.ensures
+returns-in-Some-clause-stands c = λ files h. c.is_some.ensures ∙ ap (λ o. option_map_or (λ f. is_some f.opening) o false) c.in-Some.ensures
     ∙ has_opening_told c.args.self.now.kept files h c.args.k
 
 pub returns-in-None-clause-stands : goal.returns-in-None-clause-stands

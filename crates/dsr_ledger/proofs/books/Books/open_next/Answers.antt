@@ -1,4 +1,4 @@
-use Rattle.std.proofs.Common.{◌+◌, ◌≤◌, List, [], ◌∷◌, ◌++◌, Bool, true, false, cond, refl, arith, ap, subst, length, length-append}
+use Rattle.std.proofs.Common.{List, refl, subst}
 use Rattle.std.specs.Prelude.{is_ok}
 use Rattle.std.proofs.Math.Logic.{∥∥₁_map}
 use Rattle.std.proofs.lemmas.Result.{MatchResult-from_err}
@@ -7,47 +7,27 @@ use Rattle.dsr_ledger.specs.declared.file.FileBooks.{FileBooks}
 use Rattle.dsr_ledger.proofs.BooksLemmas.{OpenedAfter, reached_kept, reached_opened, opened_next, not_opened}
 use Rattle.dsr_ledger.proofs.books.Books.open_next.Goals as goal
 
-grown : (b : Bool) (fs : List FileBooks) (f : FileBooks) → length (cond b (fs ++ f ∷ []) fs) ≤ length fs + 1
-grown true fs f = let e = length-append fs (f ∷ []) in omega arith
-grown false fs f = omega arith
-
 pub invariant_of-self : goal.invariant_of-self
 invariant_of-self c =
-    let old = c.args.self.now.kept in
-    let new : Kept = record { files = old.files; ledger = c.open_after.new.ledger } in
-    record {
-      most = c.args.self.now.most;
-      room = c.args.self.now.room;
-      reached = ∥∥₁_map c.args.self.now.reached (reached_kept old new refl c.open_after.ensures.keeps);
-    }
+    let old = c.args.self.now.kept in let new : Kept = record { files = old.files; ledger = c.open_after.new.ledger } in
+    let reached = ∥∥₁_map c.args.self.now.reached (reached_kept old new refl c.open_after.ensures.keeps) in
+    record { most = c.args.self.now.most; room = c.args.self.now.room; reached = reached }
 
-pub invariant_of-self-2 : goal.invariant_of-self-2
-invariant_of-self-2 c =
-    let old = c.args.self.now.kept in
-    let f = c.in_ok-file.file in
-    let new : Kept = record { files = c.push.new.self; ledger = c.open_after.new.ledger } in
+pub invariant_of-self-2-clause-reached : goal.invariant_of-self-2-clause-reached
+invariant_of-self-2-clause-reached c =
+    let old = c.args.self.now.kept in let f = c.in_ok-file.file in let new : Kept = record { files = c.push.new.self; ledger = c.open_after.new.ledger } in
     let one = subst (λ (fs : List FileBooks). OpenedAfter fs c.args.opening f) c.as_slice-files.ensures.value c.in_ok-file.ensures.stands in
-    let below = c.requires in
-    let more = grown (is_ok c.push.result) old.files.items f in
-    let long = ap length c.push.ensures.items in
-    record {
-      most = c.args.self.now.most;
-      room = omega arith;
-      reached = ∥∥₁_map c.args.self.now.reached (
-          reached_opened old new (is_ok c.push.result) f c.args.opening one c.in_ok-file.ensures.numbered c.push.ensures.items c.open_after.ensures.keeps);
-    }
+    ∥∥₁_map c.args.self.now.reached (
+    reached_opened old new (is_ok c.push.result) f c.args.opening one c.in_ok-file.ensures.numbered c.push.ensures.items c.open_after.ensures.keeps)
 
 pub returns-in_err-push-clause-stands : goal.returns-in_err-push-clause-stands
 returns-in_err-push-clause-stands c = λ files h.
-    let old = c.args.self.now.kept in
-    let new : Kept = record { files = c.push.new.self; ledger = c.open_after.new.ledger } in
+    let old = c.args.self.now.kept in let new : Kept = record { files = c.push.new.self; ledger = c.open_after.new.ledger } in
     MatchResult-from_err c.from_residual-in_err-push.result _ _ c.from_residual-in_err-push.ensures.0
     (λ _. not_opened old new files c.in_err-push.ensures.items c.open_after.ensures.keeps.tallies h)
 
 pub returns-clause-stands : goal.returns-clause-stands
 returns-clause-stands c = λ files h.
-    let old = c.args.self.now.kept in
-    let f = c.in_ok-file.file in
-    let new : Kept = record { files = c.push.new.self; ledger = c.open_after.new.ledger } in
+    let old = c.args.self.now.kept in let f = c.in_ok-file.file in let new : Kept = record { files = c.push.new.self; ledger = c.open_after.new.ledger } in
     let one = subst (λ (fs : List FileBooks). OpenedAfter fs c.args.opening f) c.as_slice-files.ensures.value c.in_ok-file.ensures.stands in
     opened_next old new f c.args.opening files one c.in_ok-push.ensures.items c.open_after.ensures.keeps.tallies h

@@ -4,39 +4,23 @@ use Rattle.std.specs.List.{AllByRecursion}
 use Rattle.dsr_ledger.specs.Bookings.{summary_key_named, usage_bookings, block_bookings}
 use Rattle.dsr_ledger.specs.Files.{summaries_of}
 use Rattle.dsr_ledger.specs.Ranges.{IsInRange}
-use Rattle.dsr_ledger.specs.Tallies.{tally_plus, key_tally, TallyFits}
+use Rattle.dsr_ledger.specs.Tallies.{tally_plus, key_tally}
 use Rattle.dsr_ledger.specs.Summaries.{shown_at, shown_with}
 use Rattle.dsr_ledger.specs.Plans.{IsPlanned}
-use Rattle.dsr_ledger.specs.Verdicts.{share_total}
-use Rattle.dsr_ledger.proofs.FitLemmas.{fewer_sums, fewer_tallies}
+use Rattle.dsr_ledger.proofs.TallyPlusLemmas.{fewer_sums}
 use Rattle.dsr_ledger.proofs.file.FileBooks.accept.Goals as goal
-
-pub fill-requires : goal.fill-requires
-fill-requires c = (summary_key_named (summaries_of c.args.self.now.opening), c.args.block.now.usages, c.requires.numbered, c.requires.found)
 
 pub add_usages-requires-clause-planned : goal.add_usages-requires-clause-planned
 add_usages-requires-clause-planned c =
     let usages : c.as_slice.result.now ≡ c.args.block.now.usages = c.as_slice.ensures ∙ ap (λ b. b.usages) c.block.view_is in
     let works : c.as_slice-works.result.now ≡ c.args.block.now.works = c.as_slice-works.ensures ∙ ap (λ b. b.works) c.block.view_is in
-    let place = summary_key_named (summaries_of c.args.self.now.opening) in (
-      c.args.isrc,
-      c.as_slice-works.result.now,
-      place,
-      subst (λ us. IsPlanned c.fill.new.ledger c.args.self.now.summaries place c.args.isrc c.as_slice-works.result.now us c.fill.new.self) (sym usages)
-          (c.in_ok-fill.ensures.planned place c.args.block.now.usages c.requires.numbered c.requires.found),
-      subst (λ ws. share_total ws ≤ 1000000) (sym works) c.requires.shares,
-    )
-
-pub add_usages-requires-clause-ledger_fits : goal.add_usages-requires-clause-ledger_fits
-add_usages-requires-clause-ledger_fits c = λ q.
-    let room = c.block.invariant in
-    let long = ap length c.as_slice.ensures in
-    fewer_tallies 63 (length c.as_slice.result.now) _ (omega arith) (subst (TallyFits 63) (sym (c.fill.ensures.tallies q)) (c.requires.ledger_fits q))
+    let place = summary_key_named (summaries_of c.args.self.now.opening) in
+    let planned = c.in_ok-fill.ensures.planned place c.args.block.now.usages c.requires.numbered c.requires.found in
+    (c.args.isrc, c.as_slice-works.result.now, place, rw usages planned, rw works c.requires.shares)
 
 pub add_usages-requires-clause-summaries_fit : goal.add_usages-requires-clause-summaries_fit
 add_usages-requires-clause-summaries_fit c = λ id x at.
-    let room = c.block.invariant in
-    let long = ap length c.as_slice.ensures in
+    let room = c.block.invariant in let long = ap length c.as_slice.ensures in
     fewer_sums 63 (length c.as_slice.result.now) x.sums (omega arith) (c.requires.summaries_fit id x at)
 
 pub returns-clause-ok : goal.returns-clause-ok
@@ -48,9 +32,7 @@ returns-clause-ok c =
     let planned =
     subst (λ us. IsPlanned c.fill.new.ledger c.args.self.now.summaries place c.args.isrc c.as_slice-works.result.now us c.fill.new.self) (sym usages)
     (c.in_ok-fill.ensures.planned place c.args.block.now.usages c.requires.numbered c.requires.found) in
-    let room = c.block.invariant in
-    let long = ap length c.as_slice.ensures in
-    let few : length c.as_slice.result.now ≤ 63 = omega arith in
+    let room = c.block.invariant in let long = ap length c.as_slice.ensures in let few : length c.as_slice.result.now ≤ 63 = omega arith in
     record {
       place = refl;
       opening = refl;
@@ -59,8 +41,7 @@ returns-clause-ok c =
       summaries = λ id. c.add_usages.ensures.shown id ∙ λ i. option_map (shown_with id (usages i)) (shown_at c.args.self.now.summaries id);
       rejects = sym (append-nil c.args.self.now.rejects.items);
       outcome = refl;
-      tallies = λ q.
-          c.add_usages.ensures.tallies c.args.isrc c.as_slice-works.result.now place planned q
+      tallies = λ q. c.add_usages.ensures.tallies c.args.isrc c.as_slice-works.result.now place planned q
           ∙ λ i. tally_plus (c.fill.ensures.tallies q i) (key_tally (usage_bookings place (c.requires.recording i) (works i) (usages i)) q);
       range = record { few = subst (λ us. length us ≤ 63) usages few; range = subst (AllByRecursion IsInRange) usages c.add_usages.ensures.range };
     }

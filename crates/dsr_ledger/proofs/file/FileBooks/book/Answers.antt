@@ -8,25 +8,18 @@ use Rattle.dsr_ledger.specs.Verdicts.{verdict_by}
 use Rattle.dsr_ledger.specs.Stands.{Took}
 use Rattle.dsr_ledger.proofs.ResultLemmas.{ok_both}
 use Rattle.dsr_ledger.proofs.IdsLemmas.{noted_so, noted_is}
-use Rattle.dsr_ledger.proofs.KeyNumberLemmas.{numbered_after}
-use Rattle.dsr_ledger.proofs.StandLemmas.{took}
+use Rattle.dsr_ledger.proofs.FilesLemmas.{took}
 use Rattle.dsr_ledger.proofs.file.FileBooks.book.Goals as goal
 
 pub returns-else-is_err-clause-ok : goal.returns-else-is_err-clause-ok
 returns-else-is_err-clause-ok c = λ d h.
-    let f = c.args.self.now in
-    let g = c.take-answer.new.self in
-    let b = c.args.block.now in
-    let n = c.in_ok-noted.noted in
-    let ids = c.note.new.self in
-    let seen = c.was_before.result in
-    let is = subst (λ k. IsNoted n f.ids ids k) (ap (λ x. x.id) c.block.view_is) c.in_ok-noted.ensures.noted in
+    let f = c.args.self.now in let g = c.take-answer.new.self in let b = c.args.block.now in let n = c.in_ok-noted.noted in let ids = c.note.new.self in
+    let seen = c.was_before.result in let is = subst (λ k. IsNoted n f.ids ids k) (ap (λ x. x.id) c.block.view_is) c.in_ok-noted.ensures.noted in
     let same : seen ≡ is_in f.ids b.id = c.was_before.ensures ∙ noted_so n f.ids ids b.id is in
     let noted = λ (q : List ℕ). ap (λ i. is_in i q) c.take-answer.ensures.ids ∙ noted_is n f.ids ids b.id is q in
     let P : Verdict → Type 0 = λ v. verdict_by f.standing seen (is_known f.summaries) b ≡ v in
     ok_both P _ (λ v. Took d b v g c.args.ledger.now c.take-answer.new.ledger) c.take-answer.result (λ v judged t.
-    took d f g b v seen c.args.ledger.now c.take-answer.new.ledger h judged same
-    (record {
+    took d f g b v seen c.args.ledger.now c.take-answer.new.ledger h judged same (record {
       place = t.place;
       opening = t.opening;
       standing = t.standing;
@@ -52,17 +45,3 @@ returns-then-is_err-clause-err c =
       rejects = same.rejects;
       outcome = same.outcome;
     }) c.take-answer.ensures.err
-
-pub returns-else-is_err-clause-numbered : goal.returns-else-is_err-clause-numbered
-returns-else-is_err-clause-numbered c =
-    let t = c.take-answer in
-    let f = record c.args.self.now { ids = c.note.new.self } in
-    numbered_after t.result c.args.ledger.now t.new.ledger f t.new.self c.args.block.now t.ensures.keys t.ensures.ok t.ensures.err
-    c.requires.numbered
-
-pub returns-then-is_err-clause-numbered : goal.returns-then-is_err-clause-numbered
-returns-then-is_err-clause-numbered c =
-    let t = c.take-answer in
-    let f = record c.args.self.now { ids = c.note.new.self } in
-    numbered_after t.result c.args.ledger.now t.new.ledger f t.new.self c.args.block.now t.ensures.keys t.ensures.ok t.ensures.err
-    c.requires.numbered

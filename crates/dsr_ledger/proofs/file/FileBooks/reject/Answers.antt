@@ -1,13 +1,11 @@
 use Rattle.std.proofs.Common.{rules, refl, length, ap, arith}
 use Rattle.dsr_ledger.specs.Recordings.{tally_at}
-use Rattle.dsr_ledger.proofs.FitLemmas.{fewer_sums}
-use Rattle.dsr_ledger.proofs.TallyPlusLemmas.{tally_plus-none}
+use Rattle.dsr_ledger.proofs.TallyPlusLemmas.{fewer_sums, tally_plus-none}
 use Rattle.dsr_ledger.proofs.file.FileBooks.reject.Goals as goal
 
 pub count_usages-requires : goal.count_usages-requires
 count_usages-requires c = λ id x at.
-    let room = c.block.invariant in
-    let long = ap length c.as_slice.ensures in
+    let room = c.block.invariant in let long = ap length c.as_slice.ensures in
     fewer_sums 63 (length c.as_slice.result.now) x.sums (omega arith) (c.requires.summaries_fit id x at)
 
 pub returns-clause-ok : goal.returns-clause-ok

@@ -6,8 +6,7 @@ use Rattle.dsr_ledger.proofs.ids.Ids.forget.Goals as goal
 
 pub invariant_of-self : goal.invariant_of-self
 invariant_of-self c =
-    let old = c.args.self.now in
-    let texts = texts_of old.numbers.items in
+    let old = c.args.self.now in let texts = texts_of old.numbers.items in
     record {
       below = λ q e. old.below q
           (fewer (length texts - 1) texts old.run.items old.rest q (ap (λ l. is_among (l ++ old.run.items) old.rest q) (sym c.take_last.ensures) ∙ e));

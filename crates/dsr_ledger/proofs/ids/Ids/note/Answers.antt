@@ -7,10 +7,7 @@ use Rattle.dsr_ledger.proofs.ids.Ids.note.Goals as goal
 
 pub invariant_of-self-then-branch : goal.invariant_of-self-then-branch
 invariant_of-self-then-branch c =
-    let old = c.args.self.now in
-    let id = c.args.id.now in
-    let above = c.if-rank-self.false in
-    let rank = c.rank-rank.ensures in
+    let old = c.args.self.now in let id = c.args.id.now in let above = c.if-rank-self.false in let rank = c.rank-rank.ensures in
     let new = c.append.new.ranges.items in
     let appended : texts_of new ≡ texts_of old.numbers.items ++ id ∷ [] =
     subst (λ b. IsAppended b old.numbers.items new c.as_str.result.now) c.if-branch.true c.in_ok-append.ensures.appended
@@ -23,12 +20,8 @@ invariant_of-self-then-branch c =
 
 pub invariant_of-self-2 : goal.invariant_of-self-2
 invariant_of-self-2 c =
-    let old = c.args.self.now in
-    let id = c.args.id.now in
-    let above = c.if-rank-self.false in
-    let rank = c.rank-rank.ensures in
-    let numbers = c.append.new.ranges.items in
-    let run = c.push.new.self.items in
+    let old = c.args.self.now in let id = c.args.id.now in let above = c.if-rank-self.false in let rank = c.rank-rank.ensures in
+    let numbers = c.append.new.ranges.items in let run = c.push.new.self.items in
     let same : texts_of numbers ≡ texts_of old.numbers.items =
     subst (λ b. IsAppended b old.numbers.items numbers c.as_str.result.now) c.if-branch.false c.in_ok-append.ensures.appended in
     let pushed : run ≡ old.run.items ++ id ∷ [] = c.in_ok-push.ensures.items ∙ ap (λ x. old.run.items ++ x ∷ []) c.in_ok-copy.ensures in

@@ -1,10 +1,6 @@
-use Rattle.dsr_ledger.specs.IdNumbers.{range_texts}
 use Rattle.dsr_ledger.proofs.ResultLemmas.{if_err}
-use Rattle.dsr_ledger.proofs.GatherLemmas.{no_numbers_added, number_added, number_refused, all_numbers_added}
+use Rattle.dsr_ledger.proofs.IdsLemmas.{number_added, number_refused, all_numbers_added}
 use Rattle.dsr_ledger.proofs.ids.gather.gather_range.Goals as goal
-
-pub loop-number-init : goal.loop-number-init
-loop-number-init c = no_numbers_added c.args.set.now (range_texts c.args.range) c.args.range.first
 
 pub loop-number-preserved : goal.loop-number-preserved
 loop-number-preserved c =

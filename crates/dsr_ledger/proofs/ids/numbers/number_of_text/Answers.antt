@@ -1,6 +1,6 @@
 use Rattle.std.proofs.Common.{◌≡◌, ◌≢◌, decimal, get_or, arith, sym, ap, ◌∙◌, subst}
 use Rattle.std.specs.Prelude.{IfSome}
-use Rattle.dsr_ledger.proofs.IdNumbersLemmas.{text_of_number}
+use Rattle.dsr_ledger.proofs.IdsLemmas.{text_of_number}
 use Rattle.dsr_ledger.proofs.ids.numbers.number_of_text.Goals as goal
 
 pub returns-in-Some-49-to-57-clause-text : goal.returns-in-Some-49-to-57-clause-text

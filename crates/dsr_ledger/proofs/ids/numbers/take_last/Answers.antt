@@ -1,12 +1,10 @@
 use Rattle.std.proofs.Common.{◌≡◌, ◌+◌, ◌-◌, length, ap, sym, ◌∙◌, arith}
-use Rattle.dsr_ledger.proofs.IdNumbersLemmas.{shrunk}
+use Rattle.dsr_ledger.proofs.IdsLemmas.{shrunk}
 use Rattle.dsr_ledger.proofs.ids.numbers.take_last.Goals as goal
 
 pub returns : goal.returns
 returns c =
-    let ranges = c.args.ranges.now in
-    let range = c.index-range.result.now in
-    let at = c.in-Some.last in
+    let ranges = c.args.ranges.now in let range = c.index-range.result.now in let at = c.in-Some.last in
     let whole : at + 1 ≡ length ranges.items = omega (arith, ranges.ok.0) in
     let end : range.end ≡ (range.end - 1) + 1 = let filled = range.filled in omega arith in
     shrunk ranges.items at whole _ range (ap (λ r. r.first) (sym c.index-range.ensures)) (ap (λ r. r.end) (sym c.index-range.ensures) ∙ end)

@@ -2,16 +2,13 @@ use Rattle.std.proofs.Common.{rules, ◌≡◌, ◌-◌, ◌<◌, length, ap, sy
 use Rattle.std.specs.Prelude.{Some, slice_get}
 use Rattle.std.specs.Option.{option_map}
 use Rattle.std.proofs.lemmas.List.{length-map}
-use Rattle.std.proofs.lemmas.Option.{slice_get-map}
-use Rattle.dsr_ledger.proofs.NumberedLemmas.{same_Some}
-use Rattle.dsr_ledger.proofs.IndexLemmas.{rise_more}
+use Rattle.std.proofs.lemmas.Option.{same_Some, slice_get-map}
+use Rattle.dsr_ledger.proofs.NumberedLemmas.{rise_more}
 use Rattle.dsr_ledger.proofs.ledger.index.is_above.Goals as goal
 
 pub returns-in-Some : goal.returns-in-Some
 returns-in-Some g c = λ above rise.
-    let number = g.T.Numbered.number_of in
-    let xs = c.args.items.now in
-    let n = c.args.number in
+    let number = g.T.Numbered.number_of in let xs = c.args.items.now in let n = c.args.number in
     let there : slice_get xs (length xs - 1) ≡ Some c.in-Some.last.now = search rules in
     let last : slice_get (map number xs) (length (map number xs) - 1) ≡ Some (number c.in-Some.last.now)
     = ap (λ k. slice_get (map number xs) (k - 1)) (length-map xs number) ∙ slice_get-map number xs (length xs - 1) ∙ ap (option_map number) there in

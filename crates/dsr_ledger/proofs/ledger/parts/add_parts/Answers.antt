@@ -4,81 +4,49 @@ use Rattle.std.specs.Int.{w128}
 use Rattle.std.specs.Int.RustNames.{FitsSigned}
 use Rattle.std.specs.Str.{bytes_eq}
 use Rattle.std.proofs.lemmas.List.{take_all, map-append}
+use Rattle.std.proofs.lemmas.Option.{slice_get-get_or}
+use Rattle.std.proofs.lemmas.Slice.Zip.{AllZip-long}
 use Rattle.dsr_ledger.specs.declared.ledger.parts.SeatShare.{SeatShare}
-use Rattle.dsr_ledger.specs.Indexes.{AreIndexed}
-use Rattle.dsr_ledger.specs.Numbered.{AreApart, place_in}
 use Rattle.dsr_ledger.specs.Owed.{owed_in, owed_plus, owed_for, owed_with}
 use Rattle.dsr_ledger.specs.Parts.{part_of, rounded}
-use Rattle.dsr_ledger.specs.Seated.{IsSeated, HasPart}
-use Rattle.dsr_ledger.proofs.IndexMapLemmas.{each_at}
-use Rattle.dsr_ledger.proofs.NumberedLemmas.{got_or}
-use Rattle.dsr_ledger.proofs.OwedLemmas.{part_fits, owed_more}
-use Rattle.dsr_ledger.proofs.PartLemmas.{prefix_size, part_kept}
-use Rattle.dsr_ledger.proofs.SeatedLemmas.{zip_step, zip_long}
+use Rattle.dsr_ledger.specs.Seated.{IsSeated}
+use Rattle.dsr_ledger.proofs.TallyPlusLemmas.{part_fits, owed_more}
+use Rattle.dsr_ledger.proofs.LedgerLemmas.{prefix_size}
+use Rattle.dsr_ledger.proofs.PlanLemmas.{zip_step, take_next}
 use Rattle.dsr_ledger.proofs.ledger.parts.add_parts.Goals as goal
 
 abbrev none : SeatShare
 none = record { seat = 0; share = 0 }
 
-pub add_share-next-requires-clause-apart : goal.add_share-next-requires-clause-apart
-add_share-next-requires-clause-apart c = subst AreApart (sym c.loop-share.invariant.seats) c.requires.apart
-
-pub add_share-next-requires-clause-indexed : goal.add_share-next-requires-clause-indexed
-add_share-next-requires-clause-indexed c = subst (λ ns. AreIndexed ns c.args.index.now) (sym c.loop-share.invariant.seats) c.requires.indexed
-
-pub add_share-next-requires-clause-has_part : goal.add_share-next-requires-clause-has_part
-add_share-next-requires-clause-has_part c =
-    let i = c.loop-share.share-index in
-    let s = get_or c.args.shares.now i none in
-    let old = c.args.parts.now in
-    let at : slice_get c.args.shares.now i ≡ Some s = got_or c.args.shares.now i none c.loop-share-test.true in
-    part_kept old c.loop-share.parts s (λ q p e. ap (λ ns. place_in ns q) c.loop-share.invariant.seats ∙ e)
-    (each_at (HasPart old) c.args.shares.now i s c.requires.wide at)
-
 pub add_share-next-requires-clause-fits : goal.add_share-next-requires-clause-fits
 add_share-next-requires-clause-fits c =
-    let i = c.loop-share.share-index in
-    let s = get_or c.args.shares.now i none in
-    let p = c.requires.fits in
-    let a = c.args.amount in
-    let at : slice_get c.args.shares.now i ≡ Some s = got_or c.args.shares.now i none c.loop-share-test.true in
+    let i = c.loop-share.share-index in let s = get_or c.args.shares.now i none in let p = c.requires.fits in let a = c.args.amount in
+    let at : slice_get c.args.shares.now i ≡ Some s = slice_get-get_or c.args.shares.now i none c.loop-share-test.true in
     let z = zip_step (IsSeated p.1) c.args.shares.now p.2 i s p.3.seated at in
-    let q = z.other.0 in
-    let x = part_of a z.other in
-    let size = prefix_size a p.2 i z.other z.there in
-    let most = p.4 in
-    let fits =
-    part_fits (owed_in c.loop-share.parts (p.1 q)) (owed_in c.args.parts.now (p.1 q)) q (map (part_of a) (take i p.2)) (rounded x) (10 ^ 22)
+    let q = z.other.0 in let x = part_of a z.other in let size = prefix_size a p.2 i z.other z.there in let most = p.4 in
+    let fits = part_fits (owed_in c.loop-share.parts (p.1 q)) (owed_in c.args.parts.now (p.1 q)) q (map (part_of a) (take i p.2)) (rounded x) (10 ^ 22)
     (c.loop-share.invariant.owed p.0 p.1 p.2 p.3 q) (omega arith) (p.5 q) in
     subst (λ n. FitsSigned w128 ((owed_in c.loop-share.parts (Some s.seat)).amount +ℤ rounded (part_of a (q, n)))) (sym z.related.1) (
     subst (λ o. FitsSigned w128 ((owed_in c.loop-share.parts o).amount +ℤ rounded x)) z.related.0 fits)
 
 pub loop-share-preserved : goal.loop-share-preserved
 loop-share-preserved c =
-    let i = c.loop-share.share-index in
-    let s = get_or c.args.shares.now i none in
-    let a = c.args.amount in
-    let next : i + 1 ≡ suc i = omega arith in
-    let at : slice_get c.args.shares.now i ≡ Some s = got_or c.args.shares.now i none c.loop-share-test.true in
-    let before = c.loop-share.invariant in
+    let i = c.loop-share.share-index in let s = get_or c.args.shares.now i none in let a = c.args.amount in let next : i + 1 ≡ suc i = omega arith in
+    let at : slice_get c.args.shares.now i ≡ Some s = slice_get-get_or c.args.shares.now i none c.loop-share-test.true in let before = c.loop-share.invariant in
     record {
       seats = c.add_share-next.ensures.seats ∙ before.seats;
       owed = λ n seat es have q.
           let z = zip_step (IsSeated seat) c.args.shares.now es i s have.seated at in
-          let x = part_of a z.other in
-          let old = owed_in c.loop-share.parts (seat q) in
+          let x = part_of a z.other in let old = owed_in c.loop-share.parts (seat q) in
           owed_more old (owed_in c.add_share-next.new.parts (seat q)) (owed_in c.args.parts.now (seat q)) q (map (part_of a) (take i es)) x
-          (before.owed n seat es have q)
-          (c.add_share-next.ensures.part n seat z.other.0 have.numbered z.related.0 q
+          (before.owed n seat es have q) (c.add_share-next.ensures.part n seat z.other.0 have.numbered z.related.0 q
           ∙ ap (λ m. cond (bytes_eq z.other.0 q) (owed_with (rounded (part_of a (z.other.0, m))) old) old) z.related.1)
           ∙ ap (λ ps. owed_plus (owed_in c.args.parts.now (seat q)) (owed_for q ps))
-          (sym (ap (λ m. map (part_of a) (take m es)) next ∙ ap (map (part_of a)) z.more ∙ map-append (part_of a) (take i es) (z.other ∷ [])));
+          (sym (ap (map (part_of a)) (ap (λ m. take m es) next ∙ take_next es i z.other z.there) ∙ map-append (part_of a) (take i es) (z.other ∷ [])));
     }
 
 pub returns-clause-owed : goal.returns-clause-owed
 returns-clause-owed c = λ n seat es have q.
-    let long = zip_long (IsSeated seat) c.args.shares.now es have.seated in
-    let done = c.loop-share-test.false in
-    c.loop-share.invariant.owed n seat es have q
-    ∙ ap (λ l. owed_plus (owed_in c.args.parts.now (seat q)) (owed_for q (map (part_of c.args.amount) l)))
+    let long = AllZip-long (IsSeated seat) c.args.shares.now es have.seated in let done = c.loop-share-test.false in
+    c.loop-share.invariant.owed n seat es have q ∙ ap (λ l. owed_plus (owed_in c.args.parts.now (seat q)) (owed_for q (map (part_of c.args.amount) l)))
     (take_all c.loop-share.share-index es (omega arith))

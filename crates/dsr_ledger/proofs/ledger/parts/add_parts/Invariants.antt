@@ -9,6 +9,5 @@ abbrev pub invariant-loop-share : goal.invariant-loop-share
 invariant-loop-share l = record {
   seats : part_seats l.parts ≡ part_seats l.fn.parts;
   owed : (n : ℕ) (seat : List ℕ → Option ℕ) (es : List (List ℕ × ℕ)) → HaveSeats seat n l.shares es
-      → (q : List ℕ) → owed_in l.parts (seat q) ≡ owed_plus (owed_in l.fn.parts (seat q))
-      (owed_for q (map (part_of l.amount) (take l.share-index es)));
+      → (q : List ℕ) → owed_in l.parts (seat q) ≡ owed_plus (owed_in l.fn.parts (seat q)) (owed_for q (map (part_of l.amount) (take l.share-index es)));
 }

@@ -1,49 +1,22 @@
-use Rattle.std.proofs.Common.{rules, ◌≡◌, ℕ, List, cond, sym, ap, ◌∙◌, subst, to_z, of_z}
-use Rattle.std.specs.Prelude.{Option, None, Some, pos, ◌+ℤ◌, ◌*ℤ◌}
+use Rattle.std.proofs.Common.{rules, ◌≡◌, ℕ, List, cond, ap, ◌∙◌, to_z, of_z}
+use Rattle.std.specs.Prelude.{Option, Some, pos, ◌*ℤ◌}
 use Rattle.std.specs.Option.{option_and_then}
 use Rattle.std.specs.Int.{w128}
-use Rattle.std.specs.Int.RustNames.{int_div, FitsSigned}
+use Rattle.std.specs.Int.RustNames.{int_div}
 use Rattle.std.specs.Str.{bytes_eq}
 use Rattle.std.proofs.lemmas.Int.{to_z-of_z}
 use Rattle.dsr_ledger.specs.Numbered.{place_in, place_by}
 use Rattle.dsr_ledger.specs.Owed.{owed_at_place, owed_in, owed_with, part_in, part_seats}
-use Rattle.dsr_ledger.proofs.ItemLemmas.{items_are_numbered}
-use Rattle.dsr_ledger.proofs.NumberedLemmas.{not_Some}
-use Rattle.dsr_ledger.proofs.PartLemmas.{seat_of_part, places_are_numbered_by}
+use Rattle.dsr_ledger.proofs.LedgerLemmas.{places_are_numbered_by}
 use Rattle.dsr_ledger.proofs.ledger.parts.add_share.Goals as goal
-
-pub add_part-requires-clause-below : goal.add_part-requires-clause-below
-add_part-requires-clause-below c =
-    let ps = c.args.parts.now in
-    let found : part_in ps c.args.share.now.seat ≡ Some c.in-Some.place = search rules in
-    (items_are_numbered seat_of_part ps).below c.args.share.now.seat c.in-Some.place found
-
-pub add_part-requires-clause-fits : goal.add_part-requires-clause-fits
-add_part-requires-clause-fits c =
-    let ps = c.args.parts.now in
-    let a = c.args.amount in
-    let found : part_in ps c.args.share.now.seat ≡ Some c.in-Some.place = search rules in
-    let units : to_z w128 (of_z w128 c.units.result) ≡ a = to_z-of_z w128 c.units.result (search rules) ∙ c.units.ensures.value in
-    let share : to_z w128 (of_z w128 c.share_of.result) ≡ int_div (a *ℤ pos c.args.share.now.share) (pos 1000000) =
-    to_z-of_z w128 c.share_of.result (search rules) ∙ c.share_of.ensures ∙ ap (λ z. int_div (z *ℤ pos c.args.share.now.share) (pos 1000000)) units in
-    subst (λ n. FitsSigned w128 ((owed_at_place ps (Some c.in-Some.place)).amount +ℤ n)) (sym share) (
-    subst (λ o. FitsSigned w128 ((owed_at_place ps o).amount +ℤ int_div (a *ℤ pos c.args.share.now.share) (pos 1000000))) found c.requires.fits)
-
-pub returns-in_default-clause-part : goal.returns-in_default-clause-part
-returns-in_default-clause-part c =
-    let none : part_in c.args.parts.now c.args.share.now.seat ≡ None = search rules in
-    absurd (not_Some c.requires.has_part.place (sym none ∙ c.requires.has_part.there))
 
 pub returns-clause-part : goal.returns-clause-part
 returns-clause-part c = λ n seat party numbered at q.
-    let ps = c.args.parts.now in
-    let a = c.args.amount in
-    let found : part_in ps c.args.share.now.seat ≡ Some c.in-Some.place = search rules in
+    let ps = c.args.parts.now in let a = c.args.amount in let found : part_in ps c.args.share.now.seat ≡ Some c.in-Some.place = search rules in
     let units : to_z w128 (of_z w128 c.units.result) ≡ a = to_z-of_z w128 c.units.result (search rules) ∙ c.units.ensures.value in
     let share : to_z w128 (of_z w128 c.share_of.result) ≡ int_div (a *ℤ pos c.args.share.now.share) (pos 1000000) =
     to_z-of_z w128 c.share_of.result (search rules) ∙ c.share_of.ensures ∙ ap (λ z. int_div (z *ℤ pos c.args.share.now.share) (pos 1000000)) units in
-    let old = owed_in ps (seat q) in
-    let place : List ℕ → Option ℕ = place_by seat (part_seats ps) in
+    let old = owed_in ps (seat q) in let place : List ℕ → Option ℕ = place_by seat (part_seats ps) in
     ap (λ ns. owed_at_place c.add_part.new.parts (option_and_then (place_in ns) (seat q))) c.add_part.ensures.seats
     ∙ c.add_part.ensures.part place party (places_are_numbered_by seat n ps numbered) (ap (option_and_then (part_in ps)) at ∙ found) q
     ∙ ap (λ z. cond (bytes_eq party q) (owed_with z old) old) share

@@ -1,38 +1,28 @@
 use Rattle.std.proofs.Common.{◌≡◌, ◌<◌, [], ◌∷◌, take, get_or, sym, subst}
 use Rattle.std.specs.Prelude.{Some, slice_get}
-use Rattle.std.proofs.lemmas.List.{take_all, take_more}
+use Rattle.std.proofs.lemmas.List.{take_more}
+use Rattle.std.proofs.lemmas.Option.{slice_get-get_or}
 use Rattle.dsr_ledger.specs.declared.ledger.parts.SeatShare.{SeatShare}
 use Rattle.dsr_ledger.specs.Seated.{HasPart, HaveParts}
-use Rattle.dsr_ledger.proofs.IndexMapLemmas.{each_at}
-use Rattle.dsr_ledger.proofs.NumberedLemmas.{got_or}
-use Rattle.dsr_ledger.proofs.PartLemmas.{parts_kept, parts_twice}
+use Rattle.dsr_ledger.proofs.NumberedLemmas.{each_at}
+use Rattle.dsr_ledger.proofs.LedgerLemmas.{parts_kept, parts_twice}
 use Rattle.dsr_ledger.proofs.EachLemmas.{each_append}
 use Rattle.dsr_ledger.proofs.ledger.parts.widen.Goals as goal
 
 abbrev none : SeatShare
 none = record { seat = 0; share = 0 }
 
-pub returns-in_err-place-clause-grows : goal.returns-in_err-place-clause-grows
-returns-in_err-place-clause-grows c =
-    parts_twice c.args.parts.now.items.items c.loop-share.parts.items.items c.place.new.self.items.items c.loop-share.invariant.grows c.place.ensures.grows
-
 pub returns-in_err-place-clause-below : goal.returns-in_err-place-clause-below
 returns-in_err-place-clause-below c = λ n seats below.
-    let i = c.loop-share.share-index in
-    let s = get_or c.args.shares.now i none in
-    let at : slice_get c.args.shares.now i ≡ Some s = got_or c.args.shares.now i none c.loop-share-test.true in
+    let i = c.loop-share.share-index in let s = get_or c.args.shares.now i none in
+    let at : slice_get c.args.shares.now i ≡ Some s = slice_get-get_or c.args.shares.now i none c.loop-share-test.true in
     c.place.ensures.below n (each_at (λ (x : SeatShare). x.seat < n) c.args.shares.now i s seats at) (c.loop-share.invariant.below n seats below)
 
 pub loop-share-preserved : goal.loop-share-preserved
 loop-share-preserved c =
-    let ss = c.args.shares.now in
-    let i = c.loop-share.share-index in
-    let s = get_or ss i none in
-    let at : slice_get ss i ≡ Some s = got_or ss i none c.loop-share-test.true in
-    let was = c.loop-share.parts.items.items in
-    let is = c.place.new.self.items.items in
-    let grows = c.place.ensures.grows in
-    let before = c.loop-share.invariant in
+    let ss = c.args.shares.now in let i = c.loop-share.share-index in let s = get_or ss i none in
+    let at : slice_get ss i ≡ Some s = slice_get-get_or ss i none c.loop-share-test.true in let was = c.loop-share.parts.items.items in
+    let is = c.place.new.self.items.items in let grows = c.place.ensures.grows in let before = c.loop-share.invariant in
     let one : HasPart is s = record { place = c.in_ok-place.place; there = c.in_ok-place.ensures.there } in
     record {
       grows = parts_twice c.args.parts.now.items.items was is before.grows grows;
@@ -40,8 +30,3 @@ loop-share-preserved c =
       wide = subst (λ xs. HaveParts xs is) (sym (take_more ss i none c.loop-share-test.true)) (
           each_append (HasPart is) (take i ss) (s ∷ []) (parts_kept (take i ss) was is grows.places before.wide) (one, tt));
     }
-
-pub returns-clause-wide : goal.returns-clause-wide
-returns-clause-wide c =
-    subst (λ xs. HaveParts xs c.loop-share.parts.items.items)
-    (take_all c.loop-share.share-index c.args.shares.now c.loop-share-test.false) c.loop-share.invariant.wide

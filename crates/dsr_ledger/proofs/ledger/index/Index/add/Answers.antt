@@ -4,24 +4,19 @@ use Rattle.std.specs.List.{drop-map}
 use Rattle.std.proofs.lemmas.List.{length-map}
 use Rattle.indexmap.specs.IndexSet.{insert_key}
 use Rattle.dsr_ledger.specs.Indexes.{Rise, AreIndexed}
-use Rattle.dsr_ledger.proofs.IndexLemmas.{goes_last, few_more, more_rise}
+use Rattle.dsr_ledger.proofs.NumberedLemmas.{goes_last, few_more, more_rise}
 use Rattle.dsr_ledger.proofs.ledger.index.Index.add.Goals.{then-items-lt-FEW-via-then-items-lt-FEW, then-items-lt-FEW-via-else-items-lt-FEW+then-is_above}
 use Rattle.dsr_ledger.proofs.ledger.index.Index.add.Goals as goal
 
 pub returns-in-Some-clause-ok : goal.returns-in-Some-clause-ok
 returns-in-Some-clause-ok g c =
-    let ns = map g.T.Numbered.number_of c.args.items.now in
-    let n = c.args.number in
-    let all : c.deref_mut.result.now.keys ≡ ns = search rules in
+    let ns = map g.T.Numbered.number_of c.args.items.now in let n = c.args.number in let all : c.deref_mut.result.now.keys ≡ ns = search rules in
     c.in_ok-insert.ensures.keys ∙ ap (λ ks. insert_key nat_eq ks n) all ∙ goes_last ns n c.requires.absent
 
 pub returns-then-items-lt-FEW-clause-ok : goal.returns-then-items-lt-FEW-clause-ok
 returns-then-items-lt-FEW-clause-ok g c =
-    let xs = c.args.items.now in
-    let ns = map g.T.Numbered.number_of xs in
-    let n = c.args.number in
-    let long : length ns ≡ length xs = length-map xs g.T.Numbered.number_of in
-    let none : c.args.self.now.numbers ≡ None = search rules in
+    let xs = c.args.items.now in let ns = map g.T.Numbered.number_of xs in let n = c.args.number in
+    let long : length ns ≡ length xs = length-map xs g.T.Numbered.number_of in let none : c.args.self.now.numbers ≡ None = search rules in
     subst (λ o. AreIndexed (ns ++ n ∷ []) (record { numbers = o })) (sym none) (
     elim c.then-items-lt-FEW.branch as (λ _. Rise (drop 16 (ns ++ n ∷ []))) [
       | then-items-lt-FEW-via-then-items-lt-FEW w ↦
@@ -38,7 +33,6 @@ returns-then-items-lt-FEW-clause-ok g c =
 
 pub returns-clause-ok : goal.returns-clause-ok
 returns-clause-ok g c =
-    let ns = map g.T.Numbered.number_of c.args.items.now in
-    let n = c.args.number in
+    let ns = map g.T.Numbered.number_of c.args.items.now in let n = c.args.number in
     let all : c.in_ok-new.field-0.value.keys ≡ insert_key nat_eq c.in_ok-numbers.numbers.keys n = search rules in
     all ∙ ap (λ ks. insert_key nat_eq ks n) c.in_ok-numbers.ensures ∙ goes_last ns n c.requires.absent

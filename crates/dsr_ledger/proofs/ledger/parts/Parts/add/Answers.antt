@@ -1,14 +1,12 @@
 use Rattle.std.proofs.Common.{◌≡◌, List, ◌++◌, length, take, drop, sym, ap, subst, ◌∙◌}
-use Rattle.std.specs.Prelude.{map}
 use Rattle.std.specs.List.{refill}
 use Rattle.std.proofs.lemmas.List.{length-map}
 use Rattle.std.proofs.Math.Seq.{take-append_seam}
 use Rattle.dsr_ledger.specs.declared.ledger.parts.SeatPart.{SeatPart}
 use Rattle.dsr_ledger.specs.Indexes.{AreIndexed}
 use Rattle.dsr_ledger.specs.Numbered.{AreApart}
-use Rattle.dsr_ledger.specs.Owed.{owed_in, owed_plus, owed_for, part_seats}
-use Rattle.dsr_ledger.specs.Parts.{part_of}
-use Rattle.dsr_ledger.proofs.PartLemmas.{seat_of_part}
+use Rattle.dsr_ledger.specs.Owed.{part_seats}
+use Rattle.dsr_ledger.proofs.LedgerLemmas.{seat_of_part}
 use Rattle.dsr_ledger.proofs.ledger.parts.Parts.add.Goals as goal
 
 -- a slice that is lent whole is given back whole
@@ -18,27 +16,10 @@ given_back ps ws seats =
     ap (λ n. take n (ws ++ drop (length ws) ps)) long ∙ take-append_seam ws (drop (length ws) ps)
 
 pub add_parts-requires-clause-indexed : goal.add_parts-requires-clause-indexed
-add_parts-requires-clause-indexed c =
-    let s = c.args.self.now in
-    subst (λ ps. AreIndexed (part_seats ps) s.index) (sym c.as_mut_slice.ensures.value) s.indexed
+add_parts-requires-clause-indexed c = rw c.as_mut_slice.ensures.value c.args.self.now.indexed
 
 pub invariant_of-self : goal.invariant_of-self
 invariant_of-self c =
-    let s = c.args.self.now in
-    let seats = c.add_parts.ensures.seats ∙ ap part_seats c.as_mut_slice.ensures.value in
+    let s = c.args.self.now in let seats = c.add_parts.ensures.seats ∙ ap part_seats c.as_mut_slice.ensures.value in
     let same = sym (ap part_seats (given_back s.items.items c.add_parts.new.parts seats) ∙ seats) in
     record { apart = subst AreApart same s.apart; indexed = subst (λ ns. AreIndexed ns s.index) same s.indexed }
-
-pub returns-clause-seats : goal.returns-clause-seats
-returns-clause-seats c =
-    let ps = c.args.self.now.items.items in
-    let seats = c.add_parts.ensures.seats ∙ ap part_seats c.as_mut_slice.ensures.value in
-    ap part_seats (given_back ps c.add_parts.new.parts seats) ∙ seats
-
-pub returns-clause-owed : goal.returns-clause-owed
-returns-clause-owed c = λ n seat es have q.
-    let ps = c.args.self.now.items.items in
-    let seats = c.add_parts.ensures.seats ∙ ap part_seats c.as_mut_slice.ensures.value in
-    ap (λ xs. owed_in xs (seat q)) (given_back ps c.add_parts.new.parts seats)
-    ∙ c.add_parts.ensures.owed n seat es have q
-    ∙ ap (λ xs. owed_plus (owed_in xs (seat q)) (owed_for q (map (part_of c.args.amount) es))) c.as_mut_slice.ensures.value

@@ -5,19 +5,16 @@ use Rattle.dsr_ledger.specs.declared.ledger.line.Line.{Line}
 use Rattle.dsr_ledger.specs.Indexes.{AreIndexed}
 use Rattle.dsr_ledger.specs.Numbered.{AreApart}
 use Rattle.dsr_ledger.specs.Seats.{seat_numbers}
-use Rattle.dsr_ledger.proofs.ItemLemmas.{numbers_kept}
-use Rattle.dsr_ledger.proofs.PartLemmas.{parts_kept}
-use Rattle.dsr_ledger.proofs.RecordingLemmas.{key_of, grow_written, within_written, written_there}
+use Rattle.dsr_ledger.proofs.NumberedLemmas.{numbers_kept}
+use Rattle.dsr_ledger.proofs.LedgerLemmas.{parts_kept, key_of, grow_written, within_written, written_there}
 use Rattle.dsr_ledger.proofs.ledger.recording.Recording.widen.Goals as goal
 
 pub invariant_of-self : goal.invariant_of-self
 invariant_of-self c =
-    let r = c.args.self.now in
-    let l = c.index_mut.result.now in
+    let r = c.args.self.now in let l = c.index_mut.result.now in
     let w : Line = record { key = l.key; is_booked = l.is_booked; sums = l.sums; parts = c.widen.new.parts } in
     let at = slice_get_read r.lines.items (length r.lines.items) c.args.number l refl c.requires.there c.index_mut.ensures.value in
-    let keys = sym (numbers_kept key_of r.lines.items c.args.number l w c.index_mut.ensures.value refl) in
-    let seats = length (seat_numbers r.seats) in
+    let keys = sym (numbers_kept key_of r.lines.items c.args.number l w c.index_mut.ensures.value refl) in let seats = length (seat_numbers r.seats) in
     record {
       apart = subst AreApart keys r.apart;
       indexed = subst (λ ks. AreIndexed ks r.index) keys r.indexed;
@@ -26,24 +23,18 @@ invariant_of-self c =
 
 pub returns-clause-grows : goal.returns-clause-grows
 returns-clause-grows c =
-    let r = c.args.self.now in
-    let l = c.index_mut.result.now in
+    let r = c.args.self.now in let l = c.index_mut.result.now in let grow = c.widen.ensures.grows in
     let w : Line = record { key = l.key; is_booked = l.is_booked; sums = l.sums; parts = c.widen.new.parts } in
-    let grow = c.widen.ensures.grows in
     grow_written r.lines.items c.args.number l w c.requires.there c.index_mut.ensures.value refl
     (λ seat j. record { is_booked = l.is_booked; usages = l.sums.usages; amount = l.sums.amount; owed = λ q. grow.owed (seat q) j })
     (λ ss. parts_kept ss l.parts.items.items w.parts.items.items grow.places)
 
 pub returns-clause-keys : goal.returns-clause-keys
-returns-clause-keys c =
-    let l = c.index_mut.result.now in
-    let w : Line = record { key = l.key; is_booked = l.is_booked; sums = l.sums; parts = c.widen.new.parts } in
-    numbers_kept key_of c.args.self.now.lines.items c.args.number l w c.index_mut.ensures.value refl
+returns-clause-keys c = numbers_kept key_of _ c.args.number c.index_mut.result.now _ c.index_mut.ensures.value refl
 
 pub returns-clause-wide : goal.returns-clause-wide
 returns-clause-wide c =
-    let r = c.args.self.now in
-    let l = c.index_mut.result.now in
+    let r = c.args.self.now in let l = c.index_mut.result.now in
     let w : Line = record { key = l.key; is_booked = l.is_booked; sums = l.sums; parts = c.widen.new.parts } in
     on_ok_weaker c.widen.result (λ wide. record { line = w; there = written_there r.lines.items c.args.number w c.requires.there; wide = wide })
     c.widen.ensures.wide

@@ -1,4 +1,4 @@
-use Rattle.std.proofs.Common.{◌≡◌, ℕ, List, refl, sym, ap, subst, ◌∙◌, length}
+use Rattle.std.proofs.Common.{◌≡◌, ℕ, List, refl, ap, ◌∙◌, length}
 use Rattle.std.specs.Prelude.{Option, Some}
 use Rattle.std.specs.Option.{option_and_then}
 use Rattle.std.specs.List.{position}
@@ -15,32 +15,18 @@ use Rattle.dsr_ledger.proofs.ledger.recordings.Ledger.follow.Goals as goal
 
 pub invariant_of-self : goal.invariant_of-self
 invariant_of-self c =
-    let e = c.pair_mut-found.ensures in
-    let l = c.args.self.now in
-    let m = l.recordings in
-    let k = c.pair_mut-found.result.0.now in
-    let v = c.pair_mut-found.result.1.now in
-    let w = c.set_next.new.self in
-    let at = got m c.args.last k v w e.unique e.value in
-    let parties = length l.parties.keys in
-    let keys = length l.summary_keys.keys in
+    let e = c.pair_mut-found.ensures in let l = c.args.self.now in let m = l.recordings in let k = c.pair_mut-found.result.0.now in
+    let v = c.pair_mut-found.result.1.now in let w = c.set_next.new.self in let at = got m c.args.last k v w e.unique e.value in
+    let parties = length l.parties.keys in let keys = length l.summary_keys.keys in
     record {
-      seated = each_put m c.args.last k v w e.unique e.value (λ r. AreBelow parties (seat_numbers r.seats)) l.seated
-          (subst (λ ss. AreBelow parties (seat_numbers ss)) (sym c.set_next.ensures.seats) (l.seated k v at));
-      keyed = each_put m c.args.last k v w e.unique e.value (λ r. AreBelow keys (line_keys r.lines.items)) l.keyed
-          (subst (λ ls. AreBelow keys (line_keys ls.items)) (sym c.set_next.ensures.lines) (l.keyed k v at));
+      seated = each_put m _ k v w e.unique e.value (λ r. AreBelow parties (seat_numbers r.seats)) l.seated (rw c.set_next.ensures.seats (l.seated k v at));
+      keyed = each_put m _ k v w e.unique e.value (λ r. AreBelow keys (line_keys r.lines.items)) l.keyed (rw c.set_next.ensures.lines (l.keyed k v at));
     }
 
 pub returns-then-last-len : goal.returns-then-last-len
 returns-then-last-len c =
-    let e = c.pair_mut-found.ensures in
-    let l = c.args.self.now in
-    let m = l.recordings in
-    let k = c.pair_mut-found.result.0.now in
-    let v = c.pair_mut-found.result.1.now in
-    let w = c.set_next.new.self in
-    let party = party_number l in
-    let seats = c.set_next.ensures.seats in
+    let e = c.pair_mut-found.ensures in let l = c.args.self.now in let m = l.recordings in let k = c.pair_mut-found.result.0.now in
+    let v = c.pair_mut-found.result.1.now in let w = c.set_next.new.self in let party = party_number l in let seats = c.set_next.ensures.seats in
     record {
       tallies = λ q.
           let number = key_number l (summary_key_in q) in
@@ -49,9 +35,7 @@ returns-then-last-len c =
           ∙ ap (λ ss. lines_tally (place_by party (seat_numbers ss)) v.lines.items number) seats) (λ o. refl) q.isrc;
       keys = refl;
       recordings = λ isrc. ap (position (bytes_eq isrc)) (keys-with_value_at m c.args.last w);
-      seats = λ isrc.
-          each_related m c.args.last k v w e.unique e.value
+      seats = λ isrc. each_related m c.args.last k v w e.unique e.value
           (λ (a : Option Recording) b. (q : List ℕ) (i : ℕ) → option_and_then (λ r. seat_of party r q) a ≡ Some i
-          → option_and_then (λ r. seat_of party r q) b ≡ Some i)
-          (λ q i is. ap (λ ss. place_by party (seat_numbers ss) q) seats ∙ is) (λ o q i is. is) isrc;
+          → option_and_then (λ r. seat_of party r q) b ≡ Some i) (λ q i is. ap (λ ss. place_by party (seat_numbers ss) q) seats ∙ is) (λ o q i is. is) isrc;
     }

@@ -1,39 +1,31 @@
-use Rattle.std.proofs.Common.{◌≡◌, ℕ, List, ap, sym, subst, ◌∙◌, rules, true}
+use Rattle.std.proofs.Common.{◌≡◌, ℕ, List, refl, ap, sym, subst, ◌∙◌, rules, true}
 use Rattle.std.specs.Prelude.{Some, slice_get}
 use Rattle.std.specs.Option.{option_and_then}
 use Rattle.std.specs.Str.{bytes_eq}
 use Rattle.std.specs.Cmp.Lexicographic.{nat_list_eq_equiv}
 use Rattle.std.proofs.lemmas.Slice.Eq.{bytes_eq-Decides}
+use Rattle.std.proofs.lemmas.Option.{slice_get_read}
 use Rattle.indexmap.specs.IndexMap.{IsUnique}
 use Rattle.indexmap.specs.IndexSet.{IsUnique as IsUniqueSet}
 use Rattle.dsr_ledger.specs.Numbered.{place_in}
 use Rattle.dsr_ledger.specs.Seats.{seat_numbers}
 use Rattle.dsr_ledger.specs.Recordings.{party_number, seat_of}
-use Rattle.dsr_ledger.proofs.NumberedLemmas.{got_at}
 use Rattle.dsr_ledger.proofs.TextLemmas.{same_text}
-use Rattle.dsr_ledger.proofs.IndexMapLemmas.{number_at, value_here}
+use Rattle.dsr_ledger.proofs.NumberedLemmas.{number_at, value_here}
 use Rattle.dsr_ledger.proofs.ledger.recordings.Ledger.hinted_seat.Goals as goal
 
 pub returns-then-eq : goal.returns-then-eq
 returns-then-eq c = λ isrc is.
-    let l = c.args.self.now in
-    let m = l.recordings in
-    let k = c.in_ok-found.field-0-0.now in
-    let v = c.in_ok-found.found.now in
-    let n = c.in_ok-party.party.now in
-    let text = c.in_ok-named.named.now in
-    let unique : IsUnique bytes_eq m = search rules in
-    let apart : IsUniqueSet bytes_eq l.parties = search rules in
-    let at : slice_get m.entries c.args.recording ≡ Some (k, v) = search rules in
+    let l = c.args.self.now in let m = l.recordings in let k = c.in_ok-found.field-0-0.now in let v = c.in_ok-found.found.now in
+    let n = c.in_ok-party.party.now in let text = c.in_ok-named.named.now in let unique : IsUnique bytes_eq m = search rules in
+    let apart : IsUniqueSet bytes_eq l.parties = search rules in let at : slice_get m.entries c.args.recording ≡ Some (k, v) = search rules in
     let sat = c.in_ok-party.ensures.lookup in
     let seat : slice_get (seat_numbers v.seats) c.args.hint ≡ Some n =
-    subst (λ (ns : List ℕ). slice_get ns c.args.hint ≡ Some n) c.as_slice-2.ensures.value (got_at c.as_slice-2.result.now c.args.hint n sat.3.0 sat.1) in
-    let alike : bytes_eq text c.args.name.now ≡ true = search rules in
-    let called = c.in_ok-named.ensures.lookup in
+    subst (λ (ns : List ℕ). slice_get ns c.args.hint ≡ Some n) c.as_slice-2.ensures.value (slice_get_read _ _ c.args.hint n refl sat.3.0 sat.1) in
+    let alike : bytes_eq text c.args.name.now ≡ true = search rules in let called = c.in_ok-named.ensures.lookup in
     let named : slice_get l.parties.keys n ≡ Some text =
-    subst (λ (ks : List (List ℕ)). slice_get ks n ≡ Some text) c.as_slice-3.ensures.keys (got_at c.as_slice-3.result.now n text called.3.0 called.1) in
+    subst (λ (ks : List (List ℕ)). slice_get ks n ≡ Some text) c.as_slice-3.ensures.keys (slice_get_read _ _ n text refl called.3.0 called.1) in
     let number = ap (party_number l) (sym (same_text text c.args.name.now alike)) ∙ number_at bytes_eq bytes_eq-Decides l.parties.keys n text apart named in
     ap (option_and_then (λ r. seat_of (party_number l) r c.args.name.now))
     (value_here bytes_eq bytes_eq-Decides nat_list_eq_equiv m c.args.recording k v unique at isrc is)
-    ∙ ap (option_and_then (place_in (seat_numbers v.seats))) number
-    ∙ v.seats.apart c.args.hint n seat
+    ∙ ap (option_and_then (place_in (seat_numbers v.seats))) number ∙ v.seats.apart c.args.hint n seat

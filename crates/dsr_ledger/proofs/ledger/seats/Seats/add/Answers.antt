@@ -1,42 +1,23 @@
 use Rattle.std.proofs.Common.{rules, ◌≡◌, ◌++◌, ◌∷◌, [], sym, ap, ◌∙◌, subst, nat_eq, map-id}
 use Rattle.dsr_ledger.specs.Indexes.{AreIndexed}
-use Rattle.dsr_ledger.specs.Numbered.{AreApart, place_in}
-use Rattle.dsr_ledger.proofs.NumberedLemmas.{apart_more}
-use Rattle.dsr_ledger.proofs.PlaceByLemmas.{same_number}
+use Rattle.dsr_ledger.specs.Numbered.{AreApart}
+use Rattle.dsr_ledger.proofs.NumberedLemmas.{apart_more, same_number}
 use Rattle.dsr_ledger.proofs.ledger.seats.Seats.add.Goals as goal
 
 pub invariant_of-self : goal.invariant_of-self
-invariant_of-self c =
-    let s = c.args.self.now in
-    let same = sym c.reserve.ensures.items in
-    record { apart = subst AreApart same s.apart; indexed = subst (λ ns. AreIndexed ns s.index) same s.indexed }
+invariant_of-self c = rw c.reserve.ensures.items (record { apart = c.args.self.now.apart; indexed = c.args.self.now.indexed })
 
 pub add-requires-clause-indexed : goal.add-requires-clause-indexed
-add-requires-clause-indexed c =
-    let s = c.args.self.now in
-    let same : c.as_slice.result.now ≡ s.numbers.items = search rules in
-    subst (λ ns. AreIndexed ns s.index) (sym (map-id c.as_slice.result.now ∙ same)) s.indexed
-
-pub add-requires-clause-absent : goal.add-requires-clause-absent
-add-requires-clause-absent c =
-    let same : c.as_slice.result.now ≡ c.args.self.now.numbers.items = search rules in
-    ap (λ ns. place_in ns c.args.party) (map-id c.as_slice.result.now ∙ same) ∙ c.requires
+add-requires-clause-indexed c = rw (map-id c.as_slice.result.now, c.as_slice.ensures, c.reserve.ensures.items) c.args.self.now.indexed
 
 pub invariant_of-self-in-Break-branch-2 : goal.invariant_of-self-in-Break-branch-2
 invariant_of-self-in-Break-branch-2 c =
-    let s = c.args.self.now in
-    let same : c.as_slice.result.now ≡ c.reserve.new.self.items = search rules in
-    record {
-      apart = subst AreApart (sym c.reserve.ensures.items) s.apart;
-      indexed = subst (λ ns. AreIndexed ns c.add.new.self) (map-id c.as_slice.result.now ∙ same) c.in_err-add.ensures.err;
-    }
+    let same = map-id c.as_slice.result.now ∙ c.as_slice.ensures ∙ c.reserve.ensures.items in
+    rw c.reserve.ensures.items (record { apart = c.args.self.now.apart; indexed = subst (λ ns. AreIndexed ns c.add.new.self) same c.in_err-add.ensures.err })
 
 pub invariant_of-self-2 : goal.invariant_of-self-2
 invariant_of-self-2 c =
-    let s = c.args.self.now in
-    let ns = s.numbers.items in
-    let n = c.args.party in
-    let items : c.push.new.self.items ≡ ns ++ n ∷ [] = search rules in
+    let s = c.args.self.now in let ns = s.numbers.items in let n = c.args.party in let items : c.push.new.self.items ≡ ns ++ n ∷ [] = search rules in
     let same : c.as_slice.result.now ≡ ns = search rules in
     record {
       apart = subst AreApart (sym items) (apart_more nat_eq same_number ns n c.requires s.apart);
