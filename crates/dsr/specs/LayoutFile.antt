@@ -1,8 +1,8 @@
 -- The results of reading a layout file.
 use Rattle.std.specs.Prelude.{◌≡◌, ℕ, ◌≤◌, ◌⊎◌, List, length, Option, Result, Ok, Err}
 use Rattle.std.specs.Io.KnownBytes.{Consumes, IsAtEnd}
-use Rattle.dsr_records.specs.Records.{LayoutTable}
-use Rattle.dsr_records.specs.Layouts.{layout_of}
+use Rattle.dsr_records.specs.meaning.Records.{LayoutTable}
+use Rattle.dsr_records.specs.meaning.Layouts.{layout_of}
 use Rattle.dsr.specs.declared.layout_file.LayoutReadError.{LayoutReadError}
 use Rattle.dsr.specs.declared.layout_file.LayoutReadError.TheVariants.{Read, Bad, Memory}
 

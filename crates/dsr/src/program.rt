@@ -1,7 +1,7 @@
 //! From the program's arguments to its exit status.
 ghost use Rattle.std.specs.Prelude.{◌≡◌, false, List, All, IfOk, IfErr, Err, None, MatchOption, vec_len};
-ghost use Rattle.dsr_records.specs.Layouts.{standard_layout};
-ghost use Rattle.dsr_file.specs.Runs.{FileText};
+ghost use Rattle.dsr_records.specs.meaning.Layouts.{standard_layout};
+ghost use Rattle.dsr_file.specs.meaning.Runs.{FileText};
 ghost use Rattle.dsr_intake.specs.meaning.Options.{refusal_of};
 ghost use Rattle.dsr_intake.specs.meaning.Outcomes.{IsReported, IsUnwritten, IsLateRun};
 

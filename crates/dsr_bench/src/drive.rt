@@ -1,6 +1,6 @@
 //! Passes the bytes of an input to the reader, and its events to a taker.
 ghost use Rattle.std.specs.Prelude.{◌≡◌, ◌+◌, ◌≤◌, ◌^◌, None, length};
-ghost use Rattle.dsr_file.specs.Standing.{bytes_used, ending_told};
+ghost use Rattle.dsr_file.specs.inner.Standing.{bytes_used, ending_told};
 
 use crate::taker::Taker;
 use dsr_file::{Ending, FileReader};

@@ -14,8 +14,8 @@ use Rattle.std.proofs.lemmas.List.Folds.{list_all-append}
 use Rattle.std.proofs.lemmas.Simd.{length-chunk}
 use Rattle.std.proofs.lemmas.Bool.{agree_below_at, eqb-true, ltb-true, cases_Bool, and_parts}
 use Rattle.std.proofs.lemmas.Bool.Decides.{nat_tests}
-use Rattle.dsr_cells.specs.Numbers.{digits_sum}
-use Rattle.dsr_cells.specs.Fours.{if_digits, word_of_four}
+use Rattle.dsr_cells.specs.meaning.Numbers.{digits_sum}
+use Rattle.dsr_cells.specs.inner.Fours.{if_digits, word_of_four}
 use Rattle.dsr_cells.proofs.Numbers.{digits_sum-lt}
 use Rattle.dsr_cells.proofs.Lanes.{part_fails}
 

@@ -10,8 +10,8 @@ use Rattle.std.proofs.lemmas.Bool.Decides.{Decides-eqb}
 use Rattle.std.proofs.lemmas.List.{drop-replicate, drop-drop, take-append-drop, length-take, length-drop, take_all}
 use Rattle.std.proofs.lemmas.Nat.{le_bytes_8}
 use Rattle.std.proofs.lemmas.Slice.Eq.{bytes_eq-Decides}
-use Rattle.dsr_cells.specs.Order.{AreBytes}
-use Rattle.dsr_cells.specs.Short.{HasZerosBehind}
+use Rattle.dsr_cells.specs.inner.Order.{AreBytes}
+use Rattle.dsr_cells.specs.inner.Short.{HasZerosBehind}
 use Rattle.dsr_cells.proofs.Ordered.{small_front, small_back}
 
 -- a text copied to the front of zeros has zeros after it

@@ -3,7 +3,7 @@ use Rattle.std.proofs.Common.{◌≡◌, ℕ, ◌<◌, ◌≤◌, ◌+◌, ◌-�
 use Rattle.std.proofs.Common.{length-set}
 use Rattle.std.proofs.lemmas.List.{places, take_more_set, take_all}
 use Rattle.std.proofs.Math.Seq.{take-set-lt}
-use Rattle.dsr_cells.specs.Views.{IsOneMore}
+use Rattle.dsr_cells.specs.inner.Views.{IsOneMore}
 
 module _ {T : Type 0} where
   pub positive : (len : ℕ) (xs : List T) → len ≤ length xs → 0 < length (take len xs) → len - 1 < len

@@ -31,7 +31,7 @@ impl<T, const N: usize> Model for InlineItems<T, N> {
 }
 
 impl<T, const N: usize> InlineItems<T, N> {
-    ghost use Rattle.dsr_cells.specs.Lends.{lends_last};
+    ghost use Rattle.dsr_cells.specs.inner.Lends.{lends_last};
 
     /// The number of items.
     #[inline(always)]
@@ -89,8 +89,8 @@ impl<T, const N: usize> InlineItems<T, N> {
 }
 
 impl<T: MadeWith<Global> + Drop, const N: usize> InlineItems<T, N> {
-    ghost use Rattle.dsr_cells.specs.Lends.{lends_next};
-    ghost use Rattle.dsr_cells.specs.Views.{IsOneMore};
+    ghost use Rattle.dsr_cells.specs.inner.Lends.{lends_next};
+    ghost use Rattle.dsr_cells.specs.inner.Views.{IsOneMore};
 
     /// The empty list. Nothing is allocated before item `N + 1`.
     pub fn new(alloc: Global) -> InlineItems<T, N>

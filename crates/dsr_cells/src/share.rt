@@ -1,6 +1,6 @@
 //! Shares of a work.
 ghost use Rattle.std.specs.Prelude.{◌≡◌, ◌≤◌};
-ghost use Rattle.dsr_cells.specs.Numbers.{share_of};
+ghost use Rattle.dsr_cells.specs.meaning.Numbers.{share_of};
 
 use crate::inline_items::InlineItems;
 use crate::number::read_decimal;

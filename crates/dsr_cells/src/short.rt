@@ -19,7 +19,7 @@ pub(crate) struct ShortText {
 
 impl Model for ShortText {
     ghost use Rattle.std.specs.Prelude.{◌≤◌, List, ℕ, take, IsUtf8};
-    ghost use Rattle.dsr_cells.specs.Short.{HasZerosBehind};
+    ghost use Rattle.dsr_cells.specs.inner.Short.{HasZerosBehind};
 
     ghost Value = { List ℕ };
 

@@ -1,6 +1,6 @@
 //! The events of a file.
 ghost use Rattle.std.specs.Prelude.{◌≡◌};
-ghost use Rattle.dsr_events.specs.Orderly.{is_ended};
+ghost use Rattle.dsr_events.specs.meaning.Orderly.{is_ended};
 
 use crate::fault::Outcome;
 use dsr_cells::Items;
@@ -20,7 +20,7 @@ pub struct Opening {
 }
 
 impl Model for Opening {
-    ghost use Rattle.dsr_events.specs.Openings.{OpeningParts, HasDistinctIds};
+    ghost use Rattle.dsr_events.specs.meaning.Openings.{OpeningParts, HasDistinctIds};
 
     ghost Value = { OpeningParts };
 
@@ -60,7 +60,7 @@ pub struct Event {
 
 impl Model for Event {
     ghost use Rattle.std.specs.Prelude.{◌^◌, ◌<◌};
-    ghost use Rattle.dsr_events.specs.Placed.{Placed};
+    ghost use Rattle.dsr_events.specs.meaning.Placed.{Placed};
 
     ghost Value = { Placed };
 

@@ -1,7 +1,7 @@
 //! The endings, outcomes and faults of a file.
 ghost use Rattle.std.specs.Prelude.{◌≡◌};
-ghost use Rattle.dsr_events.specs.Names.{name_of, column_named};
-ghost use Rattle.dsr_events.specs.Ends.{is_memory};
+ghost use Rattle.dsr_events.specs.meaning.Names.{name_of, column_named};
+ghost use Rattle.dsr_events.specs.meaning.Ends.{is_memory};
 
 use dsr_records::Column;
 

@@ -24,10 +24,10 @@
 //! ```
 //!
 //! **The promise.** An opening has no two summaries with the same identifier, and an event's place is below 2^37. What
-//! an orderly list of events is stands in `specs/Orderly.antt`: event i has place i, Opened may only be the first, a
+//! an orderly list of events is stands in `specs/meaning/Orderly.antt`: event i has place i, Opened may only be the first, a
 //! block may not be the first, and only the last may be Ended.
 //!
-//! **Where to begin.** `specs/Orderly.antt` and `specs/Placed.antt`; then `src/event.rt`.
+//! **Where to begin.** `specs/meaning/Orderly.antt` and `specs/meaning/Placed.antt`; then `src/event.rt`.
 #![tactic(auto)]
 
 mod event;

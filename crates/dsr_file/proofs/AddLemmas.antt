@@ -9,19 +9,19 @@ use Rattle.dsr_records.specs.declared.record.Foot as foot
 use Rattle.dsr_records.specs.declared.record.Record.{Record}
 use Rattle.dsr_records.specs.declared.record.Record.TheVariants.{Head, Summary, Resource, Work, Usage, Foot, Skipped}
 use Rattle.dsr_records.specs.declared.kinds.Kind.TheVariants as kinds
-use Rattle.dsr_records.specs.Reads.{kind_of_record}
+use Rattle.dsr_records.specs.meaning.Reads.{kind_of_record}
 use Rattle.dsr_events.specs.declared.fault.FileFault.{FileFault}
 use Rattle.dsr_events.specs.declared.fault.FileFault.TheVariants as faults
 use Rattle.dsr_events.specs.declared.event.EventPart.{EventPart}
 use Rattle.dsr_file.specs.declared.grammar.Grammar.{Grammar}
-use Rattle.dsr_file.specs.Readings.{Reading, Holds, kept, records, is_skipped_line, is_skipped_record}
-use Rattle.dsr_file.specs.Parts.{closed, summaries, events_of}
-use Rattle.dsr_file.specs.Faults.{fault_if, fault_of, early_fault, count_fault}
-use Rattle.dsr_records.specs.Records.{or_else}
-use Rattle.dsr_file.specs.Texts.{counts_fault}
-use Rattle.dsr_file.specs.Stages.{KeepsStage, IsMember, stage_after, given_by}
-use Rattle.dsr_file.specs.Counting.{foot_in, summary_count, block_count}
-use Rattle.dsr_file.specs.Grammars.{Keeps, kept_count_fault, IsRecord}
+use Rattle.dsr_file.specs.meaning.Readings.{Reading, Holds, kept, records, is_skipped_line, is_skipped_record}
+use Rattle.dsr_file.specs.meaning.Parts.{closed, summaries, events_of}
+use Rattle.dsr_file.specs.meaning.Faults.{fault_if, fault_of, early_fault, count_fault}
+use Rattle.dsr_records.specs.meaning.Records.{or_else}
+use Rattle.dsr_file.specs.meaning.Texts.{counts_fault}
+use Rattle.dsr_file.specs.inner.Stages.{KeepsStage, IsMember, stage_after, given_by}
+use Rattle.dsr_file.specs.inner.Counting.{foot_in, summary_count, block_count}
+use Rattle.dsr_file.specs.inner.Grammars.{Keeps, kept_count_fault, IsRecord}
 use Rattle.dsr_file.proofs.StepLemmas.{Steps, step_record, summaries-append}
 use Rattle.dsr_file.proofs.LineLemmas.{records-push, first_good}
 

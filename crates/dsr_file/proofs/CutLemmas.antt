@@ -6,8 +6,8 @@ use Rattle.std.proofs.lemmas.List.{append-nil, take_more}
 use Rattle.std.proofs.lemmas.Grind.{common_steps}
 use Rattle.std.proofs.lemmas.Bool.Decides.{nat_tests}
 use Rattle.std.specs.List.{slice_split, onto_first, list_any, starts_with}
-use Rattle.dsr_cells.specs.Lines.{is_line_feed, byte_order_mark, without_mark, pieces}
-use Rattle.dsr_file.specs.Cutting.{IsSettled, CutsTo}
+use Rattle.dsr_cells.specs.meaning.Lines.{is_line_feed, byte_order_mark, without_mark, pieces}
+use Rattle.dsr_file.specs.inner.Cutting.{IsSettled, CutsTo}
 use Rattle.dsr_file.proofs.PartLemmas.{onto_last, onto_first-last, onto_last-cons, onto_last_push}
 
 pub split_some : (p : ℕ → Bool) (xs : List ℕ) → (q : List ℕ) × (qs : List (List ℕ)) × (slice_split p xs ≡ q ∷ qs)

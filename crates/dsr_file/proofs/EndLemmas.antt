@@ -5,8 +5,8 @@ use Rattle.std.specs.Prelude.{if◌then◌else◌}
 use Rattle.std.specs.Option.{option_to_list, is_some}
 use Rattle.std.proofs.lemmas.List.{append-nil, map-append}
 use Rattle.std.proofs.lemmas.Bool.Decides.{nat_tests}
-use Rattle.dsr_cells.specs.Lines.{pieces, line_limit}
-use Rattle.dsr_records.specs.Records.{LayoutTable}
+use Rattle.dsr_cells.specs.meaning.Lines.{pieces, line_limit}
+use Rattle.dsr_records.specs.meaning.Records.{LayoutTable}
 use Rattle.dsr_events.specs.declared.fault.FileFault.{FileFault}
 use Rattle.dsr_events.specs.declared.fault.FileFault.TheVariants as faults
 use Rattle.dsr_events.specs.declared.fault.Ending.{Ending}
@@ -21,17 +21,17 @@ use Rattle.dsr_file.specs.declared.grammar.Step.TheVariants.{Good, Faulty, NoMem
 use Rattle.dsr_file.specs.declared.reader.phase.Phase.{Phase}
 use Rattle.dsr_file.specs.declared.reader.phase.Phase.TheVariants as phases
 use Rattle.dsr_file.specs.declared.reader.FileReader.{FileReader}
-use Rattle.dsr_events.specs.Placed.{Placed}
-use Rattle.dsr_events.specs.Orderly.{has_ended}
-use Rattle.dsr_file.specs.Lines.{lines_among}
-use Rattle.dsr_file.specs.Readings.{Reading, reading, records}
-use Rattle.dsr_file.specs.Parts.{events_of}
-use Rattle.dsr_file.specs.Faults.{fault_of}
-use Rattle.dsr_file.specs.Texts.{AllGood, first_from, counts_fault, taken, outcome, outcome_at, end_of, events, placed, readings, so_far, text_events}
-use Rattle.dsr_file.specs.Runs.{ended, known_events, HasEvents}
-use Rattle.dsr_file.specs.Grammars.{Keeps, LineSteps}
-use Rattle.dsr_file.specs.Stages.{column_at}
-use Rattle.dsr_file.specs.Standing.{Stands, StandsAt, SameText, AtEnd, EndsAfter}
+use Rattle.dsr_events.specs.meaning.Placed.{Placed}
+use Rattle.dsr_events.specs.meaning.Orderly.{has_ended}
+use Rattle.dsr_file.specs.meaning.Lines.{lines_among}
+use Rattle.dsr_file.specs.meaning.Readings.{Reading, reading, records}
+use Rattle.dsr_file.specs.meaning.Parts.{events_of}
+use Rattle.dsr_file.specs.meaning.Faults.{fault_of}
+use Rattle.dsr_file.specs.meaning.Texts.{AllGood, first_from, counts_fault, taken, outcome, outcome_at, end_of, events, placed, readings, so_far, text_events}
+use Rattle.dsr_file.specs.meaning.Runs.{ended, known_events, HasEvents}
+use Rattle.dsr_file.specs.inner.Grammars.{Keeps, LineSteps}
+use Rattle.dsr_file.specs.inner.Stages.{column_at}
+use Rattle.dsr_file.specs.inner.Standing.{Stands, StandsAt, SameText, AtEnd, EndsAfter}
 use Rattle.dsr_file.proofs.StageLemmas.{column_kept}
 use Rattle.dsr_file.proofs.LineLemmas.{first_at}
 use Rattle.dsr_file.proofs.LawLemmas.{fault_is_final_lem}

@@ -7,7 +7,7 @@ use Rattle.std.proofs.lemmas.List.Folds.{list_any-append}
 use Rattle.std.specs.Int.Count.{count_trailing_zeros}
 use Rattle.std.proofs.lemmas.Simd.{trailing_mask_l, leading_from_mask_l, length-chunk, run_in_chunk_le, run_in_chunk_fails, run_in_chunk_stops}
 use Rattle.std.proofs.lemmas.Bool.{cases_lt, eqb-true}
-use Rattle.dsr_cells.specs.Lines.{is_line_feed}
+use Rattle.dsr_cells.specs.meaning.Lines.{is_line_feed}
 use Rattle.dsr_file.proofs.CutLemmas.{none_among}
 
 -- no line feed before an index

@@ -9,11 +9,11 @@ use Rattle.std.proofs.lemmas.List.Folds.{list_any-append}
 use Rattle.std.proofs.lemmas.Bool.Decides.{nat_tests}
 use Rattle.std.proofs.lemmas.Bool.{cases_lt, eqb-true}
 use mathlib.Core.List.{IsPrefix}
-use Rattle.dsr_cells.specs.Lines.{is_long, pieces, without_mark, is_line_feed, line_limit}
+use Rattle.dsr_cells.specs.meaning.Lines.{is_long, pieces, without_mark, is_line_feed, line_limit}
 use Rattle.dsr_records.specs.declared.record.Record.{Record}
 use Rattle.dsr_records.specs.declared.record.Record.TheVariants.{Head, Summary, Resource, Work, Usage, Foot, Skipped}
-use Rattle.dsr_records.specs.Blocks.{BlockParts}
-use Rattle.dsr_records.specs.Records.{LayoutTable, or_else}
+use Rattle.dsr_records.specs.meaning.Blocks.{BlockParts}
+use Rattle.dsr_records.specs.meaning.Records.{LayoutTable, or_else}
 use Rattle.dsr_events.specs.declared.fault.FileFault.{FileFault}
 use Rattle.dsr_events.specs.declared.fault.FileFault.TheVariants as faults
 use Rattle.dsr_events.specs.declared.fault.Ending.{Ending}
@@ -22,17 +22,17 @@ use Rattle.dsr_events.specs.declared.event.EventPart.{EventPart}
 use Rattle.dsr_events.specs.declared.event.EventPart.TheVariants as tell
 use Rattle.dsr_file.specs.declared.stage.Stage.{Stage}
 use Rattle.dsr_file.specs.declared.stage.Stage.TheVariants.{Start}
-use Rattle.dsr_events.specs.Openings.{OpeningParts}
-use Rattle.dsr_events.specs.Orderly.{is_ended, has_ended}
-use Rattle.dsr_file.specs.Lines.{lines_among}
-use Rattle.dsr_file.specs.Readings.{Reading, Holds, Faulty, SkippedLine, reading, kept, records}
-use Rattle.dsr_file.specs.Parts.{events_of, opened, opening_of, opens, closed, block_of}
-use Rattle.dsr_file.specs.Faults.{fault_of, early_fault}
-use Rattle.dsr_file.specs.Texts.{First, AllGood, At, first_if, first_from, counts_fault, taken, outcome, ended_so_far, events, events_so_far, placed, readings}
-use Rattle.dsr_file.specs.Texts.{so_far, text_events}
-use Rattle.dsr_file.specs.Stages.{KeepsStage, stage_after}
-use Rattle.dsr_file.specs.Grammars.{IsRecord}
-use Rattle.dsr_file.specs.Cutting.{IsSettled}
+use Rattle.dsr_events.specs.meaning.Openings.{OpeningParts}
+use Rattle.dsr_events.specs.meaning.Orderly.{is_ended, has_ended}
+use Rattle.dsr_file.specs.meaning.Lines.{lines_among}
+use Rattle.dsr_file.specs.meaning.Readings.{Reading, Holds, Faulty, SkippedLine, reading, kept, records}
+use Rattle.dsr_file.specs.meaning.Parts.{events_of, opened, opening_of, opens, closed, block_of}
+use Rattle.dsr_file.specs.meaning.Faults.{fault_of, early_fault}
+use Rattle.dsr_file.specs.meaning.Texts.{First, AllGood, At, first_if, first_from, counts_fault, taken, outcome, ended_so_far, events, events_so_far, placed, readings}
+use Rattle.dsr_file.specs.meaning.Texts.{so_far, text_events}
+use Rattle.dsr_file.specs.inner.Stages.{KeepsStage, stage_after}
+use Rattle.dsr_file.specs.inner.Grammars.{IsRecord}
+use Rattle.dsr_file.specs.inner.Cutting.{IsSettled}
 use Rattle.dsr_file.proofs.LineLemmas.{records-same, first_good, first_at}
 use Rattle.dsr_file.proofs.AddLemmas.{with_item}
 use Rattle.dsr_file.proofs.StepLemmas.{step_record}

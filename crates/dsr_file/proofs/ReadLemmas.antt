@@ -5,7 +5,7 @@ use Rattle.std.proofs.lemmas.List.{append-nil}
 use Rattle.std.proofs.Math.Seq.{take-append_seam, take-nil}
 use mathlib.Core.List.{IsPrefix}
 use Rattle.std.specs.Io.KnownBytes.{Consumes, Keeps, IsAtEnd}
-use Rattle.dsr_records.specs.Records.{LayoutTable}
+use Rattle.dsr_records.specs.meaning.Records.{LayoutTable}
 use Rattle.dsr_events.specs.declared.fault.Ending.{Ending}
 use Rattle.dsr_events.specs.declared.fault.Ending.TheVariants as endings
 use Rattle.dsr_events.specs.declared.fault.FileFault.TheVariants as faults
@@ -16,17 +16,17 @@ use Rattle.dsr_events.specs.declared.event.EventPart.TheVariants.{Ended}
 use Rattle.dsr_file.specs.declared.read_count.ReadCount.{ReadCount}
 use Rattle.dsr_file.specs.declared.reader.phase.Phase.TheVariants as phases
 use Rattle.dsr_file.specs.declared.reader.FileReader.{FileReader}
-use Rattle.dsr_events.specs.Placed.{Placed}
-use Rattle.dsr_events.specs.Orderly.{has_ended}
-use Rattle.dsr_file.specs.Readings.{records}
-use Rattle.dsr_file.specs.Parts.{events_of, last_of}
-use Rattle.dsr_file.specs.Texts.{events_so_far, placed, readings, text_events, so_far}
-use Rattle.dsr_events.specs.Ends.{is_memory}
-use Rattle.dsr_file.specs.Runs.{FileText, ended, BeginsEvents, HasEvents, IsCutOff, EndsWith}
-use Rattle.dsr_file.specs.ReadCounts.{Answered, AddsRead}
-use Rattle.dsr_file.specs.Sources.{Told, Gave, before_last, HasEarlier, Stopped, IsRead, IsRefused}
-use Rattle.dsr_file.specs.Standing.{Stands, StandsAt, IsDone}
-use Rattle.dsr_file.specs.Feeding.{Fed, FedSome, Reads}
+use Rattle.dsr_events.specs.meaning.Placed.{Placed}
+use Rattle.dsr_events.specs.meaning.Orderly.{has_ended}
+use Rattle.dsr_file.specs.meaning.Readings.{records}
+use Rattle.dsr_file.specs.meaning.Parts.{events_of, last_of}
+use Rattle.dsr_file.specs.meaning.Texts.{events_so_far, placed, readings, text_events, so_far}
+use Rattle.dsr_events.specs.meaning.Ends.{is_memory}
+use Rattle.dsr_file.specs.meaning.Runs.{FileText, ended, BeginsEvents, HasEvents, IsCutOff, EndsWith}
+use Rattle.dsr_file.specs.meaning.ReadCounts.{Answered, AddsRead}
+use Rattle.dsr_file.specs.meaning.Sources.{Told, Gave, before_last, HasEarlier, Stopped, IsRead, IsRefused}
+use Rattle.dsr_file.specs.inner.Standing.{Stands, StandsAt, IsDone}
+use Rattle.dsr_file.specs.inner.Feeding.{Fed, FedSome, Reads}
 use Rattle.dsr_file.proofs.LawLemmas.{fault_is_final_lem}
 use Rattle.dsr_file.proofs.RunLemmas.{cut_off_is, cut_off_later}
 use Rattle.dsr_file.proofs.StandLemmas.{ended_last, ends_has_ended, done_ended}

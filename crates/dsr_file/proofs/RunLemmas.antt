@@ -7,8 +7,8 @@ use Rattle.std.specs.List.{filter_map}
 use Rattle.std.proofs.lemmas.List.{append-nil, map-append}
 use Rattle.std.proofs.lemmas.List.Folds.{list_any-append}
 use Rattle.dsr_records.specs.declared.record.Record.{Record}
-use Rattle.dsr_records.specs.Blocks.{BlockParts}
-use Rattle.dsr_records.specs.Records.{LayoutTable}
+use Rattle.dsr_records.specs.meaning.Blocks.{BlockParts}
+use Rattle.dsr_records.specs.meaning.Records.{LayoutTable}
 use Rattle.dsr_events.specs.declared.fault.FileFault.{FileFault}
 use Rattle.dsr_events.specs.declared.fault.FileFault.TheVariants as faults
 use Rattle.dsr_events.specs.declared.fault.Ending.{Ending}
@@ -18,17 +18,17 @@ use Rattle.dsr_events.specs.declared.event.EventPart.{EventPart}
 use Rattle.dsr_events.specs.declared.event.EventPart.TheVariants as tell
 use Rattle.dsr_file.specs.declared.stage.Stage.{Stage}
 use Rattle.dsr_file.specs.declared.stage.Stage.TheVariants.{Start, Front, Open, Closed}
-use Rattle.dsr_events.specs.Openings.{OpeningParts}
-use Rattle.dsr_events.specs.Placed.{Placed}
-use Rattle.dsr_events.specs.Orderly.{is_ended, has_ended, IsOrderly}
-use Rattle.dsr_events.specs.OrderlyLaws.{orderly_nil, orderly_front, orderly_push}
-use Rattle.dsr_file.specs.Readings.{Reading, Holds, Faulty, SkippedLine, reading, kept, records}
-use Rattle.dsr_file.specs.Parts.{events_of, opens, closed, block_of, summaries}
-use Rattle.dsr_file.specs.Faults.{fault_of}
-use Rattle.dsr_file.specs.Texts.{AllGood, first_from, counts_fault, taken, outcome, events, placed, readings, text_events}
-use Rattle.dsr_file.specs.Stages.{KeepsStage, stage_after, part_given}
-use Rattle.dsr_file.specs.Grammars.{IsRecord}
-use Rattle.dsr_file.specs.Runs.{FileText, ended, EndsByMemory, IsRun, IsCutOff}
+use Rattle.dsr_events.specs.meaning.Openings.{OpeningParts}
+use Rattle.dsr_events.specs.meaning.Placed.{Placed}
+use Rattle.dsr_events.specs.meaning.Orderly.{is_ended, has_ended, IsOrderly}
+use Rattle.dsr_events.specs.inner.OrderlyLaws.{orderly_nil, orderly_front, orderly_push}
+use Rattle.dsr_file.specs.meaning.Readings.{Reading, Holds, Faulty, SkippedLine, reading, kept, records}
+use Rattle.dsr_file.specs.meaning.Parts.{events_of, opens, closed, block_of, summaries}
+use Rattle.dsr_file.specs.meaning.Faults.{fault_of}
+use Rattle.dsr_file.specs.meaning.Texts.{AllGood, first_from, counts_fault, taken, outcome, events, placed, readings, text_events}
+use Rattle.dsr_file.specs.inner.Stages.{KeepsStage, stage_after, part_given}
+use Rattle.dsr_file.specs.inner.Grammars.{IsRecord}
+use Rattle.dsr_file.specs.meaning.Runs.{FileText, ended, EndsByMemory, IsRun, IsCutOff}
 use Rattle.dsr_file.proofs.LineLemmas.{records-same, first_good, first_at}
 use Rattle.dsr_file.proofs.AddLemmas.{with_item}
 use Rattle.dsr_file.proofs.StepLemmas.{step_record, front_events, opened_known}

@@ -8,9 +8,9 @@ use Rattle.std.proofs.lemmas.List.{append-nil, map-append}
 use Rattle.std.proofs.lemmas.List.Folds.{list_any-append}
 use Rattle.std.proofs.lemmas.Grind.{common_steps}
 use Rattle.std.specs.List.{list_any}
-use Rattle.dsr_cells.specs.Lines.{is_long}
+use Rattle.dsr_cells.specs.meaning.Lines.{is_long}
 use Rattle.dsr_records.specs.declared.record.Record.{Record}
-use Rattle.dsr_records.specs.Records.{LayoutTable}
+use Rattle.dsr_records.specs.meaning.Records.{LayoutTable}
 use Rattle.dsr_events.specs.declared.fault.FileFault.{FileFault}
 use Rattle.dsr_events.specs.declared.fault.FileFault.TheVariants as faults
 use Rattle.dsr_events.specs.declared.fault.Ending.{Ending}
@@ -26,17 +26,17 @@ use Rattle.dsr_file.specs.declared.cutter.Cut.TheVariants.{Kept, Here, Long}
 use Rattle.dsr_file.specs.declared.reader.phase.Phase.{Phase}
 use Rattle.dsr_file.specs.declared.reader.phase.Phase.TheVariants as phases
 use Rattle.dsr_file.specs.declared.reader.FileReader.{FileReader}
-use Rattle.dsr_events.specs.Placed.{Placed}
-use Rattle.dsr_events.specs.Orderly.{is_ended, has_ended}
-use Rattle.dsr_file.specs.Readings.{Reading, reading, records}
-use Rattle.dsr_file.specs.Readings as of
-use Rattle.dsr_file.specs.Parts.{events_of}
-use Rattle.dsr_file.specs.Faults.{fault_of}
-use Rattle.dsr_file.specs.Texts.{AllGood, first_from, events_so_far, placed, readings, so_far}
-use Rattle.dsr_file.specs.Runs.{ended, known_events, known_lines, BeginsEvents, IsCutOff, EndsWith}
-use Rattle.dsr_file.specs.Grammars.{Keeps, LineSteps, TakesMemory}
-use Rattle.dsr_file.specs.Cutting.{CutsTo, CutSteps}
-use Rattle.dsr_file.specs.Standing.{Stands, StandsAt, SameText, AtLine, AtAnswer, AtCut, EndsAfter, IsDone}
+use Rattle.dsr_events.specs.meaning.Placed.{Placed}
+use Rattle.dsr_events.specs.meaning.Orderly.{is_ended, has_ended}
+use Rattle.dsr_file.specs.meaning.Readings.{Reading, reading, records}
+use Rattle.dsr_file.specs.meaning.Readings as of
+use Rattle.dsr_file.specs.meaning.Parts.{events_of}
+use Rattle.dsr_file.specs.meaning.Faults.{fault_of}
+use Rattle.dsr_file.specs.meaning.Texts.{AllGood, first_from, events_so_far, placed, readings, so_far}
+use Rattle.dsr_file.specs.meaning.Runs.{ended, known_events, known_lines, BeginsEvents, IsCutOff, EndsWith}
+use Rattle.dsr_file.specs.inner.Grammars.{Keeps, LineSteps, TakesMemory}
+use Rattle.dsr_file.specs.inner.Cutting.{CutsTo, CutSteps}
+use Rattle.dsr_file.specs.inner.Standing.{Stands, StandsAt, SameText, AtLine, AtAnswer, AtCut, EndsAfter, IsDone}
 use Rattle.dsr_file.proofs.LawLemmas.{no_ended, ended_placed}
 use Rattle.dsr_file.proofs.ReaderLemmas.{placed-append, length-placed, readings_short, readings_long, fault_events, good_events}
 

@@ -9,30 +9,30 @@ use Rattle.std.proofs.lemmas.List.Elements.{filter_map-append}
 use Rattle.std.proofs.lemmas.List.Folds.{list_all-append, list_any-append}
 use Rattle.std.specs.List.{onto_first, filter_map, list_any, list_all}
 use Rattle.std.specs.Str.{bytes_eq}
-use Rattle.dsr_records.specs.Records.{or_else}
+use Rattle.dsr_records.specs.meaning.Records.{or_else}
 use Rattle.dsr_records.specs.declared.kinds.Kind.{Kind}
 use Rattle.dsr_records.specs.declared.kinds.Kind.TheVariants as kinds
 use Rattle.dsr_records.specs.declared.record.Record.{Record}
 use Rattle.dsr_records.specs.declared.record.Record.TheVariants as the
 use Rattle.dsr_records.specs.declared.record.Summary as summary
-use Rattle.dsr_records.specs.Works.{WorkParts}
+use Rattle.dsr_records.specs.meaning.Works.{WorkParts}
 use Rattle.dsr_records.specs.declared.record.Usage as usage
 use Rattle.dsr_records.specs.declared.record.Head as head
 use Rattle.dsr_records.specs.declared.record.Foot as foot
 use Rattle.dsr_records.specs.declared.record.Resource as resource
-use Rattle.dsr_records.specs.Blocks.{BlockParts}
+use Rattle.dsr_records.specs.meaning.Blocks.{BlockParts}
 use Rattle.dsr_events.specs.declared.fault.FileFault.{FileFault}
-use Rattle.dsr_events.specs.Openings.{OpeningParts}
+use Rattle.dsr_events.specs.meaning.Openings.{OpeningParts}
 use Rattle.dsr_events.specs.declared.event.EventPart.TheVariants as tell
 use Rattle.dsr_file.specs.declared.stage.Before.TheVariants as columns
 use Rattle.dsr_file.specs.declared.stage.Stage.{Stage}
 use Rattle.dsr_file.specs.declared.stage.Stage.TheVariants.{Start, Front, Open, Closed}
-use Rattle.dsr_file.specs.Parts.{parts, opens, but_last, closed, block_limit, has_id, summaries, works, usages, works_then_usages, is_usage, block_of}
-use Rattle.dsr_file.specs.Parts.{opening_of, opened, events_of}
-use Rattle.dsr_file.specs.Faults.{column, place, fault_if, summary_fault, member_fault, early_fault}
-use Rattle.dsr_file.specs.Stages.{column_at, block_length, stage_fault, given_by, stage_after, records_of, IsOpen, KeepsStage}
-use Rattle.dsr_file.specs.Grammars.{IsRecord}
-use Rattle.dsr_file.specs.Counting.{block_count}
+use Rattle.dsr_file.specs.meaning.Parts.{parts, opens, but_last, closed, block_limit, has_id, summaries, works, usages, works_then_usages, is_usage, block_of}
+use Rattle.dsr_file.specs.meaning.Parts.{opening_of, opened, events_of}
+use Rattle.dsr_file.specs.meaning.Faults.{column, place, fault_if, summary_fault, member_fault, early_fault}
+use Rattle.dsr_file.specs.inner.Stages.{column_at, block_length, stage_fault, given_by, stage_after, records_of, IsOpen, KeepsStage}
+use Rattle.dsr_file.specs.inner.Grammars.{IsRecord}
+use Rattle.dsr_file.specs.inner.Counting.{block_count}
 use Rattle.dsr_file.proofs.StageLemmas.{column_kept, fault_agrees}
 use Rattle.dsr_file.proofs.PartLemmas.{onto_last, parts_open, parts_stay, but_last_push, last_of_push, onto_last_push, closed_stay, closed_open}
 

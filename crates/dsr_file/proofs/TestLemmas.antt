@@ -6,10 +6,10 @@ use Rattle.std.specs.Str.{is_utf8, IsUtf8, bytes_eq}
 use Rattle.std.proofs.lemmas.List.{append-nil}
 use Rattle.std.proofs.lemmas.Str.{IsUtf8-from_is_utf8}
 use Rattle.std.proofs.lemmas.Bool.Decides.{nat_tests}
-use Rattle.dsr_cells.specs.Lines.{line_limit, is_long, without_return}
-use Rattle.dsr_records.specs.Reads.{id_of_record, kind_of_record}
-use Rattle.dsr_records.specs.Records.{LayoutTable, or_else}
-use Rattle.dsr_records.specs.Values.{record_of}
+use Rattle.dsr_cells.specs.meaning.Lines.{line_limit, is_long, without_return}
+use Rattle.dsr_records.specs.meaning.Reads.{id_of_record, kind_of_record}
+use Rattle.dsr_records.specs.meaning.Records.{LayoutTable, or_else}
+use Rattle.dsr_records.specs.meaning.Values.{record_of}
 use Rattle.dsr_records.specs.declared.kinds.Kind.{Kind}
 use Rattle.dsr_records.specs.declared.kinds.Kind.TheVariants as kinds
 use Rattle.dsr_records.specs.declared.kinds.RecordFault.{RecordFault}
@@ -24,14 +24,14 @@ use Rattle.dsr_file.specs.declared.grammar.Step.TheVariants.{Good, Faulty}
 use Rattle.dsr_file.specs.declared.stage.Before.{Before}
 use Rattle.dsr_file.specs.declared.stage.Before.TheVariants as columns
 use Rattle.dsr_file.specs.declared.stage.Stage.{Stage}
-use Rattle.dsr_file.specs.Readings.{Reading, Holds, SkippedLine, reading, of_text, of_utf8, of_record, is_skipped_text, kept, records, is_skipped_line}
-use Rattle.dsr_file.specs.Readings.{is_skipped_record, file_fault}
-use Rattle.dsr_file.specs.Readings as line
-use Rattle.dsr_file.specs.Parts.{closed, summaries, events_of, last_of}
-use Rattle.dsr_file.specs.Faults.{fault_if, fault_of, early_fault, place, column, member_fault, in_part, summary_fault, summary_limit, last_part, first_id}
-use Rattle.dsr_file.specs.Texts.{counts_fault}
-use Rattle.dsr_file.specs.Stages.{IsOther, stage_fault}
-use Rattle.dsr_file.specs.Grammars.{Keeps, LineSteps, IsRecord}
+use Rattle.dsr_file.specs.meaning.Readings.{Reading, Holds, SkippedLine, reading, of_text, of_utf8, of_record, is_skipped_text, kept, records, is_skipped_line}
+use Rattle.dsr_file.specs.meaning.Readings.{is_skipped_record, file_fault}
+use Rattle.dsr_file.specs.meaning.Readings as line
+use Rattle.dsr_file.specs.meaning.Parts.{closed, summaries, events_of, last_of}
+use Rattle.dsr_file.specs.meaning.Faults.{fault_if, fault_of, early_fault, place, column, member_fault, in_part, summary_fault, summary_limit, last_part, first_id}
+use Rattle.dsr_file.specs.meaning.Texts.{counts_fault}
+use Rattle.dsr_file.specs.inner.Stages.{IsOther, stage_fault}
+use Rattle.dsr_file.specs.inner.Grammars.{Keeps, LineSteps, IsRecord}
 use Rattle.dsr_file.proofs.StageLemmas.{fault_agrees}
 use Rattle.dsr_file.proofs.LineLemmas.{records-same, first_good}
 use Rattle.dsr_file.proofs.AddLemmas.{count_by_push_no, count_by_push_yes}

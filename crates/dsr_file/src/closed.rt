@@ -2,11 +2,11 @@
 ghost use Rattle.std.specs.Prelude.{◌≡◌, ◌++◌, ◌∷◌, ◌<◌, ◌^◌, [], true, false, IfOk, OnOk, OnErr, IfSome, Some, None, is_some};
 ghost use Rattle.std.specs.Option.{option_to_list};
 ghost use Rattle.dsr_records.specs.declared.kinds.Kind.TheVariants as kinds;
-ghost use Rattle.dsr_records.specs.Blocks.{OpensBlock};
-ghost use Rattle.dsr_records.specs.Reads.{has_texts, kind_of_record};
-ghost use Rattle.dsr_file.specs.Runs.{IsSomeRun};
-ghost use Rattle.dsr_file.specs.Counting.{block_count};
-ghost use Rattle.dsr_file.specs.Closing.{event_at};
+ghost use Rattle.dsr_records.specs.meaning.Blocks.{OpensBlock};
+ghost use Rattle.dsr_records.specs.meaning.Reads.{has_texts, kind_of_record};
+ghost use Rattle.dsr_file.specs.meaning.Runs.{IsSomeRun};
+ghost use Rattle.dsr_file.specs.inner.Counting.{block_count};
+ghost use Rattle.dsr_file.specs.meaning.Closing.{event_at};
 
 use crate::sink::Sink;
 use dsr_cells::NoMemory;
@@ -39,7 +39,7 @@ fn new_block(alloc: Global) -> Result<BoxedBlock, NoMemory> {
 impl Model for Closed {
     ghost use Rattle.std.specs.Prelude.{Option};
     ghost use Rattle.dsr_events.specs.declared.event.EventPart.{EventPart};
-    ghost use Rattle.dsr_file.specs.Closing.{part_closed, IsOne};
+    ghost use Rattle.dsr_file.specs.meaning.Closing.{part_closed, IsOne};
 
     ghost Value = { Option EventPart };
 

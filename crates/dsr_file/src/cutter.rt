@@ -1,6 +1,6 @@
 //! Cutting the bytes of a text into lines.
 ghost use Rattle.std.specs.Prelude.{◌≡◌, ◌++◌, ◌∷◌, [], ◌+◌, ◌<◌, ◌≤◌, length, List, ℕ, false, take, IfOk, IsTrue, vec_capacity};
-ghost use Rattle.dsr_cells.specs.Lines.{without_mark};
+ghost use Rattle.dsr_cells.specs.meaning.Lines.{without_mark};
 
 use crate::line_feed::line_end;
 use dsr_cells::NoMemory;
@@ -34,7 +34,7 @@ pub(crate) struct Cutter {
 }
 
 impl Cutter {
-    ghost use Rattle.dsr_file.specs.Cutting.{CutsTo, CutSteps, FitsCut};
+    ghost use Rattle.dsr_file.specs.inner.Cutting.{CutsTo, CutSteps, FitsCut};
 
     /// An empty cutter, with room for the longest line.
     pub(crate) fn new(alloc: Global) -> Result<Cutter, NoMemory>

@@ -16,7 +16,7 @@ pub struct EventList {
 
 impl Model for EventList {
     ghost use Rattle.std.specs.Prelude.{List};
-    ghost use Rattle.dsr_events.specs.Placed.{Placed};
+    ghost use Rattle.dsr_events.specs.meaning.Placed.{Placed};
 
     ghost Value = { List Placed };
 

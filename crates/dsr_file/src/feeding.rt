@@ -1,10 +1,10 @@
 //! Feeding bytes to a reader, and its events to a sink.
 ghost use Rattle.std.specs.Prelude.{◌≡◌, ◌++◌, ◌∷◌, [], ◌+◌, ◌≤◌, ◌^◌, length, List, ℕ, Some, None, OnOk, IfOk, IfErr, IfSome};
 ghost use mathlib.Core.List.{IsPrefix};
-ghost use Rattle.dsr_records.specs.Records.{LayoutTable};
-ghost use Rattle.dsr_file.specs.Runs.{BeginsEvents, HasEvents, EndsWith};
-ghost use Rattle.dsr_file.specs.Standing.{Stands, bytes_used, ending_told};
-ghost use Rattle.dsr_file.specs.Feeding.{IsKnown, Fed, FedSome};
+ghost use Rattle.dsr_records.specs.meaning.Records.{LayoutTable};
+ghost use Rattle.dsr_file.specs.meaning.Runs.{BeginsEvents, HasEvents, EndsWith};
+ghost use Rattle.dsr_file.specs.inner.Standing.{Stands, bytes_used, ending_told};
+ghost use Rattle.dsr_file.specs.inner.Feeding.{IsKnown, Fed, FedSome};
 
 use crate::closed::Closed;
 use crate::reader::FileReader;

@@ -1,8 +1,8 @@
 //! Taking the lines of a file one after another, each with the event that it closes or the fault that ends the file.
 ghost use Rattle.std.specs.Prelude.{◌≡◌, ◌+◌, ◌-◌, ◌<◌, ◌≤◌, ◌^◌, [], length, List, None, true, option_and_then};
-ghost use Rattle.dsr_cells.specs.Lines.{without_return};
-ghost use Rattle.dsr_file.specs.Readings.{is_skipped_text, file_fault};
-ghost use Rattle.dsr_file.specs.Counting.{foot_in, summary_count};
+ghost use Rattle.dsr_cells.specs.meaning.Lines.{without_return};
+ghost use Rattle.dsr_file.specs.meaning.Readings.{is_skipped_text, file_fault};
+ghost use Rattle.dsr_file.specs.inner.Counting.{foot_in, summary_count};
 
 use crate::closed::Closed;
 use crate::stage::Stage;
@@ -38,13 +38,13 @@ pub(crate) struct Grammar {
 
 impl Grammar {
     ghost use Rattle.dsr_file.specs.declared.grammar.Step.{Step};
-    ghost use Rattle.dsr_file.specs.Readings.{Reading, SkippedLine, Holds, reading, of_record, of_utf8};
+    ghost use Rattle.dsr_file.specs.meaning.Readings.{Reading, SkippedLine, Holds, reading, of_record, of_utf8};
     ghost use Rattle.dsr_records.specs.declared.record.Record.TheVariants as the;
-    ghost use Rattle.dsr_file.specs.Grammars.{Keeps, LineSteps, RecordSteps, IsRecord, kept_count_fault};
+    ghost use Rattle.dsr_file.specs.inner.Grammars.{Keeps, LineSteps, RecordSteps, IsRecord, kept_count_fault};
     ghost use Rattle.dsr_records.specs.declared.kinds.Kind.TheVariants as kinds;
-    ghost use Rattle.dsr_records.specs.Reads.{kind_of_record};
-    ghost use Rattle.dsr_file.specs.Stages.{IsFree, IsMember, IsOther, column_at};
-    ghost use Rattle.dsr_file.specs.Texts.{outcome_at};
+    ghost use Rattle.dsr_records.specs.meaning.Reads.{kind_of_record};
+    ghost use Rattle.dsr_file.specs.inner.Stages.{IsFree, IsMember, IsOther, column_at};
+    ghost use Rattle.dsr_file.specs.meaning.Texts.{outcome_at};
 
     /// A grammar that has taken no line.
     pub(crate) fn new() -> Grammar

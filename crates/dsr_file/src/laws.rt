@@ -1,11 +1,11 @@
 //! Laws of the events of texts: functions that do nothing, whose contracts are the laws.
 ghost use Rattle.std.specs.Prelude.{◌≡◌, ◌++◌, List, ℕ, true};
 ghost use mathlib.Core.List.{IsPrefix};
-ghost use Rattle.dsr_records.specs.Records.{LayoutTable};
-ghost use Rattle.dsr_events.specs.Orderly.{has_ended, IsOrderly};
-ghost use Rattle.dsr_events.specs.Placed.{Placed};
-ghost use Rattle.dsr_file.specs.Runs.{FileText, IsRun};
-ghost use Rattle.dsr_file.specs.Texts.{so_far, text_events};
+ghost use Rattle.dsr_records.specs.meaning.Records.{LayoutTable};
+ghost use Rattle.dsr_events.specs.meaning.Orderly.{has_ended, IsOrderly};
+ghost use Rattle.dsr_events.specs.meaning.Placed.{Placed};
+ghost use Rattle.dsr_file.specs.meaning.Runs.{FileText, IsRun};
+ghost use Rattle.dsr_file.specs.meaning.Texts.{so_far, text_events};
 ghost use Rattle.dsr_events.specs.declared.fault.Ending.{Ending};
 
 /// The events of bytes are the first events of every text that begins with these bytes.

@@ -62,8 +62,8 @@
 //! bytes so far stay right whatever follows ([`laws`]). `read_file` makes no more reads than its
 //! limit, and none after the end, a failed read or a fault.
 //!
-//! **Where to begin.** `specs/Faults.antt` has the places of the records and the faults of a
-//! line, `specs/Texts.antt` the events of a text; `src/reader.rt` and `src/reading.rt` have the
+//! **Where to begin.** `specs/meaning/Faults.antt` has the places of the records and the faults of a
+//! line, `specs/meaning/Texts.antt` the events of a text; `src/reader.rt` and `src/reading.rt` have the
 //! calls.
 #![tactic(auto)]
 

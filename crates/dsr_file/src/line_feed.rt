@@ -2,7 +2,7 @@
 ghost use Rattle.std.specs.Prelude.{◌≡◌, ◌+◌, ◌<◌, ◌≤◌, ◌==◌, length, map, not, false, take, slice_index};
 ghost use Rattle.std.specs.List.{list_any, prefix_len};
 ghost use Rattle.std.specs.Simd.Lanes.{chunk, mask_l};
-ghost use Rattle.dsr_cells.specs.Lines.{is_line_feed};
+ghost use Rattle.dsr_cells.specs.meaning.Lines.{is_line_feed};
 
 use memchr::memchr;
 use std::simd::prelude::*;

@@ -1,10 +1,10 @@
 //! The reader of a file, which takes the bytes in pieces.
 ghost use Rattle.std.specs.Prelude.{◌≡◌, ◌++◌, [], ◌+◌, ◌<◌, ◌≤◌, ◌^◌, ◌⊎◌, ◌↔◌, length, List, ℕ, true, take, Some, None, IfOk, IfNone, OnSome, IsTrue};
 ghost use Rattle.std.specs.Option.{option_to_list};
-ghost use Rattle.dsr_records.specs.Records.{LayoutTable};
-ghost use Rattle.dsr_events.specs.Placed.{Placed};
-ghost use Rattle.dsr_events.specs.Orderly.{has_ended};
-ghost use Rattle.dsr_file.specs.Allowance.{allowance};
+ghost use Rattle.dsr_records.specs.meaning.Records.{LayoutTable};
+ghost use Rattle.dsr_events.specs.meaning.Placed.{Placed};
+ghost use Rattle.dsr_events.specs.meaning.Orderly.{has_ended};
+ghost use Rattle.dsr_file.specs.inner.Allowance.{allowance};
 
 mod ending;
 mod events;
@@ -49,9 +49,9 @@ pub struct FileReader {
 }
 
 impl FileReader {
-    ghost use Rattle.dsr_file.specs.Standing.{Stands, IsDone, bytes_used, events_left, ending_told, first_ending};
-    ghost use Rattle.dsr_file.specs.ReaderSteps.{StandsAs};
-    ghost use Rattle.dsr_file.specs.Runs.{BeginsEvents, HasEvents};
+    ghost use Rattle.dsr_file.specs.inner.Standing.{Stands, IsDone, bytes_used, events_left, ending_told, first_ending};
+    ghost use Rattle.dsr_file.specs.inner.ReaderSteps.{StandsAs};
+    ghost use Rattle.dsr_file.specs.meaning.Runs.{BeginsEvents, HasEvents};
     ghost use Rattle.dsr_file.specs.declared.reader.phase.Phase.TheVariants as phases;
 
     /// A reader that has used no bytes. It keeps the allocator and a copy of the layout.

@@ -1,10 +1,10 @@
 //! Reading a file from a source to its end.
 ghost use Rattle.std.specs.Prelude.{◌≡◌, [], ◌<◌, ◌≤◌, ◌^◌, false, None, IfOk, OnOk, IfErr};
-ghost use Rattle.dsr_records.specs.Records.{LayoutTable};
-ghost use Rattle.dsr_file.specs.Runs.{EndsWith};
-ghost use Rattle.dsr_file.specs.Sources.{IsRead, IsRefused};
-ghost use Rattle.dsr_file.specs.Refusals.{IsRefusal, refused_event};
-ghost use Rattle.dsr_file.specs.Standing.{Stands, bytes_used, ending_told};
+ghost use Rattle.dsr_records.specs.meaning.Records.{LayoutTable};
+ghost use Rattle.dsr_file.specs.meaning.Runs.{EndsWith};
+ghost use Rattle.dsr_file.specs.meaning.Sources.{IsRead, IsRefused};
+ghost use Rattle.dsr_file.specs.meaning.Refusals.{IsRefusal, refused_event};
+ghost use Rattle.dsr_file.specs.inner.Standing.{Stands, bytes_used, ending_told};
 
 use crate::closed::Closed;
 use crate::feeding::{feed, finish_all};

@@ -1,7 +1,7 @@
 //! The destination of a file's events.
 ghost use Rattle.std.specs.Prelude.{◌≡◌, ◌<◌, ◌^◌, List, [], ◌∷◌, ◌++◌, true, false, OnOk, IfErr};
-ghost use Rattle.dsr_events.specs.Placed.{Placed, block_event};
-ghost use Rattle.dsr_file.specs.Runs.{IsSomeRun};
+ghost use Rattle.dsr_events.specs.meaning.Placed.{Placed, block_event};
+ghost use Rattle.dsr_file.specs.meaning.Runs.{IsSomeRun};
 
 use dsr_events::Event;
 use dsr_records::Block;

@@ -2,8 +2,8 @@
 ghost use Rattle.std.specs.Prelude.{◌≡◌, ◌<◌, true, false, length, MatchResult};
 ghost use Rattle.std.specs.Io.{ReadsAtMost};
 ghost use Rattle.std.specs.Io.KnownBytes.{ReadConsumes};
-ghost use Rattle.dsr_file.specs.ReadCounts.{AddsRead, no_reads};
-ghost use Rattle.dsr_file.specs.Sources.{Told};
+ghost use Rattle.dsr_file.specs.meaning.ReadCounts.{AddsRead, no_reads};
+ghost use Rattle.dsr_file.specs.meaning.Sources.{Told};
 
 use crate::read_count::ReadCount;
 use std::io::Read;

@@ -1,10 +1,10 @@
 //! All events of a text.
 ghost use Rattle.std.specs.Prelude.{◌≡◌, ◌++◌, ◌+◌, ◌≤◌, ◌^◌, [], length, List, ℕ, Some, None, Ok, IfOk};
-ghost use Rattle.dsr_records.specs.Records.{LayoutTable};
-ghost use Rattle.dsr_file.specs.Texts.{text_events};
-ghost use Rattle.dsr_file.specs.Runs.{HasEvents, EndsWith};
-ghost use Rattle.dsr_file.specs.Standing.{Stands, bytes_used, ending_told};
-ghost use Rattle.dsr_file.specs.Feeding.{IsKnown};
+ghost use Rattle.dsr_records.specs.meaning.Records.{LayoutTable};
+ghost use Rattle.dsr_file.specs.meaning.Texts.{text_events};
+ghost use Rattle.dsr_file.specs.meaning.Runs.{HasEvents, EndsWith};
+ghost use Rattle.dsr_file.specs.inner.Standing.{Stands, bytes_used, ending_told};
+ghost use Rattle.dsr_file.specs.inner.Feeding.{IsKnown};
 
 use crate::closed::Closed;
 use crate::event_list::EventList;

@@ -6,7 +6,7 @@ use Rattle.std.specs.Int.RustNames.{FitsSigned}
 use Rattle.std.specs.Fmt.{decimal, sign_text}
 use Rattle.std.proofs.lemmas.Fmt.{length-decimal-le_wide}
 use Rattle.std.proofs.lemmas.Int.{ints}
-use Rattle.dsr_cells.specs.Written.{padded_number, written}
+use Rattle.dsr_cells.specs.meaning.Written.{padded_number, written}
 use Rattle.dsr_cells.proofs.Spelled.{padded_length}
 use Rattle.dsr_intake.specs.inner.Bound.{IsUpTo}
 use Rattle.dsr_intake.specs.inner.Puts.{Puts, end_of_line}

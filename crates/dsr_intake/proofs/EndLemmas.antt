@@ -4,10 +4,10 @@ use Rattle.dsr_events.specs.declared.fault.FileFault.TheVariants.{Memory}
 use Rattle.dsr_events.specs.declared.fault.Outcome.TheVariants.{Fault}
 use Rattle.dsr_events.specs.declared.event.EventPart.{EventPart}
 use Rattle.dsr_events.specs.declared.event.EventPart.TheVariants.{Opened, Block, Ended}
-use Rattle.dsr_events.specs.Placed.{Placed}
-use Rattle.dsr_events.specs.Orderly.{is_ended, has_ended, IsOrderly}
-use Rattle.dsr_events.specs.OrderlyLaws.{slice_get_front}
-use Rattle.dsr_file.specs.Texts.{placed}
+use Rattle.dsr_events.specs.meaning.Placed.{Placed}
+use Rattle.dsr_events.specs.meaning.Orderly.{is_ended, has_ended, IsOrderly}
+use Rattle.dsr_events.specs.inner.OrderlyLaws.{slice_get_front}
+use Rattle.dsr_file.specs.meaning.Texts.{placed}
 use Rattle.dsr_intake.specs.inner.Ends.{is_clean_end, ends_clean}
 
 pub ends_clean_push : (xs : List Placed) (e : Placed) → ends_clean (xs ++ e ∷ []) ≡ is_clean_end e.part

@@ -8,13 +8,13 @@ use Rattle.std.proofs.lemmas.Option.{get_or_from_slice_get}
 use Rattle.std.proofs.lemmas.List.Elements.{filter_map-append}
 use Rattle.dsr_events.specs.declared.event.EventPart.{EventPart}
 use Rattle.dsr_events.specs.declared.event.EventPart.TheVariants as part
-use Rattle.dsr_events.specs.Placed.{Placed}
-use Rattle.dsr_events.specs.Orderly.{is_ended, has_ended, MayStandAt, IsOrderly}
-use Rattle.dsr_events.specs.OrderlyLaws.{orderly_front}
+use Rattle.dsr_events.specs.meaning.Placed.{Placed}
+use Rattle.dsr_events.specs.meaning.Orderly.{is_ended, has_ended, MayStandAt, IsOrderly}
+use Rattle.dsr_events.specs.inner.OrderlyLaws.{orderly_front}
 use Rattle.dsr_relay.proofs.Taking.{going_on}
 use Rattle.dsr_ledger.specs.declared.books.Books.{Books}
-use Rattle.dsr_ledger.specs.Files.{File}
-use Rattle.dsr_ledger.specs.BooksWords.{Stands}
+use Rattle.dsr_ledger.specs.meaning.Files.{File}
+use Rattle.dsr_ledger.specs.inner.BooksWords.{Stands}
 use Rattle.dsr_intake.specs.inner.Ends.{ends_clean, is_clean_end}
 use Rattle.dsr_intake.specs.meaning.Texts.{opening_in, block_in, outcome_in, first, file_of}
 use Rattle.dsr_intake.specs.inner.Collecting.{with_part, is_opening, IsGoing, Knows, Changes, IsFollowed, TakesAll}

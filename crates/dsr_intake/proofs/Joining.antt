@@ -2,13 +2,13 @@
 use Rattle.std.proofs.Common.{◌≡◌, false, List, [], ◌∷◌, ◌++◌, map, All, refl, sym, ap, subst, ◌∙◌, append_assoc}
 use Rattle.std.proofs.lemmas.List.{append-nil, map-append}
 use Rattle.std.proofs.lemmas.List.Elements.{All-head, All-tail, All-cons, All-append, All-nil}
-use Rattle.dsr_events.specs.Placed.{Placed}
-use Rattle.dsr_events.specs.Orderly.{IsOrderly}
-use Rattle.dsr_file.specs.Runs.{FileText, events_of_text}
-use Rattle.dsr_file.specs.Sources.{Told, GaveText}
+use Rattle.dsr_events.specs.meaning.Placed.{Placed}
+use Rattle.dsr_events.specs.meaning.Orderly.{IsOrderly}
+use Rattle.dsr_file.specs.meaning.Runs.{FileText, events_of_text}
+use Rattle.dsr_file.specs.meaning.Sources.{Told, GaveText}
 use Rattle.dsr_relay.specs.declared.name.Name.{Name}
-use Rattle.dsr_relay.specs.Views.{TapView}
-use Rattle.dsr_records.specs.Records.{LayoutTable}
+use Rattle.dsr_relay.specs.meaning.Views.{TapView}
+use Rattle.dsr_records.specs.meaning.Records.{LayoutTable}
 use Rattle.dsr_intake.specs.declared.pipeline.options.Options.{Options}
 use Rattle.dsr_intake.specs.inner.Ends.{ends_clean}
 use Rattle.dsr_intake.specs.inner.Collecting.{IsDrained}

@@ -10,7 +10,7 @@ use Rattle.itoa.proofs.Decimal.{signed_wide}
 use Rattle.dsr_ledger.specs.declared.lent.sizes.LedgerSizes.{LedgerSizes}
 use Rattle.dsr_ledger.specs.declared.report.LedgerLine.{LedgerLine}
 use Rattle.dsr_ledger.specs.declared.report.PartyLine.{PartyLine}
-use Rattle.dsr_ledger.specs.Sizes.{IsPartyWithin, IsLineWithin, AreLinesWithin}
+use Rattle.dsr_ledger.specs.inner.Sizes.{IsPartyWithin, IsLineWithin, AreLinesWithin}
 use Rattle.dsr_intake.specs.meaning.Statement.{tabbed, line, amount_cell, sums_line, party_line, unclaimed_line, ledger_lines}
 use Rattle.dsr_intake.proofs.Bounds.{written_length}
 

@@ -4,9 +4,9 @@ use Rattle.std.specs.Prelude.{OnOk}
 use Rattle.dsr_events.specs.declared.fault.Outcome.{Outcome}
 use Rattle.dsr_file.specs.declared.reading.ReadFileError.{ReadFileError}
 use Rattle.dsr_file.specs.declared.reading.ReadFileError.TheVariants.{Memory, Refused}
-use Rattle.dsr_events.specs.Placed.{Placed}
-use Rattle.dsr_file.specs.Sources.{Told, IsRead, IsRefused}
-use Rattle.dsr_file.specs.Refusals.{IsRefusal}
+use Rattle.dsr_events.specs.meaning.Placed.{Placed}
+use Rattle.dsr_file.specs.meaning.Sources.{Told, IsRead, IsRefused}
+use Rattle.dsr_file.specs.meaning.Refusals.{IsRefusal}
 use Rattle.dsr_file.proofs.RunLemmas.{run_orderly}
 use Rattle.dsr_intake.specs.declared.pipeline.options.Options.{Options}
 use Rattle.dsr_intake.specs.inner.Ends.{ends_clean}

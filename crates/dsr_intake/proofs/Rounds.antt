@@ -8,17 +8,17 @@ use Rattle.std.proofs.lemmas.List.Elements.{All-tail}
 use Rattle.std.proofs.lemmas.List.{map-append, length-map, map-set}
 use Rattle.std.proofs.Math.Seq.{take-suc-set, map-set_same, set-append_seam}
 use Rattle.std.proofs.lemmas.Option.{slice_get-map, slice_get-get_or, get_or_from_slice_get, slice_get_within, slice_get_read}
-use Rattle.dsr_records.specs.Blocks.{BlockParts}
+use Rattle.dsr_records.specs.meaning.Blocks.{BlockParts}
 use Rattle.dsr_events.specs.declared.event.EventPart.{EventPart}
 use Rattle.dsr_events.specs.declared.event.EventPart.TheVariants as part
 use Rattle.dsr_events.specs.declared.fault.Outcome.{Outcome}
-use Rattle.dsr_events.specs.Placed.{Placed}
-use Rattle.dsr_events.specs.Orderly.{MayStandAt, has_ended}
-use Rattle.dsr_relay.specs.Views.{TapView}
+use Rattle.dsr_events.specs.meaning.Placed.{Placed}
+use Rattle.dsr_events.specs.meaning.Orderly.{MayStandAt, has_ended}
+use Rattle.dsr_relay.specs.meaning.Views.{TapView}
 use Rattle.dsr_ledger.specs.declared.books.Books.{Books}
-use Rattle.dsr_ledger.specs.Files.{File, opened, add_block, end_with, with_block, with_outcome}
-use Rattle.dsr_ledger.specs.Books.{ended_in}
-use Rattle.dsr_ledger.specs.BooksWords.{Stands, files_count, opened_count, CanBook, CanEnd, AllEnded}
+use Rattle.dsr_ledger.specs.meaning.Files.{File, opened, add_block, end_with, with_block, with_outcome}
+use Rattle.dsr_ledger.specs.inner.Books.{ended_in}
+use Rattle.dsr_ledger.specs.inner.BooksWords.{Stands, files_count, opened_count, CanBook, CanEnd, AllEnded}
 use Rattle.dsr_ledger.proofs.CallerLemmas.{opened_is, can_book, can_end, all_ended}
 use Rattle.dsr_intake.specs.meaning.Texts.{file_of, first, outcome_in}
 use Rattle.dsr_intake.specs.inner.Stops.{IsStopped}

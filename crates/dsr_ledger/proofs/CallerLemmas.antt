@@ -1,16 +1,8 @@
 -- What a caller knows of books that represent a list of files.
-use Rattle.std.proofs.Common.{◌≡◌, ℕ, zero, suc, ◌^◌, ◌<◌, true, false, List, [], ◌∷◌, ◌++◌, length, refl, sym, ◌∙◌, ap, subst}
-use Rattle.std.specs.Prelude.{Option, is_some, slice_get}
-use Rattle.std.specs.Option.{option_map_or}
-use Rattle.dsr_events.specs.Openings.{OpeningParts}
-use Rattle.dsr_ledger.specs.declared.file.FileBooks.{FileBooks}
-use Rattle.dsr_ledger.specs.declared.kept.Kept.{Kept}
+use Rattle.dsr_ledger.proofs.Common.{◌≡◌, ℕ, zero, suc, ◌^◌, ◌<◌, true, false, List, [], ◌∷◌, ◌++◌, length, refl, sym, ◌∙◌, ap, subst, Option, is_some, slice_get, option_map_or, OpeningParts, FileBooks, Kept, File, Filed, FileStands, FilesStand, has_opening_in, ended_in, blocks_in}
 use Rattle.dsr_ledger.specs.declared.books.Books.{Books}
-use Rattle.dsr_ledger.specs.Files.{File, Filed}
-use Rattle.dsr_ledger.specs.Stands.{FileStands, FilesStand}
-use Rattle.dsr_ledger.specs.Books.{has_opening_in, ended_in, blocks_in}
-use Rattle.dsr_ledger.specs.Books as inner
-use Rattle.dsr_ledger.specs.BooksWords.{Stands, files_count, opened_count, CanBook, CanEnd, AllEnded}
+use Rattle.dsr_ledger.specs.inner.Books as inner
+use Rattle.dsr_ledger.specs.inner.BooksWords.{Stands, files_count, opened_count, CanBook, CanEnd, AllEnded}
 use Rattle.dsr_ledger.proofs.FilesLemmas.{length-stand}
 
 module _ {W : Type 0} (r : FileBooks → W) (s : File → W) (none : W) (agree : (f : FileBooks) (d : Filed) → FileStands f d → r f ≡ s d.file) where

@@ -1,31 +1,14 @@
 -- Identifiers that are noted, forgotten and gathered, and ranges of numbers.
-use Rattle.std.proofs.Common.{◌≡◌, ℕ, ◌+◌, ◌-◌, ◌<◌, ◌≤◌, ◌≢◌, true, List, [], ◌∷◌, ◌++◌, length, get_or, set, take, decimal, sym, arith, append_assoc, Bool, cond, drop, ap, ◌∙◌, subst}
-use Rattle.std.proofs.lemmas.List.{take_more, take_more_set, length-set, flat_map_more, take-append-drop, take_all}
-use Rattle.std.proofs.lemmas.List.FromFn.{length-map-range_with_len, get_or-map-range_with_len, map-range_with_len_more}
-use Rattle.std.proofs.Math.Seq.{take-length}
+use Rattle.dsr_ledger.proofs.Common.{◌≡◌, ℕ, ◌+◌, ◌-◌, ◌<◌, ◌≤◌, ◌≢◌, true, List, [], ◌∷◌, ◌++◌, length, get_or, set, take, decimal, sym, arith, append_assoc, Bool, cond, drop, ap, ◌∙◌, subst, take_more, take_more_set, length-set, flat_map_more, take-append-drop, take_all, length-map-range_with_len, get_or-map-range_with_len, map-range_with_len_more, take-length, cond_both, nat_tests, common_steps, Some, None, IfSome, list_all, list_any, range_texts, texts_of, bytes_eq, IndexSet, nat_list_eq_equiv, list_any-append, list_any_at, Ids, rank_of, is_among, HasAlso, AreSameWith, is_in, was_before, IsNoted, flat_map-append}
 use Rattle.std.proofs.lemmas.Fmt.{decimal-digits_value}
 use Rattle.std.proofs.lemmas.Str.Parse.{digits_value_short}
-use Rattle.std.proofs.lemmas.Bool.{cond_both}
-use Rattle.std.proofs.lemmas.Bool.Decides.{nat_tests}
-use Rattle.std.proofs.lemmas.Grind.{common_steps}
-use Rattle.std.specs.Prelude.{Some, None, IfSome}
-use Rattle.std.specs.List.{list_all, list_any}
 use Rattle.std.specs.Char.{is_ascii_digit}
-use Rattle.dsr_cells.specs.Numbers.{number_of, is_digits, digits_sum}
+use Rattle.dsr_cells.specs.meaning.Numbers.{number_of, is_digits, digits_sum}
 use Rattle.dsr_cells.proofs.Numbers.{own}
 use Rattle.dsr_ledger.specs.declared.ids.number_range.NumberRange.{NumberRange}
-use Rattle.dsr_ledger.specs.IdNumbers.{range_texts, texts_of}
-use Rattle.std.specs.Str.{bytes_eq}
-use Rattle.indexmap.specs.IndexSet.{IndexSet}
-use Rattle.std.specs.Cmp.Lexicographic.{nat_list_eq_equiv}
-use Rattle.std.proofs.lemmas.List.Folds.{list_any-append, list_any_at}
-use Rattle.dsr_ledger.specs.declared.ids.Ids.{Ids}
 use Rattle.dsr_ledger.specs.declared.ids.Noted.{Noted}
 use Rattle.dsr_ledger.specs.declared.ids.Noted.TheVariants.{Before, InNumbers, InRun, InRest}
-use Rattle.dsr_ledger.specs.Ids.{rank_of, is_among, HasAlso, AreSameWith}
-use Rattle.dsr_ledger.specs.IdSteps.{is_in, was_before, IsNoted}
 use Rattle.dsr_ledger.proofs.TextLemmas.{same_text}
-use Rattle.std.proofs.lemmas.List.Concat.{flat_map-append}
 
 -- the text of a number that does not begin with 0
 number_text : (text : List ℕ) → get_or text 0 0 ≢ 48 → is_digits 12 text ≡ true → text ≡ decimal (digits_sum text)
@@ -159,12 +142,6 @@ module _ {S : Type 0} (a b c : IndexSet (List ℕ) S) where
       → HasAlso (take (n - range.first) (range_texts range)) a b → AreSameWith (x ∷ []) b c → AreSameWith (range_texts range) a c
   number_refused range n x low high is f g =
       id_refused (range_texts range) (n - range.first) x [] (number_within range n low high) (is ∙ number_at range n low high) f g
-
--- that loop before its first step, and after its last
-pub no_numbers_added : {S : Type 0} (a : IndexSet (List ℕ) S) (texts : List (List ℕ)) (n : ℕ) → HasAlso (take (n - n) texts) a a
-no_numbers_added a texts n q =
-    let none : n - n ≡ 0 = omega arith in
-    ap (λ k. is_among (take k texts) a q) (sym none)
 
 pub all_numbers_added : {S : Type 0} (a b : IndexSet (List ℕ) S) (range : NumberRange) (n : ℕ) → range.end ≤ n
     → HasAlso (take (n - range.first) (range_texts range)) a b → HasAlso (range_texts range) a b

@@ -1,13 +1,5 @@
 -- The verdicts of a file's blocks, and what follows from them.
-use Rattle.std.proofs.Common.{◌≡◌, ℕ, suc, ◌+◌, List, [], ◌∷◌, ◌++◌, append-nil, append_assoc, length, refl, sym, ◌∙◌, ap, arith}
-use Rattle.dsr_records.specs.Blocks.{BlockParts}
-use Rattle.dsr_records.specs.declared.record.Summary.{Summary}
-use Rattle.dsr_ledger.specs.declared.verdict.Standing.{Standing}
-use Rattle.dsr_ledger.specs.declared.verdict.Verdict.{Verdict}
-use Rattle.dsr_ledger.specs.declared.verdict.Verdict.TheVariants.{Booked, Rejected}
-use Rattle.dsr_ledger.specs.Files.{Filed, summaries_of, with_one}
-use Rattle.dsr_ledger.specs.Verdicts.{verdict, verdict_of, judged, judged_in}
-use Rattle.dsr_ledger.specs.Findings.{rejects_from, rejects_in}
+use Rattle.dsr_ledger.proofs.Common.{◌≡◌, ℕ, suc, ◌+◌, List, [], ◌∷◌, ◌++◌, append-nil, append_assoc, length, refl, sym, ◌∙◌, ap, arith, BlockParts, Summary, Standing, Verdict, Booked, Rejected, Filed, summaries_of, with_one, verdict, verdict_of, judged, judged_in, rejects_from, rejects_in}
 
 judged-push : (s : Standing) (os : List Summary) (earlier bs : List BlockParts) (b : BlockParts)
     → judged s os earlier (bs ++ b ∷ []) ≡ judged s os earlier bs ++ (b, verdict s os (earlier ++ bs) b) ∷ []

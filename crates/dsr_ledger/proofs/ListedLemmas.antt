@@ -1,31 +1,10 @@
 -- Items put in the order of their names, and the ranks of keys.
-use Rattle.std.proofs.Common.{◌≡◌, ℕ, ◌+◌, ◌<◌, Bool, List, [], ◌∷◌, length, get_or, nat_eq, sym, ap, ◌∙◌, subst, arith, set}
-use Rattle.std.specs.Prelude.{All, Option, Some, map, option_map, slice_get, position, slice_index}
-use Rattle.std.specs.Bool.{Decides}
-use Rattle.std.specs.List.{Contains, IsDistinct}
-use Rattle.std.specs.List.Sorted.{IsPermutation, IsSortedBy, IsStrictlySortedBy}
-use Rattle.std.specs.Cmp.{IsTotalOrder, tied_itself}
-use Rattle.std.specs.Map.{keys_of}
-use Rattle.std.specs.Ordering.{is_eq, is_lt, nat_cmp}
-use Rattle.std.specs.declared.cmp.Ordering.{Ordering}
-use Rattle.std.proofs.lemmas.Bool.Decides.{nat_tests}
-use Rattle.std.proofs.lemmas.List.{get_or-map, length-map}
-use Rattle.std.proofs.lemmas.List.Elements.{All-map}
-use Rattle.std.proofs.lemmas.List.Quantifiers.{position-Some}
-use Rattle.std.proofs.lemmas.List.Sorted.{All-permutation, Contains-permutation, IsPermutation-map}
-use Rattle.std.proofs.lemmas.Map.Keys.{IsDistinct-IsPermutation, IsDistinct-from_apart, apart_from_distinct, Less-from_sorted, sorted_from_all_adjacent}
-use Rattle.std.proofs.lemmas.Option.{gets, slice_get-map, slice_get-get_or, slice_get_within, get_or_from_slice_get, same_Some}
-use Rattle.std.proofs.lemmas.Simd.{map-map}
-use Rattle.dsr_ledger.specs.Numbered.{place_in, place_by, AreApart}
-use Rattle.dsr_ledger.specs.Listed.{AreListed, AreDistinctBelow, numbered_by, AreOrdered, AreRanks, key_in}
-use Rattle.dsr_ledger.proofs.NumberedLemmas.{number_at, same_flips}
-use Rattle.dsr_ledger.proofs.SummaryKeyLemmas.{same_summary_key, summary_key_total}
+use Rattle.dsr_ledger.proofs.Common.{◌≡◌, ℕ, ◌+◌, ◌<◌, Bool, List, [], ◌∷◌, length, get_or, nat_eq, sym, ap, ◌∙◌, subst, arith, set, All, Option, Some, map, option_map, slice_get, slice_index, Decides, Contains, IsDistinct, IsPermutation, IsSortedBy, IsStrictlySortedBy, IsTotalOrder, tied_itself, keys_of, is_eq, is_lt, nat_cmp, Ordering, nat_tests, get_or-map, length-map, All-map, position-Some, All-permutation, Contains-permutation, IsPermutation-map, IsDistinct-IsPermutation, IsDistinct-from_apart, apart_from_distinct, Less-from_sorted, sorted_from_all_adjacent, gets, slice_get-map, slice_get-get_or, slice_get_within, get_or_from_slice_get, same_Some, map-map, place_in, place_by, AreApart, AreListed, AreDistinctBelow, numbered_by, AreOrdered, AreRanks, key_in, Bor, common_steps, Line, SummaryKey, summary_key_eq, summary_key_cmp}
+use Rattle.std.specs.Prelude.{position}
+use Rattle.dsr_ledger.proofs.IndexMapLemmas.{number_at}
+use Rattle.dsr_ledger.proofs.NumberedLemmas.{same_flips}
+use Rattle.dsr_ledger.proofs.KeyLemmas.{same_summary_key, summary_key_total}
 pub use Rattle.dsr_ledger.proofs.NumberedLemmas.{taken}
-use Rattle.std.specs.Borrow.{Bor}
-use Rattle.std.proofs.lemmas.Grind.{common_steps}
-use Rattle.dsr_ledger.specs.declared.ledger.line.Line.{Line}
-use Rattle.dsr_ledger.specs.declared.ledger.summary_key.SummaryKey.{SummaryKey}
-use Rattle.dsr_ledger.specs.SummaryKeys.{summary_key_eq, summary_key_cmp}
 
 -- items with their names and values
 abbrev pub entries_by : {X K V : Type 0} → (X → K) → (X → V) → List X → List (K × V)

@@ -1,25 +1,8 @@
 -- Entries in the order of their keys.
-use Rattle.std.proofs.Common.{arith, ◌≡◌, List, [], ◌∷◌, Bool, true, false, cond, T, get_or, refl, sym, ◌∙◌, ap, subst}
-use Rattle.std.specs.Prelude.{None, Some, map, filter, is_some, ◌&&◌, ◌||◌}
-use Rattle.std.specs.List.{list_any, AllByRecursion, Contains}
-use Rattle.std.specs.List.Sorted.{IsStrictlySortedBy}
-use Rattle.std.specs.Ordering.{is_lt, eq_by_cmp}
-use Rattle.std.specs.declared.cmp.Ordering.{Ordering}
-use Rattle.std.specs.declared.cmp.Ordering.TheVariants.{Less, Equal}
-use Rattle.std.specs.Cmp.{IsTotalOrder, Equal-is}
-use Rattle.std.specs.Map.{keys_of}
+use Rattle.dsr_ledger.proofs.Common.{arith, ◌≡◌, List, [], ◌∷◌, Bool, true, false, cond, T, get_or, refl, sym, ◌∙◌, ap, subst, None, Some, map, filter, is_some, ◌&&◌, ◌||◌, list_any, AllByRecursion, Contains, IsStrictlySortedBy, is_lt, eq_by_cmp, Ordering, Less, Equal, IsTotalOrder, Equal-is, keys_of, Decides, cond_both, Decides-and, eq_by_cmp_equiv, map-id, any-filter_same, list_any-from_Contains, recursion_from_All, Contains-get_or, map-map, in_order}
 use Rattle.std.specs.FinMap as finite
 use Rattle.std.specs.FinMap.Entries.{below_all, is_sorted, find, is_some-find, same_entries}
-use Rattle.std.specs.Bool.{Decides}
-use Rattle.std.proofs.lemmas.Bool.{cond_both}
-use Rattle.std.proofs.lemmas.Bool.Decides.{Decides-and}
-use Rattle.std.proofs.lemmas.Cmp.{eq_by_cmp_equiv}
-use Rattle.std.proofs.lemmas.List.{map-id}
 use Rattle.std.proofs.lemmas.List.Kept.{IsStrictlySortedBy-filter}
-use Rattle.std.proofs.lemmas.Map.Views.{any-filter_same, list_any-from_Contains}
-use Rattle.std.proofs.lemmas.List.Elements.{recursion_from_All, Contains-get_or}
-use Rattle.std.proofs.lemmas.Simd.{map-map}
-use Rattle.dsr_ledger.specs.Keys.{in_order}
 
 is_true : (b : Bool) → T b → b ≡ true
 is_true true h = refl

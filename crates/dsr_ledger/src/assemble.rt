@@ -3,11 +3,11 @@ ghost use Rattle.std.specs.Prelude.{◌≡◌, ◌≤◌, ℕ, List, IfOk, lengt
 ghost use Rattle.std.specs.List.{flat_map, list_any};
 ghost use Rattle.std.specs.BTreeSet.{contains};
 ghost use Rattle.std.specs.Ordering.{nat_cmp};
-ghost use Rattle.dsr_ledger.specs.Limits.{most_files};
-ghost use Rattle.dsr_ledger.specs.Assembly.{line_kept, is_number_kept, differences_kept};
-ghost use Rattle.dsr_ledger.specs.Files.{File};
-ghost use Rattle.dsr_ledger.specs.Closed.{AreClosed};
-ghost use Rattle.dsr_ledger.specs.Books.{IsReached, Stands};
+ghost use Rattle.dsr_ledger.specs.meaning.Limits.{most_files};
+ghost use Rattle.dsr_ledger.specs.inner.Assembly.{line_kept, is_number_kept, differences_kept};
+ghost use Rattle.dsr_ledger.specs.meaning.Files.{File};
+ghost use Rattle.dsr_ledger.specs.inner.Closed.{AreClosed};
+ghost use Rattle.dsr_ledger.specs.inner.Books.{IsReached, Stands};
 
 pub mod ledger;
 mod lines;

@@ -1,7 +1,7 @@
 //! The books of a report.
 ghost use Rattle.std.specs.Prelude.{◌≤◌, length};
-ghost use Rattle.dsr_ledger.specs.Limits.{most_files};
-ghost use Rattle.dsr_ledger.specs.Books.{IsReached};
+ghost use Rattle.dsr_ledger.specs.meaning.Limits.{most_files};
+ghost use Rattle.dsr_ledger.specs.inner.Books.{IsReached};
 
 use crate::assemble::close;
 use crate::booking::plan::Plan;
@@ -33,12 +33,12 @@ pub struct Books {
 
 impl Books {
     ghost use Rattle.std.specs.Prelude.{◌≡◌, ◌<◌, List, [], ◌∷◌, ◌++◌, Option, map, length, IfOk, IsOk, MatchResult};
-    ghost use Rattle.dsr_ledger.specs.Files.{File, standing, opened, with_block, with_outcome};
-    ghost use Rattle.dsr_ledger.specs.Verdicts.{verdict_in};
-    ghost use Rattle.dsr_ledger.specs.Books.{has_opening_in, ended_in, blocks_in};
-    ghost use Rattle.dsr_ledger.specs.Closed.{AreClosed};
-    ghost use Rattle.dsr_ledger.specs.Reports.{report_of};
-    ghost use Rattle.dsr_ledger.specs.BooksWords.{Stands, files_count, opened_count, has_opening_at, ended_at, blocks_at, CanBook, CanEnd, AllEnded};
+    ghost use Rattle.dsr_ledger.specs.meaning.Files.{File, standing, opened, with_block, with_outcome};
+    ghost use Rattle.dsr_ledger.specs.meaning.Verdicts.{verdict_in};
+    ghost use Rattle.dsr_ledger.specs.inner.Books.{has_opening_in, ended_in, blocks_in};
+    ghost use Rattle.dsr_ledger.specs.inner.Closed.{AreClosed};
+    ghost use Rattle.dsr_ledger.specs.meaning.Reports.{report_of};
+    ghost use Rattle.dsr_ledger.specs.inner.BooksWords.{Stands, files_count, opened_count, has_opening_at, ended_at, blocks_at, CanBook, CanEnd, AllEnded};
 
     /// New books of a report in `files` files, 1 to 64, with no file opened. The seed is fixed.
     ///

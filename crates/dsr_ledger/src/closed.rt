@@ -1,5 +1,5 @@
 //! Books whose files have all ended.
-ghost use Rattle.dsr_ledger.specs.Order.{AreOfSmall};
+ghost use Rattle.dsr_ledger.specs.inner.Order.{AreOfSmall};
 
 use crate::assemble::ledger::BookedLines;
 use crate::ledger::recordings::Ledger;
@@ -25,12 +25,12 @@ pub struct ClosedBooks {
 
 impl ClosedBooks {
     ghost use Rattle.std.specs.Prelude.{◌≡◌, IfOk, List};
-    ghost use Rattle.dsr_ledger.specs.Closed.{AreClosed};
-    ghost use Rattle.dsr_ledger.specs.Bookings.{bookings};
-    ghost use Rattle.dsr_ledger.specs.Files.{File};
-    ghost use Rattle.dsr_ledger.specs.Ledger.{ledger};
-    ghost use Rattle.dsr_ledger.specs.Lent.{IsReady, IsLent};
-    ghost use Rattle.dsr_ledger.specs.Reports.{report_of};
+    ghost use Rattle.dsr_ledger.specs.inner.Closed.{AreClosed};
+    ghost use Rattle.dsr_ledger.specs.meaning.Bookings.{bookings};
+    ghost use Rattle.dsr_ledger.specs.meaning.Files.{File};
+    ghost use Rattle.dsr_ledger.specs.meaning.Ledger.{ledger};
+    ghost use Rattle.dsr_ledger.specs.inner.Lent.{IsReady, IsLent};
+    ghost use Rattle.dsr_ledger.specs.meaning.Reports.{report_of};
 
     /// The report of the files. The texts of its ledger are those of the books.
     ///

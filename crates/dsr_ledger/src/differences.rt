@@ -2,9 +2,9 @@
 ghost use Rattle.std.specs.Prelude.{◌≡◌, ◌++◌, ◌∷◌, [], ◌&&◌, IfOk, OnOk, filter};
 ghost use Rattle.std.specs.List.{flat_map};
 ghost use Rattle.std.specs.Ordering.{int_eq};
-ghost use Rattle.dsr_ledger.specs.Findings.{differs};
-ghost use Rattle.dsr_ledger.specs.Summaries.{sums_at};
-ghost use Rattle.dsr_ledger.specs.Assembly.{sums_shown, difference_to, differences_to, differences_kept};
+ghost use Rattle.dsr_ledger.specs.meaning.Findings.{differs};
+ghost use Rattle.dsr_ledger.specs.inner.Summaries.{sums_at};
+ghost use Rattle.dsr_ledger.specs.inner.Assembly.{sums_or_zeros, difference_to, differences_to, differences_kept};
 
 use crate::file::FileBooks;
 use crate::file::summaries::Summaries;
@@ -18,7 +18,7 @@ use std::alloc::Global;
 
 /// The sums of the usages that name a summary.
 fn found_for(summaries: &Summaries, summary: &Summary) -> Sums
-    ensures { result ≡ sums_shown (sums_at summaries.now summary.now.id) }
+    ensures { result ≡ sums_or_zeros (sums_at summaries.now summary.now.id) }
 {
     match summaries.sums(&summary.id) {
         Some(sums) => sums.copy(),

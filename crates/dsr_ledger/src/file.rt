@@ -1,14 +1,14 @@
 //! The books' state of a file.
 ghost use Rattle.std.specs.Prelude.{◌≡◌, ◌+◌, ◌<◌, ◌^◌, ◌≤◌, ℕ, List, OnOk, OnErr, IfOk, Some, map};
 ghost use Rattle.std.specs.Option.{ForSome};
-ghost use Rattle.dsr_ledger.specs.Limits.{most_usages, whole_share};
-ghost use Rattle.dsr_ledger.specs.Verdicts.{share_total, verdict_by};
-ghost use Rattle.dsr_ledger.specs.Files.{Filed};
-ghost use Rattle.dsr_ledger.specs.Summaries.{shown_at, index_at, is_known, ShownFits};
-ghost use Rattle.dsr_ledger.specs.Tallies.{TallyFits};
-ghost use Rattle.dsr_ledger.specs.Recordings.{tally_at};
-ghost use Rattle.dsr_ledger.specs.FileSteps.{IsNumberedFile, IsSameFile, TakesBlock};
-ghost use Rattle.dsr_ledger.specs.Stands.{FileStands, Took};
+ghost use Rattle.dsr_ledger.specs.meaning.Limits.{most_usages, whole_share};
+ghost use Rattle.dsr_ledger.specs.meaning.Verdicts.{share_total, verdict_by};
+ghost use Rattle.dsr_ledger.specs.meaning.Files.{Filed};
+ghost use Rattle.dsr_ledger.specs.inner.Summaries.{state_at, index_at, is_known, StateFits};
+ghost use Rattle.dsr_ledger.specs.inner.Tallies.{TallyFits};
+ghost use Rattle.dsr_ledger.specs.inner.Recordings.{tally_at};
+ghost use Rattle.dsr_ledger.specs.inner.FileSteps.{IsNumberedFile, IsSameFile, TakesBlock};
+ghost use Rattle.dsr_ledger.specs.inner.Stands.{FileStands, Took};
 
 pub mod summaries;
 
@@ -60,7 +60,7 @@ impl FileBooks {
         requires numbered { IsNumberedFile ledger.old self.old }
         requires ledger_fits { (q : _) → TallyFits most_usages (tally_at ledger.old q) }
         requires summaries_fit { (id : List ℕ)
-            → ForSome (shown_at self.old.summaries id) (ShownFits most_usages) }
+            → ForSome (state_at self.old.summaries id) (StateFits most_usages) }
         ensures ids { self.new.ids ≡ self.old.ids }
         ensures keys { ledger.new.summary_keys ≡ ledger.old.summary_keys }
         ensures err { OnErr result (IsSameFile self.old self.new) }
@@ -86,7 +86,7 @@ impl FileBooks {
     ) -> Result<(), NoMemory>
         requires blocks { self.old.blocks + 1 < 2 ^ 64 }
         requires summaries_fit { (id : List ℕ)
-            → ForSome (shown_at self.old.summaries id) (ShownFits most_usages) }
+            → ForSome (state_at self.old.summaries id) (StateFits most_usages) }
         ensures ids { self.new.ids ≡ self.old.ids }
         ensures err { OnErr result (IsSameFile self.old self.new) }
         ensures ok { OnOk result (TakesBlock self.old self.new ledger.now ledger.now block.now
@@ -117,7 +117,7 @@ impl FileBooks {
         requires numbered { IsNumberedFile ledger.old self.old }
         requires ledger_fits { (q : _) → TallyFits most_usages (tally_at ledger.old q) }
         requires summaries_fit { (id : List ℕ)
-            → ForSome (shown_at self.old.summaries id) (ShownFits most_usages) }
+            → ForSome (state_at self.old.summaries id) (StateFits most_usages) }
         ensures ids { self.new.ids ≡ self.old.ids }
         ensures keys { ledger.new.summary_keys ≡ ledger.old.summary_keys }
         ensures err { OnErr result (IsSameFile self.old self.new) }
@@ -161,7 +161,7 @@ impl FileBooks {
         requires numbered { IsNumberedFile ledger.old self.old }
         requires ledger_fits { (q : _) → TallyFits most_usages (tally_at ledger.old q) }
         requires summaries_fit { (id : List ℕ)
-            → ForSome (shown_at self.old.summaries id) (ShownFits most_usages) }
+            → ForSome (state_at self.old.summaries id) (StateFits most_usages) }
         ensures ok { (d : Filed) → FileStands self.old d
             → IfOk result (λ v. Took d block.now v self.new ledger.old ledger.new) }
         ensures keys { ledger.new.summary_keys ≡ ledger.old.summary_keys }

@@ -1,6 +1,6 @@
 //! The files' lines.
 ghost use Rattle.std.specs.Prelude.{◌≡◌, IfOk, map};
-ghost use Rattle.dsr_ledger.specs.Assembly.{line_kept};
+ghost use Rattle.dsr_ledger.specs.inner.Assembly.{line_kept};
 
 use crate::file::FileBooks;
 use crate::report::{FileLine, FileLines};

@@ -1,8 +1,8 @@
 //! The identifiers of a file's blocks.
 ghost use Rattle.std.specs.Prelude.{◌≡◌, ◌≤◌, ◌++◌, ℕ, List, true, OnErr};
 ghost use Rattle.std.specs.List.{fold};
-ghost use Rattle.dsr_ledger.specs.Ids.{rank_of, with_byte, is_among};
-ghost use Rattle.dsr_ledger.specs.IdNumbers.{texts_of};
+ghost use Rattle.dsr_ledger.specs.inner.Ids.{rank_of, with_byte, is_among};
+ghost use Rattle.dsr_ledger.specs.inner.IdNumbers.{texts_of};
 
 mod gather;
 mod number_range;
@@ -68,7 +68,7 @@ fn number_of(bytes: &[u8]) -> u64
     }
 }
 
-#[tactic(auto, unfolding(crate::specs::Ids::rank_of))]
+#[tactic(auto, unfolding(crate::specs::inner::Ids::rank_of))]
 /// An identifier's rank: by its length, then by its last eight bytes. Decimal numbers of up to eight digits, without
 /// leading zeros, rank in their order.
 fn rank(id: &Text) -> u128
@@ -80,7 +80,7 @@ fn rank(id: &Text) -> u128
 }
 
 impl Noted {
-    ghost use Rattle.dsr_ledger.specs.IdSteps.{was_before};
+    ghost use Rattle.dsr_ledger.specs.inner.IdSteps.{was_before};
 
     /// Whether the identifier was there before.
     pub fn was_before(self) -> bool
@@ -95,7 +95,7 @@ impl Noted {
 
 impl Ids {
     ghost use Rattle.std.specs.Prelude.{false, IfOk};
-    ghost use Rattle.dsr_ledger.specs.IdSteps.{is_in, HaveSame, IsNoted};
+    ghost use Rattle.dsr_ledger.specs.inner.IdSteps.{is_in, HaveSame, IsNoted};
 
     /// No identifiers.
     pub fn new(alloc: Global, seeded: Seeded) -> Ids

@@ -1,9 +1,9 @@
 //! The verdict of a block.
 ghost use Rattle.std.specs.Prelude.{◌≡◌, ◌≤◌, nat_lt, not, true, map, Some, OnOk, IfOk, MatchResult};
 ghost use Rattle.std.specs.List.{list_any};
-ghost use Rattle.dsr_ledger.specs.Limits.{whole_share};
-ghost use Rattle.dsr_ledger.specs.Summaries.{is_known, index_at};
-ghost use Rattle.dsr_ledger.specs.Verdicts.{names_unknown, share_total, verdict_by};
+ghost use Rattle.dsr_ledger.specs.meaning.Limits.{whole_share};
+ghost use Rattle.dsr_ledger.specs.inner.Summaries.{is_known, index_at};
+ghost use Rattle.dsr_ledger.specs.meaning.Verdicts.{names_unknown, share_total, verdict_by};
 
 use crate::file::summaries::Summaries;
 use crate::verdict::{Reason, Standing, Verdict};
@@ -57,7 +57,7 @@ fn shares_over(works: &[Work]) -> bool
     false
 }
 
-#[tactic(auto, unfolding(crate::specs::Verdicts::verdict_by))]
+#[tactic(auto, unfolding(crate::specs::meaning::Verdicts::verdict_by))]
 /// The recording of a block that is booked, or why it is rejected. If it is booked, `numbers` has
 /// the numbers of the summaries that its usages name; before, it has those of an earlier block. An ISRC that is `hint` is
 /// read quicker.

@@ -94,7 +94,7 @@
 //! of exactly these files. No report depends on the seed of the hashes. The amounts of a line's
 //! parties and the unclaimed amount add up to its amount ([`laws`]).
 //!
-//! **Where to begin.** `specs/Reports.antt` says what a report is, `specs/Verdicts.antt` when a block
+//! **Where to begin.** `specs/meaning/Reports.antt` says what a report is, `specs/meaning/Verdicts.antt` when a block
 //! counts; `src/books.rt` has the public functions.
 #![tactic(auto)]
 
@@ -110,7 +110,6 @@ mod hints;
 mod ids;
 mod judge;
 mod kept;
-mod key;
 pub mod laws;
 mod ledger;
 mod lent;

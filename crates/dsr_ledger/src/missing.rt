@@ -3,7 +3,7 @@ ghost use Rattle.std.specs.Prelude.{◌≡◌, ◌||◌, ◌++◌, ◌∷◌, []
 ghost use Rattle.std.specs.List.{list_any, range_with_len};
 ghost use Rattle.std.specs.BTreeSet.{contains};
 ghost use Rattle.std.specs.Ordering.{nat_cmp};
-ghost use Rattle.dsr_ledger.specs.Assembly.{is_number_kept, not_in};
+ghost use Rattle.dsr_ledger.specs.inner.Assembly.{is_number_kept, not_in};
 
 use crate::file::FileBooks;
 use crate::report::{Numbers, ReportKey};
@@ -47,7 +47,7 @@ fn add_absent(absent: &mut Numbers, number: u32, numbers: &BTreeSet<u32>) -> Res
 }
 
 /// The numbers from 1 to `last`, inclusive, that are not in the set, ascending.
-#[tactic(auto, using(crate::proofs::FilesLemmas::filter_range_more))]
+#[tactic(auto, using(crate::proofs::ClosedLemmas::filter_range_more))]
 fn absent_numbers(alloc: Global, last: u32, numbers: &BTreeSet<u32>) -> Result<Numbers, NoMemory>
     ensures { IfOk result (λ l. l ≡ filter (λ n. not (contains nat_cmp numbers.now n))
         (range_with_len 1 last)) }

@@ -1,14 +1,14 @@
 //! Opening a file.
 ghost use Rattle.std.specs.Prelude.{◌≡◌, ◌+◌, ◌<◌, List, [], ◌∷◌, ◌++◌, ℕ, Some, IfOk, length};
 ghost use Rattle.std.specs.List.{list_any};
-ghost use Rattle.dsr_ledger.specs.Limits.{most_files};
-ghost use Rattle.dsr_ledger.specs.Files.{opened, is_same_report, has_number_of, is_of_report, first_head, standing, summaries_of};
-ghost use Rattle.dsr_ledger.specs.Bookings.{summary_key_named};
-ghost use Rattle.dsr_ledger.specs.FileSteps.{IsNumberedFile};
-ghost use Rattle.dsr_ledger.specs.Recordings.{KeepsKeys};
-ghost use Rattle.dsr_ledger.specs.Summaries.{sums_at, found_in, AreNumbered};
-ghost use Rattle.dsr_ledger.specs.Stands.{FileStands};
-ghost use Rattle.dsr_ledger.specs.Openings.{openings_of};
+ghost use Rattle.dsr_ledger.specs.meaning.Limits.{most_files};
+ghost use Rattle.dsr_ledger.specs.meaning.Files.{opened, is_same_report, has_same_number, is_of_report, first_head, standing, summaries_of};
+ghost use Rattle.dsr_ledger.specs.meaning.Bookings.{summary_key_named};
+ghost use Rattle.dsr_ledger.specs.inner.FileSteps.{IsNumberedFile};
+ghost use Rattle.dsr_ledger.specs.inner.Recordings.{KeepsKeys};
+ghost use Rattle.dsr_ledger.specs.inner.Summaries.{sums_at, found_in, AreNumbered};
+ghost use Rattle.dsr_ledger.specs.inner.Stands.{FileStands};
+ghost use Rattle.dsr_ledger.specs.inner.Openings.{openings_of};
 
 use crate::file::FileBooks;
 use crate::file::summaries::Summaries;
@@ -46,8 +46,8 @@ fn is_of_their_report(files: &[FileBooks], opening: &Opening) -> bool
 }
 
 /// Whether a file is of the same report as the head and has its file number.
-fn has_number(head: &Head, opening: &Option<Opening>) -> bool
-    ensures { result ≡ has_number_of head.now opening.now }
+fn has_same_number(head: &Head, opening: &Option<Opening>) -> bool
+    ensures { result ≡ has_same_number head.now opening.now }
 {
     match opening {
         Some(opening) => {
@@ -58,19 +58,19 @@ fn has_number(head: &Head, opening: &Option<Opening>) -> bool
 }
 
 /// Whether one of the files is of the same report as the opening and has its file number.
-#[tactic(auto, using(crate::proofs::FilesLemmas::taken_here))]
+#[tactic(auto, using(crate::proofs::OpeningLemmas::taken_here))]
 fn is_number_taken(files: &[FileBooks], opening: &Opening) -> bool
-    ensures { result ≡ list_any (has_number_of opening.now.head) (openings_of files.now) }
+    ensures { result ≡ list_any (has_same_number opening.now.head) (openings_of files.now) }
 {
     for file in files {
-        if has_number(&opening.head, &file.opening) {
+        if has_same_number(&opening.head, &file.opening) {
             return true;
         }
     }
     false
 }
 
-#[tactic(auto, unfolding(crate::specs::Files::standing))]
+#[tactic(auto, unfolding(crate::specs::meaning::Files::standing))]
 /// The standing of a file after these.
 fn standing_after(files: &[FileBooks], opening: &Option<Opening>) -> Standing
     ensures { result ≡ standing (openings_of files.now) opening.now }
@@ -91,7 +91,7 @@ fn standing_after(files: &[FileBooks], opening: &Option<Opening>) -> Standing
 
 /// The states of these summaries, before any usage. Their keys are numbered in the ledger.
 #[tactic(auto, using(std::proofs::lemmas::List::take_all))]
-fn summaries_of(
+fn states_of(
     ledger: &mut Ledger,
     alloc: Global,
     seeded: Seeded,
@@ -110,7 +110,7 @@ fn summaries_of(
 }
 
 /// The same, for a file that may have no opening.
-fn summaries_for(
+fn states_for(
     ledger: &mut Ledger,
     alloc: Global,
     seeded: Seeded,
@@ -123,7 +123,7 @@ fn summaries_for(
         AreNumbered ledger.new (summary_key_named (summaries_of opening.now)) m) }
 {
     match opening {
-        Some(opening) => summaries_of(ledger, alloc, seeded, opening.summaries.as_slice()),
+        Some(opening) => states_of(ledger, alloc, seeded, opening.summaries.as_slice()),
         None => Ok(Summaries::new(alloc, seeded)),
     }
 }
@@ -148,7 +148,7 @@ pub fn open_after(
         })) }
 {
     let standing = standing_after(files, &opening);
-    let summaries = summaries_for(ledger, alloc, seeded, &opening)?;
+    let summaries = states_for(ledger, alloc, seeded, &opening)?;
     Ok(FileBooks {
         place: files.len() as u32 + 1,
         opening,

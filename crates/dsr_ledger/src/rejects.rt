@@ -2,9 +2,9 @@
 ghost use Rattle.std.specs.Prelude.{◌≡◌, ◌++◌, IfOk, OnOk, option_map};
 ghost use Rattle.std.specs.List.{flat_map};
 ghost use Rattle.std.specs.Option.{option_or};
-ghost use Rattle.dsr_ledger.specs.Files.{first_head};
-ghost use Rattle.dsr_ledger.specs.Openings.{openings_of};
-ghost use Rattle.dsr_ledger.specs.Reports.{key_of};
+ghost use Rattle.dsr_ledger.specs.meaning.Files.{first_head};
+ghost use Rattle.dsr_ledger.specs.inner.Openings.{openings_of};
+ghost use Rattle.dsr_ledger.specs.meaning.Reports.{key_of};
 
 use crate::file::FileBooks;
 use crate::report::{Reject, Rejects, ReportKey};

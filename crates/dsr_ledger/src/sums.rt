@@ -1,6 +1,6 @@
 //! Sums over usages.
 ghost use Rattle.std.specs.Prelude.{◌≡◌, ◌+ℤ◌, pos};
-ghost use Rattle.dsr_ledger.specs.Ranges.{IsInRange, SumsFit};
+ghost use Rattle.dsr_ledger.specs.inner.Ranges.{IsInRange, SumsFit};
 
 use crate::wide::Wide;
 use dsr_records::Usage;

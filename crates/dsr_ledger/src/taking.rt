@@ -1,7 +1,7 @@
 //! Taking the lines of a ledger, one after another.
 ghost use Rattle.std.specs.Prelude.{List, ◌∷◌, []};
 ghost use Rattle.dsr_ledger.specs.declared.report.LedgerLine.{LedgerLine as LedgerLineValue};
-ghost use Rattle.dsr_ledger.specs.Taking.{Takes};
+ghost use Rattle.dsr_ledger.specs.inner.Taking.{Takes};
 
 use crate::lent::line::LentLine;
 

@@ -1,6 +1,6 @@
 //! What the example makes its books of, and when it asks for a report.
 ghost use Rattle.std.specs.Prelude.{◌≡◌, true};
-ghost use Rattle.dsr_ledger.specs.BooksWords.{AllEnded};
+ghost use Rattle.dsr_ledger.specs.inner.BooksWords.{AllEnded};
 
 use dsr_file::{Ending, EventList, whole_events};
 use dsr_ledger::Books;

@@ -5,7 +5,7 @@ use Rattle.std.proofs.lemmas.List.Elements.{All-from_get_or}
 use Rattle.std.proofs.lemmas.List.Sums.{fails_before_first, passes_at_first, prefix_len-le-length}
 use Rattle.std.proofs.lemmas.Bool.{cases_lt, lt-ltb, le-ltb, eqb-true}
 use Rattle.std.proofs.lemmas.List.Splits.{slice_split_none, slice_split_first}
-use Rattle.dsr_cells.specs.Cells.{cells}
+use Rattle.dsr_cells.specs.meaning.Cells.{cells}
 
 -- the first TAB is at index i
 pub record TabAt (text : List ℕ) (i : ℕ) : Type 0 where

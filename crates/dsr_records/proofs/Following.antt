@@ -3,8 +3,8 @@ use Rattle.std.proofs.Common.{◌≡◌, ◌<◌, ◌+◌, ◌++◌, ℕ, List, 
 use Rattle.std.proofs.lemmas.List.{take_more}
 use Rattle.std.proofs.lemmas.Option.{get_or_from_slice_get}
 use mathlib.Core.List.{map-append}
-use Rattle.dsr_records.specs.Rows.{IsInOrder}
-use Rattle.dsr_records.specs.Records.{cell_in}
+use Rattle.dsr_records.specs.inner.Rows.{IsInOrder}
+use Rattle.dsr_records.specs.meaning.Records.{cell_in}
 use Rattle.dsr_records.proofs.Drops.{slice_get_first}
 
 -- the cells of k columns, and that of the next one: the first cell of the line behind the cells so far

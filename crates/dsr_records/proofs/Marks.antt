@@ -18,8 +18,8 @@ use Rattle.std.proofs.Math.ListN.{get_or-map}
 use Rattle.std.proofs.Math.Nat.{zero-div, div-div-eq-div-mul}
 use Rattle.std.specs.Prelude.{count_ones}
 use Rattle.std.specs.Int.Count.{count_trailing_zeros}
-use Rattle.dsr_records.specs.Marks.{tab_bits}
-use Rattle.dsr_cells.specs.Cells.{cells}
+use Rattle.dsr_records.specs.inner.Marks.{tab_bits}
+use Rattle.dsr_cells.specs.meaning.Cells.{cells}
 use Rattle.dsr_records.proofs.FirstCells.{TabAt, first_tab, no_tab}
 
 abbrev pub is_tab : ℕ → Bool

@@ -4,8 +4,8 @@ use Rattle.std.specs.Int.{from_le_bytes}
 use Rattle.std.specs.Str.{bytes_eq}
 use Rattle.std.proofs.lemmas.Nat.{le_bytes_4}
 use Rattle.std.proofs.lemmas.Slice.Eq.{bytes_eq-Decides}
-use Rattle.dsr_cells.specs.Order.{AreBytes}
-use Rattle.dsr_records.specs.Names.{start_of}
+use Rattle.dsr_cells.specs.inner.Order.{AreBytes}
+use Rattle.dsr_records.specs.inner.Names.{start_of}
 
 -- two texts of four bytes are equal if their numbers are
 pub same_start : (xs ys : List ℕ) → length xs ≡ 4 → length ys ≡ 4 → AreBytes xs → AreBytes ys → start_of xs ≡ start_of ys → bytes_eq xs ys ≡ true

@@ -3,7 +3,7 @@ use Rattle.std.proofs.Common.{◌≡◌, ◌<◌, ◌≤◌, ℕ, Bool, false, L
 use Rattle.std.proofs.lemmas.Bool.{le-ltb}
 use Rattle.std.proofs.lemmas.List.Splits.{length-slice_split}
 use Rattle.std.proofs.lemmas.List.Sums.{count_by-le-length}
-use Rattle.dsr_cells.specs.Cells.{cells}
+use Rattle.dsr_cells.specs.meaning.Cells.{cells}
 
 abbrev is_tab : ℕ → Bool
 is_tab b = eqb b 9

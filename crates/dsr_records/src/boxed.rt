@@ -1,6 +1,6 @@
 //! A block on the heap.
 ghost use Rattle.std.specs.Prelude.{◌≡◌, IfOk};
-ghost use Rattle.dsr_records.specs.Blocks.{empty_block};
+ghost use Rattle.dsr_records.specs.meaning.Blocks.{empty_block};
 
 use crate::block::Block;
 use dsr_cells::NoMemory;
@@ -16,7 +16,7 @@ pub struct BoxedBlock {
 }
 
 impl Model for BoxedBlock {
-    ghost use Rattle.dsr_records.specs.Blocks.{BlockParts};
+    ghost use Rattle.dsr_records.specs.meaning.Blocks.{BlockParts};
 
     ghost Value = { BlockParts };
 
@@ -25,7 +25,7 @@ impl Model for BoxedBlock {
 
 impl BoxedBlock {
     ghost use Rattle.std.specs.Borrow.{sem};
-    ghost use Rattle.dsr_records.specs.Boxes.{lends_block};
+    ghost use Rattle.dsr_records.specs.inner.Boxes.{lends_block};
 
     /// A block of an empty resource, to be overwritten.
     ///

@@ -2,15 +2,15 @@
 ghost use Rattle.std.specs.Prelude.{◌≡◌, ◌+◌, ◌<◌, true, length, map};
 ghost use Rattle.std.specs.Prelude.{Ok, Err, IfOk, OnOk, OnErr, MatchResult, nat_lt, drop};
 ghost use Rattle.std.specs.Option.{option_map};
-ghost use Rattle.dsr_cells.specs.Cells.{cells};
-ghost use Rattle.dsr_records.specs.Blocks.{OpensBlock, with_member};
+ghost use Rattle.dsr_cells.specs.meaning.Cells.{cells};
+ghost use Rattle.dsr_records.specs.meaning.Blocks.{OpensBlock, with_member};
 ghost use Rattle.dsr_records.specs.declared.kinds.Kind.TheVariants as kinds;
 ghost use Rattle.dsr_records.specs.declared.record.Record.TheVariants as records;
-ghost use Rattle.dsr_records.specs.Checked.{record_seen};
-ghost use Rattle.dsr_records.specs.Records.{cell_in};
-ghost use Rattle.dsr_records.specs.Rows.{cells_left};
-ghost use Rattle.dsr_records.specs.Reads.{AnswersRecord, kind_of_record, id_of_record, has_texts};
-ghost use Rattle.dsr_records.specs.Values.{id_of, kind_of, record_by_row, record_of};
+ghost use Rattle.dsr_records.specs.inner.Checked.{record_seen};
+ghost use Rattle.dsr_records.specs.meaning.Records.{cell_in};
+ghost use Rattle.dsr_records.specs.inner.Rows.{cells_left};
+ghost use Rattle.dsr_records.specs.meaning.Reads.{AnswersRecord, kind_of_record, id_of_record, has_texts};
+ghost use Rattle.dsr_records.specs.meaning.Values.{id_of, kind_of, record_by_row, record_of};
 
 use crate::block::Block;
 use crate::check::{
@@ -34,7 +34,7 @@ pub struct CheckedLine<'l> {
 
 impl<'l> Model for CheckedLine<'l> {
     ghost use Rattle.dsr_records.specs.declared.record.Record.{Record as RecordValue};
-    ghost use Rattle.dsr_records.specs.Checked.{record_seen};
+    ghost use Rattle.dsr_records.specs.inner.Checked.{record_seen};
 
     ghost Value = { RecordValue };
 
@@ -185,7 +185,7 @@ impl<'l> Model for TypedLine<'l> {
     ghost use Rattle.std.specs.Prelude.{Result};
     ghost use Rattle.dsr_records.specs.declared.record.Record.{Record as RecordValue};
     ghost use Rattle.dsr_records.specs.declared.kinds.RecordFault.{RecordFault as FaultValue};
-    ghost use Rattle.dsr_records.specs.Values.{record_by_row};
+    ghost use Rattle.dsr_records.specs.meaning.Values.{record_by_row};
 
     ghost Value = { Result RecordValue FaultValue };
 

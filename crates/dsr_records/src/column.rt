@@ -1,6 +1,6 @@
 //! The columns of the kinds, and their names.
 ghost use Rattle.std.specs.Prelude.{◌≡◌};
-ghost use Rattle.dsr_records.specs.Tables.{columns_of, column_name, may_be_empty};
+ghost use Rattle.dsr_records.specs.meaning.Tables.{columns_of, column_name, may_be_empty};
 
 use crate::kinds::{Column, Kind};
 

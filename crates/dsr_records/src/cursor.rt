@@ -1,8 +1,8 @@
 //! Finding the cells of a line, one after another.
 ghost use Rattle.std.specs.Prelude.{◌≡◌, ◌<◌, Some, IfSome, slice_get, drop};
 ghost use Rattle.std.specs.Option.{option_map};
-ghost use Rattle.dsr_cells.specs.Cells.{cells};
-ghost use Rattle.dsr_records.specs.Rows.{cells_left};
+ghost use Rattle.dsr_cells.specs.meaning.Cells.{cells};
+ghost use Rattle.dsr_records.specs.inner.Rows.{cells_left};
 
 use crate::rest::Rest;
 use std::marker::Model;
@@ -52,7 +52,7 @@ pub(crate) struct Cursor<'l> {
 
 impl<'l> Model for Cursor<'l> {
     ghost use Rattle.std.specs.Prelude.{◌≡◌, ◌<◌, List, ℕ, drop};
-    ghost use Rattle.dsr_cells.specs.Cells.{cells};
+    ghost use Rattle.dsr_cells.specs.meaning.Cells.{cells};
 
     ghost Value = { List (List ℕ) };
 

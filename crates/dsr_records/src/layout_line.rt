@@ -1,7 +1,7 @@
 //! A line of a layout: the record type that stands for a kind, and the positions of its columns.
 ghost use Rattle.std.specs.Prelude.{◌≡◌, ◌≤◌, length};
 ghost use Rattle.std.specs.Str.{bytes_eq};
-ghost use Rattle.dsr_records.specs.Names.{start_of};
+ghost use Rattle.dsr_records.specs.inner.Names.{start_of};
 
 use crate::kinds::Kind;
 use crate::positions::Positions;
@@ -39,7 +39,7 @@ pub(crate) struct TypeName {
 
 impl Model for TypeName {
     ghost use Rattle.std.specs.Prelude.{◌≡◌, List, ℕ};
-    ghost use Rattle.dsr_records.specs.Names.{start_of};
+    ghost use Rattle.dsr_records.specs.inner.Names.{start_of};
 
     ghost Value = { List ℕ };
 
@@ -118,7 +118,7 @@ pub(crate) struct RoleLine {
 }
 
 impl Model for RoleLine {
-    ghost use Rattle.dsr_records.specs.Records.{RoleLine as Line};
+    ghost use Rattle.dsr_records.specs.meaning.Records.{RoleLine as Line};
 
     ghost Value = { Line };
 

@@ -3,8 +3,8 @@ ghost use Rattle.std.specs.Prelude.{◌≡◌, ◌<◌, ◌≤◌, length, Ok, E
 ghost use Rattle.std.specs.List.{list_all};
 ghost use Rattle.std.specs.Option.{option_map};
 ghost use Rattle.std.specs.Str.{is_utf8};
-ghost use Rattle.dsr_cells.specs.Lines.{without_return};
-ghost use Rattle.dsr_records.specs.Layouts.{empty_layout, is_type_text, is_type_byte, kind_named, position_of, positions_from, with_line, with_text, with_piece, with_lines, layout_of, cell_at, is_left_out};
+ghost use Rattle.dsr_cells.specs.meaning.Lines.{without_return};
+ghost use Rattle.dsr_records.specs.meaning.Layouts.{empty_layout, is_type_text, is_type_byte, kind_named, position_of, positions_from, with_line, with_text, with_piece, with_lines, layout_of, cell_at, is_left_out};
 
 use crate::column::{MOST_COLUMNS, column_may_be_empty, columns};
 use crate::kinds::{Column, Kind};

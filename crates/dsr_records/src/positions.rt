@@ -1,6 +1,6 @@
 //! The positions of a kind's columns in a line.
 ghost use Rattle.std.specs.Prelude.{◌≡◌, ◌≤◌, [], length, true};
-ghost use Rattle.dsr_records.specs.Rows.{IsInOrder};
+ghost use Rattle.dsr_records.specs.inner.Rows.{IsInOrder};
 
 use crate::column::MOST_COLUMNS;
 use arrayvec::ArrayVec;
@@ -31,7 +31,7 @@ pub(crate) struct Positions {
 
 impl Model for Positions {
     ghost use Rattle.std.specs.Prelude.{◌≡◌, List, ℕ, Option, true};
-    ghost use Rattle.dsr_records.specs.Rows.{IsInOrder};
+    ghost use Rattle.dsr_records.specs.inner.Rows.{IsInOrder};
 
     ghost Value = { List (Option ℕ) };
 

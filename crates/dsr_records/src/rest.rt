@@ -2,8 +2,8 @@
 ghost use Rattle.std.specs.Prelude.{◌≡◌, ◌≢◌, ◌+◌, ◌-◌, ◌<◌, ◌≤◌, ◌==◌, ◌∷◌, length, take, drop};
 ghost use Rattle.std.specs.Prelude.{[], slice_index, not, false, IfSome};
 ghost use Rattle.std.specs.List.{position, position_or_len};
-ghost use Rattle.dsr_cells.specs.Cells.{cells};
-ghost use Rattle.dsr_records.specs.Marks.{tab_bits};
+ghost use Rattle.dsr_cells.specs.meaning.Cells.{cells};
+ghost use Rattle.dsr_records.specs.inner.Marks.{tab_bits};
 
 use crate::tab_bits::{more_tabs_of, tabs_of};
 
@@ -51,7 +51,7 @@ pub(crate) struct Rest<'l> {
 }
 
 impl<'l> Rest<'l> {
-    ghost use Rattle.dsr_records.specs.Rows.{cells_left};
+    ghost use Rattle.dsr_records.specs.inner.Rows.{cells_left};
 
     /// A whole text, with the TABs of its first 64 bytes.
     #[inline(always)]

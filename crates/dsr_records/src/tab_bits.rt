@@ -1,7 +1,7 @@
 //! The TABs among the first bytes of a text, as a bit mask (SIMD): bit k is set if byte k is a TAB.
 ghost use Rattle.std.specs.Prelude.{◌≡◌, ◌+◌, ◌<◌, ◌≤◌, ℕ, length, take};
 ghost use Rattle.std.specs.Simd.Lanes.{chunk};
-ghost use Rattle.dsr_records.specs.Marks.{tab_bits};
+ghost use Rattle.dsr_records.specs.inner.Marks.{tab_bits};
 
 use std::simd::prelude::*;
 

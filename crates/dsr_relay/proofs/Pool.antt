@@ -1,6 +1,6 @@
 -- What the steps of a relay's memory preserve.
 use Rattle.std.proofs.Common.{◌≡◌, ℕ, ◌+◌, ◌-◌, ◌<◌, ◌≤◌, List, [], ◌∷◌, refl, sym, subst, zero, suc, arith}
-use Rattle.dsr_relay.specs.Pool.{Pool, Turn, reuse, begin, allow, send, keep, give, Turns, Passes, IsUntouched, NeverLacksMemory}
+use Rattle.dsr_relay.specs.meaning.Pool.{Pool, Turn, reuse, begin, allow, send, keep, give, Turns, Passes, IsUntouched, NeverLacksMemory}
 
 -- what holds after each step: fewer are kept than are given back together, and as many as that were or may be filled
 record IsWell (p : Pool) : Type 0 where

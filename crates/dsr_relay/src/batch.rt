@@ -5,8 +5,8 @@
 //! and the reader writes the next one into its memory. So that there is a stale one from the beginning, all slots are
 //! filled with empty blocks before a batch is filled for the first time.
 ghost use Rattle.std.specs.Prelude.{◌≡◌, ◌<◌, ◌^◌, ◌∷◌, ◌++◌, [], ℕ, List, true, false, MatchOption, MatchResult, IfOk};
-ghost use Rattle.dsr_records.specs.Blocks.{BlockParts};
-ghost use Rattle.dsr_events.specs.Placed.{Placed, block_event};
+ghost use Rattle.dsr_records.specs.meaning.Blocks.{BlockParts};
+ghost use Rattle.dsr_events.specs.meaning.Placed.{Placed, block_event};
 
 use dsr_cells::NoMemory;
 use dsr_events::{Event, EventPart};
@@ -41,7 +41,7 @@ pub struct Batch {
 
 impl Model for Batch {
     ghost use Rattle.std.specs.Prelude.{◌≤◌, List, length, take, drop};
-    ghost use Rattle.dsr_events.specs.Placed.{Placed};
+    ghost use Rattle.dsr_events.specs.meaning.Placed.{Placed};
 
     ghost Value = { List Placed };
 

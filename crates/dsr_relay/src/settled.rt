@@ -17,8 +17,8 @@ pub struct Settled {
 }
 
 impl Model for Settled {
-    ghost use Rattle.dsr_relay.specs.Views.{SettledView};
-    ghost use Rattle.dsr_relay.specs.Settles.{settled_view, IsSettled};
+    ghost use Rattle.dsr_relay.specs.meaning.Views.{SettledView};
+    ghost use Rattle.dsr_relay.specs.inner.Settles.{settled_view, IsSettled};
 
     ghost Value = { SettledView };
 

@@ -1,7 +1,7 @@
 //! The receiving end of a relay.
 ghost use Rattle.std.specs.Prelude.{◌≡◌, ◌+◌, ◌*◌, ◌<◌, ◌≤◌, true, false, [], ◌∷◌, ◌++◌, length};
 ghost use Rattle.std.specs.Prelude.{IfSome, IfNone, IfOk, OnErr};
-ghost use Rattle.dsr_events.specs.Orderly.{IsOrderly, has_ended};
+ghost use Rattle.dsr_events.specs.meaning.Orderly.{IsOrderly, has_ended};
 
 use crate::batch::Batch;
 use crate::channel::{Closed, take_next};
@@ -28,8 +28,8 @@ pub struct Tap {
 }
 
 impl Model for Tap {
-    ghost use Rattle.dsr_relay.specs.Views.{TapView};
-    ghost use Rattle.dsr_relay.specs.Taps.{tap_view, IsTap};
+    ghost use Rattle.dsr_relay.specs.meaning.Views.{TapView};
+    ghost use Rattle.dsr_relay.specs.inner.Taps.{tap_view, IsTap};
 
     ghost Value = { TapView };
 

@@ -1,6 +1,6 @@
 //! The two ends of a relay: what a call returns when the other end is gone.
 ghost use Rattle.std.specs.Prelude.{◌≡◌, ◌<◌, ◌≤◌, false, length};
-ghost use Rattle.dsr_events.specs.Orderly.{has_ended};
+ghost use Rattle.dsr_events.specs.meaning.Orderly.{has_ended};
 
 use crate::sending::{ended_comes_back, flushes, relay, send_and_leave, send_block, send_opened};
 use crate::taking::{takes_opened, takes_place};

@@ -1,6 +1,6 @@
 //! The events that go through a relay, and how a test recognises them.
 ghost use Rattle.std.specs.Prelude.{◌≡◌, ℕ, ◌<◌, false, IfSome, IfOk};
-ghost use Rattle.dsr_events.specs.Orderly.{is_ended, MayStandAt};
+ghost use Rattle.dsr_events.specs.meaning.Orderly.{is_ended, MayStandAt};
 
 use dsr_cells::{NoMemory, Text, Texts};
 use dsr_file::{Ending, Event, EventList, EventPart, Outcome, whole_events};

@@ -1,6 +1,6 @@
 //! Relays where allocations are refused.
 ghost use Rattle.std.specs.Prelude.{◌≡◌, ◌+◌, ◌<◌, ◌≤◌, [], true, false, length};
-ghost use Rattle.dsr_events.specs.Orderly.{has_ended};
+ghost use Rattle.dsr_events.specs.meaning.Orderly.{has_ended};
 
 use crate::events::plain_block;
 use crate::sending::{flushes, send_file, send_opened, send_part};

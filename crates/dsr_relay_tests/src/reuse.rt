@@ -1,6 +1,6 @@
 //! Blocks that are exchanged for stale ones of a batch that came back.
 ghost use Rattle.std.specs.Prelude.{◌≡◌, ◌+◌, ◌<◌, ◌≤◌, [], false, length};
-ghost use Rattle.dsr_events.specs.Orderly.{has_ended};
+ghost use Rattle.dsr_events.specs.meaning.Orderly.{has_ended};
 
 use crate::events::{are_right, block};
 use crate::sending::{flushes, relay, send_block, send_blocks};

@@ -1,6 +1,6 @@
 //! What a test sends: the opening of a file, its blocks and its end.
 ghost use Rattle.std.specs.Prelude.{◌≡◌, ◌+◌, ◌<◌, ◌≤◌, true, false, [], length, IfOk};
-ghost use Rattle.dsr_events.specs.Orderly.{has_ended, is_ended, MayStandAt};
+ghost use Rattle.dsr_events.specs.meaning.Orderly.{has_ended, is_ended, MayStandAt};
 
 use crate::events::{block, ended, is_end, opened};
 use dsr_file::{Event, EventPart};

@@ -1,6 +1,6 @@
 //! What a test takes: one event, a batch, or all events of a file.
 ghost use Rattle.std.specs.Prelude.{◌≡◌, false};
-ghost use Rattle.dsr_events.specs.Orderly.{has_ended};
+ghost use Rattle.dsr_events.specs.meaning.Orderly.{has_ended};
 
 use crate::events::{Seen, are_right, as_seen};
 use dsr_relay::Tap;

@@ -6,7 +6,7 @@
 #![tactic(auto)]
 
 ghost use Rattle.std.specs.Prelude.{◌≡◌, ◌+◌, ◌≤◌, ◌^◌, None, length};
-ghost use Rattle.dsr_file.specs.Standing.{bytes_used, ending_told};
+ghost use Rattle.dsr_file.specs.inner.Standing.{bytes_used, ending_told};
 
 use dsr_file::{Ending, Event, EventPart, FileReader, Outcome};
 use dsr_records::Layout;

@@ -1,16 +1,16 @@
 //! The end of a text: its last line, if it has no line feed, and the outcome.
 ghost use Rattle.std.specs.Prelude.{◌≡◌, ◌≢◌, ◌<◌, length, List, ℕ, Some};
-ghost use Rattle.dsr_records.specs.Records.{LayoutTable};
-ghost use Rattle.dsr_events.specs.Placed.{Placed};
-ghost use Rattle.dsr_file.specs.Allowance.{left};
+ghost use Rattle.dsr_records.specs.meaning.Records.{LayoutTable};
+ghost use Rattle.dsr_events.specs.meaning.Placed.{Placed};
+ghost use Rattle.dsr_file.specs.inner.Allowance.{left};
 
 use crate::grammar::Step;
 use crate::reader::FileReader;
 use dsr_events::{Ending, Event, FileFault, Outcome};
 
 impl FileReader {
-    ghost use Rattle.dsr_file.specs.Standing.{Stands, SameText, AtEnd, first_ending};
-    ghost use Rattle.dsr_file.specs.ReaderSteps.{StandsAs, EndsText};
+    ghost use Rattle.dsr_file.specs.inner.Standing.{Stands, SameText, AtEnd, first_ending};
+    ghost use Rattle.dsr_file.specs.inner.ReaderSteps.{StandsAs, EndsText};
     ghost use Rattle.dsr_file.specs.declared.reader.phase.Phase.TheVariants as phases;
 
     /// Keeps the ending of the first call.

@@ -1,7 +1,7 @@
 //! Giving the events of a reader: what a line closed, and the outcome.
 ghost use Rattle.std.specs.Prelude.{◌≡◌, ◌+◌, ◌≤◌, length, true, Some, IfNone};
 ghost use Rattle.std.specs.Option.{option_to_list};
-ghost use Rattle.dsr_file.specs.Allowance.{allowance};
+ghost use Rattle.dsr_file.specs.inner.Allowance.{allowance};
 
 use crate::closed::Closed;
 use crate::grammar::Step;
@@ -10,9 +10,9 @@ use crate::reader::phase::Phase;
 use dsr_events::{Event, EventPart, FileFault, Outcome};
 
 impl FileReader {
-    ghost use Rattle.dsr_file.specs.Standing.{SameBut, SameText, EndsAfter};
-    ghost use Rattle.dsr_file.specs.ReaderSteps.{AppliesStep};
-    ghost use Rattle.dsr_file.specs.Runs.{ended};
+    ghost use Rattle.dsr_file.specs.inner.Standing.{SameBut, SameText, EndsAfter};
+    ghost use Rattle.dsr_file.specs.inner.ReaderSteps.{AppliesStep};
+    ghost use Rattle.dsr_file.specs.meaning.Runs.{ended};
     ghost use Rattle.dsr_file.specs.declared.reader.phase.Phase.TheVariants as phases;
 
     /// The next event, with this content.

@@ -1,9 +1,9 @@
 //! Taking the lines of a piece, up to the next event.
 ghost use Rattle.std.specs.Prelude.{◌≡◌, ◌++◌, [], ◌+◌, ◌<◌, ◌≤◌, ◌^◌, ◌⊎◌, length, List, ℕ, false, take, None, IfNone, OnSome};
 ghost use Rattle.std.specs.Option.{option_to_list};
-ghost use Rattle.dsr_records.specs.Records.{LayoutTable};
-ghost use Rattle.dsr_events.specs.Placed.{Placed};
-ghost use Rattle.dsr_file.specs.Closing.{event_at};
+ghost use Rattle.dsr_records.specs.meaning.Records.{LayoutTable};
+ghost use Rattle.dsr_events.specs.meaning.Placed.{Placed};
+ghost use Rattle.dsr_file.specs.meaning.Closing.{event_at};
 
 use crate::closed::Closed;
 use crate::cutter::Cut;
@@ -13,10 +13,10 @@ use crate::reader::phase::Phase;
 use dsr_events::{FileFault, Outcome};
 
 impl FileReader {
-    ghost use Rattle.dsr_file.specs.Standing.{Stands, IsDone, SameText, bytes_used, events_left, ending_told};
-    ghost use Rattle.dsr_file.specs.ReaderSteps.{UsesBytes, AppliesCut, TakesLine};
-    ghost use Rattle.dsr_file.specs.Cutting.{FitsCut};
-    ghost use Rattle.dsr_file.specs.Runs.{BeginsEvents, HasEvents};
+    ghost use Rattle.dsr_file.specs.inner.Standing.{Stands, IsDone, SameText, bytes_used, events_left, ending_told};
+    ghost use Rattle.dsr_file.specs.inner.ReaderSteps.{UsesBytes, AppliesCut, TakesLine};
+    ghost use Rattle.dsr_file.specs.inner.Cutting.{FitsCut};
+    ghost use Rattle.dsr_file.specs.meaning.Runs.{BeginsEvents, HasEvents};
     ghost use Rattle.dsr_file.specs.declared.reader.phase.Phase.TheVariants as phases;
 
     /// Uses bytes of a piece, up to the next event, which `part` becomes: its place is that of the reader before. Returns

@@ -1,6 +1,6 @@
 //! How far a reader has come.
 ghost use Rattle.std.specs.Prelude.{◌≡◌};
-ghost use Rattle.dsr_file.specs.Allowance.{has_given_all};
+ghost use Rattle.dsr_file.specs.inner.Allowance.{has_given_all};
 
 use dsr_events::Outcome;
 

@@ -3,12 +3,12 @@ use Rattle.std.specs.Prelude.{◌≡◌, ℕ, ◌+◌, ◌<◌, ◌^◌, Bool, t
 use Rattle.std.specs.Prelude.{IsSome, slice_get, slice_set}
 use Rattle.dsr_events.specs.declared.event.EventPart.{EventPart}
 use Rattle.dsr_events.specs.declared.event.EventPart.TheVariants as part
-use Rattle.dsr_events.specs.Orderly.{IsOrderly, has_ended}
-use Rattle.dsr_events.specs.Placed.{Placed}
-use Rattle.dsr_relay.specs.Views.{TapView}
+use Rattle.dsr_events.specs.meaning.Orderly.{IsOrderly, has_ended}
+use Rattle.dsr_events.specs.meaning.Placed.{Placed}
+use Rattle.dsr_relay.specs.meaning.Views.{TapView}
 use Rattle.dsr_ledger.specs.declared.books.Books.{Books}
-use Rattle.dsr_ledger.specs.Files.{File, opened, add_block, end_with}
-use Rattle.dsr_ledger.specs.BooksWords.{Stands, files_count}
+use Rattle.dsr_ledger.specs.meaning.Files.{File, opened, add_block, end_with}
+use Rattle.dsr_ledger.specs.inner.BooksWords.{Stands, files_count}
 use Rattle.dsr_intake.specs.declared.pipeline.errors.CollectError.{CollectError}
 use Rattle.dsr_intake.specs.declared.pipeline.errors.CollectError.TheVariants.{Memory, Closed}
 use Rattle.dsr_intake.specs.inner.Ends.{ends_clean}

@@ -2,8 +2,8 @@
 use Rattle.std.specs.Prelude.{Bool, false, not, List, [], ◌∷◌}
 use Rattle.dsr_events.specs.declared.event.EventPart.{EventPart}
 use Rattle.dsr_events.specs.declared.event.EventPart.TheVariants.{Opened, Block, Ended}
-use Rattle.dsr_events.specs.Placed.{Placed}
-use Rattle.dsr_events.specs.Ends.{is_memory}
+use Rattle.dsr_events.specs.meaning.Placed.{Placed}
+use Rattle.dsr_events.specs.meaning.Ends.{is_memory}
 
 -- the part is an Ended, and Memory is not its fault
 abbrev pub is_clean_end : EventPart → Bool

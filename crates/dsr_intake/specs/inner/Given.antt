@@ -1,8 +1,8 @@
 -- What a thread promises.
 use Rattle.std.specs.Prelude.{◌≡◌, true, List}
-use Rattle.dsr_events.specs.Placed.{Placed}
-use Rattle.dsr_file.specs.Runs.{FileText, events_of_text}
-use Rattle.dsr_file.specs.Sources.{Told, GaveText}
+use Rattle.dsr_events.specs.meaning.Placed.{Placed}
+use Rattle.dsr_file.specs.meaning.Runs.{FileText, events_of_text}
+use Rattle.dsr_file.specs.meaning.Sources.{Told, GaveText}
 use Rattle.dsr_intake.specs.declared.pipeline.options.Options.{Options}
 use Rattle.dsr_intake.specs.inner.Ends.{ends_clean}
 

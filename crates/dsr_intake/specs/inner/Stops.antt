@@ -1,7 +1,7 @@
 -- Why a collector stops.
 use Rattle.std.specs.Prelude.{◌≡◌, ℕ, ◌+◌, false, List, Some, slice_get}
-use Rattle.dsr_events.specs.Orderly.{has_ended}
-use Rattle.dsr_relay.specs.Views.{TapView}
+use Rattle.dsr_events.specs.meaning.Orderly.{has_ended}
+use Rattle.dsr_relay.specs.meaning.Views.{TapView}
 use Rattle.dsr_intake.specs.declared.pipeline.errors.CollectError.{CollectError}
 use Rattle.dsr_intake.specs.declared.pipeline.errors.CollectError.TheVariants.{Memory, Closed}
 

@@ -1,6 +1,6 @@
 -- The options of an intake, and what is refused before anything is read.
 use Rattle.std.specs.Prelude.{ℕ, Option, Some, None, ◌==◌, ◌||◌, nat_lt, if◌then◌else◌}
-use Rattle.dsr_records.specs.Layouts.{standard_layout}
+use Rattle.dsr_records.specs.meaning.Layouts.{standard_layout}
 use Rattle.dsr_intake.specs.declared.pipeline.options.Options.{Options}
 use Rattle.dsr_intake.specs.declared.pipeline.options.TheConstants.{MOST_FILES, MOST_MESSAGES, MOST_READS}
 use Rattle.dsr_intake.specs.declared.pipeline.errors.IntakeError.{IntakeError}

@@ -1,8 +1,8 @@
 -- The results of a run: the statement of the texts was written, or what was written if it fails.
 use Rattle.std.specs.Prelude.{◌≡◌, ◌≤◌, List, length, take, false}
 use Rattle.std.specs.Io.KnownBytes.{Keeps}
-use Rattle.dsr_file.specs.Runs.{FileText}
-use Rattle.dsr_file.specs.Sources.{Told}
+use Rattle.dsr_file.specs.meaning.Runs.{FileText}
+use Rattle.dsr_file.specs.meaning.Sources.{Told}
 use Rattle.dsr_ledger.specs.declared.report.Report.{Report}
 use Rattle.dsr_intake.specs.declared.pipeline.options.Options.{Options}
 use Rattle.dsr_intake.specs.declared.pipeline.errors.RunError.{RunError}

@@ -5,7 +5,7 @@ use Rattle.dsr_events.specs.declared.fault.Outcome.{Outcome}
 use Rattle.dsr_events.specs.declared.fault.Outcome.TheVariants.{Whole, Fault}
 use Rattle.dsr_ledger.specs.declared.report.FileLine.{FileLine}
 use Rattle.dsr_ledger.specs.declared.report.Report.{Report}
-use Rattle.dsr_ledger.specs.Findings.{is_ours}
+use Rattle.dsr_ledger.specs.meaning.Findings.{is_ours}
 use Rattle.dsr_intake.specs.declared.statements.verdict.Status.{Status}
 use Rattle.dsr_intake.specs.declared.statements.verdict.Status.TheVariants.{Clean, Remarks}
 

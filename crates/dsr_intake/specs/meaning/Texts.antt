@@ -1,17 +1,17 @@
 -- The texts of several files, and their report.
 use Rattle.std.specs.Prelude.{List, [], ◌∷◌, map, Option, Some, None}
 use Rattle.std.specs.List.{filter_map}
-use Rattle.dsr_records.specs.Blocks.{BlockParts}
-use Rattle.dsr_records.specs.Records.{LayoutTable}
+use Rattle.dsr_records.specs.meaning.Blocks.{BlockParts}
+use Rattle.dsr_records.specs.meaning.Records.{LayoutTable}
 use Rattle.dsr_events.specs.declared.event.EventPart.TheVariants as part
 use Rattle.dsr_events.specs.declared.fault.Outcome.{Outcome}
-use Rattle.dsr_events.specs.Openings.{OpeningParts}
-use Rattle.dsr_events.specs.Placed.{Placed}
-use Rattle.dsr_file.specs.Runs.{FileText, events_of_text}
-use Rattle.dsr_file.specs.Sources.{Told, GaveText}
+use Rattle.dsr_events.specs.meaning.Openings.{OpeningParts}
+use Rattle.dsr_events.specs.meaning.Placed.{Placed}
+use Rattle.dsr_file.specs.meaning.Runs.{FileText, events_of_text}
+use Rattle.dsr_file.specs.meaning.Sources.{Told, GaveText}
 use Rattle.dsr_ledger.specs.declared.report.Report.{Report}
-use Rattle.dsr_ledger.specs.Files.{File}
-use Rattle.dsr_ledger.specs.Reports.{report_of}
+use Rattle.dsr_ledger.specs.meaning.Files.{File}
+use Rattle.dsr_ledger.specs.meaning.Reports.{report_of}
 use Rattle.dsr_intake.specs.declared.pipeline.options.Options.{Options}
 
 -- each source gave the text at its place

@@ -1,12 +1,12 @@
 //! The collector: it takes the events of all files, books them, and closes the books or makes their report.
 ghost use Rattle.std.specs.Prelude.{◌≡◌, ◌+◌, ◌<◌, ◌≤◌, ◌++◌, true, false, List, [], length, map, All, OnOk, OnErr, IfOk, IfErr};
 ghost use Rattle.std.specs.Prelude.{vec_len};
-ghost use Rattle.dsr_events.specs.Placed.{Placed};
-ghost use Rattle.dsr_events.specs.Orderly.{IsOrderly, is_ended, has_ended, MayStandAt};
-ghost use Rattle.dsr_ledger.specs.BooksWords.{Stands, files_count};
-ghost use Rattle.dsr_ledger.specs.Closed.{AreClosed};
-ghost use Rattle.dsr_ledger.specs.Reports.{report_of};
-ghost use Rattle.dsr_ledger.specs.Files.{File};
+ghost use Rattle.dsr_events.specs.meaning.Placed.{Placed};
+ghost use Rattle.dsr_events.specs.meaning.Orderly.{IsOrderly, is_ended, has_ended, MayStandAt};
+ghost use Rattle.dsr_ledger.specs.inner.BooksWords.{Stands, files_count};
+ghost use Rattle.dsr_ledger.specs.inner.Closed.{AreClosed};
+ghost use Rattle.dsr_ledger.specs.meaning.Reports.{report_of};
+ghost use Rattle.dsr_ledger.specs.meaning.Files.{File};
 ghost use Rattle.dsr_intake.specs.inner.Ends.{is_clean_end};
 ghost use Rattle.dsr_intake.specs.meaning.Texts.{file_of};
 ghost use Rattle.dsr_intake.specs.inner.Stops.{IsStopped};

@@ -1,8 +1,8 @@
 //! Reading the files of a report concurrently.
 ghost use Rattle.std.specs.Prelude.{◌≡◌, ◌<◌, ◌≤◌, false, List, [], map, All, IfOk, OnOk, IfErr};
 ghost use Rattle.std.specs.Prelude.{Err, MatchOption, vec_len, vec_capacity};
-ghost use Rattle.dsr_file.specs.Runs.{FileText, events_of_text};
-ghost use Rattle.dsr_ledger.specs.Closed.{AreClosed};
+ghost use Rattle.dsr_file.specs.meaning.Runs.{FileText, events_of_text};
+ghost use Rattle.dsr_ledger.specs.inner.Closed.{AreClosed};
 ghost use Rattle.dsr_intake.specs.inner.Collecting.{IsDrained};
 ghost use Rattle.dsr_intake.specs.meaning.Texts.{GaveEach, file_of};
 ghost use Rattle.dsr_intake.specs.meaning.Options.{refusal_of, IsLate};

@@ -1,11 +1,11 @@
 //! Reading the files of a report and writing its statement.
 ghost use Rattle.std.specs.Prelude.{◌≡◌, false, List, All, OnOk, IfOk, IfErr, Err, MatchOption, vec_len};
-ghost use Rattle.dsr_file.specs.Runs.{FileText};
+ghost use Rattle.dsr_file.specs.meaning.Runs.{FileText};
 ghost use Rattle.dsr_ledger.specs.declared.report.Report.{Report};
-ghost use Rattle.dsr_ledger.specs.Closed.{AreClosed};
-ghost use Rattle.dsr_ledger.specs.Files.{File};
-ghost use Rattle.dsr_ledger.specs.Lent.{IsReady, IsLent};
-ghost use Rattle.dsr_ledger.specs.Reports.{report_of};
+ghost use Rattle.dsr_ledger.specs.inner.Closed.{AreClosed};
+ghost use Rattle.dsr_ledger.specs.meaning.Files.{File};
+ghost use Rattle.dsr_ledger.specs.inner.Lent.{IsReady, IsLent};
+ghost use Rattle.dsr_ledger.specs.meaning.Reports.{report_of};
 ghost use Rattle.dsr_intake.specs.meaning.Options.{refusal_of};
 ghost use Rattle.dsr_intake.specs.meaning.Outcomes.{IsReported, IsUnwritten, IsLateRun};
 ghost use Rattle.dsr_intake.specs.meaning.Statement.{statement_of};

@@ -2,8 +2,8 @@
 ghost use Rattle.std.specs.Prelude.{◌≤◌, List, IfSome, length};
 ghost use Rattle.std.specs.List.{flat_map};
 ghost use Rattle.dsr_ledger.specs.declared.report.LedgerLine.{LedgerLine as LedgerLineValue};
-ghost use Rattle.dsr_ledger.specs.Lent.{IsReady, LinesLent};
-ghost use Rattle.dsr_ledger.specs.Sizes.{AreLinesWithin};
+ghost use Rattle.dsr_ledger.specs.inner.Lent.{IsReady, LinesLent};
+ghost use Rattle.dsr_ledger.specs.inner.Sizes.{AreLinesWithin};
 ghost use Rattle.dsr_intake.specs.meaning.Statement.{ledger_lines};
 
 use dsr_ledger::{LedgerSizes, LentLedger};

@@ -1,6 +1,6 @@
 //! The memory that writing a statement needs.
 ghost use Rattle.std.specs.Prelude.{◌≡◌, ◌++◌, ◌∷◌, IfSome, IfOk, OnOk};
-ghost use Rattle.dsr_cells.specs.Written.{written_day};
+ghost use Rattle.dsr_cells.specs.meaning.Written.{written_day};
 ghost use Rattle.dsr_intake.specs.inner.Laid.{day_cells};
 
 use crate::statements::key::KEY_ROOM;

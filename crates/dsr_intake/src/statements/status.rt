@@ -2,7 +2,7 @@
 ghost use Rattle.std.specs.Prelude.{◌≡◌, ◌&&◌, is_some, if◌then◌else◌};
 ghost use Rattle.std.specs.List.{list_all};
 ghost use Rattle.dsr_ledger.specs.declared.report.Report.{Report as ReportValue};
-ghost use Rattle.dsr_ledger.specs.Lent.{IsLent};
+ghost use Rattle.dsr_ledger.specs.inner.Lent.{IsLent};
 ghost use Rattle.dsr_intake.specs.declared.statements.verdict.Status.TheVariants.{Clean, Remarks};
 ghost use Rattle.dsr_intake.specs.meaning.Status.{status_of, is_clean_file, is_nil};
 

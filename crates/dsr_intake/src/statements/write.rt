@@ -4,7 +4,7 @@ ghost use Rattle.std.specs.List.{flat_map};
 ghost use Rattle.dsr_intake.specs.meaning.Statement.{statement_of, file_lines, missing_line, difference_line, ledger_lines, reject_line};
 ghost use Rattle.dsr_ledger.specs.declared.report.LedgerLine.{LedgerLine as LedgerLineValue};
 ghost use Rattle.dsr_ledger.specs.declared.report.Report.{Report as ReportValue};
-ghost use Rattle.dsr_ledger.specs.Lent.{IsReady, IsLent, LinesLent};
+ghost use Rattle.dsr_ledger.specs.inner.Lent.{IsReady, IsLent, LinesLent};
 ghost use Rattle.dsr_intake.specs.meaning.Written.{IsFlushed, IsCut};
 ghost use Rattle.dsr_intake.specs.inner.Pieces.{Carries, MOST};
 ghost use Rattle.dsr_intake.specs.inner.Puts.{Puts};

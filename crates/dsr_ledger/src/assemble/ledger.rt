@@ -1,13 +1,13 @@
 //! The ledger's lines in their order.
 ghost use Rattle.std.specs.Prelude.{◌≡◌, ◌≤◌, List, All, IfOk, length, vec_capacity};
-ghost use Rattle.dsr_ledger.specs.Bookings.{Booking};
-ghost use Rattle.dsr_ledger.specs.Ledger.{ledger};
-ghost use Rattle.dsr_ledger.specs.Stands.{LedgerStands};
-ghost use Rattle.dsr_ledger.specs.Order.{AreOfSmall};
-ghost use Rattle.dsr_ledger.specs.Listed.{IsRecordingOf, AddsLines};
-ghost use Rattle.dsr_ledger.specs.Rooms.{HasPartRoom, SamePartRoom, SameRoom};
-ghost use Rattle.dsr_ledger.specs.Sizes.{AreLinesWithin};
-ghost use Rattle.dsr_ledger.specs.Taking.{Takes};
+ghost use Rattle.dsr_ledger.specs.meaning.Bookings.{Booking};
+ghost use Rattle.dsr_ledger.specs.meaning.Ledger.{ledger};
+ghost use Rattle.dsr_ledger.specs.inner.Stands.{LedgerStands};
+ghost use Rattle.dsr_ledger.specs.inner.Order.{AreOfSmall};
+ghost use Rattle.dsr_ledger.specs.inner.Listed.{IsRecordingOf, AddsLines};
+ghost use Rattle.dsr_ledger.specs.inner.Rooms.{HasPartRoom, SamePartRoom, SameRoom};
+ghost use Rattle.dsr_ledger.specs.inner.Sizes.{AreLinesWithin};
+ghost use Rattle.dsr_ledger.specs.inner.Taking.{Takes};
 
 use crate::assemble::lines::give_line;
 use crate::assemble::listed::lines_by_key;
@@ -60,7 +60,7 @@ pub struct SortedLedger<'a> {
 }
 
 impl<'a> SortedLedger<'a> {
-    ghost use Rattle.dsr_ledger.specs.SortedLedgers.{IsSorted, HaveRoom};
+    ghost use Rattle.dsr_ledger.specs.inner.SortedLedgers.{IsSorted, HaveRoom};
 
     /// Sorts what the lines of a ledger refer to.
     #[tactic(auto, using(crate::proofs::ListedLemmas::ranks_ordered))]
@@ -122,7 +122,7 @@ pub struct BookedLines<'a> {
 }
 
 impl<'a> BookedLines<'a> {
-    ghost use Rattle.dsr_ledger.specs.BookedLines.{AreReady};
+    ghost use Rattle.dsr_ledger.specs.inner.BookedLines.{AreReady};
 
     /// The lines of this ledger.
     ///

@@ -2,17 +2,17 @@
 ghost use Rattle.std.specs.Prelude.{◌≡◌, ◌≤◌, ◌+◌, ◌∷◌, [], ◌^◌, ◌<◌, ◌-ℤ◌, ℕ, List, Option, length, sum_by, unsigned_abs, vec_capacity};
 ghost use Rattle.std.specs.Option.{option_map_or};
 ghost use Rattle.dsr_ledger.specs.declared.ledger.parts.SeatPart.{SeatPart as SeatPartValue};
-ghost use Rattle.dsr_ledger.specs.Keys.{text_cmp};
-ghost use Rattle.dsr_ledger.specs.Sums.{int_sum_by};
-ghost use Rattle.dsr_ledger.specs.Bookings.{Booking, key_under};
-ghost use Rattle.dsr_ledger.specs.Parts.{all_parts};
-ghost use Rattle.dsr_ledger.specs.Ledger.{party_lines, line_of};
-ghost use Rattle.dsr_ledger.specs.Numbered.{place_by};
-ghost use Rattle.dsr_ledger.specs.Owed.{owed_kept, nothing_owed, owed_for};
-ghost use Rattle.dsr_ledger.specs.Tallies.{line_tally, tally_of};
-ghost use Rattle.dsr_ledger.specs.Listed.{AreListed, IsSeatedLine, lent, party_in};
-ghost use Rattle.dsr_ledger.specs.Rooms.{HasPartRoom, SamePartRoom};
-ghost use Rattle.dsr_ledger.specs.Taking.{Takes};
+ghost use Rattle.dsr_ledger.specs.meaning.Keys.{text_cmp};
+ghost use Rattle.dsr_ledger.specs.meaning.Sums.{int_sum_by};
+ghost use Rattle.dsr_ledger.specs.meaning.Bookings.{Booking, key_under};
+ghost use Rattle.dsr_ledger.specs.meaning.Parts.{all_parts};
+ghost use Rattle.dsr_ledger.specs.meaning.Ledger.{party_lines, line_of};
+ghost use Rattle.dsr_ledger.specs.inner.Numbered.{place_by};
+ghost use Rattle.dsr_ledger.specs.inner.Owed.{owed_kept, nothing_owed, owed_for};
+ghost use Rattle.dsr_ledger.specs.inner.Tallies.{line_tally, tally_of};
+ghost use Rattle.dsr_ledger.specs.inner.Listed.{AreListed, IsSeatedLine, lent, party_in};
+ghost use Rattle.dsr_ledger.specs.inner.Rooms.{HasPartRoom, SamePartRoom};
+ghost use Rattle.dsr_ledger.specs.inner.Taking.{Takes};
 
 use crate::assemble::listed::parts_by_name;
 use crate::assemble::lists::PartLists;

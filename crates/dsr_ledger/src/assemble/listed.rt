@@ -1,11 +1,11 @@
 //! The parts of a line in the order of their parties' names, and the lines of a recording in key order.
 ghost use Rattle.std.specs.Prelude.{◌≡◌, ◌≤◌, length, vec_capacity};
 ghost use Rattle.std.specs.Ordering.{nat_cmp};
-ghost use Rattle.dsr_ledger.specs.Keys.{text_cmp};
-ghost use Rattle.dsr_ledger.specs.SummaryKeys.{summary_key_cmp};
-ghost use Rattle.dsr_ledger.specs.Owed.{part_seats};
-ghost use Rattle.dsr_ledger.specs.Tallies.{line_keys};
-ghost use Rattle.dsr_ledger.specs.Listed.{AreDistinctBelow, AreListed, part_for, line_for, lent, keyed};
+ghost use Rattle.dsr_ledger.specs.meaning.Keys.{text_cmp};
+ghost use Rattle.dsr_ledger.specs.inner.SummaryKeys.{summary_key_cmp};
+ghost use Rattle.dsr_ledger.specs.inner.Owed.{part_seats};
+ghost use Rattle.dsr_ledger.specs.inner.Tallies.{line_keys};
+ghost use Rattle.dsr_ledger.specs.inner.Listed.{AreDistinctBelow, AreListed, part_for, line_for, lent, keyed};
 
 use crate::assemble::tables::Tables;
 use crate::ledger::line::Line;

@@ -1,6 +1,6 @@
 //! Lists that are filled anew for each recording and line of the ledger.
 ghost use Rattle.std.specs.Prelude.{◌≤◌, All, IfOk, length};
-ghost use Rattle.dsr_ledger.specs.Rooms.{HasRoom};
+ghost use Rattle.dsr_ledger.specs.inner.Rooms.{HasRoom};
 
 use crate::ledger::line::Line;
 use crate::ledger::parts::SeatPart;

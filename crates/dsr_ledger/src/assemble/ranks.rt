@@ -1,8 +1,8 @@
 //! The ranks of the summary keys: the place of each among all in order.
 ghost use Rattle.std.specs.Prelude.{◌≡◌, IfOk};
 ghost use Rattle.std.specs.List.{IsDistinct};
-ghost use Rattle.dsr_ledger.specs.SummaryKeys.{summary_key_eq, summary_key_cmp};
-ghost use Rattle.dsr_ledger.specs.Listed.{AreListed, AreRanks, key_in, named_places};
+ghost use Rattle.dsr_ledger.specs.inner.SummaryKeys.{summary_key_eq, summary_key_cmp};
+ghost use Rattle.dsr_ledger.specs.inner.Listed.{AreListed, AreRanks, key_in, named_places};
 
 use crate::ledger::summary_key::SummaryKey;
 use dsr_cells::NoMemory;

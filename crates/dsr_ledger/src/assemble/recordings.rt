@@ -2,8 +2,8 @@
 ghost use Rattle.std.specs.Prelude.{◌≡◌, IfOk};
 ghost use Rattle.std.specs.Str.{bytes_eq};
 ghost use Rattle.indexmap.specs.IndexMap.{get};
-ghost use Rattle.dsr_ledger.specs.Keys.{text_cmp};
-ghost use Rattle.dsr_ledger.specs.Listed.{AreListed, lent};
+ghost use Rattle.dsr_ledger.specs.meaning.Keys.{text_cmp};
+ghost use Rattle.dsr_ledger.specs.inner.Listed.{AreListed, lent};
 
 use crate::ledger::recording::Recording;
 use crate::seeded::Seeded;

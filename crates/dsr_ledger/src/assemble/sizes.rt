@@ -1,6 +1,6 @@
 //! Upper bounds of the lines of a ledger, from the tables that they refer to.
 ghost use Rattle.std.specs.Prelude.{◌≤◌, All, length, map};
-ghost use Rattle.dsr_ledger.specs.Sizes.{IsKeyWithin, AreSizesOf};
+ghost use Rattle.dsr_ledger.specs.inner.Sizes.{IsKeyWithin, AreSizesOf};
 
 use crate::assemble::tables::Tables;
 use crate::ledger::recording::Recording;

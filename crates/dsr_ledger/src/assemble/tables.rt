@@ -2,8 +2,8 @@
 ghost use Rattle.std.specs.Prelude.{◌≡◌, length};
 ghost use Rattle.std.specs.List.{IsDistinct, IsDistinct-prop};
 ghost use Rattle.std.specs.Str.{bytes_eq};
-ghost use Rattle.dsr_ledger.specs.SummaryKeys.{summary_key_eq as key_eq};
-ghost use Rattle.dsr_ledger.specs.Listed.{AreOrdered};
+ghost use Rattle.dsr_ledger.specs.inner.SummaryKeys.{summary_key_eq as key_eq};
+ghost use Rattle.dsr_ledger.specs.inner.Listed.{AreOrdered};
 
 use crate::ledger::summary_key::SummaryKey;
 use dsr_cells::Text;

@@ -3,10 +3,10 @@ ghost use Rattle.std.specs.Prelude.{◌≡◌, ℕ, List, [], OnOk, Option, Some
 ghost use Rattle.std.specs.List.{zip};
 ghost use Rattle.dsr_records.specs.declared.record.Usage.{Usage};
 ghost use Rattle.dsr_ledger.specs.declared.ledger.summary_key.SummaryKey.{SummaryKey};
-ghost use Rattle.dsr_ledger.specs.Recordings.{tally_at, seat_at, recording_number, KeepsSeats, KeepsLines};
-ghost use Rattle.dsr_ledger.specs.Seated.{shares_of, AreSeated, SeatedMore};
-ghost use Rattle.dsr_ledger.specs.Summaries.{index_at, AreNumbered};
-ghost use Rattle.dsr_ledger.specs.Lined.{AreLined};
+ghost use Rattle.dsr_ledger.specs.inner.Recordings.{tally_at, seat_at, recording_number, KeepsSeats, KeepsLines};
+ghost use Rattle.dsr_ledger.specs.inner.Seated.{shares_of, AreSeated, SeatedMore};
+ghost use Rattle.dsr_ledger.specs.inner.Summaries.{index_at, AreNumbered};
+ghost use Rattle.dsr_ledger.specs.inner.Lined.{AreLined};
 
 use crate::file::summaries::Summaries;
 use crate::ledger::parts::SeatShare;
@@ -108,15 +108,15 @@ fn plan_lines(
     requires there { (isrc : List ℕ) × (es : List (List ℕ × ℕ))
         × (recording_number ledger.old isrc ≡ Some recording)
         × AreSeated (seat_at ledger.old isrc) shares.now es }
-    requires named { (place : List ℕ → Option SummaryKey) × (us : List Usage)
-        × AreNumbered ledger.old place summaries.now
+    requires named { (key_of : List ℕ → Option SummaryKey) × (us : List Usage)
+        × AreNumbered ledger.old key_of summaries.now
         × (map (λ u. index_at summaries.now u.summary_id) us ≡ map Some numbers.now) }
     ensures keeps { KeepsLines ledger.old ledger.new }
-    ensures lined { (isrc : List ℕ) (place : List ℕ → Option SummaryKey) (us : List Usage)
+    ensures lined { (isrc : List ℕ) (key_of : List ℕ → Option SummaryKey) (us : List Usage)
         → recording_number ledger.old isrc ≡ Some recording
-        → AreNumbered ledger.old place summaries.now
+        → AreNumbered ledger.old key_of summaries.now
         → map (λ u. index_at summaries.now u.summary_id) us ≡ map Some numbers.now
-        → OnOk result (AreLined ledger.new place isrc shares.now us plan.new.items) }
+        → OnOk result (AreLined ledger.new key_of isrc shares.now us plan.new.items) }
 {
     for number in numbers {
         let key = summaries.key(*number);
@@ -128,8 +128,8 @@ fn plan_lines(
 }
 
 impl Plan {
-    ghost use Rattle.dsr_ledger.specs.declared.key.Key.{Key};
-    ghost use Rattle.dsr_ledger.specs.Plans.{IsPlanned};
+    ghost use Rattle.dsr_ledger.specs.meaning.Keys.{Key};
+    ghost use Rattle.dsr_ledger.specs.inner.Plans.{IsPlanned};
 
     /// Empty lists.
     pub fn new(alloc: Global) -> Plan {
@@ -151,15 +151,15 @@ impl Plan {
         isrc: Isrc,
         works: &[Work],
     ) -> Result<(), NoMemory>
-        requires { (place : List ℕ → Option SummaryKey) × (us : List Usage)
-            × AreNumbered ledger.old place summaries.now
+        requires { (key_of : List ℕ → Option SummaryKey) × (us : List Usage)
+            × AreNumbered ledger.old key_of summaries.now
             × (map (λ u. index_at summaries.now u.summary_id) us ≡ map Some self.old.summaries.items) }
         ensures tallies { (q : Key) → tally_at ledger.new q ≡ tally_at ledger.old q }
         ensures keys { ledger.new.summary_keys ≡ ledger.old.summary_keys }
-        ensures planned { (place : List ℕ → Option SummaryKey) (us : List Usage)
-            → AreNumbered ledger.old place summaries.now
+        ensures planned { (key_of : List ℕ → Option SummaryKey) (us : List Usage)
+            → AreNumbered ledger.old key_of summaries.now
             → map (λ u. index_at summaries.now u.summary_id) us ≡ map Some self.old.summaries.items
-            → OnOk result (IsPlanned ledger.new summaries.now place isrc works.now us self.new) }
+            → OnOk result (IsPlanned ledger.new summaries.now key_of isrc works.now us self.new) }
     {
         self.shares.clear();
         self.lines.clear();

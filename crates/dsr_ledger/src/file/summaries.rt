@@ -1,7 +1,7 @@
 //! The state of a file's summaries.
 ghost use Rattle.std.specs.Prelude.{◌≡◌};
-ghost use Rattle.dsr_ledger.specs.Ranges.{IsInRange, SumsFit};
-ghost use Rattle.dsr_ledger.specs.Summaries.{shown_plus, nothing_found};
+ghost use Rattle.dsr_ledger.specs.inner.Ranges.{IsInRange, SumsFit};
+ghost use Rattle.dsr_ledger.specs.inner.Summaries.{state_plus, nothing_found};
 
 use crate::hints::Hints;
 use crate::seeded::Seeded;
@@ -36,7 +36,7 @@ impl SummaryState {
     /// Adds a usage that names the summary.
     fn count(&mut self, usage: &Usage)
         requires { SumsFit 1 self.old.sums }
-        ensures shown { self.new ≡ shown_plus usage.now self.old }
+        ensures shown { self.new ≡ state_plus usage.now self.old }
         ensures range { IsInRange usage.now }
     {
         self.sums.add(usage);
@@ -63,12 +63,12 @@ impl Summaries {
     ghost use Rattle.std.specs.Prelude.{[], ◌∷◌, ◌<◌, ℕ, List, IfSome, IfOk, OnOk, None, Some, option_map};
     ghost use Rattle.std.specs.Option.{ForSome, option_or};
     ghost use Rattle.indexmap.specs.IndexMap.{index_map_len};
-    ghost use Rattle.dsr_ledger.specs.Summaries.{shown_at, sums_at, shown_with, number_at, index_at, ShownFits};
-    ghost use Rattle.dsr_ledger.specs.Openings.{named};
+    ghost use Rattle.dsr_ledger.specs.inner.Summaries.{state_at, sums_at, state_with, number_at, index_at, StateFits};
+    ghost use Rattle.dsr_ledger.specs.inner.Openings.{named};
 
     /// No summaries.
     pub fn new(alloc: Global, seeded: Seeded) -> Summaries
-        ensures { (q : List ℕ) → shown_at result q ≡ None }
+        ensures { (q : List ℕ) → state_at result q ≡ None }
     {
         Summaries {
             states: IndexMap::with_hasher(alloc, seeded),
@@ -78,7 +78,7 @@ impl Summaries {
 
     /// No summaries, with room for `many`.
     pub fn with_room(alloc: Global, seeded: Seeded, many: usize) -> Result<Summaries, NoMemory>
-        ensures { IfOk result (λ m. (q : List ℕ) → shown_at m q ≡ None) }
+        ensures { IfOk result (λ m. (q : List ℕ) → state_at m q ≡ None) }
     {
         Ok(Summaries {
             states: IndexMap::with_capacity_and_hasher(alloc, many, seeded)?,
@@ -153,7 +153,7 @@ impl Summaries {
     /// others are unchanged.
     pub fn add(&mut self, alloc: Global, summary: &Summary, key: u32) -> Result<(), NoMemory>
         ensures { OnOk result ((q : List ℕ)
-            → shown_at self.new q ≡ option_or (shown_at self.old q)
+            → state_at self.new q ≡ option_or (state_at self.old q)
             (option_map (λ s. nothing_found key) (named q summary.now))) }
     {
         if self.states.contains_key(&summary.id) {
@@ -169,11 +169,11 @@ impl Summaries {
     /// Adds a usage to the summary that it names, which has this number, and to no other.
     pub fn count(&mut self, number: usize, usage: &Usage)
         requires there { index_at self.old usage.now.summary_id ≡ Some number }
-        requires fits { ForSome (shown_at self.old usage.now.summary_id) (ShownFits 1) }
+        requires fits { ForSome (state_at self.old usage.now.summary_id) (StateFits 1) }
         ensures range { IsInRange usage.now }
         ensures index { (q : List ℕ) → index_at self.new q ≡ index_at self.old q }
-        ensures shown { (q : List ℕ) → shown_at self.new q ≡ option_map
-            (shown_with q (usage.now ∷ [])) (shown_at self.old q) }
+        ensures shown { (q : List ℕ) → state_at self.new q ≡ option_map
+            (state_with q (usage.now ∷ [])) (state_at self.old q) }
     {
         let (_, state) = self.states.pair_mut(number);
         state.count(usage);

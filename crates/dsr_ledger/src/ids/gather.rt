@@ -1,7 +1,7 @@
 //! Moving identifiers to a set.
 ghost use Rattle.std.specs.Prelude.{◌++◌, ◌∷◌, [], OnOk, OnErr};
-ghost use Rattle.dsr_ledger.specs.IdNumbers.{range_texts, texts_of};
-ghost use Rattle.dsr_ledger.specs.Ids.{HasAlso, AreSameWith};
+ghost use Rattle.dsr_ledger.specs.inner.IdNumbers.{range_texts, texts_of};
+ghost use Rattle.dsr_ledger.specs.inner.Ids.{HasAlso, AreSameWith};
 
 use crate::ids::number_range::NumberRange;
 use crate::seeded::Seeded;

@@ -1,6 +1,6 @@
 //! Identifiers that are decimal numbers, as ranges of numbers.
 ghost use Rattle.std.specs.Prelude.{◌≡◌, ◌-◌, ◌<◌, ◌^◌, IfOk, IfSome, OnErr, decimal, length, take};
-ghost use Rattle.dsr_ledger.specs.IdNumbers.{texts_of, IsAppended};
+ghost use Rattle.dsr_ledger.specs.inner.IdNumbers.{texts_of, IsAppended};
 
 use crate::ids::number_range::NumberRange;
 use dsr_cells::{NoMemory, read_number};

@@ -2,8 +2,8 @@
 ghost use Rattle.std.specs.Prelude.{◌≡◌, ℕ, [], ◌∷◌, ◌++◌, None, true, OnOk, OnErr, IfOk};
 ghost use Rattle.std.specs.Prelude.{map, nat_eq, take, drop};
 ghost use Rattle.std.specs.List.{position};
-ghost use Rattle.dsr_ledger.specs.Numbered.{place_in, AreApart};
-ghost use Rattle.dsr_ledger.specs.Indexes.{Rise, AreIndexed};
+ghost use Rattle.dsr_ledger.specs.inner.Numbered.{place_in, AreApart};
+ghost use Rattle.dsr_ledger.specs.inner.Indexes.{Rise, AreIndexed};
 
 use crate::seeded::Seeded;
 use dsr_cells::NoMemory;

@@ -4,12 +4,12 @@ ghost use Rattle.std.specs.Int.{w128};
 ghost use Rattle.std.specs.Int.RustNames.{FitsSigned, int_div};
 ghost use Rattle.std.specs.Str.{bytes_eq};
 ghost use Rattle.std.proofs.Props.{props};
-ghost use Rattle.dsr_ledger.specs.Limits.{amount_bound};
-ghost use Rattle.dsr_ledger.specs.Indexes.{AreIndexed};
-ghost use Rattle.dsr_ledger.specs.Numbered.{IsNumbered, AreApart, AreBelow};
-ghost use Rattle.dsr_ledger.specs.Owed.{nothing_owed, owed_with, owed_kept, owed_at_place, owed_in, owed_plus, owed_for, part_seats, part_in, parts_size, PartsGrow};
-ghost use Rattle.dsr_ledger.specs.Parts.{part_of};
-ghost use Rattle.dsr_ledger.specs.Seated.{HaveSeats, HasPart, HaveParts, AreSeatsBelow};
+ghost use Rattle.dsr_ledger.specs.meaning.Limits.{amount_bound};
+ghost use Rattle.dsr_ledger.specs.inner.Indexes.{AreIndexed};
+ghost use Rattle.dsr_ledger.specs.inner.Numbered.{IsNumbered, AreApart, AreBelow};
+ghost use Rattle.dsr_ledger.specs.inner.Owed.{nothing_owed, owed_with, owed_kept, owed_at_place, owed_in, owed_plus, owed_for, part_seats, part_in, parts_size, PartsGrow};
+ghost use Rattle.dsr_ledger.specs.meaning.Parts.{part_of};
+ghost use Rattle.dsr_ledger.specs.inner.Seated.{HaveSeats, HasPart, HaveParts, AreSeatsBelow};
 
 use crate::ledger::index::{Index, Numbered};
 use crate::seeded::Seeded;

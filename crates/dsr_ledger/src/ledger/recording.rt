@@ -2,11 +2,11 @@
 ghost use Rattle.std.specs.Prelude.{◌≡◌, ◌<◌, true, OnOk, nat_eq, length};
 ghost use Rattle.std.specs.Vec.{vec_len, vec_capacity};
 ghost use Rattle.std.proofs.Props.{props};
-ghost use Rattle.dsr_ledger.specs.Limits.{amount_bound};
-ghost use Rattle.dsr_ledger.specs.Indexes.{AreIndexed};
-ghost use Rattle.dsr_ledger.specs.Numbered.{AreApart, place_in};
-ghost use Rattle.dsr_ledger.specs.Seats.{seat_numbers};
-ghost use Rattle.dsr_ledger.specs.Tallies.{line_in, line_keys, AreWithin};
+ghost use Rattle.dsr_ledger.specs.meaning.Limits.{amount_bound};
+ghost use Rattle.dsr_ledger.specs.inner.Indexes.{AreIndexed};
+ghost use Rattle.dsr_ledger.specs.inner.Numbered.{AreApart, place_in};
+ghost use Rattle.dsr_ledger.specs.inner.Seats.{seat_numbers};
+ghost use Rattle.dsr_ledger.specs.inner.Tallies.{line_in, line_keys, AreWithin};
 
 use crate::hints::Hints;
 use crate::ledger::index::Index;
@@ -69,12 +69,12 @@ fn reserve_line(lines: &mut Vec<Line>) -> Result<(), NoMemory>
 
 impl Recording {
     ghost use Rattle.std.specs.Prelude.{◌≤◌, ◌^◌, ℕ, List, Option, Some, None, [], IfOk, map, if◌then◌else◌};
-    ghost use Rattle.dsr_ledger.specs.Numbered.{IsWithNumber};
-    ghost use Rattle.dsr_ledger.specs.Owed.{parts_size};
-    ghost use Rattle.dsr_ledger.specs.Parts.{part_of};
-    ghost use Rattle.dsr_ledger.specs.Ranges.{IsInRange};
-    ghost use Rattle.dsr_ledger.specs.Seated.{HaveSeats, AreSeatsBelow};
-    ghost use Rattle.dsr_ledger.specs.Tallies.{lines_tally, tally_with, LinesGrow, IsWide, TallyFits};
+    ghost use Rattle.dsr_ledger.specs.inner.Numbered.{IsWithNumber};
+    ghost use Rattle.dsr_ledger.specs.inner.Owed.{parts_size};
+    ghost use Rattle.dsr_ledger.specs.meaning.Parts.{part_of};
+    ghost use Rattle.dsr_ledger.specs.inner.Ranges.{IsInRange};
+    ghost use Rattle.dsr_ledger.specs.inner.Seated.{HaveSeats, AreSeatsBelow};
+    ghost use Rattle.dsr_ledger.specs.inner.Tallies.{lines_tally, tally_with, LinesGrow, IsWide, TallyFits};
 
     /// No parties and no lines, with room for this many lines.
     pub fn with_room(alloc: Global, lines: usize) -> Result<Recording, NoMemory>

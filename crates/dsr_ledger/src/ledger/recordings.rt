@@ -2,10 +2,10 @@
 ghost use Rattle.std.specs.Prelude.{◌≡◌, ℕ, List, Some, length};
 ghost use Rattle.std.specs.Str.{bytes_eq};
 ghost use Rattle.indexmap.specs.IndexMap.{get};
-ghost use Rattle.dsr_ledger.specs.Limits.{amount_bound};
-ghost use Rattle.dsr_ledger.specs.Numbered.{AreBelow};
-ghost use Rattle.dsr_ledger.specs.Seats.{seat_numbers};
-ghost use Rattle.dsr_ledger.specs.Tallies.{line_keys};
+ghost use Rattle.dsr_ledger.specs.meaning.Limits.{amount_bound};
+ghost use Rattle.dsr_ledger.specs.inner.Numbered.{AreBelow};
+ghost use Rattle.dsr_ledger.specs.inner.Seats.{seat_numbers};
+ghost use Rattle.dsr_ledger.specs.inner.Tallies.{line_keys};
 ghost use Rattle.dsr_ledger.specs.declared.ledger.recording.Recording.{Recording};
 
 use crate::ledger::parts::SeatShare;
@@ -31,15 +31,14 @@ pub struct Ledger {
 
 impl Ledger {
     ghost use Rattle.std.specs.Prelude.{◌≤◌, ◌^◌, Option, IfOk, IfSome, None, map, if◌then◌else◌};
-    ghost use Rattle.dsr_ledger.specs.declared.key.Key.{Key};
-    ghost use Rattle.dsr_ledger.specs.Bookings.{key_under};
-    ghost use Rattle.dsr_ledger.specs.Keys.{key_eq};
-    ghost use Rattle.dsr_ledger.specs.Owed.{parts_size};
-    ghost use Rattle.dsr_ledger.specs.Parts.{part_of};
-    ghost use Rattle.dsr_ledger.specs.Ranges.{IsInRange};
-    ghost use Rattle.dsr_ledger.specs.Seated.{AreSeated};
-    ghost use Rattle.dsr_ledger.specs.Tallies.{no_tally, tally_with, TallyFits};
-    ghost use Rattle.dsr_ledger.specs.Recordings.{party_number, key_number, recording_number, tally_at, seat_at, line_at, IsWideAt, KeepsKeys, KeepsSeats, KeepsLines, SameNumbers, IsLineOf};
+    ghost use Rattle.dsr_ledger.specs.meaning.Keys.{Key, key_eq};
+    ghost use Rattle.dsr_ledger.specs.meaning.Bookings.{key_under};
+    ghost use Rattle.dsr_ledger.specs.inner.Owed.{parts_size};
+    ghost use Rattle.dsr_ledger.specs.meaning.Parts.{part_of};
+    ghost use Rattle.dsr_ledger.specs.inner.Ranges.{IsInRange};
+    ghost use Rattle.dsr_ledger.specs.inner.Seated.{AreSeated};
+    ghost use Rattle.dsr_ledger.specs.inner.Tallies.{no_tally, tally_with, TallyFits};
+    ghost use Rattle.dsr_ledger.specs.inner.Recordings.{party_number, key_number, recording_number, tally_at, seat_at, line_at, IsWideAt, KeepsKeys, KeepsSeats, KeepsLines, SameNumbers, IsLineOf};
 
     /// No recordings.
     pub fn new(alloc: Global, seeded: Seeded) -> Ledger

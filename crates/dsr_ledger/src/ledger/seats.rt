@@ -1,8 +1,8 @@
 //! The seats of a recording's parties.
 ghost use Rattle.std.specs.Prelude.{◌≡◌, IfOk, OnOk, OnErr, Some, length};
 ghost use Rattle.std.proofs.Props.{props};
-ghost use Rattle.dsr_ledger.specs.Indexes.{AreIndexed};
-ghost use Rattle.dsr_ledger.specs.Numbered.{place_in, AreApart};
+ghost use Rattle.dsr_ledger.specs.inner.Indexes.{AreIndexed};
+ghost use Rattle.dsr_ledger.specs.inner.Numbered.{place_in, AreApart};
 
 use crate::ledger::index::Index;
 use crate::seeded::Seeded;
@@ -25,8 +25,8 @@ pub struct Seats {
 
 impl Seats {
     ghost use Rattle.std.specs.Prelude.{[], ◌∷◌, ◌++◌, None};
-    ghost use Rattle.dsr_ledger.specs.Numbered.{IsWithNumber};
-    ghost use Rattle.dsr_ledger.specs.Seats.{seat_numbers};
+    ghost use Rattle.dsr_ledger.specs.inner.Numbered.{IsWithNumber};
+    ghost use Rattle.dsr_ledger.specs.inner.Seats.{seat_numbers};
 
     /// No parties.
     pub fn new(alloc: Global) -> Seats

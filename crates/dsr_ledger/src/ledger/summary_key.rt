@@ -1,6 +1,6 @@
 //! The key that a summary gives to its usages.
 ghost use Rattle.std.specs.Prelude.{◌≡◌, IfOk};
-ghost use Rattle.dsr_ledger.specs.Bookings.{summary_key_of};
+ghost use Rattle.dsr_ledger.specs.meaning.Bookings.{summary_key_of};
 
 use dsr_cells::{NoMemory, Text};
 use dsr_records::Summary;

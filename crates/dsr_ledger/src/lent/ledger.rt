@@ -1,6 +1,6 @@
 //! A ledger whose lines are lent.
 ghost use Rattle.std.specs.Prelude.{IfSome};
-ghost use Rattle.dsr_ledger.specs.Taking.{Takes};
+ghost use Rattle.dsr_ledger.specs.inner.Taking.{Takes};
 
 use crate::assemble::ledger::BookedLines;
 use crate::lent::reported::ReportedLines;
@@ -20,8 +20,8 @@ pub enum LentLedger<'a> {
 impl<'a> LentLedger<'a> {
     ghost use Rattle.std.specs.Prelude.{List};
     ghost use Rattle.dsr_ledger.specs.declared.report.LedgerLine.{LedgerLine as LedgerLineValue};
-    ghost use Rattle.dsr_ledger.specs.Lent.{IsReady, LinesLent};
-    ghost use Rattle.dsr_ledger.specs.Sizes.{AreLinesWithin};
+    ghost use Rattle.dsr_ledger.specs.inner.Lent.{IsReady, LinesLent};
+    ghost use Rattle.dsr_ledger.specs.inner.Sizes.{AreLinesWithin};
 
     /// Gives the lines, in their order. This allocates nothing.
     pub fn give<T: TakeLines>(&mut self, taker: &mut T)

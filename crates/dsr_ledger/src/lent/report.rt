@@ -25,7 +25,7 @@ pub struct LentReport<'a> {
 }
 
 impl<'a> LentReport<'a> {
-    ghost use Rattle.dsr_ledger.specs.Lent.{IsReady, IsLent};
+    ghost use Rattle.dsr_ledger.specs.inner.Lent.{IsReady, IsLent};
 
     /// Lends a report.
     ///

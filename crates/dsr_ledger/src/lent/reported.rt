@@ -1,6 +1,6 @@
 //! The lines of a report, lent one after another.
 ghost use Rattle.std.specs.Prelude.{◌≡◌, ◌≤◌, ◌∷◌, [], All, IfOk, length, vec_capacity};
-ghost use Rattle.dsr_ledger.specs.Taking.{Takes};
+ghost use Rattle.dsr_ledger.specs.inner.Taking.{Takes};
 
 use crate::lent::line::LentLine;
 use crate::lent::party::LentParty;
@@ -68,7 +68,7 @@ fn give_line<'a, T: TakeLines>(
 }
 
 impl<'a> ReportedLines<'a> {
-    ghost use Rattle.dsr_ledger.specs.Lent.{AreRoomy};
+    ghost use Rattle.dsr_ledger.specs.inner.Lent.{AreRoomy};
 
     /// These lines.
     ///

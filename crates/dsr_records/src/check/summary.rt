@@ -2,7 +2,7 @@
 ghost use Rattle.std.specs.Prelude.{◌≡◌, Ok, Err, MatchResult, IfOk};
 ghost use Rattle.dsr_records.specs.declared.kinds.Kind.TheVariants as kinds;
 ghost use Rattle.dsr_records.specs.declared.record.Record.TheVariants as records;
-ghost use Rattle.dsr_records.specs.Values.{record_by_row};
+ghost use Rattle.dsr_records.specs.meaning.Values.{record_by_row};
 
 use crate::kinds::{Column, RecordFault};
 use crate::record::Summary;

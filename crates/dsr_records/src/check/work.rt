@@ -2,10 +2,10 @@
 ghost use Rattle.std.specs.Prelude.{◌≡◌, Ok, Err, MatchResult, IfOk, OnOk, OnErr, [], true};
 ghost use Rattle.dsr_records.specs.declared.kinds.Kind.TheVariants as kinds;
 ghost use Rattle.dsr_records.specs.declared.record.Record.TheVariants as records;
-ghost use Rattle.dsr_records.specs.Values.{record_by_row, shares_of, values_of};
+ghost use Rattle.dsr_records.specs.meaning.Values.{record_by_row, shares_of, values_of};
 ghost use Rattle.std.specs.List.{list_all};
-ghost use Rattle.dsr_cells.specs.Values.{raw_parts};
-ghost use Rattle.dsr_records.specs.Tables.{is_share};
+ghost use Rattle.dsr_cells.specs.meaning.Values.{raw_parts};
+ghost use Rattle.dsr_records.specs.meaning.Tables.{is_share};
 
 use crate::kinds::{Column, RecordFault};
 use crate::record::Work;
@@ -31,10 +31,10 @@ pub(crate) struct WorkLine<'l> {
 impl<'l> Model for WorkLine<'l> {
     ghost use Rattle.std.specs.Prelude.{◌≡◌, true, length, take};
     ghost use Rattle.std.specs.List.{list_all};
-    ghost use Rattle.dsr_cells.specs.Values.{raw_parts};
-    ghost use Rattle.dsr_records.specs.Tables.{is_share};
-    ghost use Rattle.dsr_records.specs.Values.{values_of, shares_of};
-    ghost use Rattle.dsr_records.specs.Works.{WorkParts};
+    ghost use Rattle.dsr_cells.specs.meaning.Values.{raw_parts};
+    ghost use Rattle.dsr_records.specs.meaning.Tables.{is_share};
+    ghost use Rattle.dsr_records.specs.meaning.Values.{values_of, shares_of};
+    ghost use Rattle.dsr_records.specs.meaning.Works.{WorkParts};
 
     ghost Value = { WorkParts };
 

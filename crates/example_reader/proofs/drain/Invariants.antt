@@ -1,5 +1,5 @@
 use Rattle.std.proofs.Common.{◌≡◌, None}
-use Rattle.dsr_file.specs.Standing.{ending_told}
+use Rattle.dsr_file.specs.inner.Standing.{ending_told}
 use Rattle.example_reader.proofs.drain.Given as goal
 
 abbrev pub invariant-loop : goal.invariant-loop

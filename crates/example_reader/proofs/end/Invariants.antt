@@ -1,4 +1,4 @@
-use Rattle.dsr_file.specs.Standing.{events_left}
+use Rattle.dsr_file.specs.inner.Standing.{events_left}
 use Rattle.example_reader.proofs.end.Given as goal
 
 abbrev pub decreases-loop-event : goal.decreases-loop-event

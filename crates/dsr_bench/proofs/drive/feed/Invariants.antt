@@ -1,5 +1,5 @@
 use Rattle.std.proofs.Common.{◌≡◌, ◌+◌, ◌≤◌, None, length}
-use Rattle.dsr_file.specs.Standing.{bytes_used, ending_told}
+use Rattle.dsr_file.specs.inner.Standing.{bytes_used, ending_told}
 use Rattle.dsr_bench.proofs.drive.feed.Given as goal
 
 abbrev pub invariant-loop : goal.invariant-loop

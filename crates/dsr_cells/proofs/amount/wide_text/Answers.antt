@@ -1,5 +1,5 @@
 use Rattle.std.proofs.Common.{arith, ◌%◌, ◌^◌, length, length-append, ap, ◌∙◌}
-use Rattle.dsr_cells.specs.Written.{padded_number}
+use Rattle.dsr_cells.specs.meaning.Written.{padded_number}
 use Rattle.dsr_cells.proofs.Spelled.{padded_length}
 use Rattle.dsr_cells.proofs.amount.wide_text.Goals as goal
 

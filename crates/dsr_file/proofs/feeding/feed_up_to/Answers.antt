@@ -1,7 +1,7 @@
 use Rattle.std.proofs.Common.{◌≡◌, ◌∙◌, ◌++◌, ap, sym, subst, arith, length-drop}
 use Rattle.std.specs.Option.{option_to_list}
-use Rattle.dsr_file.specs.Closing.{event_at}
-use Rattle.dsr_file.specs.Feeding.{Fed}
+use Rattle.dsr_file.specs.meaning.Closing.{event_at}
+use Rattle.dsr_file.specs.inner.Feeding.{Fed}
 use Rattle.dsr_file.proofs.ClosedLemmas.{not_some, if_some_more}
 use Rattle.dsr_file.proofs.FeedLemmas.{prefix_part, part_run, fed_more, fed_all, fed_some}
 use Rattle.dsr_file.proofs.feeding.feed_up_to.Goals as goal

@@ -1,6 +1,6 @@
 use Rattle.std.proofs.Common.{Some}
 use Rattle.std.proofs.lemmas.Result.{err_from_is_err_and}
-use Rattle.dsr_file.specs.Standing.{first_ending}
+use Rattle.dsr_file.specs.inner.Standing.{first_ending}
 use Rattle.dsr_file.proofs.FeedLemmas.{event_run, end_some}
 use Rattle.dsr_file.proofs.feeding.finish_all.Goals as goal
 

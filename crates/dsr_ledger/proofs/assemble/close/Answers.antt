@@ -1,10 +1,6 @@
-use Rattle.std.proofs.Common.{◌≡◌, ◌∙◌, ap, refl}
-use Rattle.std.specs.Prelude.{map}
-use Rattle.std.specs.List.{flat_map, list_any}
-use Rattle.std.proofs.Math.Logic.{∥∥₁_map}
-use Rattle.dsr_ledger.specs.Assembly.{line_kept, is_number_kept, differences_kept}
-use Rattle.dsr_ledger.proofs.FilesLemmas.{closed_is}
-use Rattle.dsr_ledger.proofs.BooksLemmas.{small_lines}
+use Rattle.dsr_ledger.proofs.Common.{◌≡◌, ◌∙◌, ap, refl, map, flat_map, list_any, ∥∥₁_map, line_kept, is_number_kept, differences_kept}
+use Rattle.dsr_ledger.proofs.ClosedLemmas.{closed_is}
+use Rattle.dsr_ledger.proofs.SmallLemmas.{small_lines}
 use Rattle.dsr_ledger.proofs.assemble.close.Goals as goal
 
 pub returns : goal.returns

@@ -1,5 +1,4 @@
-use Rattle.std.proofs.Common.{◌≡◌, ◌++◌, take}
-use Rattle.dsr_ledger.specs.Assembly.{differences_to}
+use Rattle.dsr_ledger.proofs.Common.{◌≡◌, ◌++◌, take, differences_to}
 use Rattle.dsr_ledger.proofs.differences.add_differences.Given as goal
 
 abbrev pub invariant-loop-summary : goal.invariant-loop-summary

@@ -1,6 +1,4 @@
-use Rattle.std.proofs.Common.{◌≡◌, take}
-use Rattle.std.specs.List.{flat_map}
-use Rattle.dsr_ledger.specs.Assembly.{differences_kept}
+use Rattle.dsr_ledger.proofs.Common.{◌≡◌, take, flat_map, differences_kept}
 use Rattle.dsr_ledger.proofs.differences.differences_of.Given as goal
 
 abbrev pub invariant-loop-file : goal.invariant-loop-file

@@ -1,6 +1,4 @@
-use Rattle.std.proofs.Common.{◌≡◌, take}
-use Rattle.std.specs.Prelude.{map}
-use Rattle.dsr_ledger.specs.Assembly.{line_kept}
+use Rattle.dsr_ledger.proofs.Common.{◌≡◌, take, map, line_kept}
 use Rattle.dsr_ledger.proofs.file_lines.file_lines.Given as goal
 
 abbrev pub invariant-loop-file : goal.invariant-loop-file

@@ -1,5 +1,4 @@
-use Rattle.std.proofs.Common.{◌≡◌, take, fold}
-use Rattle.dsr_ledger.specs.Ids.{with_byte}
+use Rattle.dsr_ledger.proofs.Common.{◌≡◌, take, fold, with_byte}
 use Rattle.dsr_ledger.proofs.ids.number_with.Given as goal
 
 abbrev pub invariant-loop-byte : goal.invariant-loop-byte

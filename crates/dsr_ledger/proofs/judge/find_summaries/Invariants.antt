@@ -1,8 +1,4 @@
-use Rattle.std.proofs.Common.{◌≡◌, take, map, false}
-use Rattle.std.specs.Prelude.{Some}
-use Rattle.std.specs.List.{list_any}
-use Rattle.dsr_ledger.specs.Summaries.{is_known, index_at}
-use Rattle.dsr_ledger.specs.Verdicts.{names_unknown}
+use Rattle.dsr_ledger.proofs.Common.{◌≡◌, take, map, false, Some, list_any, is_known, index_at, names_unknown}
 use Rattle.dsr_ledger.proofs.judge.find_summaries.Given as goal
 
 abbrev pub invariant-loop-usage : goal.invariant-loop-usage

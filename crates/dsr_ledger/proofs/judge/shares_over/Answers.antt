@@ -1,8 +1,4 @@
-use Rattle.std.proofs.Common.{arith, sum, sym, ap, ◌∙◌}
-use Rattle.std.proofs.lemmas.List.Sums.{sum_by_more_le}
-use Rattle.std.proofs.lemmas.Bool.{lt-ltb}
-use Rattle.dsr_records.specs.Works.{WorkParts}
-use Rattle.dsr_ledger.specs.Verdicts.{share_total}
+use Rattle.dsr_ledger.proofs.Common.{arith, sum, sym, ap, ◌∙◌, sum_by_more_le, lt-ltb, WorkParts, share_total}
 use Rattle.dsr_ledger.proofs.judge.shares_over.Goals as goal
 
 pub returns-then-parts-total : goal.returns-then-parts-total

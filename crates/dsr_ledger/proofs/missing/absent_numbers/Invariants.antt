@@ -1,8 +1,4 @@
-use Rattle.std.proofs.Common.{◌≡◌, not}
-use Rattle.std.specs.Prelude.{filter}
-use Rattle.std.specs.List.{range_with_len}
-use Rattle.std.specs.BTreeSet.{contains}
-use Rattle.std.specs.Ordering.{nat_cmp}
+use Rattle.dsr_ledger.proofs.Common.{◌≡◌, not, filter, range_with_len, contains, nat_cmp}
 use Rattle.dsr_ledger.proofs.missing.absent_numbers.Given as goal
 
 abbrev pub invariant-loop-before : goal.invariant-loop-before

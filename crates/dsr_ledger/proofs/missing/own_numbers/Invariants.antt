@@ -1,8 +1,4 @@
-use Rattle.std.proofs.Common.{◌≡◌, ℕ, take}
-use Rattle.std.specs.List.{list_any}
-use Rattle.std.specs.BTreeSet.{contains}
-use Rattle.std.specs.Ordering.{nat_cmp}
-use Rattle.dsr_ledger.specs.Assembly.{is_number_kept}
+use Rattle.dsr_ledger.proofs.Common.{◌≡◌, ℕ, take, list_any, contains, nat_cmp, is_number_kept}
 use Rattle.dsr_ledger.proofs.missing.own_numbers.Given as goal
 
 abbrev pub invariant-loop-file : goal.invariant-loop-file

@@ -1,9 +1,5 @@
-use Rattle.std.proofs.Common.{[], ◌∷◌, ◌++◌, sym, ap, ◌∙◌}
-use Rattle.std.specs.Prelude.{Some}
-use Rattle.std.proofs.lemmas.List.{drop_all}
-use Rattle.dsr_ledger.specs.Files.{is_of_report, first_head}
-use Rattle.dsr_ledger.specs.Openings.{openings_of}
-use Rattle.dsr_ledger.proofs.FilesLemmas.{same_report-itself}
+use Rattle.dsr_ledger.proofs.Common.{[], ◌∷◌, ◌++◌, sym, ap, ◌∙◌, Some, drop_all, is_of_report, first_head, openings_of}
+use Rattle.dsr_ledger.proofs.OpeningLemmas.{same_report-itself}
 use Rattle.dsr_ledger.proofs.open.is_of_their_report.Goals as goal
 
 pub returns : goal.returns

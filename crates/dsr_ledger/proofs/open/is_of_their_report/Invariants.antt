@@ -1,7 +1,4 @@
-use Rattle.std.proofs.Common.{◌≡◌, drop, ◌++◌, [], ◌∷◌}
-use Rattle.std.specs.Prelude.{Some}
-use Rattle.dsr_ledger.specs.Files.{first_head}
-use Rattle.dsr_ledger.specs.Openings.{openings_of}
+use Rattle.dsr_ledger.proofs.Common.{◌≡◌, drop, ◌++◌, [], ◌∷◌, Some, first_head, openings_of}
 use Rattle.dsr_ledger.proofs.open.is_of_their_report.Given as goal
 
 abbrev pub invariant-loop-file : goal.invariant-loop-file

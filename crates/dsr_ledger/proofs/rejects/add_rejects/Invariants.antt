@@ -1,4 +1,4 @@
-use Rattle.std.proofs.Common.{◌≡◌, ◌++◌}
+use Rattle.dsr_ledger.proofs.Common.{◌≡◌, ◌++◌}
 use Rattle.dsr_ledger.proofs.rejects.add_rejects.Given as goal
 
 abbrev pub invariant-loop-reject : goal.invariant-loop-reject

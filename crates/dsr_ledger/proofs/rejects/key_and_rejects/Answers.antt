@@ -1,13 +1,5 @@
-use Rattle.std.proofs.Common.{◌++◌, append_assoc, sym, ap, ◌∙◌}
-use Rattle.std.specs.Prelude.{option_map}
-use Rattle.std.specs.List.{flat_map}
-use Rattle.std.specs.Option.{option_or}
-use Rattle.std.proofs.lemmas.List.Concat.{flat_map-cons}
-use Rattle.dsr_ledger.specs.declared.file.FileBooks.{FileBooks}
-use Rattle.dsr_ledger.specs.Files.{first_head}
-use Rattle.dsr_ledger.specs.Openings.{openings_of}
-use Rattle.dsr_ledger.specs.Reports.{key_of}
-use Rattle.dsr_ledger.proofs.FilesLemmas.{key_step}
+use Rattle.dsr_ledger.proofs.Common.{◌++◌, append_assoc, sym, ap, ◌∙◌, option_map, flat_map, option_or, flat_map-cons, FileBooks, first_head, openings_of, key_of}
+use Rattle.dsr_ledger.proofs.OpeningLemmas.{key_step}
 use Rattle.dsr_ledger.proofs.rejects.key_and_rejects.Goals as goal
 
 pub loop-file-preserved : goal.loop-file-preserved

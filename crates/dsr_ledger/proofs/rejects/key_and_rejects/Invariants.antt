@@ -1,10 +1,4 @@
-use Rattle.std.proofs.Common.{◌≡◌, ◌++◌}
-use Rattle.std.specs.Prelude.{option_map}
-use Rattle.std.specs.List.{flat_map}
-use Rattle.std.specs.Option.{option_or}
-use Rattle.dsr_ledger.specs.Files.{first_head}
-use Rattle.dsr_ledger.specs.Openings.{openings_of}
-use Rattle.dsr_ledger.specs.Reports.{key_of}
+use Rattle.dsr_ledger.proofs.Common.{◌≡◌, ◌++◌, option_map, flat_map, option_or, first_head, openings_of, key_of}
 use Rattle.dsr_ledger.proofs.rejects.key_and_rejects.Given as goal
 
 abbrev pub invariant-loop-file : goal.invariant-loop-file

@@ -1,5 +1,5 @@
 use Rattle.std.proofs.Common.{◌≡◌, ◌<◌, ℕ, true}
-use Rattle.dsr_ledger.specs.BooksWords.{ended_at}
+use Rattle.dsr_ledger.specs.inner.BooksWords.{ended_at}
 use Rattle.dsr_ledger_tests.proofs.making.all_ended.Given as goal
 
 abbrev pub invariant-loop-k : goal.invariant-loop-k

@@ -1,5 +1,5 @@
 use Rattle.std.proofs.Common.{◌≡◌, drop}
-use Rattle.dsr_records.specs.Rows.{cells_left}
+use Rattle.dsr_records.specs.inner.Rows.{cells_left}
 use Rattle.dsr_records.proofs.cursor.behind_cells.Given as goal
 
 abbrev pub invariant-loop-left : goal.invariant-loop-left

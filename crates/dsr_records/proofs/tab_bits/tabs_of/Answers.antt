@@ -1,5 +1,5 @@
 use Rattle.std.proofs.Common.{◌+◌, ap, ◌∙◌, arith}
-use Rattle.dsr_records.specs.Marks.{tab_bits}
+use Rattle.dsr_records.specs.inner.Marks.{tab_bits}
 use Rattle.dsr_records.proofs.Marks.{take_first}
 use Rattle.dsr_records.proofs.tab_bits.tabs_of.Goals as goal
 

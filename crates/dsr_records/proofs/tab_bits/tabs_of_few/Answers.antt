@@ -1,5 +1,5 @@
 use Rattle.std.proofs.Common.{◌<◌, ◌^◌, ◌-◌, get_or, eqb, arith, drop, length-drop}
-use Rattle.dsr_records.specs.Marks.{tab_bits}
+use Rattle.dsr_records.specs.inner.Marks.{tab_bits}
 use Rattle.dsr_records.proofs.Marks.{tab_bits-few, from_bool-le}
 use Rattle.dsr_records.proofs.tab_bits.tabs_of_few.Goals as goal
 

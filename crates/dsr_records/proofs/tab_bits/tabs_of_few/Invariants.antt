@@ -1,5 +1,5 @@
 use Rattle.std.proofs.Common.{◌≡◌, ◌≤◌, length, drop}
-use Rattle.dsr_records.specs.Marks.{tab_bits}
+use Rattle.dsr_records.specs.inner.Marks.{tab_bits}
 use Rattle.dsr_records.proofs.tab_bits.tabs_of_few.Given as goal
 
 abbrev pub invariant-loop-left : goal.invariant-loop-left

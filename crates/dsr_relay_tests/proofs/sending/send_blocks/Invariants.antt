@@ -1,5 +1,5 @@
 use Rattle.std.proofs.Common.{◌≡◌, ◌+◌, false, length}
-use Rattle.dsr_events.specs.Orderly.{has_ended}
+use Rattle.dsr_events.specs.meaning.Orderly.{has_ended}
 use Rattle.dsr_relay_tests.proofs.sending.send_blocks.Given as goal
 
 abbrev pub invariant-loop-n : goal.invariant-loop-n

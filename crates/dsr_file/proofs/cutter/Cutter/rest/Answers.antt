@@ -1,5 +1,5 @@
 use Rattle.std.proofs.Common.{◌≡◌, ◌++◌, ◌∷◌, [], false, ◌+◌, ◌∙◌, sym, subst, arith, take, take_all, length-append, length-take}
-use Rattle.dsr_file.specs.Cutting.{CutsTo}
+use Rattle.dsr_file.specs.inner.Cutting.{CutsTo}
 use Rattle.dsr_file.proofs.CutLemmas.{more_bytes, fed_line, here_line, within, empty_is}
 use Rattle.dsr_file.proofs.cutter.Cutter.rest.Goals as goal
 

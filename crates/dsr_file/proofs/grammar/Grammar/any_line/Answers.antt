@@ -1,6 +1,6 @@
 use Rattle.std.proofs.Common.{sym, refl, subst}
 use Rattle.std.specs.Str.{IsUtf8}
-use Rattle.dsr_cells.specs.Lines.{without_return}
+use Rattle.dsr_cells.specs.meaning.Lines.{without_return}
 use Rattle.dsr_events.specs.declared.fault.FileFault.TheVariants.{NotUtf8}
 use Rattle.dsr_file.proofs.TestLemmas.{reading_text, reading_garbled, faulty_steps, utf8_false}
 use Rattle.std.proofs.lemmas.Str.{is_utf8-from_IsUtf8}

@@ -1,5 +1,5 @@
 use Rattle.std.proofs.Common.{subst}
-use Rattle.dsr_file.specs.Grammars.{RecordSteps}
+use Rattle.dsr_file.specs.inner.Grammars.{RecordSteps}
 use Rattle.dsr_file.proofs.grammar.Grammar.other.Goals as goal
 
 pub returns-in-Ok-clause-steps : goal.returns-in-Ok-clause-steps

@@ -1,5 +1,5 @@
 use Rattle.std.proofs.Common.{◌∙◌, sym}
-use Rattle.dsr_file.specs.Readings.{file_fault}
+use Rattle.dsr_file.specs.meaning.Readings.{file_fault}
 use Rattle.dsr_file.proofs.TestLemmas.{of_utf8_skipped, of_utf8_record, faulty_steps, own_not_count}
 use Rattle.dsr_file.proofs.grammar.Grammar.text.Goals as goal
 

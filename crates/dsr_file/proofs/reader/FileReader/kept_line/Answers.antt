@@ -1,6 +1,6 @@
 use Rattle.std.proofs.Common.{refl, subst, List}
-use Rattle.dsr_file.specs.Grammars.{Keeps, LineSteps}
-use Rattle.dsr_file.specs.Readings.{Reading, reading}
+use Rattle.dsr_file.specs.inner.Grammars.{Keeps, LineSteps}
+use Rattle.dsr_file.specs.meaning.Readings.{Reading, reading}
 use Rattle.dsr_file.proofs.StandLemmas.{line_taken}
 use Rattle.dsr_file.proofs.reader.FileReader.kept_line.Goals as goal
 

@@ -1,5 +1,5 @@
 use Rattle.std.proofs.Common.{refl, []}
-use Rattle.dsr_file.specs.Parts.{events_of}
+use Rattle.dsr_file.specs.meaning.Parts.{events_of}
 use Rattle.dsr_file.proofs.reader.FileReader.new.Goals as goal
 
 pub returns-clause-stands : goal.returns-clause-stands

@@ -2,8 +2,8 @@ use Rattle.std.proofs.Common.{◌≡◌, ◌∙◌, ◌++◌, [], ◌+◌, take,
 use Rattle.std.specs.Option.{IfNone, option_to_list}
 use Rattle.std.proofs.lemmas.List.{append-nil}
 use Rattle.dsr_file.specs.declared.reader.phase.Phase.TheVariants.{Reading}
-use Rattle.dsr_file.specs.Standing.{Stands}
-use Rattle.dsr_file.specs.Texts.{placed}
+use Rattle.dsr_file.specs.inner.Standing.{Stands}
+use Rattle.dsr_file.specs.meaning.Texts.{placed}
 use Rattle.dsr_file.proofs.StandLemmas.{stands_more}
 use Rattle.dsr_file.proofs.ClosedLemmas.{not_some}
 use Rattle.dsr_file.proofs.reader.FileReader.read.Goals as goal

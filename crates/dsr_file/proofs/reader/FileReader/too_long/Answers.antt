@@ -1,7 +1,7 @@
 use Rattle.std.proofs.Common.{◌++◌, refl, subst, sym}
 use Rattle.std.specs.Option.{option_to_list}
-use Rattle.dsr_file.specs.Standing.{Stands}
-use Rattle.dsr_file.specs.Texts.{placed}
+use Rattle.dsr_file.specs.inner.Standing.{Stands}
+use Rattle.dsr_file.specs.meaning.Texts.{placed}
 use Rattle.dsr_file.proofs.StandLemmas.{long_stands}
 use Rattle.dsr_file.proofs.reader.FileReader.too_long.Goals as goal
 

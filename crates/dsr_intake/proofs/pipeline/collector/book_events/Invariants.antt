@@ -1,6 +1,6 @@
 use Rattle.std.proofs.Common.{◌≡◌, List, take}
-use Rattle.dsr_events.specs.Placed.{Placed}
-use Rattle.dsr_ledger.specs.BooksWords.{files_count}
+use Rattle.dsr_events.specs.meaning.Placed.{Placed}
+use Rattle.dsr_ledger.specs.inner.BooksWords.{files_count}
 use Rattle.dsr_intake.specs.inner.Collecting.{IsFollowed, TakesAll}
 use Rattle.dsr_intake.proofs.pipeline.collector.book_events.Given as goal
 

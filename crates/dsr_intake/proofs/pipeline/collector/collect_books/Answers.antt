@@ -1,5 +1,5 @@
 use Rattle.std.proofs.Common.{◌≡◌, length, arith}
-use Rattle.dsr_ledger.specs.BooksWords.{files_count}
+use Rattle.dsr_ledger.specs.inner.BooksWords.{files_count}
 use Rattle.dsr_intake.proofs.Rounds.{files_ended, same_count}
 use Rattle.dsr_intake.proofs.pipeline.collector.collect_books.Goals as goal
 use Rattle.dsr_intake.proofs.pipeline.collector.collect_books.Goals.{In_ok-book_all}

@@ -1,5 +1,5 @@
 use Rattle.std.proofs.Common.{◌≡◌, length, map, All}
-use Rattle.dsr_ledger.specs.BooksWords.{Stands, files_count}
+use Rattle.dsr_ledger.specs.inner.BooksWords.{Stands, files_count}
 use Rattle.dsr_intake.specs.meaning.Texts.{file_of}
 use Rattle.dsr_intake.specs.inner.Collecting.{IsTapped}
 use Rattle.dsr_intake.proofs.pipeline.collector.go_round.Given as goal

@@ -1,5 +1,5 @@
 use Rattle.std.proofs.Common.{◌≡◌, ℕ, ◌<◌, true, get_or}
-use Rattle.dsr_events.specs.Orderly.{has_ended}
+use Rattle.dsr_events.specs.meaning.Orderly.{has_ended}
 use Rattle.dsr_intake.proofs.pipeline.collector.have_ended.Given as goal
 
 abbrev pub invariant-loop-k : goal.invariant-loop-k

@@ -1,5 +1,5 @@
 use Rattle.std.proofs.Common.{◌≡◌, length}
-use Rattle.dsr_ledger.specs.BooksWords.{files_count}
+use Rattle.dsr_ledger.specs.inner.BooksWords.{files_count}
 use Rattle.dsr_intake.proofs.Rounds.{Opening}
 use Rattle.dsr_intake.proofs.pipeline.collector.open_all.Given as goal
 

@@ -1,5 +1,5 @@
 use Rattle.std.proofs.Common.{◌≡◌, [], ◌∷◌, ◌++◌, refl, ap, sym, subst, ◌∙◌}
-use Rattle.dsr_events.specs.Orderly.{IsOrderly}
+use Rattle.dsr_events.specs.meaning.Orderly.{IsOrderly}
 use Rattle.dsr_intake.specs.meaning.Texts.{file_of}
 use Rattle.dsr_intake.specs.inner.Collecting.{Opens, first_file}
 use Rattle.dsr_intake.proofs.Rounds.{file_first}

@@ -1,5 +1,5 @@
 use Rattle.std.proofs.Common.{ap, ◌∙◌, subst}
-use Rattle.dsr_ledger.specs.Closed.{AreClosed}
+use Rattle.dsr_ledger.specs.inner.Closed.{AreClosed}
 use Rattle.dsr_intake.specs.meaning.Texts.{GaveEach}
 use Rattle.dsr_intake.proofs.Joining.{files_of}
 use Rattle.dsr_intake.proofs.pipeline.gather.gather.Goals as goal

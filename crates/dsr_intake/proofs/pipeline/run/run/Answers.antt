@@ -1,7 +1,7 @@
 use Rattle.std.proofs.Common.{◌≡◌, ◌∙◌, ap, false, true≢false, List, Result, Ok, Err}
 use Rattle.std.specs.Prelude.{Option, Some, None, OnOk, IfOk, IfErr, MatchOption, is_ok, vec_len}
-use Rattle.dsr_file.specs.Runs.{FileText}
-use Rattle.dsr_file.specs.Sources.{Told}
+use Rattle.dsr_file.specs.meaning.Runs.{FileText}
+use Rattle.dsr_file.specs.meaning.Sources.{Told}
 use Rattle.dsr_intake.specs.declared.pipeline.errors.RunError.{RunError}
 use Rattle.dsr_intake.specs.declared.pipeline.errors.RunError.TheVariants as error
 use Rattle.dsr_intake.specs.declared.pipeline.options.Options.{Options}

@@ -1,7 +1,7 @@
 use Rattle.std.specs.Prelude.{◌∷◌, [], codes, decimal}
 use Rattle.std.proofs.Common.{rules}
 use Rattle.std.specs.Fmt.{signed_decimal}
-use Rattle.dsr_cells.specs.Written.{written_day}
+use Rattle.dsr_cells.specs.meaning.Written.{written_day}
 use Rattle.dsr_intake.specs.meaning.Statement.{report_line, days_in}
 use Rattle.dsr_intake.proofs.Lines.{then, turn, cell, signed, days_within}
 use Rattle.dsr_intake.proofs.statements.lines.put_report.Goals as goal

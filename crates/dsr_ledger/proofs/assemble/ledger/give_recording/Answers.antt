@@ -1,21 +1,6 @@
-use Rattle.std.proofs.Common.{◌≡◌, ℕ, ◌<◌, [], ◌∷◌, Bor, List, length, get_or, sym, ap, ◌∙◌, subst}
-use Rattle.std.specs.Prelude.{Some, map}
-use Rattle.std.specs.Map.{keys_of}
-use Rattle.std.proofs.lemmas.Simd.{map-map}
-use Rattle.std.proofs.lemmas.List.{take_all, length-map, get_or-map}
-use Rattle.dsr_ledger.specs.declared.key.Key.{Key}
-use Rattle.dsr_ledger.specs.declared.ledger.line.Line.{Line}
-use Rattle.dsr_ledger.specs.declared.ledger.summary_key.SummaryKey.{SummaryKey}
-use Rattle.dsr_ledger.specs.SummaryKeys.{summary_key_cmp, summary_key_in}
-use Rattle.dsr_ledger.specs.Bookings.{key_under}
-use Rattle.dsr_ledger.specs.Ledger.{at_key, line_of}
-use Rattle.dsr_ledger.specs.Numbered.{place_by}
-use Rattle.dsr_ledger.specs.Recordings.{seat_of}
-use Rattle.dsr_ledger.specs.Taking.{Takes}
-use Rattle.dsr_ledger.specs.Tallies.{line_tally, tally_of}
-use Rattle.dsr_ledger.specs.Rooms.{HasPartRoom, SamePartRoom}
-use Rattle.dsr_ledger.specs.Listed.{AreListed, IsSeatedLine, booked_lines, keyed, line_for, party_in}
-use Rattle.dsr_ledger.proofs.ReportLemmas.{takes_same, own_tally, seated_line, line_added, line_passed, under_sorted, under_own, under_all}
+use Rattle.dsr_ledger.proofs.Common.{◌≡◌, ℕ, ◌<◌, [], ◌∷◌, Bor, List, length, get_or, sym, ap, ◌∙◌, subst, Some, map, keys_of, map-map, take_all, length-map, get_or-map, Key, Line, SummaryKey, summary_key_cmp, summary_key_in, key_under, at_key, line_of, place_by, seat_of, Takes, line_tally, tally_of, HasPartRoom, SamePartRoom, AreListed, IsSeatedLine, booked_lines, keyed, line_for, party_in}
+use Rattle.dsr_ledger.proofs.TakingLemmas.{takes_same}
+use Rattle.dsr_ledger.proofs.ReportLemmas.{own_tally, seated_line, line_added, line_passed, under_sorted, under_own, under_all}
 use Rattle.dsr_ledger.proofs.RoomLemmas.{line_room, part_room_of, part_room_then}
 use Rattle.dsr_ledger.proofs.assemble.ledger.give_recording.Goals.{then-entry, else-entry, After-entry-item}
 use Rattle.dsr_ledger.proofs.assemble.ledger.give_recording.Given.{Over}
@@ -81,7 +66,8 @@ loop-entry-preserved g c =
             | then-entry w ↦
                 let own = subst (λ ns. line_tally (place_by (party_in ps) ns) l ≡ tally_of (at_key key bs)) (sym c.as_slice-numbers.ensures.value) tally in
                 line_added bs name items i e c.loop-entry-test.true c.entry-item.is took old c.loop-entry.taker c.if-entry.taker so_far
-                (subst (λ t. Takes took c.loop-entry.taker t (line_of key (at_key key bs) ∷ [])) (sym w.taker-is) (w.give_line.ensures.line (at_key key bs) own)) (sym (ap (λ t. t.is_booked) tally) ∙ w.if-entry.true)
+                (subst (λ t. Takes took c.loop-entry.taker t (line_of key (at_key key bs) ∷ [])) (sym w.taker-is) (w.give_line.ensures.line (at_key key bs) own))
+                (sym (ap (λ t. t.is_booked) tally) ∙ w.if-entry.true)
             | else-entry w ↦ line_passed bs name items i e c.loop-entry-test.true c.entry-item.is took old c.loop-entry.taker c.if-entry.taker so_far
                 w.taker-is (sym (ap (λ t. t.is_booked) tally) ∙ w.if-entry.false)
           ];

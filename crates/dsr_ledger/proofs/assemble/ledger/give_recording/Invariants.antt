@@ -1,9 +1,4 @@
-use Rattle.std.proofs.Common.{List, take}
-use Rattle.std.specs.Prelude.{map}
-use Rattle.dsr_ledger.specs.Bookings.{Booking, key_under}
-use Rattle.dsr_ledger.specs.Rooms.{SamePartRoom}
-use Rattle.dsr_ledger.specs.Listed.{HasBookings, booked_lines}
-use Rattle.dsr_ledger.specs.Taking.{Takes}
+use Rattle.dsr_ledger.proofs.Common.{List, take, map, Booking, key_under, SamePartRoom, HasBookings, booked_lines, Takes}
 use Rattle.dsr_ledger.proofs.assemble.ledger.give_recording.Given as goal
 
 abbrev pub invariant-loop-entry : goal.invariant-loop-entry

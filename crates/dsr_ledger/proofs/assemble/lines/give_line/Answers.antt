@@ -1,22 +1,6 @@
-use Rattle.std.proofs.Math.Logic.{∥∥₁_elim}
-use Rattle.std.proofs.Props.{props}
-use Rattle.std.proofs.Common.{◌≡◌, ◌∷◌, [], List, ℕ, to_z, of_z, rules, sym, ◌∙◌, ap, subst, ◌+◌, ◌<◌, ◌^◌}
-use Rattle.std.specs.Prelude.{Option, sum_by, unsigned_abs, ◌-ℤ◌}
-use Rattle.std.specs.Option.{option_map_or}
-use Rattle.std.specs.Int.{w128}
-use Rattle.dsr_ledger.specs.declared.ledger.line.Line.{Line}
-use Rattle.dsr_ledger.specs.declared.ledger.parts.SeatPart.{SeatPart}
-use Rattle.dsr_ledger.specs.Bookings.{Booking}
-use Rattle.dsr_ledger.specs.Keys.{text_cmp}
-use Rattle.dsr_ledger.specs.Ledger.{line_of, party_lines, amount_sum}
-use Rattle.dsr_ledger.specs.Listed.{AreListed, lent, numbered_by, party_in}
-use Rattle.dsr_ledger.specs.Numbered.{place_by}
-use Rattle.dsr_ledger.specs.Owed.{nothing_owed, owed_for, owed_in, owed_kept, part_seats}
-use Rattle.dsr_ledger.specs.Parts.{all_parts}
-use Rattle.dsr_ledger.specs.Sums.{int_sum_by}
-use Rattle.dsr_ledger.specs.Tallies.{line_tally, tally_of}
-use Rattle.dsr_ledger.specs.declared.report.PartyLine.{PartyLine}
-use Rattle.dsr_ledger.proofs.ReportLemmas.{takes_same, read_is}
+use Rattle.dsr_ledger.proofs.Common.{∥∥₁_elim, props, ◌≡◌, ◌∷◌, [], List, ℕ, to_z, of_z, rules, sym, ◌∙◌, ap, subst, ◌+◌, ◌<◌, ◌^◌, Option, sum_by, unsigned_abs, ◌-ℤ◌, option_map_or, w128, Line, SeatPart, Booking, text_cmp, line_of, party_lines, amount_sum, AreListed, lent, numbered_by, party_in, place_by, nothing_owed, owed_for, owed_in, owed_kept, part_seats, all_parts, int_sum_by, line_tally, tally_of, PartyLine}
+use Rattle.dsr_ledger.proofs.TakingLemmas.{takes_same}
+use Rattle.dsr_ledger.proofs.ReportLemmas.{read_is}
 use Rattle.dsr_ledger.proofs.PartyLemmas.{line_fits, unclaimed_is}
 use Rattle.dsr_ledger.proofs.assemble.lines.give_line.Goals as goal
 

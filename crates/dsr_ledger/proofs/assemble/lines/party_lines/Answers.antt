@@ -1,7 +1,5 @@
-use Rattle.std.proofs.Common.{ap, ◌∙◌}
-use Rattle.std.proofs.lemmas.List.{take_all}
-use Rattle.dsr_ledger.specs.Listed.{lent}
-use Rattle.dsr_ledger.proofs.PartyLemmas.{seat_lines, party_lines_are}
+use Rattle.dsr_ledger.proofs.Common.{ap, ◌∙◌, take_all, lent}
+use Rattle.dsr_ledger.proofs.LineLemmas.{seat_lines, party_lines_are}
 use Rattle.dsr_ledger.proofs.assemble.lines.party_lines.Goals as goal
 
 pub returns-clause-lines : goal.returns-clause-lines

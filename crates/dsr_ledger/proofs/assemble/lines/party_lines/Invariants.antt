@@ -1,7 +1,5 @@
-use Rattle.std.proofs.Common.{◌≡◌, ◌≤◌, take}
-use Rattle.std.specs.Prelude.{vec_capacity, vec_len}
-use Rattle.dsr_ledger.specs.Listed.{lent}
-use Rattle.dsr_ledger.proofs.PartyLemmas.{seat_lines}
+use Rattle.dsr_ledger.proofs.Common.{◌≡◌, ◌≤◌, take, vec_capacity, vec_len, lent}
+use Rattle.dsr_ledger.proofs.LineLemmas.{seat_lines}
 use Rattle.dsr_ledger.proofs.assemble.lines.party_lines.Given as goal
 
 abbrev pub invariant-loop-entry : goal.invariant-loop-entry

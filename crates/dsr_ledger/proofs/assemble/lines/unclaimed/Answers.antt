@@ -1,9 +1,4 @@
-use Rattle.std.proofs.Common.{◌≡◌, suc, ◌+◌, take, sym, ap, ◌∙◌, subst, to_z, of_z, arith}
-use Rattle.std.specs.Prelude.{ℤ, ◌-ℤ◌, ◌+ℤ◌}
-use Rattle.std.specs.Int.{w128}
-use Rattle.std.specs.Int.RustNames.{FitsSigned}
-use Rattle.std.proofs.lemmas.Int.{ints, to_z-of_z}
-use Rattle.dsr_ledger.specs.Sums.{int_sum_by}
+use Rattle.dsr_ledger.proofs.Common.{◌≡◌, suc, ◌+◌, take, sym, ap, ◌∙◌, subst, to_z, of_z, arith, ℤ, ◌-ℤ◌, ◌+ℤ◌, w128, FitsSigned, ints, to_z-of_z, int_sum_by}
 use Rattle.dsr_ledger.proofs.PartyLemmas.{left_fits, amount_fits, taken_more}
 use Rattle.dsr_ledger.proofs.assemble.lines.unclaimed.Goals as goal
 

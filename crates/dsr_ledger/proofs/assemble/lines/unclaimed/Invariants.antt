@@ -1,6 +1,4 @@
-use Rattle.std.proofs.Common.{◌≡◌, take}
-use Rattle.std.specs.Prelude.{◌-ℤ◌}
-use Rattle.dsr_ledger.specs.Sums.{int_sum_by}
+use Rattle.dsr_ledger.proofs.Common.{◌≡◌, take, ◌-ℤ◌, int_sum_by}
 use Rattle.dsr_ledger.proofs.assemble.lines.unclaimed.Given as goal
 
 abbrev pub invariant-loop-line : goal.invariant-loop-line

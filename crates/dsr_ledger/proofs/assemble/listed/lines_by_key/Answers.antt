@@ -1,19 +1,7 @@
-use Rattle.std.proofs.Common.{◌≡◌, ℕ, ◌+◌, ◌<◌, List, ◌∷◌, [], ◌++◌, map, take, get_or, length, sym, ap, ◌∙◌, subst, Bor}
-use Rattle.std.specs.Prelude.{All, Some}
-use Rattle.std.specs.Cmp.{nat_cmp_total}
-use Rattle.std.specs.Ordering.{is_lt}
-use Rattle.std.proofs.lemmas.List.{map_push, take_more, take_all}
-use Rattle.std.proofs.lemmas.List.Elements.{All-push, All-weaker}
-use Rattle.std.proofs.lemmas.List.MinMax.{ranks_by}
-use Rattle.std.proofs.lemmas.List.Sorted.{All-permutation, answers_always}
-use Rattle.std.proofs.lemmas.Option.{slice_get-get_or}
-use Rattle.dsr_ledger.specs.declared.ledger.line.Line.{Line}
-use Rattle.dsr_ledger.specs.declared.ledger.summary_key.SummaryKey.{SummaryKey}
-use Rattle.dsr_ledger.specs.SummaryKeys.{summary_key_eq}
-use Rattle.dsr_ledger.specs.Tallies.{line_keys}
-use Rattle.dsr_ledger.specs.Listed.{AreDistinctBelow, key_in}
-use Rattle.dsr_ledger.proofs.NumberedLemmas.{number_at, places_are_numbered}
-use Rattle.dsr_ledger.proofs.SummaryKeyLemmas.{same_summary_key, summary_key_total, summary_key_ties}
+use Rattle.dsr_ledger.proofs.Common.{◌≡◌, ℕ, ◌+◌, ◌<◌, List, ◌∷◌, [], ◌++◌, map, take, get_or, length, sym, ap, ◌∙◌, subst, Bor, All, Some, nat_cmp_total, is_lt, map_push, take_more, take_all, All-push, All-weaker, ranks_by, All-permutation, answers_always, slice_get-get_or, Line, SummaryKey, summary_key_eq, line_keys, AreDistinctBelow, key_in}
+use Rattle.dsr_ledger.proofs.IndexMapLemmas.{number_at}
+use Rattle.dsr_ledger.proofs.NumberedLemmas.{places_are_numbered}
+use Rattle.dsr_ledger.proofs.KeyLemmas.{same_summary_key, summary_key_total, summary_key_ties}
 use Rattle.dsr_ledger.proofs.ListedLemmas.{below_number, listed, IsRanked, sorted_by_rank}
 use Rattle.dsr_ledger.proofs.assemble.listed.lines_by_key.Goals as goal
 

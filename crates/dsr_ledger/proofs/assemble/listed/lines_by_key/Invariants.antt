@@ -1,5 +1,4 @@
-use Rattle.std.proofs.Common.{◌≡◌, map, take}
-use Rattle.std.specs.Prelude.{All, vec_len, vec_capacity}
+use Rattle.dsr_ledger.proofs.Common.{◌≡◌, map, take, All, vec_len, vec_capacity}
 use Rattle.dsr_ledger.proofs.ListedLemmas.{IsRanked}
 use Rattle.dsr_ledger.proofs.assemble.listed.lines_by_key.Given as goal
 

@@ -1,21 +1,6 @@
-use Rattle.std.proofs.Common.{◌≡◌, ℕ, ◌+◌, ◌<◌, List, [], ◌∷◌, ◌++◌, map, take, get_or, length, sym, ap, ◌∙◌, subst, Bor}
-use Rattle.std.specs.Prelude.{All, Some}
-use Rattle.std.specs.Option.{option_and_then}
-use Rattle.std.specs.Ordering.{is_lt}
-use Rattle.std.specs.Str.{bytes_eq}
-use Rattle.std.specs.Cmp.Lexicographic.{nat_list_cmp_total}
-use Rattle.std.proofs.lemmas.Slice.Eq.{bytes_eq-Decides}
-use Rattle.std.proofs.lemmas.List.{map_push, take_more, take_all}
-use Rattle.std.proofs.lemmas.List.Elements.{All-push}
-use Rattle.std.proofs.lemmas.List.MinMax.{ranks_by}
-use Rattle.std.proofs.lemmas.List.Sorted.{answers_always}
-use Rattle.std.proofs.lemmas.Option.{slice_get-get_or}
-use Rattle.dsr_ledger.specs.declared.ledger.parts.SeatPart.{SeatPart}
-use Rattle.dsr_ledger.specs.Numbered.{place_in, place_by}
-use Rattle.dsr_ledger.specs.Owed.{part_seats}
-use Rattle.dsr_ledger.specs.Listed.{AreDistinctBelow, party_in}
-use Rattle.std.proofs.lemmas.Map.Text.{is_eq-slice_cmp}
-use Rattle.dsr_ledger.proofs.NumberedLemmas.{places_are_numbered, number_at, by_numbered}
+use Rattle.dsr_ledger.proofs.Common.{◌≡◌, ℕ, ◌+◌, ◌<◌, List, [], ◌∷◌, ◌++◌, map, take, get_or, length, sym, ap, ◌∙◌, subst, Bor, All, Some, option_and_then, is_lt, bytes_eq, nat_list_cmp_total, bytes_eq-Decides, map_push, take_more, take_all, All-push, ranks_by, answers_always, slice_get-get_or, SeatPart, place_in, place_by, part_seats, AreDistinctBelow, party_in, is_eq-slice_cmp}
+use Rattle.dsr_ledger.proofs.NumberedLemmas.{places_are_numbered, by_numbered}
+use Rattle.dsr_ledger.proofs.IndexMapLemmas.{number_at}
 use Rattle.dsr_ledger.proofs.ListedLemmas.{below_number, own_below, listed}
 use Rattle.dsr_ledger.proofs.assemble.listed.parts_by_name.Goals as goal
 

@@ -1,7 +1,4 @@
-use Rattle.std.proofs.Common.{◌≡◌, map, take}
-use Rattle.std.specs.Prelude.{All, Some, vec_len, vec_capacity}
-use Rattle.dsr_ledger.specs.Numbered.{place_by}
-use Rattle.dsr_ledger.specs.Listed.{party_in}
+use Rattle.dsr_ledger.proofs.Common.{◌≡◌, map, take, All, Some, vec_len, vec_capacity, place_by, party_in}
 use Rattle.dsr_ledger.proofs.assemble.listed.parts_by_name.Given as goal
 
 abbrev pub invariant-loop-part : goal.invariant-loop-part

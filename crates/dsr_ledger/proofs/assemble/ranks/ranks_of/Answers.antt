@@ -1,13 +1,5 @@
-use Rattle.std.proofs.Common.{rules, ◌≡◌, ℕ, ◌<◌, List, length, get_or, sym, ap, ◌∙◌, subst, arith, Bor}
-use Rattle.std.specs.Prelude.{Some, slice_get, option_map}
-use Rattle.std.specs.List.{IsDistinct}
-use Rattle.std.specs.Map.{keys_of}
-use Rattle.std.proofs.lemmas.List.{length-map, length-set}
-use Rattle.std.proofs.lemmas.Option.{slice_get-get_or, slice_get-map, slice_get_within}
-use Rattle.dsr_ledger.specs.declared.ledger.summary_key.SummaryKey.{SummaryKey}
-use Rattle.dsr_ledger.specs.SummaryKeys.{summary_key_eq, summary_key_cmp}
-use Rattle.dsr_ledger.specs.Listed.{AreListed, key_in, named_places}
-use Rattle.dsr_ledger.proofs.SummaryKeyLemmas.{same_summary_key, summary_key_total}
+use Rattle.dsr_ledger.proofs.Common.{rules, ◌≡◌, ℕ, ◌<◌, List, length, get_or, sym, ap, ◌∙◌, subst, arith, Bor, Some, slice_get, option_map, IsDistinct, keys_of, length-map, length-set, slice_get-get_or, slice_get-map, slice_get_within, SummaryKey, summary_key_eq, summary_key_cmp, AreListed, key_in, named_places}
+use Rattle.dsr_ledger.proofs.KeyLemmas.{same_summary_key, summary_key_total}
 use Rattle.dsr_ledger.proofs.ListedLemmas.{own_key, write_next, all_ranked}
 use Rattle.dsr_ledger.proofs.assemble.ranks.ranks_of.Goals as goal
 

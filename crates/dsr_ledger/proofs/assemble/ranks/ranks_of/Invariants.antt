@@ -1,7 +1,4 @@
-use Rattle.std.proofs.Common.{◌≡◌, ℕ, ◌<◌, length}
-use Rattle.std.specs.Prelude.{Some, slice_get, slice_index}
-use Rattle.dsr_ledger.specs.declared.ledger.summary_key.SummaryKey.{SummaryKey}
-use Rattle.dsr_ledger.specs.Listed.{named_places}
+use Rattle.dsr_ledger.proofs.Common.{◌≡◌, ℕ, ◌<◌, length, Some, slice_get, slice_index, SummaryKey, named_places}
 use Rattle.dsr_ledger.proofs.assemble.ranks.ranks_of.Given as goal
 
 abbrev pub invariant-loop-rank : goal.invariant-loop-rank

@@ -1,17 +1,6 @@
-use Rattle.std.proofs.Common.{◌≡◌, ℕ, ◌∷◌, [], ◌++◌, map, take, sym, ap, ◌∙◌, subst, Bor}
-use Rattle.std.specs.Prelude.{Some}
-use Rattle.std.specs.List.{Contains, IsDistinct}
-use Rattle.std.specs.Ordering.{is_lt}
-use Rattle.std.proofs.lemmas.List.{map_push, take_more, take_all}
-use Rattle.std.proofs.lemmas.List.Elements.{All-push}
-use Rattle.std.proofs.lemmas.List.MinMax.{ranks_by}
-use Rattle.std.proofs.lemmas.List.Sorted.{answers_always}
-use Rattle.std.proofs.lemmas.Option.{slice_get-get_or}
-use Rattle.dsr_ledger.specs.declared.ledger.summary_key.SummaryKey.{SummaryKey}
-use Rattle.dsr_ledger.specs.SummaryKeys.{summary_key_eq}
-use Rattle.dsr_ledger.specs.Listed.{key_in}
-use Rattle.dsr_ledger.proofs.NumberedLemmas.{number_at}
-use Rattle.dsr_ledger.proofs.SummaryKeyLemmas.{same_summary_key, summary_key_total, summary_key_ties}
+use Rattle.dsr_ledger.proofs.Common.{◌≡◌, ℕ, ◌∷◌, [], ◌++◌, map, take, sym, ap, ◌∙◌, subst, Bor, Some, Contains, IsDistinct, is_lt, map_push, take_more, take_all, All-push, ranks_by, answers_always, slice_get-get_or, SummaryKey, summary_key_eq, key_in}
+use Rattle.dsr_ledger.proofs.IndexMapLemmas.{number_at}
+use Rattle.dsr_ledger.proofs.KeyLemmas.{same_summary_key, summary_key_total, summary_key_ties}
 use Rattle.dsr_ledger.proofs.ListedLemmas.{key_there, put_in_order, there}
 use Rattle.dsr_ledger.proofs.assemble.ranks.sorted_keys.Goals as goal
 

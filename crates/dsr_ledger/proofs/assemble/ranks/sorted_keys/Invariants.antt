@@ -1,6 +1,4 @@
-use Rattle.std.proofs.Common.{◌≡◌, map, take}
-use Rattle.std.specs.Prelude.{All, Some}
-use Rattle.dsr_ledger.specs.Listed.{key_in}
+use Rattle.dsr_ledger.proofs.Common.{◌≡◌, map, take, All, Some, key_in}
 use Rattle.dsr_ledger.proofs.assemble.ranks.sorted_keys.Given as goal
 
 abbrev pub invariant-loop-number : goal.invariant-loop-number

@@ -1,21 +1,4 @@
-use Rattle.std.proofs.Common.{◌≡◌, ◌++◌, append-nil, sym, ap, ◌∙◌, subst, List, ℕ, Bor}
-use Rattle.std.specs.Prelude.{is_some, option_map, slice_get}
-use Rattle.std.specs.List.{Contains, IsDistinct}
-use Rattle.std.specs.Map.{keys_of}
-use Rattle.std.specs.Ordering.{is_lt}
-use Rattle.std.specs.Str.{bytes_eq}
-use Rattle.std.specs.Cmp.Lexicographic.{nat_list_cmp_total, nat_list_eq_equiv}
-use Rattle.std.proofs.lemmas.List.MinMax.{ranks_by}
-use Rattle.std.proofs.lemmas.List.Sorted.{answers_always}
-use Rattle.std.proofs.lemmas.Map.Entries.{lookup_from_place}
-use Rattle.std.proofs.lemmas.Map.Views.{Contains-keys_from_lookup}
-use Rattle.std.proofs.lemmas.Option.{slice_get-get_or, slice_get-map}
-use Rattle.std.proofs.lemmas.Simd.{map-map}
-use Rattle.std.proofs.lemmas.Slice.Eq.{bytes_eq-Decides}
-use Rattle.indexmap.specs.IndexMap.{get}
-use Rattle.dsr_ledger.specs.declared.ledger.recording.Recording.{Recording}
-use Rattle.dsr_ledger.specs.Listed.{lent}
-use Rattle.std.proofs.lemmas.Map.Text.{is_eq-slice_cmp}
+use Rattle.dsr_ledger.proofs.Common.{◌≡◌, ◌++◌, append-nil, sym, ap, ◌∙◌, subst, List, ℕ, Bor, is_some, option_map, slice_get, Contains, IsDistinct, keys_of, is_lt, bytes_eq, nat_list_cmp_total, nat_list_eq_equiv, ranks_by, answers_always, lookup_from_place, Contains-keys_from_lookup, slice_get-get_or, slice_get-map, map-map, bytes_eq-Decides, get, Recording, lent, is_eq-slice_cmp}
 use Rattle.dsr_ledger.proofs.TextLemmas.{same_text}
 use Rattle.dsr_ledger.proofs.ListedLemmas.{put_in_order}
 use Rattle.dsr_ledger.proofs.assemble.recordings.sorted_recordings.Goals as goal

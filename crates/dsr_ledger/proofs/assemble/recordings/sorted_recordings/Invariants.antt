@@ -1,5 +1,4 @@
-use Rattle.std.proofs.Common.{◌≡◌, ◌++◌}
-use Rattle.dsr_ledger.specs.Listed.{lent}
+use Rattle.dsr_ledger.proofs.Common.{◌≡◌, ◌++◌, lent}
 use Rattle.dsr_ledger.proofs.assemble.recordings.sorted_recordings.Given as goal
 
 abbrev pub invariant-loop-isrc : goal.invariant-loop-isrc

@@ -1,5 +1,4 @@
-use Rattle.std.proofs.Common.{◌≤◌, length, take}
-use Rattle.std.specs.Prelude.{All}
+use Rattle.dsr_ledger.proofs.Common.{◌≤◌, length, take, All}
 use Rattle.dsr_ledger.proofs.assemble.sizes.longest_name.Given as goal
 
 abbrev pub invariant-loop-name : goal.invariant-loop-name

@@ -1,7 +1,6 @@
-use Rattle.std.proofs.Common.{arith}
-use Rattle.dsr_ledger.specs.Sizes.{IsKeyWithin}
+use Rattle.dsr_ledger.proofs.Common.{arith, IsKeyWithin}
 use Rattle.dsr_ledger.proofs.EachLemmas.{all_more}
-use Rattle.dsr_ledger.proofs.ReportLemmas.{key_within}
+use Rattle.dsr_ledger.proofs.SizeLemmas.{key_within}
 use Rattle.dsr_ledger.proofs.assemble.sizes.longest_of_keys.Goals as goal
 
 pub loop-key-preserved : goal.loop-key-preserved

@@ -1,6 +1,4 @@
-use Rattle.std.proofs.Common.{◌≤◌, take}
-use Rattle.std.specs.Prelude.{All}
-use Rattle.dsr_ledger.specs.Sizes.{IsKeyWithin}
+use Rattle.dsr_ledger.proofs.Common.{◌≤◌, take, All, IsKeyWithin}
 use Rattle.dsr_ledger.proofs.assemble.sizes.longest_of_keys.Given as goal
 
 abbrev pub invariant-loop-key : goal.invariant-loop-key

@@ -1,6 +1,4 @@
-use Rattle.std.proofs.Common.{◌≤◌, length, refl, arith, sym}
-use Rattle.std.proofs.lemmas.List.{length-map}
-use Rattle.std.proofs.lemmas.List.Elements.{All-map, All-weaker}
+use Rattle.dsr_ledger.proofs.Common.{◌≤◌, length, refl, arith, sym, length-map, All-map, All-weaker}
 use Rattle.dsr_ledger.proofs.assemble.sizes.sizes_of.Goals as goal
 
 pub returns : goal.returns

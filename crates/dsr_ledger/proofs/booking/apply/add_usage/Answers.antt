@@ -1,13 +1,8 @@
-use Rattle.std.proofs.Common.{◌≡◌, ◌<◌, length, sym, ap, ◌∙◌, subst, arith, rules}
-use Rattle.std.specs.Prelude.{Some}
+use Rattle.dsr_ledger.proofs.Common.{◌≡◌, ◌<◌, length, sym, ap, ◌∙◌, subst, arith, rules, Some, key_under, booked_under, parts_size, tally_at, shares_of, tally_plus, key_tally}
 use Rattle.std.specs.Vec.{vec_len}
-use Rattle.dsr_ledger.specs.Bookings.{key_under, booked_under}
-use Rattle.dsr_ledger.specs.Owed.{parts_size}
-use Rattle.dsr_ledger.specs.Recordings.{tally_at}
-use Rattle.dsr_ledger.specs.Seated.{shares_of}
-use Rattle.dsr_ledger.specs.Tallies.{tally_plus, key_tally}
-use Rattle.dsr_ledger.proofs.TallyPlusLemmas.{parts_within, tally_with-key}
-use Rattle.dsr_ledger.proofs.PlanLemmas.{parts_of_shares, step_of}
+use Rattle.dsr_ledger.proofs.TallyLemmas.{parts_within, tally_with-key}
+use Rattle.dsr_ledger.proofs.SeatedLemmas.{parts_of_shares}
+use Rattle.dsr_ledger.proofs.PlanLemmas.{step_of}
 use Rattle.dsr_ledger.proofs.booking.apply.add_usage.Goals as goal
 
 pub index-line-requires : goal.index-line-requires

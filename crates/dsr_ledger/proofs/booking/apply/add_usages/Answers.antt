@@ -1,19 +1,10 @@
-use Rattle.std.proofs.Common.{◌≡◌, ◌+◌, [], ◌∷◌, ◌++◌, take, length, refl, sym, ap, ◌∙◌, subst, arith}
-use Rattle.std.specs.Prelude.{option_map, Some, slice_get}
-use Rattle.std.specs.List.{AllByRecursion}
-use Rattle.std.proofs.lemmas.List.{take_more, length-take}
-use Rattle.std.proofs.lemmas.Option.{slice_get_read}
-use Rattle.dsr_ledger.specs.Bookings.{usage_bookings}
-use Rattle.dsr_ledger.specs.Order.{IsSmall}
-use Rattle.dsr_ledger.specs.Ranges.{IsInRange}
-use Rattle.dsr_ledger.specs.Recordings.{tally_at}
-use Rattle.dsr_ledger.specs.Summaries.{shown_at, shown_with}
-use Rattle.dsr_ledger.specs.Tallies.{tally_plus, key_tally, TallyFits}
+use Rattle.dsr_ledger.proofs.Common.{◌≡◌, ◌+◌, [], ◌∷◌, ◌++◌, take, length, refl, sym, ap, ◌∙◌, subst, arith, option_map, Some, slice_get, AllByRecursion, take_more, length-take, slice_get_read, usage_bookings, IsSmall, IsInRange, tally_at, state_at, state_with, tally_plus, key_tally, TallyFits}
 use Rattle.dsr_ledger.proofs.EachLemmas.{each_append}
-use Rattle.dsr_ledger.proofs.PlanLemmas.{numbers_stay, numbers_twice, planned_stays, shown_none}
-use Rattle.dsr_ledger.proofs.ShownLemmas.{shown_more, shown_fits_at}
-use Rattle.dsr_ledger.proofs.TallyPlusLemmas.{tally_more, tally_plus-none, tally_fits_after}
-use Rattle.dsr_ledger.proofs.BooksLemmas.{each_small, each_usage}
+use Rattle.dsr_ledger.proofs.KeepsLemmas.{numbers_stay, numbers_twice, planned_stays}
+use Rattle.dsr_ledger.proofs.PlanLemmas.{shown_none}
+use Rattle.dsr_ledger.proofs.StateLemmas.{shown_more, shown_fits_at}
+use Rattle.dsr_ledger.proofs.TallyLemmas.{tally_more, tally_plus-none, tally_fits_after}
+use Rattle.dsr_ledger.proofs.SmallLemmas.{each_small, each_usage}
 use Rattle.dsr_ledger.proofs.booking.apply.add_usages.Goals as goal
 
 pub add_usage-requires-clause-planned : goal.add_usage-requires-clause-planned
@@ -35,7 +26,7 @@ add_usage-requires-clause-ledger_fits c q =
 pub add_usage-requires-clause-summaries_fit : goal.add_usage-requires-clause-summaries_fit
 add_usage-requires-clause-summaries_fit c id =
     let i = c.loop-i.i in let us = take i c.args.usages.now in let below = c.loop-i-test.true in
-    rw (c.loop-i.invariant.shown id) (shown_fits_at (shown_at c.args.summaries.now id) id us (length c.args.usages.now) 1
+    rw (c.loop-i.invariant.shown id) (shown_fits_at (state_at c.args.summaries.now id) id us (length c.args.usages.now) 1
     (omega (arith, length-take i c.args.usages.now)) c.loop-i.invariant.range (c.requires.summaries_fit id))
 
 pub loop-i-init : goal.loop-i-init
@@ -43,7 +34,7 @@ loop-i-init c = record {
   range = tt;
   numbers = numbers_stay c.args.ledger.now;
   index = λ id. refl;
-  shown = λ id. shown_none id (shown_at c.args.summaries.now id);
+  shown = λ id. shown_none id (state_at c.args.summaries.now id);
   tallies = λ isrc works place h q. tally_plus-none (tally_at c.args.ledger.now q);
 }
 
@@ -58,8 +49,8 @@ loop-i-preserved c =
       numbers = numbers_twice c.args.ledger.now c.loop-i.ledger c.add_usage.new.ledger before.numbers step.numbers;
       index = λ id. step.index id ∙ before.index id;
       shown = λ id.
-          shown_more id us u (shown_at c.args.summaries.now id) (shown_at c.loop-i.summaries id) (shown_at c.add_usage.new.summaries id) (before.shown id)
-          (step.shown id) ∙ ap (λ l. option_map (shown_with id l) (shown_at c.args.summaries.now id)) (sym more);
+          shown_more id us u (state_at c.args.summaries.now id) (state_at c.loop-i.summaries id) (state_at c.add_usage.new.summaries id) (before.shown id)
+          (step.shown id) ∙ ap (λ l. option_map (state_with id l) (state_at c.args.summaries.now id)) (sym more);
       tallies = λ isrc works place h q.
           let planned =
           planned_stays c.args.ledger.now c.loop-i.ledger c.args.summaries.now c.loop-i.summaries place isrc works all c.args.plan.now before.numbers

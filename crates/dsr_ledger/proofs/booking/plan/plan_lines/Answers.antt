@@ -1,15 +1,7 @@
-use Rattle.std.proofs.Common.{sym, ◌++◌, ◌≡◌, suc, ◌+◌, [], ◌∷◌, take, get_or, ap, ◌∙◌, subst, arith}
-use Rattle.std.specs.Prelude.{Some, slice_get}
-use Rattle.std.specs.Str.{bytes_eq}
-use Rattle.std.proofs.lemmas.List.{take_all}
-use Rattle.indexmap.proofs.MapLemmas.{Found-position}
-use Rattle.std.proofs.lemmas.Option.{slice_get-get_or}
-use Rattle.dsr_records.specs.declared.record.Usage.{Usage}
-use Rattle.dsr_ledger.specs.Lined.{IsLined, AreLined}
-use Rattle.dsr_ledger.specs.Recordings.{seat_at}
-use Rattle.dsr_ledger.specs.Summaries.{index_at}
-use Rattle.dsr_ledger.proofs.PlanLemmas.{lines_twice, lined_grows, zip_append, item_at, take_next, values_long, seated_grows}
-use Rattle.dsr_ledger.proofs.FilesLemmas.{key_here}
+use Rattle.dsr_ledger.proofs.Common.{sym, ◌++◌, ◌≡◌, suc, ◌+◌, [], ◌∷◌, take, get_or, ap, ◌∙◌, subst, arith, Some, slice_get, bytes_eq, take_all, Found-position, slice_get-get_or, Usage, IsLined, AreLined, seat_at, index_at}
+use Rattle.dsr_ledger.proofs.KeepsLemmas.{lines_twice, lined_grows}
+use Rattle.dsr_ledger.proofs.SeatedLemmas.{zip_append, item_at, take_next, values_long, seated_grows}
+use Rattle.dsr_ledger.proofs.OpeningLemmas.{key_here}
 use Rattle.dsr_ledger.proofs.booking.plan.plan_lines.Goals as goal
 
 pub key-key-requires : goal.key-key-requires

@@ -1,10 +1,4 @@
-use Rattle.std.proofs.Common.{◌≡◌, ℕ, List, take}
-use Rattle.std.specs.Prelude.{Option, Some, map}
-use Rattle.dsr_records.specs.declared.record.Usage.{Usage}
-use Rattle.dsr_ledger.specs.declared.ledger.summary_key.SummaryKey.{SummaryKey}
-use Rattle.dsr_ledger.specs.Lined.{AreLined}
-use Rattle.dsr_ledger.specs.Recordings.{recording_number, KeepsLines}
-use Rattle.dsr_ledger.specs.Summaries.{index_at, AreNumbered}
+use Rattle.dsr_ledger.proofs.Common.{◌≡◌, ℕ, List, take, Option, Some, map, Usage, SummaryKey, AreLined, recording_number, KeepsLines, index_at, AreNumbered}
 use Rattle.dsr_ledger.proofs.booking.plan.plan_lines.Given as goal
 
 abbrev pub invariant-loop-number : goal.invariant-loop-number

@@ -1,11 +1,6 @@
-use Rattle.std.specs.Prelude.{Some}
-use Rattle.std.proofs.Common.{rules, ◌≡◌, suc, ◌+◌, [], ◌∷◌, ◌++◌, take, get_or, length, sym, ap, ◌∙◌, subst, arith}
-use Rattle.std.specs.List.{zip}
-use Rattle.std.proofs.lemmas.List.{take_all}
-use Rattle.std.proofs.lemmas.Slice.Zip.{length-zip}
-use Rattle.dsr_ledger.specs.Recordings.{seat_at}
-use Rattle.dsr_ledger.specs.Seated.{SeatedMore}
-use Rattle.dsr_ledger.proofs.PlanLemmas.{seats_twice, seated_more, next_share}
+use Rattle.dsr_ledger.proofs.Common.{Some, rules, ◌≡◌, suc, ◌+◌, [], ◌∷◌, ◌++◌, take, get_or, length, sym, ap, ◌∙◌, subst, arith, zip, take_all, length-zip, seat_at, SeatedMore}
+use Rattle.dsr_ledger.proofs.KeepsLemmas.{seats_twice}
+use Rattle.dsr_ledger.proofs.SeatedLemmas.{seated_more, next_share}
 use Rattle.dsr_ledger.proofs.booking.plan.plan_work.Goals as goal
 
 pub returns-in_err-push-clause-keeps : goal.returns-in_err-push-clause-keeps

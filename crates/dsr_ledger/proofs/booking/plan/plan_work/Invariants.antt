@@ -1,8 +1,4 @@
-use Rattle.std.proofs.Common.{◌≡◌, ℕ, List, take}
-use Rattle.std.specs.Prelude.{Some}
-use Rattle.std.specs.List.{zip}
-use Rattle.dsr_ledger.specs.Recordings.{recording_number, seat_at, KeepsSeats}
-use Rattle.dsr_ledger.specs.Seated.{SeatedMore}
+use Rattle.dsr_ledger.proofs.Common.{◌≡◌, ℕ, List, take, Some, zip, recording_number, seat_at, KeepsSeats, SeatedMore}
 use Rattle.dsr_ledger.proofs.booking.plan.plan_work.Given as goal
 
 abbrev pub invariant-loop-i : goal.invariant-loop-i

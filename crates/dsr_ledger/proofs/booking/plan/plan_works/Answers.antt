@@ -1,11 +1,6 @@
-use Rattle.std.proofs.Common.{[], ◌∷◌, ◌++◌, take, sym, ap, ◌∙◌, append-nil}
-use Rattle.std.specs.List.{zip}
-use Rattle.std.proofs.lemmas.List.{take_more}
-use Rattle.std.proofs.lemmas.List.Concat.{flat_map-append}
-use Rattle.dsr_records.specs.Works.{WorkParts}
-use Rattle.dsr_ledger.specs.Recordings.{seat_at}
-use Rattle.dsr_ledger.specs.Seated.{shares_of}
-use Rattle.dsr_ledger.proofs.PlanLemmas.{seats_twice, seated_more}
+use Rattle.dsr_ledger.proofs.Common.{[], ◌∷◌, ◌++◌, take, sym, ap, ◌∙◌, append-nil, zip, take_more, flat_map-append, WorkParts, seat_at, shares_of}
+use Rattle.dsr_ledger.proofs.KeepsLemmas.{seats_twice}
+use Rattle.dsr_ledger.proofs.SeatedLemmas.{seated_more}
 use Rattle.dsr_ledger.proofs.booking.plan.plan_works.Goals as goal
 
 pub returns-in_err-plan_work-clause-keeps : goal.returns-in_err-plan_work-clause-keeps

@@ -1,7 +1,4 @@
-use Rattle.std.proofs.Common.{◌≡◌, ℕ, List, take}
-use Rattle.std.specs.Prelude.{Some}
-use Rattle.dsr_ledger.specs.Recordings.{recording_number, seat_at, KeepsSeats}
-use Rattle.dsr_ledger.specs.Seated.{SeatedMore, shares_of}
+use Rattle.dsr_ledger.proofs.Common.{◌≡◌, ℕ, List, take, Some, recording_number, seat_at, KeepsSeats, SeatedMore, shares_of}
 use Rattle.dsr_ledger.proofs.booking.plan.plan_works.Given as goal
 
 abbrev pub invariant-loop-work : goal.invariant-loop-work

@@ -1,5 +1,4 @@
-use Rattle.std.proofs.Common.{ap, ◌∙◌}
-use Rattle.std.specs.Option.{option_map_or}
+use Rattle.dsr_ledger.proofs.Common.{ap, ◌∙◌, option_map_or}
 use Rattle.dsr_ledger.proofs.CallerLemmas.{blocks_told}
 use Rattle.dsr_ledger.proofs.books.Books.blocks.Goals as goal
 

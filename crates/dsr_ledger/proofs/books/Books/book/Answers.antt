@@ -1,9 +1,5 @@
-use Rattle.std.proofs.Common.{◌<◌, ◌^◌, refl, arith, subst}
-use Rattle.std.specs.Prelude.{is_some}
-use Rattle.std.specs.Option.{option_map_or}
-use Rattle.std.proofs.Math.Logic.{∥∥₁_map}
+use Rattle.dsr_ledger.proofs.Common.{◌<◌, ◌^◌, refl, arith, subst, is_some, option_map_or, ∥∥₁_map, with_item}
 use Rattle.std.proofs.Math.ListN.{length-set}
-use Rattle.std.specs.Vec.{with_item}
 use Rattle.dsr_ledger.proofs.FilesLemmas.{open_at}
 use Rattle.dsr_ledger.proofs.BooksLemmas.{summaries_fit_reached, Answered, answered_stands, answered_reached, numbered_reached}
 use Rattle.dsr_ledger.proofs.books.Books.book.Goals.{After-book}

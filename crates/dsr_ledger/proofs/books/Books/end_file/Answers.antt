@@ -1,9 +1,5 @@
-use Rattle.std.proofs.Common.{refl, arith}
-use Rattle.std.proofs.Math.Logic.{∥∥₁_map}
+use Rattle.dsr_ledger.proofs.Common.{refl, arith, ∥∥₁_map, with_item, Kept, slice_get_read}
 use Rattle.std.proofs.Math.ListN.{length-set}
-use Rattle.std.specs.Vec.{with_item}
-use Rattle.dsr_ledger.specs.declared.kept.Kept.{Kept}
-use Rattle.std.proofs.lemmas.Option.{slice_get_read}
 use Rattle.dsr_ledger.proofs.BooksLemmas.{ended, stands_ended, reached_ended}
 use Rattle.dsr_ledger.proofs.books.Books.end_file.Goals as goal
 

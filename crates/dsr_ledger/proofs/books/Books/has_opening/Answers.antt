@@ -1,6 +1,4 @@
-use Rattle.std.proofs.Common.{ap, ◌∙◌}
-use Rattle.std.specs.Prelude.{is_some, false}
-use Rattle.std.specs.Option.{option_map_or}
+use Rattle.dsr_ledger.proofs.Common.{ap, ◌∙◌, is_some, false, option_map_or}
 use Rattle.dsr_ledger.proofs.CallerLemmas.{has_opening_told}
 use Rattle.dsr_ledger.proofs.books.Books.has_opening.Goals as goal
 

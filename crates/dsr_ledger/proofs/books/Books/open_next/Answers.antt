@@ -1,9 +1,4 @@
-use Rattle.std.proofs.Common.{List, refl, subst}
-use Rattle.std.specs.Prelude.{is_ok}
-use Rattle.std.proofs.Math.Logic.{∥∥₁_map}
-use Rattle.std.proofs.lemmas.Result.{MatchResult-from_err}
-use Rattle.dsr_ledger.specs.declared.kept.Kept.{Kept}
-use Rattle.dsr_ledger.specs.declared.file.FileBooks.{FileBooks}
+use Rattle.dsr_ledger.proofs.Common.{List, refl, subst, is_ok, ∥∥₁_map, MatchResult-from_err, Kept, FileBooks}
 use Rattle.dsr_ledger.proofs.BooksLemmas.{OpenedAfter, reached_kept, reached_opened, opened_next, not_opened}
 use Rattle.dsr_ledger.proofs.books.Books.open_next.Goals as goal
 

@@ -1,4 +1,4 @@
-use Rattle.std.proofs.Common.{◌≡◌, [], length, ◌∙◌, rules}
+use Rattle.dsr_ledger.proofs.Common.{◌≡◌, [], length, ◌∙◌, rules}
 use Rattle.dsr_ledger.proofs.FilesLemmas.{length-stand}
 use Rattle.dsr_ledger.proofs.books.Books.opened.Goals as goal
 

@@ -1,7 +1,4 @@
-use Rattle.std.proofs.Common.{◌++◌, [], append-nil, ap, ◌∙◌, sym}
-use Rattle.dsr_ledger.specs.Bookings.{bookings}
-use Rattle.dsr_ledger.specs.Ledger.{ledger}
-use Rattle.dsr_ledger.specs.Reports.{report_of}
+use Rattle.dsr_ledger.proofs.Common.{◌++◌, [], append-nil, ap, ◌∙◌, sym, bookings, ledger, report_of}
 use Rattle.dsr_ledger.proofs.closed.ClosedBooks.copied_lines.Goals as goal
 
 pub returns : goal.returns

@@ -1,4 +1,4 @@
-use Rattle.dsr_ledger.specs.Reports.{report_of}
+use Rattle.dsr_ledger.proofs.Common.{report_of}
 use Rattle.dsr_ledger.proofs.closed.ClosedBooks.into_report.Goals as goal
 
 pub returns : goal.returns

@@ -1,7 +1,4 @@
-use Rattle.std.proofs.Common.{◌∙◌, refl, sym, subst}
-use Rattle.dsr_ledger.specs.Bookings.{bookings}
-use Rattle.dsr_ledger.specs.Reports.{report_of}
-use Rattle.dsr_ledger.specs.Stands.{LedgerStands}
+use Rattle.dsr_ledger.proofs.Common.{◌∙◌, refl, sym, subst, bookings, report_of, LedgerStands}
 use Rattle.dsr_ledger.proofs.closed.ClosedBooks.report.Goals as goal
 
 pub returns-clause-report : goal.returns-clause-report

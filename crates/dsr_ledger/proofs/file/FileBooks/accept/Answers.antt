@@ -1,13 +1,5 @@
-use Rattle.std.proofs.Common.{◌≡◌, ◌≤◌, append-nil, length, refl, sym, ap, ◌∙◌, subst, arith}
-use Rattle.std.specs.Prelude.{option_map}
-use Rattle.std.specs.List.{AllByRecursion}
-use Rattle.dsr_ledger.specs.Bookings.{summary_key_named, usage_bookings, block_bookings}
-use Rattle.dsr_ledger.specs.Files.{summaries_of}
-use Rattle.dsr_ledger.specs.Ranges.{IsInRange}
-use Rattle.dsr_ledger.specs.Tallies.{tally_plus, key_tally}
-use Rattle.dsr_ledger.specs.Summaries.{shown_at, shown_with}
-use Rattle.dsr_ledger.specs.Plans.{IsPlanned}
-use Rattle.dsr_ledger.proofs.TallyPlusLemmas.{fewer_sums}
+use Rattle.dsr_ledger.proofs.Common.{◌≡◌, ◌≤◌, append-nil, length, refl, sym, ap, ◌∙◌, subst, arith, option_map, AllByRecursion, summary_key_named, usage_bookings, block_bookings, summaries_of, IsInRange, tally_plus, key_tally, state_at, state_with, IsPlanned}
+use Rattle.dsr_ledger.proofs.TallyLemmas.{fewer_sums}
 use Rattle.dsr_ledger.proofs.file.FileBooks.accept.Goals as goal
 
 pub add_usages-requires-clause-planned : goal.add_usages-requires-clause-planned
@@ -38,7 +30,7 @@ returns-clause-ok c =
       opening = refl;
       standing = refl;
       blocks = refl;
-      summaries = λ id. c.add_usages.ensures.shown id ∙ λ i. option_map (shown_with id (usages i)) (shown_at c.args.self.now.summaries id);
+      summaries = λ id. c.add_usages.ensures.shown id ∙ λ i. option_map (state_with id (usages i)) (state_at c.args.self.now.summaries id);
       rejects = sym (append-nil c.args.self.now.rejects.items);
       outcome = refl;
       tallies = λ q. c.add_usages.ensures.tallies c.args.isrc c.as_slice-works.result.now place planned q

@@ -1,14 +1,7 @@
-use Rattle.std.proofs.Common.{◌≡◌, ℕ, List, ap, sym, subst, ◌∙◌}
-use Rattle.std.proofs.lemmas.Result.{on_err_weaker}
-use Rattle.dsr_ledger.specs.declared.ids.Ids.{Ids}
-use Rattle.dsr_ledger.specs.declared.verdict.Verdict.{Verdict}
-use Rattle.dsr_ledger.specs.Summaries.{is_known}
-use Rattle.dsr_ledger.specs.IdSteps.{is_in, IsNoted}
-use Rattle.dsr_ledger.specs.Verdicts.{verdict_by}
-use Rattle.dsr_ledger.specs.Stands.{Took}
+use Rattle.dsr_ledger.proofs.Common.{◌≡◌, ℕ, List, ap, sym, subst, ◌∙◌, on_err_weaker, Ids, Verdict, is_known, is_in, IsNoted, verdict_by, Took}
 use Rattle.dsr_ledger.proofs.ResultLemmas.{ok_both}
 use Rattle.dsr_ledger.proofs.IdsLemmas.{noted_so, noted_is}
-use Rattle.dsr_ledger.proofs.FilesLemmas.{took}
+use Rattle.dsr_ledger.proofs.StandLemmas.{took}
 use Rattle.dsr_ledger.proofs.file.FileBooks.book.Goals as goal
 
 pub returns-else-is_err-clause-ok : goal.returns-else-is_err-clause-ok

@@ -1,6 +1,5 @@
-use Rattle.std.proofs.Common.{rules, refl, length, ap, arith}
-use Rattle.dsr_ledger.specs.Recordings.{tally_at}
-use Rattle.dsr_ledger.proofs.TallyPlusLemmas.{fewer_sums, tally_plus-none}
+use Rattle.dsr_ledger.proofs.Common.{rules, refl, length, ap, arith, tally_at}
+use Rattle.dsr_ledger.proofs.TallyLemmas.{fewer_sums, tally_plus-none}
 use Rattle.dsr_ledger.proofs.file.FileBooks.reject.Goals as goal
 
 pub count_usages-requires : goal.count_usages-requires

@@ -1,6 +1,4 @@
-use Rattle.std.proofs.Common.{◌-◌, ◌++◌, length, sym, ap, ◌∙◌}
-use Rattle.dsr_ledger.specs.Ids.{is_among}
-use Rattle.dsr_ledger.specs.IdNumbers.{texts_of}
+use Rattle.dsr_ledger.proofs.Common.{◌-◌, ◌++◌, length, sym, ap, ◌∙◌, is_among, texts_of}
 use Rattle.dsr_ledger.proofs.IdsLemmas.{fewer}
 use Rattle.dsr_ledger.proofs.ids.Ids.forget.Goals as goal
 

@@ -1,7 +1,4 @@
-use Rattle.std.proofs.Common.{◌≡◌, ◌++◌, ◌∷◌, [], ap, ◌∙◌, refl, subst, arith}
-use Rattle.dsr_ledger.specs.Ids.{is_among}
-use Rattle.dsr_ledger.specs.IdNumbers.{texts_of, IsAppended}
-use Rattle.dsr_ledger.specs.IdSteps.{is_in}
+use Rattle.dsr_ledger.proofs.Common.{◌≡◌, ◌++◌, ◌∷◌, [], ap, ◌∙◌, refl, subst, arith, is_among, texts_of, IsAppended, is_in}
 use Rattle.dsr_ledger.proofs.IdsLemmas.{below_with, number_more, run_more}
 use Rattle.dsr_ledger.proofs.ids.Ids.note.Goals as goal
 

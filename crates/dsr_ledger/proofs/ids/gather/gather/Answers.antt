@@ -1,8 +1,4 @@
-use Rattle.std.proofs.Common.{[], ◌++◌, refl, subst}
-use Rattle.std.proofs.lemmas.List.{append-nil}
-use Rattle.std.proofs.lemmas.Result.{on_err_weaker, on_ok_weaker}
-use Rattle.dsr_ledger.specs.Ids.{AreSameWith}
-use Rattle.dsr_ledger.specs.IdNumbers.{texts_of}
+use Rattle.dsr_ledger.proofs.Common.{[], ◌++◌, refl, subst, append-nil, on_err_weaker, on_ok_weaker, AreSameWith, texts_of}
 use Rattle.dsr_ledger.proofs.ResultLemmas.{if_err}
 use Rattle.dsr_ledger.proofs.IdsLemmas.{both_added, some_added}
 use Rattle.dsr_ledger.proofs.ids.gather.gather.Goals as goal

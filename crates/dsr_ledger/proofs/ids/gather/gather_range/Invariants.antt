@@ -1,6 +1,4 @@
-use Rattle.std.proofs.Common.{◌-◌, take}
-use Rattle.dsr_ledger.specs.Ids.{HasAlso}
-use Rattle.dsr_ledger.specs.IdNumbers.{range_texts}
+use Rattle.dsr_ledger.proofs.Common.{◌-◌, take, HasAlso, range_texts}
 use Rattle.dsr_ledger.proofs.ids.gather.gather_range.Given as goal
 
 abbrev pub invariant-loop-number : goal.invariant-loop-number

@@ -6,4 +6,5 @@ pub returns-in_err-gather_range-clause-same : goal.returns-in_err-gather_range-c
 returns-in_err-gather_range-clause-same c =
     let loop = c.loop-range in let item = c.range-item in
     if_err _ c.from_residual.result
-    (range_refused c.args.set.now loop.set c.gather_range.new.set c.args.ranges.now loop.range-index item.result item.result c.loop-range-test.true item.is loop.invariant c.in_err-gather_range.ensures.same)
+    (range_refused c.args.set.now loop.set c.gather_range.new.set c.args.ranges.now loop.range-index item.result item.result
+    c.loop-range-test.true item.is loop.invariant c.in_err-gather_range.ensures.same)

@@ -1,6 +1,4 @@
-use Rattle.std.proofs.Common.{take}
-use Rattle.dsr_ledger.specs.Ids.{HasAlso}
-use Rattle.dsr_ledger.specs.IdNumbers.{texts_of}
+use Rattle.dsr_ledger.proofs.Common.{take, HasAlso, texts_of}
 use Rattle.dsr_ledger.proofs.ids.gather.gather_ranges.Given as goal
 
 abbrev pub invariant-loop-range : goal.invariant-loop-range

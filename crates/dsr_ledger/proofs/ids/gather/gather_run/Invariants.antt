@@ -1,5 +1,4 @@
-use Rattle.std.proofs.Common.{take}
-use Rattle.dsr_ledger.specs.Ids.{HasAlso}
+use Rattle.dsr_ledger.proofs.Common.{take, HasAlso}
 use Rattle.dsr_ledger.proofs.ids.gather.gather_run.Given as goal
 
 abbrev pub invariant-loop-id : goal.invariant-loop-id

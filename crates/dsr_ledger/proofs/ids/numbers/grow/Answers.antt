@@ -1,5 +1,4 @@
-use Rattle.std.proofs.Common.{◌≡◌, ◌+◌, ◌∷◌, [], ◌++◌, length, decimal, ap, sym, ◌∙◌, arith}
-use Rattle.dsr_ledger.specs.IdNumbers.{texts_of}
+use Rattle.dsr_ledger.proofs.Common.{◌≡◌, ◌+◌, ◌∷◌, [], ◌++◌, length, decimal, ap, sym, ◌∙◌, arith, texts_of}
 use Rattle.dsr_ledger.proofs.IdsLemmas.{grown}
 use Rattle.dsr_ledger.proofs.ids.numbers.grow.Goals as goal
 

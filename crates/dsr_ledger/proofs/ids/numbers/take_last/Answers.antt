@@ -1,4 +1,4 @@
-use Rattle.std.proofs.Common.{◌≡◌, ◌+◌, ◌-◌, length, ap, sym, ◌∙◌, arith}
+use Rattle.dsr_ledger.proofs.Common.{◌≡◌, ◌+◌, ◌-◌, length, ap, sym, ◌∙◌, arith}
 use Rattle.dsr_ledger.proofs.IdsLemmas.{shrunk}
 use Rattle.dsr_ledger.proofs.ids.numbers.take_last.Goals as goal
 

@@ -1,7 +1,6 @@
-use Rattle.std.proofs.Common.{map, nat_eq, ap, sym, ◌∙◌}
-use Rattle.std.specs.Prelude.{Some}
-use Rattle.indexmap.specs.IndexSet.{insert_key}
-use Rattle.dsr_ledger.proofs.NumberedLemmas.{next_number, number_at_place}
+use Rattle.dsr_ledger.proofs.Common.{map, nat_eq, ap, sym, ◌∙◌, Some, insert_key}
+use Rattle.dsr_ledger.proofs.IndexLemmas.{next_number}
+use Rattle.dsr_ledger.proofs.NumberedLemmas.{number_at_place}
 use Rattle.dsr_ledger.proofs.ledger.index.gather.Goals as goal
 
 pub loop-item-preserved : goal.loop-item-preserved

@@ -1,4 +1,4 @@
-use Rattle.std.proofs.Common.{◌≡◌, map, take}
+use Rattle.dsr_ledger.proofs.Common.{◌≡◌, map, take}
 use Rattle.dsr_ledger.proofs.ledger.index.gather.Given as goal
 
 abbrev pub invariant-loop-item : goal.invariant-loop-item

@@ -1,9 +1,6 @@
-use Rattle.std.proofs.Common.{rules, ◌≡◌, ◌-◌, ◌<◌, length, ap, sym, ◌∙◌, subst, map}
-use Rattle.std.specs.Prelude.{Some, slice_get}
+use Rattle.dsr_ledger.proofs.Common.{rules, ◌≡◌, ◌-◌, ◌<◌, length, ap, sym, ◌∙◌, subst, map, Some, slice_get, length-map, same_Some, slice_get-map}
 use Rattle.std.specs.Option.{option_map}
-use Rattle.std.proofs.lemmas.List.{length-map}
-use Rattle.std.proofs.lemmas.Option.{same_Some, slice_get-map}
-use Rattle.dsr_ledger.proofs.NumberedLemmas.{rise_more}
+use Rattle.dsr_ledger.proofs.IndexLemmas.{rise_more}
 use Rattle.dsr_ledger.proofs.ledger.index.is_above.Goals as goal
 
 pub returns-in-Some : goal.returns-in-Some

@@ -1,6 +1,5 @@
-use Rattle.std.proofs.Common.{rules, ◌∙◌}
-use Rattle.std.proofs.lemmas.List.Sorted.{answers_always}
-use Rattle.dsr_ledger.proofs.NumberedLemmas.{searched}
+use Rattle.dsr_ledger.proofs.Common.{rules, ◌∙◌, answers_always}
+use Rattle.dsr_ledger.proofs.IndexLemmas.{searched}
 use Rattle.dsr_ledger.proofs.ledger.index.search.Goals as goal
 
 pub returns : goal.returns

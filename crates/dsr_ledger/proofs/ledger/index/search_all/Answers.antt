@@ -1,6 +1,4 @@
-use Rattle.std.proofs.Common.{map, sym, ap, ◌∙◌, subst}
-use Rattle.std.specs.List.{drop-map}
-use Rattle.dsr_ledger.specs.Indexes.{Rise}
+use Rattle.dsr_ledger.proofs.Common.{map, sym, ap, ◌∙◌, subst, drop-map, Rise}
 use Rattle.dsr_ledger.proofs.ledger.index.search_all.Goals as goal
 
 pub search-requires : goal.search-requires

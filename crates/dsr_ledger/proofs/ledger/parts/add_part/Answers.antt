@@ -1,11 +1,6 @@
-use Rattle.std.proofs.Common.{◌≡◌, rules, sym, ap, ◌∙◌, get_or, to_z, of_z}
-use Rattle.std.specs.Int.{w128}
-use Rattle.std.specs.Str.{bytes_eq}
-use Rattle.std.proofs.lemmas.Int.{to_z-of_z}
-use Rattle.std.proofs.lemmas.Slice.Eq.{bytes_eq-Decides}
-use Rattle.dsr_ledger.specs.Owed.{nothing_owed, owed_with, owed_kept}
+use Rattle.dsr_ledger.proofs.Common.{◌≡◌, rules, sym, ap, ◌∙◌, get_or, to_z, of_z, w128, bytes_eq, to_z-of_z, bytes_eq-Decides, nothing_owed, owed_with, owed_kept}
 use Rattle.dsr_ledger.proofs.NumberedLemmas.{numbers_kept, read_changed}
-use Rattle.dsr_ledger.proofs.LedgerLemmas.{seat_of_part}
+use Rattle.dsr_ledger.proofs.PartLemmas.{seat_of_part}
 use Rattle.dsr_ledger.proofs.ledger.parts.add_part.Goals as goal
 
 pub returns-clause-seats : goal.returns-clause-seats

@@ -1,18 +1,7 @@
-use Rattle.std.proofs.Common.{◌≡◌, suc, ◌+◌, [], ◌∷◌, take, get_or, cond, sym, ap, ◌∙◌, subst, arith, ◌^◌}
-use Rattle.std.specs.Prelude.{Some, map, ◌+ℤ◌, slice_get}
-use Rattle.std.specs.Int.{w128}
-use Rattle.std.specs.Int.RustNames.{FitsSigned}
-use Rattle.std.specs.Str.{bytes_eq}
-use Rattle.std.proofs.lemmas.List.{take_all, map-append}
-use Rattle.std.proofs.lemmas.Option.{slice_get-get_or}
-use Rattle.std.proofs.lemmas.Slice.Zip.{AllZip-long}
-use Rattle.dsr_ledger.specs.declared.ledger.parts.SeatShare.{SeatShare}
-use Rattle.dsr_ledger.specs.Owed.{owed_in, owed_plus, owed_for, owed_with}
-use Rattle.dsr_ledger.specs.Parts.{part_of, rounded}
-use Rattle.dsr_ledger.specs.Seated.{IsSeated}
-use Rattle.dsr_ledger.proofs.TallyPlusLemmas.{part_fits, owed_more}
-use Rattle.dsr_ledger.proofs.LedgerLemmas.{prefix_size}
-use Rattle.dsr_ledger.proofs.PlanLemmas.{zip_step, take_next}
+use Rattle.dsr_ledger.proofs.Common.{◌≡◌, suc, ◌+◌, [], ◌∷◌, take, get_or, cond, sym, ap, ◌∙◌, subst, arith, ◌^◌, Some, map, ◌+ℤ◌, slice_get, w128, FitsSigned, bytes_eq, take_all, map-append, slice_get-get_or, AllZip-long, SeatShare, owed_in, owed_plus, owed_for, owed_with, part_of, rounded, IsSeated}
+use Rattle.dsr_ledger.proofs.TallyLemmas.{part_fits, owed_more}
+use Rattle.dsr_ledger.proofs.PartLemmas.{prefix_size}
+use Rattle.dsr_ledger.proofs.SeatedLemmas.{zip_step, take_next}
 use Rattle.dsr_ledger.proofs.ledger.parts.add_parts.Goals as goal
 
 abbrev none : SeatShare

@@ -1,8 +1,4 @@
-use Rattle.std.proofs.Common.{◌≡◌, ℕ, List, take}
-use Rattle.std.specs.Prelude.{Option, map}
-use Rattle.dsr_ledger.specs.Owed.{owed_in, owed_plus, owed_for, part_seats}
-use Rattle.dsr_ledger.specs.Parts.{part_of}
-use Rattle.dsr_ledger.specs.Seated.{HaveSeats}
+use Rattle.dsr_ledger.proofs.Common.{◌≡◌, ℕ, List, take, Option, map, owed_in, owed_plus, owed_for, part_seats, part_of, HaveSeats}
 use Rattle.dsr_ledger.proofs.ledger.parts.add_parts.Given as goal
 
 abbrev pub invariant-loop-share : goal.invariant-loop-share

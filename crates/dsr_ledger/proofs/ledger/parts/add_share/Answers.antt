@@ -1,13 +1,5 @@
-use Rattle.std.proofs.Common.{rules, ◌≡◌, ℕ, List, cond, ap, ◌∙◌, to_z, of_z}
-use Rattle.std.specs.Prelude.{Option, Some, pos, ◌*ℤ◌}
-use Rattle.std.specs.Option.{option_and_then}
-use Rattle.std.specs.Int.{w128}
-use Rattle.std.specs.Int.RustNames.{int_div}
-use Rattle.std.specs.Str.{bytes_eq}
-use Rattle.std.proofs.lemmas.Int.{to_z-of_z}
-use Rattle.dsr_ledger.specs.Numbered.{place_in, place_by}
-use Rattle.dsr_ledger.specs.Owed.{owed_at_place, owed_in, owed_with, part_in, part_seats}
-use Rattle.dsr_ledger.proofs.LedgerLemmas.{places_are_numbered_by}
+use Rattle.dsr_ledger.proofs.Common.{rules, ◌≡◌, ℕ, List, cond, ap, ◌∙◌, to_z, of_z, Option, Some, pos, ◌*ℤ◌, option_and_then, w128, int_div, bytes_eq, to_z-of_z, place_in, place_by, owed_at_place, owed_in, owed_with, part_in, part_seats}
+use Rattle.dsr_ledger.proofs.PartLemmas.{places_are_numbered_by}
 use Rattle.dsr_ledger.proofs.ledger.parts.add_share.Goals as goal
 
 pub returns-clause-part : goal.returns-clause-part

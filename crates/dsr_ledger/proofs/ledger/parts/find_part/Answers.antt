@@ -1,7 +1,6 @@
-use Rattle.std.proofs.Common.{◌≡◌, ◌<◌, get_or, ap, sym, ◌∙◌, length, rules}
-use Rattle.std.specs.Prelude.{Some}
+use Rattle.dsr_ledger.proofs.Common.{◌≡◌, ◌<◌, get_or, ap, sym, ◌∙◌, length, rules, Some}
 use Rattle.dsr_ledger.proofs.NumberedLemmas.{number_at_place}
-use Rattle.dsr_ledger.proofs.LedgerLemmas.{seat_of_part}
+use Rattle.dsr_ledger.proofs.PartLemmas.{seat_of_part}
 use Rattle.dsr_ledger.proofs.ledger.parts.find_part.Goals as goal
 
 pub returns-then-part-seat : goal.returns-then-part-seat

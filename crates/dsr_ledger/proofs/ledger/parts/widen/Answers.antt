@@ -1,11 +1,6 @@
-use Rattle.std.proofs.Common.{◌≡◌, ◌<◌, [], ◌∷◌, take, get_or, sym, subst}
-use Rattle.std.specs.Prelude.{Some, slice_get}
-use Rattle.std.proofs.lemmas.List.{take_more}
-use Rattle.std.proofs.lemmas.Option.{slice_get-get_or}
-use Rattle.dsr_ledger.specs.declared.ledger.parts.SeatShare.{SeatShare}
-use Rattle.dsr_ledger.specs.Seated.{HasPart, HaveParts}
+use Rattle.dsr_ledger.proofs.Common.{◌≡◌, ◌<◌, [], ◌∷◌, take, get_or, sym, subst, Some, slice_get, take_more, slice_get-get_or, SeatShare, HasPart, HaveParts}
 use Rattle.dsr_ledger.proofs.NumberedLemmas.{each_at}
-use Rattle.dsr_ledger.proofs.LedgerLemmas.{parts_kept, parts_twice}
+use Rattle.dsr_ledger.proofs.PartLemmas.{parts_kept, parts_twice}
 use Rattle.dsr_ledger.proofs.EachLemmas.{each_append}
 use Rattle.dsr_ledger.proofs.ledger.parts.widen.Goals as goal
 

@@ -1,7 +1,4 @@
-use Rattle.std.proofs.Common.{ℕ, take}
-use Rattle.dsr_ledger.specs.Numbered.{AreBelow}
-use Rattle.dsr_ledger.specs.Owed.{part_seats, PartsGrow}
-use Rattle.dsr_ledger.specs.Seated.{HaveParts, AreSeatsBelow}
+use Rattle.dsr_ledger.proofs.Common.{ℕ, take, AreBelow, part_seats, PartsGrow, HaveParts, AreSeatsBelow}
 use Rattle.dsr_ledger.proofs.ledger.parts.widen.Given as goal
 
 abbrev pub invariant-loop-share : goal.invariant-loop-share

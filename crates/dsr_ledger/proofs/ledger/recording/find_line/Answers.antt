@@ -1,7 +1,6 @@
-use Rattle.std.proofs.Common.{◌≡◌, ◌<◌, get_or, ap, sym, ◌∙◌, length, rules}
-use Rattle.std.specs.Prelude.{Some}
+use Rattle.dsr_ledger.proofs.Common.{◌≡◌, ◌<◌, get_or, ap, sym, ◌∙◌, length, rules, Some}
 use Rattle.dsr_ledger.proofs.NumberedLemmas.{number_at_place}
-use Rattle.dsr_ledger.proofs.LedgerLemmas.{key_of}
+use Rattle.dsr_ledger.proofs.RecordingLemmas.{key_of}
 use Rattle.dsr_ledger.proofs.ledger.recording.find_line.Goals as goal
 
 pub returns-then-line-key : goal.returns-then-line-key

@@ -1,4 +1,4 @@
-use Rattle.std.proofs.Common.{◌≡◌, take}
+use Rattle.dsr_ledger.proofs.Common.{◌≡◌, take}
 use Rattle.dsr_ledger.proofs.lent.copies.copy_parties.Given as goal
 
 abbrev pub invariant-loop-party : goal.invariant-loop-party

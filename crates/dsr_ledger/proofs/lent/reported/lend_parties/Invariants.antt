@@ -1,5 +1,4 @@
-use Rattle.std.proofs.Common.{◌≡◌, take}
-use Rattle.std.specs.Prelude.{vec_capacity}
+use Rattle.dsr_ledger.proofs.Common.{◌≡◌, take, vec_capacity}
 use Rattle.dsr_ledger.proofs.lent.reported.lend_parties.Given as goal
 
 abbrev pub invariant-loop-party : goal.invariant-loop-party

@@ -1,5 +1,4 @@
-use Rattle.std.proofs.Common.{◌≤◌, length, take}
-use Rattle.std.specs.Prelude.{All}
+use Rattle.dsr_ledger.proofs.Common.{◌≤◌, length, take, All}
 use Rattle.dsr_ledger.proofs.lent.reported.most_parties.Given as goal
 
 abbrev pub invariant-loop-line : goal.invariant-loop-line

@@ -1,6 +1,6 @@
 use Rattle.std.proofs.Common.{sym, ◌∙◌, ap, drop}
-use Rattle.dsr_cells.specs.Cells.{cells}
-use Rattle.dsr_records.specs.Rows.{cells_left}
+use Rattle.dsr_cells.specs.meaning.Cells.{cells}
+use Rattle.dsr_records.specs.inner.Rows.{cells_left}
 use Rattle.dsr_records.proofs.LineChecks.{found}
 use Rattle.dsr_records.proofs.checked.TypedLine.find.Goals as goal
 

@@ -1,6 +1,6 @@
 use Rattle.std.proofs.Common.{arith, rules, ap, ◌≡◌, ◌∙◌, length, sym}
 use Rattle.std.specs.Str.{bytes_eq}
-use Rattle.dsr_records.specs.Names.{start_of}
+use Rattle.dsr_records.specs.inner.Names.{start_of}
 use Rattle.dsr_records.proofs.Names.{same_start}
 use Rattle.dsr_records.proofs.layout_line.TypeName.continues_as.Goals as goal
 

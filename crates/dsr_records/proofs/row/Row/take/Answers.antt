@@ -1,8 +1,8 @@
 use Rattle.std.proofs.Common.{arith, ◌≡◌, ◌∙◌, ◌++◌, ◌-◌, ap, sym, map, take, drop, length}
 use mathlib.Core.List.{map-append}
 use Rattle.std.proofs.lemmas.List.{length-drop, take-append-drop, take_all}
-use Rattle.dsr_cells.specs.Cells.{cells}
-use Rattle.dsr_records.specs.Records.{cell_in}
+use Rattle.dsr_cells.specs.meaning.Cells.{cells}
+use Rattle.dsr_records.specs.meaning.Records.{cell_in}
 use Rattle.dsr_records.proofs.row.Row.take.Goals as goal
 
 pub returns-then-done-places : goal.returns-then-done-places

@@ -1,7 +1,7 @@
 use Rattle.std.proofs.Common.{◌≡◌, ◌∙◌, ◌+◌, ◌++◌, ◌∷◌, [], Some, ap, sym, map, drop}
 use mathlib.Core.List.{map-append}
-use Rattle.dsr_cells.specs.Cells.{cells}
-use Rattle.dsr_records.specs.Rows.{behind}
+use Rattle.dsr_cells.specs.meaning.Cells.{cells}
+use Rattle.dsr_records.specs.inner.Rows.{behind}
 use Rattle.dsr_records.proofs.Following.{taken_more}
 use Rattle.dsr_records.proofs.row.Row.take_only.Goals as goal
 

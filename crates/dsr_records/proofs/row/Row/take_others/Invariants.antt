@@ -1,7 +1,7 @@
 use Rattle.std.proofs.Common.{◌≡◌, ◌++◌, map, take}
-use Rattle.dsr_cells.specs.Cells.{cells}
-use Rattle.dsr_records.specs.Records.{cell_in}
-use Rattle.dsr_records.specs.Rows.{behind}
+use Rattle.dsr_cells.specs.meaning.Cells.{cells}
+use Rattle.dsr_records.specs.meaning.Records.{cell_in}
+use Rattle.dsr_records.specs.inner.Rows.{behind}
 use Rattle.dsr_records.proofs.row.Row.take_others.Given as goal
 
 abbrev pub invariant-loop-position : goal.invariant-loop-position

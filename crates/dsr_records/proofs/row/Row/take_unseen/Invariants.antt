@@ -1,7 +1,7 @@
 use Rattle.std.proofs.Common.{◌≡◌, ◌≤◌, ◌+◌, ◌-◌, length, map, take, drop}
-use Rattle.dsr_cells.specs.Cells.{cells}
-use Rattle.dsr_records.specs.Records.{cell_in}
-use Rattle.dsr_records.specs.Rows.{behind, cells_left}
+use Rattle.dsr_cells.specs.meaning.Cells.{cells}
+use Rattle.dsr_records.specs.meaning.Records.{cell_in}
+use Rattle.dsr_records.specs.inner.Rows.{behind, cells_left}
 use Rattle.dsr_records.proofs.row.Row.take_unseen.Given as goal
 
 abbrev pub invariant-loop-next : goal.invariant-loop-next

@@ -1,12 +1,12 @@
 use Rattle.std.proofs.Common.{◌≡◌, ◌+◌, [], ◌∷◌, ◌++◌, length, sym, ap, ◌∙◌, subst, arith, append_assoc, length-append}
 use Rattle.crossbeam_channel.specs.Claims.{view}
-use Rattle.dsr_events.specs.Placed.{Placed}
-use Rattle.dsr_events.specs.Orderly.{IsOrderly}
-use Rattle.dsr_events.specs.OrderlyLaws.{orderly_next}
-use Rattle.dsr_relay.specs.Messages.{events_of}
-use Rattle.dsr_relay.specs.Rule.{out_of}
-use Rattle.dsr_relay.specs.Views.{FeedView, batch_after}
-use Rattle.dsr_relay.specs.Feeds.{feed_view, sent_of}
+use Rattle.dsr_events.specs.meaning.Placed.{Placed}
+use Rattle.dsr_events.specs.meaning.Orderly.{IsOrderly}
+use Rattle.dsr_events.specs.inner.OrderlyLaws.{orderly_next}
+use Rattle.dsr_relay.specs.meaning.Messages.{events_of}
+use Rattle.dsr_relay.specs.meaning.Rule.{out_of}
+use Rattle.dsr_relay.specs.meaning.Views.{FeedView, batch_after}
+use Rattle.dsr_relay.specs.inner.Feeds.{feed_view, sent_of}
 use Rattle.dsr_relay.proofs.Sending.{sends_again, sent_out, has_room, batch_goes}
 use Rattle.dsr_relay.proofs.feed.Feed.send.Goals as goal
 

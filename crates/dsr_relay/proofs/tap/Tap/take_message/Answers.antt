@@ -1,7 +1,7 @@
 use Rattle.std.proofs.Common.{◌≡◌, ◌+◌, [], ◌++◌, length, take, sym, ap, ◌∙◌, arith}
 use Rattle.crossbeam_channel.specs.Claims.{view}
-use Rattle.dsr_relay.specs.Views.{TapView}
-use Rattle.dsr_relay.specs.Taps.{tap_view, arrived}
+use Rattle.dsr_relay.specs.meaning.Views.{TapView}
+use Rattle.dsr_relay.specs.inner.Taps.{tap_view, arrived}
 use Rattle.dsr_relay.proofs.Taking.{lot_next, takes_again, has_size}
 use Rattle.dsr_relay.proofs.tap.Tap.take_message.Goals as goal
 

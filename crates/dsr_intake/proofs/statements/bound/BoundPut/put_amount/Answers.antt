@@ -2,7 +2,7 @@ use Rattle.std.proofs.Common.{rules, FitsSigned, ◌∷◌, ◌++◌}
 use Rattle.std.specs.Int.{w128}
 use Rattle.dsr_intake.specs.meaning.Statement.{amount_cell}
 use Rattle.dsr_intake.specs.inner.Puts.{end_of_line}
-use Rattle.dsr_cells.specs.Written.{written}
+use Rattle.dsr_cells.specs.meaning.Written.{written}
 use Rattle.dsr_intake.proofs.Bounds.{puts_up_to, amount_length}
 use Rattle.dsr_intake.proofs.statements.bound.BoundPut.put_amount.Goals as goal
 

@@ -1,9 +1,4 @@
-use Rattle.std.proofs.Common.{ap, ◌∙◌}
-use Rattle.std.specs.Str.{bytes_eq}
-use Rattle.std.proofs.lemmas.List.{drop_all}
-use Rattle.indexmap.specs.IndexMap.{get}
-use Rattle.dsr_ledger.specs.Keys.{text_cmp}
-use Rattle.dsr_ledger.specs.Listed.{AreListed, lent}
+use Rattle.dsr_ledger.proofs.Common.{ap, ◌∙◌, bytes_eq, drop_all, get, text_cmp, AreListed, lent}
 use Rattle.dsr_ledger.proofs.ReportLemmas.{written_none, written_all, recording_of, own_recording, lines_step}
 use Rattle.dsr_ledger.proofs.RoomLemmas.{part_room_then, same_room}
 use Rattle.dsr_ledger.proofs.assemble.ledger.SortedLedger.give.Goals as goal

@@ -1,6 +1,4 @@
-use Rattle.std.proofs.Common.{drop}
-use Rattle.dsr_ledger.specs.Rooms.{SameRoom}
-use Rattle.dsr_ledger.specs.Listed.{lent}
+use Rattle.dsr_ledger.proofs.Common.{drop, SameRoom, lent}
 use Rattle.dsr_ledger.proofs.ReportLemmas.{IsWritten}
 use Rattle.dsr_ledger.proofs.assemble.ledger.SortedLedger.give.Given as goal
 

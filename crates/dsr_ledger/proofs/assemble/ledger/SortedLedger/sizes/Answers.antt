@@ -1,7 +1,5 @@
-use Rattle.std.proofs.Common.{subst}
-use Rattle.std.specs.Prelude.{map}
-use Rattle.dsr_ledger.specs.Sizes.{AreSizesOf}
-use Rattle.dsr_ledger.proofs.ReportLemmas.{lines_within}
+use Rattle.dsr_ledger.proofs.Common.{subst, map, AreSizesOf}
+use Rattle.dsr_ledger.proofs.SizeLemmas.{lines_within}
 use Rattle.dsr_ledger.proofs.assemble.ledger.SortedLedger.sizes.Goals as goal
 
 pub returns : goal.returns

@@ -1,11 +1,6 @@
-use Rattle.std.proofs.Common.{rules, ◌≡◌, [], ◌++◌, sym, ap, ◌∙◌, subst}
-use Rattle.std.specs.Prelude.{Some, map}
-use Rattle.std.proofs.lemmas.Result.{on_ok_weaker}
-use Rattle.dsr_ledger.specs.Recordings.{seat_at}
-use Rattle.dsr_ledger.specs.Seated.{AreSeated, shares_of}
-use Rattle.dsr_ledger.specs.Lined.{AreLined}
-use Rattle.dsr_ledger.proofs.FilesLemmas.{numbered_grows, same_keys}
-use Rattle.dsr_ledger.proofs.PlanLemmas.{seated_grows}
+use Rattle.dsr_ledger.proofs.Common.{rules, ◌≡◌, [], ◌++◌, sym, ap, ◌∙◌, subst, Some, map, on_ok_weaker, seat_at, AreSeated, shares_of, AreLined}
+use Rattle.dsr_ledger.proofs.OpeningLemmas.{numbered_grows, same_keys}
+use Rattle.dsr_ledger.proofs.SeatedLemmas.{seated_grows}
 use Rattle.dsr_ledger.proofs.booking.plan.Plan.fill.Goals as goal
 
 pub returns-clause-planned : goal.returns-clause-planned

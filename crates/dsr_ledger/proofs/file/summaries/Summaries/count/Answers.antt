@@ -1,12 +1,7 @@
-use Rattle.std.proofs.Common.{cond, ap, ◌∙◌}
-use Rattle.std.specs.Prelude.{option_map, position}
-use Rattle.std.specs.Str.{bytes_eq}
-use Rattle.std.specs.Cmp.Lexicographic.{nat_list_eq_equiv}
-use Rattle.std.proofs.lemmas.Slice.Eq.{bytes_eq-Decides}
-use Rattle.indexmap.proofs.CallerLemmas.{keys-with_value_at}
-use Rattle.dsr_ledger.specs.Summaries.{shown_at, shown_plus}
-use Rattle.dsr_ledger.proofs.NumberedLemmas.{key_is, value_here, changed}
-use Rattle.dsr_ledger.proofs.ShownLemmas.{counted}
+use Rattle.dsr_ledger.proofs.Common.{cond, ap, ◌∙◌, option_map, bytes_eq, nat_list_eq_equiv, bytes_eq-Decides, keys-with_value_at, state_at, state_plus}
+use Rattle.std.specs.Prelude.{position}
+use Rattle.dsr_ledger.proofs.IndexMapLemmas.{key_is, value_here, changed}
+use Rattle.dsr_ledger.proofs.StateLemmas.{counted}
 use Rattle.dsr_ledger.proofs.file.summaries.Summaries.count.Goals as goal
 
 pub count-requires : goal.count-requires
@@ -21,7 +16,7 @@ returns-clause-index c = λ q. ap (position (bytes_eq q)) (keys-with_value_at c.
 pub returns-clause-shown : goal.returns-clause-shown
 returns-clause-shown c = λ q.
     let m = c.args.self.now.states in let e = c.pair_mut-state.ensures in let v = c.pair_mut-state.result.1.now in let u = c.args.usage.now in
-    let s = shown_at c.args.self.now q in
-    changed bytes_eq bytes_eq-Decides nat_list_eq_equiv m c.args.number _ v e.unique e.value (shown_plus u) c.count.new.self c.count.ensures.shown q
-    ∙ ap (λ k. cond (bytes_eq k q) (option_map (shown_plus u) s) s) (key_is bytes_eq bytes_eq-Decides m c.args.number _ v e.value u.summary_id c.requires.there)
+    let s = state_at c.args.self.now q in
+    changed bytes_eq bytes_eq-Decides nat_list_eq_equiv m c.args.number _ v e.unique e.value (state_plus u) c.count.new.self c.count.ensures.shown q
+    ∙ ap (λ k. cond (bytes_eq k q) (option_map (state_plus u) s) s) (key_is bytes_eq bytes_eq-Decides m c.args.number _ v e.value u.summary_id c.requires.there)
     ∙ counted q u s

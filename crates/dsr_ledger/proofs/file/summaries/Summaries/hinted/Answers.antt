@@ -1,11 +1,6 @@
-use Rattle.std.proofs.Common.{◌≡◌, ap, sym, ◌∙◌, rules, true}
-use Rattle.std.specs.Prelude.{Some, slice_get}
-use Rattle.std.specs.Str.{bytes_eq}
-use Rattle.std.specs.Cmp.Lexicographic.{nat_list_eq_equiv}
-use Rattle.std.proofs.lemmas.Slice.Eq.{bytes_eq-Decides}
-use Rattle.dsr_ledger.specs.Summaries.{index_at}
+use Rattle.dsr_ledger.proofs.Common.{◌≡◌, ap, sym, ◌∙◌, rules, true, Some, slice_get, bytes_eq, nat_list_eq_equiv, bytes_eq-Decides, index_at}
 use Rattle.dsr_ledger.proofs.TextLemmas.{same_text}
-use Rattle.dsr_ledger.proofs.NumberedLemmas.{own_number}
+use Rattle.dsr_ledger.proofs.IndexMapLemmas.{own_number}
 use Rattle.dsr_ledger.proofs.file.summaries.Summaries.hinted.Goals as goal
 
 pub returns-then-eq : goal.returns-then-eq

@@ -1,7 +1,4 @@
-use Rattle.std.proofs.Common.{ap, ◌∙◌}
-use Rattle.std.specs.Prelude.{option_map}
-use Rattle.std.specs.Str.{bytes_eq}
-use Rattle.indexmap.proofs.MapLemmas.{Found-position}
+use Rattle.dsr_ledger.proofs.Common.{ap, ◌∙◌, option_map, bytes_eq, Found-position}
 use Rattle.dsr_ledger.proofs.file.summaries.Summaries.key.Goals as goal
 
 pub returns : goal.returns

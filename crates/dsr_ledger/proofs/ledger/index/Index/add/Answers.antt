@@ -1,10 +1,5 @@
-use Rattle.std.proofs.Common.{rules, ◌≡◌, ◌≤◌, ◌<◌, ◌++◌, ◌∷◌, [], drop, length, map, nat_eq, sym, ap, ◌∙◌, subst, arith}
-use Rattle.std.specs.Prelude.{None}
-use Rattle.std.specs.List.{drop-map}
-use Rattle.std.proofs.lemmas.List.{length-map}
-use Rattle.indexmap.specs.IndexSet.{insert_key}
-use Rattle.dsr_ledger.specs.Indexes.{Rise, AreIndexed}
-use Rattle.dsr_ledger.proofs.NumberedLemmas.{goes_last, few_more, more_rise}
+use Rattle.dsr_ledger.proofs.Common.{rules, ◌≡◌, ◌≤◌, ◌<◌, ◌++◌, ◌∷◌, [], drop, length, map, nat_eq, sym, ap, ◌∙◌, subst, arith, None, drop-map, length-map, insert_key, Rise, AreIndexed}
+use Rattle.dsr_ledger.proofs.IndexLemmas.{goes_last, few_more, more_rise}
 use Rattle.dsr_ledger.proofs.ledger.index.Index.add.Goals.{then-items-lt-FEW-via-then-items-lt-FEW, then-items-lt-FEW-via-else-items-lt-FEW+then-is_above}
 use Rattle.dsr_ledger.proofs.ledger.index.Index.add.Goals as goal
 

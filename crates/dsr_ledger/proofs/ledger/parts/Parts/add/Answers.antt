@@ -1,12 +1,5 @@
-use Rattle.std.proofs.Common.{◌≡◌, List, ◌++◌, length, take, drop, sym, ap, subst, ◌∙◌}
-use Rattle.std.specs.List.{refill}
-use Rattle.std.proofs.lemmas.List.{length-map}
-use Rattle.std.proofs.Math.Seq.{take-append_seam}
-use Rattle.dsr_ledger.specs.declared.ledger.parts.SeatPart.{SeatPart}
-use Rattle.dsr_ledger.specs.Indexes.{AreIndexed}
-use Rattle.dsr_ledger.specs.Numbered.{AreApart}
-use Rattle.dsr_ledger.specs.Owed.{part_seats}
-use Rattle.dsr_ledger.proofs.LedgerLemmas.{seat_of_part}
+use Rattle.dsr_ledger.proofs.Common.{◌≡◌, List, ◌++◌, length, take, drop, sym, ap, subst, ◌∙◌, refill, length-map, take-append_seam, SeatPart, AreIndexed, AreApart, part_seats}
+use Rattle.dsr_ledger.proofs.PartLemmas.{seat_of_part}
 use Rattle.dsr_ledger.proofs.ledger.parts.Parts.add.Goals as goal
 
 -- a slice that is lent whole is given back whole

@@ -1,10 +1,7 @@
-use Rattle.std.proofs.Common.{rules, ◌≡◌, cond, length, nat_eq, inr, refl, ap, ◌∙◌}
-use Rattle.std.specs.Prelude.{None, Some}
-use Rattle.std.proofs.lemmas.List.{length-map}
-use Rattle.dsr_ledger.specs.Numbered.{place_in}
-use Rattle.dsr_ledger.specs.Owed.{part_in, part_seats}
+use Rattle.dsr_ledger.proofs.Common.{rules, ◌≡◌, cond, length, nat_eq, inr, refl, ap, ◌∙◌, None, Some, length-map, place_in, part_in, part_seats}
 use Rattle.dsr_ledger.proofs.NumberedLemmas.{place_more, same_number}
-use Rattle.dsr_ledger.proofs.LedgerLemmas.{seat_of_part, below_with}
+use Rattle.dsr_ledger.proofs.PartLemmas.{seat_of_part}
+use Rattle.dsr_ledger.proofs.RecordingLemmas.{below_with}
 use Rattle.dsr_ledger.proofs.ledger.parts.Parts.place.Goals as goal
 
 pub find_part-requires-clause-indexed : goal.find_part-requires-clause-indexed

@@ -1,10 +1,6 @@
-use Rattle.std.proofs.Common.{rules, ◌≡◌, ◌++◌, ◌∷◌, [], sym, ap, ◌∙◌, subst, nat_eq}
-use Rattle.std.proofs.lemmas.List.{map_push}
-use Rattle.dsr_ledger.specs.Indexes.{AreIndexed}
-use Rattle.dsr_ledger.specs.Numbered.{AreApart}
-use Rattle.dsr_ledger.specs.Owed.{part_in, part_seats, PartsGrow}
+use Rattle.dsr_ledger.proofs.Common.{rules, ◌≡◌, ◌++◌, ◌∷◌, [], sym, ap, ◌∙◌, subst, nat_eq, map_push, AreIndexed, AreApart, part_in, part_seats, PartsGrow}
 use Rattle.dsr_ledger.proofs.NumberedLemmas.{apart_more, same_number}
-use Rattle.dsr_ledger.proofs.LedgerLemmas.{seat_of_part, parts_more}
+use Rattle.dsr_ledger.proofs.PartLemmas.{seat_of_part, parts_more}
 use Rattle.dsr_ledger.proofs.ledger.parts.Parts.push.Goals as goal
 
 pub invariant_of-self : goal.invariant_of-self

@@ -1,13 +1,7 @@
-use Rattle.std.proofs.Common.{refl, sym, ap, ◌∙◌, subst, length}
-use Rattle.std.specs.Prelude.{map}
-use Rattle.std.proofs.lemmas.Option.{slice_get_read}
-use Rattle.dsr_ledger.specs.Indexes.{AreIndexed}
-use Rattle.dsr_ledger.specs.Numbered.{AreApart, AreBelow, place_in}
-use Rattle.dsr_ledger.specs.Parts.{part_of}
-use Rattle.dsr_ledger.specs.Seats.{seat_numbers}
-use Rattle.dsr_ledger.specs.Tallies.{tally_with}
+use Rattle.dsr_ledger.proofs.Common.{refl, sym, ap, ◌∙◌, subst, length, map, slice_get_read, AreIndexed, AreApart, AreBelow, place_in, part_of, seat_numbers, tally_with}
 use Rattle.dsr_ledger.proofs.NumberedLemmas.{numbers_kept}
-use Rattle.dsr_ledger.proofs.LedgerLemmas.{parts_kept, key_of, tally_changed, within_written, wide_written, wide_below}
+use Rattle.dsr_ledger.proofs.PartLemmas.{parts_kept}
+use Rattle.dsr_ledger.proofs.RecordingLemmas.{key_of, tally_changed, within_written, wide_written, wide_below}
 use Rattle.dsr_ledger.proofs.ledger.recording.Recording.add.Goals as goal
 
 pub invariant_of-self : goal.invariant_of-self

@@ -1,13 +1,6 @@
-use Rattle.std.proofs.Common.{rules, ◌≡◌, ◌++◌, ◌∷◌, [], ap, sym, subst, ◌∙◌, length, nat_eq}
-use Rattle.std.specs.Prelude.{None, Some}
-use Rattle.std.proofs.lemmas.List.{map_push}
-use Rattle.dsr_ledger.specs.Indexes.{AreIndexed}
-use Rattle.dsr_ledger.specs.Numbered.{AreApart, AreBelow}
-use Rattle.dsr_ledger.specs.Owed.{part_seats}
-use Rattle.dsr_ledger.specs.Seats.{seat_numbers}
-use Rattle.dsr_ledger.specs.Tallies.{line_in, line_keys, AreWithin, LinesGrow}
+use Rattle.dsr_ledger.proofs.Common.{rules, ◌≡◌, ◌++◌, ◌∷◌, [], ap, sym, subst, ◌∙◌, length, nat_eq, None, Some, map_push, AreIndexed, AreApart, AreBelow, part_seats, seat_numbers, line_in, line_keys, AreWithin, LinesGrow}
 use Rattle.dsr_ledger.proofs.NumberedLemmas.{item_there, apart_more, same_number}
-use Rattle.dsr_ledger.proofs.LedgerLemmas.{key_of, grow_pushed, within_pushed}
+use Rattle.dsr_ledger.proofs.RecordingLemmas.{key_of, grow_pushed, within_pushed}
 use Rattle.dsr_ledger.proofs.ledger.recording.Recording.add_line.Goals as goal
 
 pub invariant_of-self : goal.invariant_of-self

@@ -1,9 +1,6 @@
-use Rattle.std.proofs.Common.{◌≡◌, refl, sym, ◌∙◌, length}
-use Rattle.std.proofs.lemmas.List.{length-map}
-use Rattle.std.proofs.lemmas.Option.{slice_get_read}
-use Rattle.dsr_ledger.specs.Owed.{part_seats}
-use Rattle.dsr_ledger.specs.Seats.{seat_numbers}
-use Rattle.dsr_ledger.proofs.LedgerLemmas.{seat_of_part, parts_all, all_there}
+use Rattle.dsr_ledger.proofs.Common.{◌≡◌, refl, sym, ◌∙◌, length, length-map, slice_get_read, part_seats, seat_numbers}
+use Rattle.dsr_ledger.proofs.PartLemmas.{seat_of_part, parts_all}
+use Rattle.dsr_ledger.proofs.RecordingLemmas.{all_there}
 use Rattle.dsr_ledger.proofs.NumberedLemmas.{same_number}
 use Rattle.dsr_ledger.proofs.ledger.recording.Recording.is_full.Goals as goal
 

@@ -1,4 +1,4 @@
-use Rattle.dsr_ledger.proofs.LedgerLemmas.{grow_twice}
+use Rattle.dsr_ledger.proofs.RecordingLemmas.{grow_twice}
 use Rattle.dsr_ledger.proofs.ledger.recording.Recording.line.Goals as goal
 
 pub returns-in_err-widen-clause-grows : goal.returns-in_err-widen-clause-grows

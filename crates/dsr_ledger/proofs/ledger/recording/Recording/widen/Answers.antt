@@ -1,12 +1,7 @@
-use Rattle.std.proofs.Common.{refl, sym, subst, length}
-use Rattle.std.proofs.lemmas.Result.{on_ok_weaker}
-use Rattle.std.proofs.lemmas.Option.{slice_get_read}
-use Rattle.dsr_ledger.specs.declared.ledger.line.Line.{Line}
-use Rattle.dsr_ledger.specs.Indexes.{AreIndexed}
-use Rattle.dsr_ledger.specs.Numbered.{AreApart}
-use Rattle.dsr_ledger.specs.Seats.{seat_numbers}
+use Rattle.dsr_ledger.proofs.Common.{refl, sym, subst, length, on_ok_weaker, slice_get_read, Line, AreIndexed, AreApart, seat_numbers}
 use Rattle.dsr_ledger.proofs.NumberedLemmas.{numbers_kept}
-use Rattle.dsr_ledger.proofs.LedgerLemmas.{parts_kept, key_of, grow_written, within_written, written_there}
+use Rattle.dsr_ledger.proofs.PartLemmas.{parts_kept}
+use Rattle.dsr_ledger.proofs.RecordingLemmas.{key_of, grow_written, within_written, written_there}
 use Rattle.dsr_ledger.proofs.ledger.recording.Recording.widen.Goals as goal
 
 pub invariant_of-self : goal.invariant_of-self

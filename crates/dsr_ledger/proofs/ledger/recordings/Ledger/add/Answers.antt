@@ -1,21 +1,6 @@
-use Rattle.std.proofs.Common.{◌≡◌, cond, ◌&&◌, refl, sym, ap, subst, ◌∙◌, length}
-use Rattle.std.specs.Prelude.{Option, Some, map}
-use Rattle.std.specs.Option.{option_and_then}
-use Rattle.std.specs.List.{position}
-use Rattle.std.specs.Str.{bytes_eq}
-use Rattle.std.proofs.lemmas.Option.{same_Some}
-use Rattle.std.proofs.lemmas.Slice.Eq.{bytes_eq-Decides}
-use Rattle.indexmap.proofs.CallerLemmas.{keys-with_value_at}
-use Rattle.dsr_ledger.specs.declared.ledger.recording.Recording.{Recording}
-use Rattle.dsr_ledger.specs.declared.ledger.summary_key.SummaryKey.{SummaryKey}
-use Rattle.dsr_ledger.specs.Numbered.{AreBelow, place_by}
-use Rattle.dsr_ledger.specs.Parts.{part_of}
-use Rattle.dsr_ledger.specs.Seats.{seat_numbers}
-use Rattle.dsr_ledger.specs.SummaryKeys.{summary_key_eq, summary_key_in}
-use Rattle.dsr_ledger.specs.Tallies.{Tally, line_keys, lines_tally, IsWide, tally_with, TallyFits}
-use Rattle.dsr_ledger.specs.Recordings.{party_number, key_number, seat_of, recording_tally}
+use Rattle.dsr_ledger.proofs.Common.{◌≡◌, cond, ◌&&◌, refl, sym, ap, subst, ◌∙◌, length, Option, Some, map, option_and_then, position, bytes_eq, same_Some, bytes_eq-Decides, keys-with_value_at, Recording, SummaryKey, AreBelow, place_by, part_of, seat_numbers, summary_key_eq, summary_key_in, Tally, line_keys, lines_tally, IsWide, tally_with, TallyFits, party_number, key_number, seat_of, recording_tally}
 use Rattle.dsr_ledger.proofs.LedgerLemmas.{got, each_put, each_related, related, summary_keys_are_numbered, changed_tally, line_here, got_here}
-use Rattle.dsr_ledger.proofs.NumberedLemmas.{key_is}
+use Rattle.dsr_ledger.proofs.IndexMapLemmas.{key_is}
 use Rattle.dsr_ledger.proofs.TextLemmas.{text_itself}
 use Rattle.dsr_ledger.proofs.ledger.recordings.Ledger.add.Goals as goal
 

@@ -1,9 +1,5 @@
-use Rattle.std.proofs.Common.{◌≡◌, rules}
-use Rattle.std.specs.Prelude.{Some, slice_get}
-use Rattle.std.specs.Str.{bytes_eq}
-use Rattle.std.specs.Cmp.Lexicographic.{nat_list_eq_equiv}
-use Rattle.std.proofs.lemmas.Slice.Eq.{bytes_eq-Decides}
-use Rattle.dsr_ledger.proofs.NumberedLemmas.{own_number}
+use Rattle.dsr_ledger.proofs.Common.{◌≡◌, rules, Some, slice_get, bytes_eq, nat_list_eq_equiv, bytes_eq-Decides}
+use Rattle.dsr_ledger.proofs.IndexMapLemmas.{own_number}
 use Rattle.dsr_ledger.proofs.ledger.recordings.Ledger.expected.Goals as goal
 
 pub returns : goal.returns

@@ -1,15 +1,4 @@
-use Rattle.std.proofs.Common.{◌≡◌, ℕ, List, refl, ap, ◌∙◌, length}
-use Rattle.std.specs.Prelude.{Option, Some}
-use Rattle.std.specs.Option.{option_and_then}
-use Rattle.std.specs.List.{position}
-use Rattle.std.specs.Str.{bytes_eq}
-use Rattle.indexmap.proofs.CallerLemmas.{keys-with_value_at}
-use Rattle.dsr_ledger.specs.declared.ledger.recording.Recording.{Recording}
-use Rattle.dsr_ledger.specs.Numbered.{AreBelow, place_by}
-use Rattle.dsr_ledger.specs.Seats.{seat_numbers}
-use Rattle.dsr_ledger.specs.SummaryKeys.{summary_key_in}
-use Rattle.dsr_ledger.specs.Tallies.{line_keys, lines_tally}
-use Rattle.dsr_ledger.specs.Recordings.{party_number, key_number, seat_of, recording_tally}
+use Rattle.dsr_ledger.proofs.Common.{◌≡◌, ℕ, List, refl, ap, ◌∙◌, length, Option, Some, option_and_then, position, bytes_eq, keys-with_value_at, Recording, AreBelow, place_by, seat_numbers, summary_key_in, line_keys, lines_tally, party_number, key_number, seat_of, recording_tally}
 use Rattle.dsr_ledger.proofs.LedgerLemmas.{got, each_put, each_related}
 use Rattle.dsr_ledger.proofs.ledger.recordings.Ledger.follow.Goals as goal
 

@@ -1,17 +1,7 @@
-use Rattle.std.proofs.Common.{◌≡◌, ℕ, List, refl, ap, sym, subst, ◌∙◌, rules, true}
-use Rattle.std.specs.Prelude.{Some, slice_get}
-use Rattle.std.specs.Option.{option_and_then}
-use Rattle.std.specs.Str.{bytes_eq}
-use Rattle.std.specs.Cmp.Lexicographic.{nat_list_eq_equiv}
-use Rattle.std.proofs.lemmas.Slice.Eq.{bytes_eq-Decides}
-use Rattle.std.proofs.lemmas.Option.{slice_get_read}
-use Rattle.indexmap.specs.IndexMap.{IsUnique}
+use Rattle.dsr_ledger.proofs.Common.{◌≡◌, ℕ, List, refl, ap, sym, subst, ◌∙◌, rules, true, Some, slice_get, option_and_then, bytes_eq, nat_list_eq_equiv, bytes_eq-Decides, slice_get_read, IsUnique, place_in, seat_numbers, party_number, seat_of}
 use Rattle.indexmap.specs.IndexSet.{IsUnique as IsUniqueSet}
-use Rattle.dsr_ledger.specs.Numbered.{place_in}
-use Rattle.dsr_ledger.specs.Seats.{seat_numbers}
-use Rattle.dsr_ledger.specs.Recordings.{party_number, seat_of}
 use Rattle.dsr_ledger.proofs.TextLemmas.{same_text}
-use Rattle.dsr_ledger.proofs.NumberedLemmas.{number_at, value_here}
+use Rattle.dsr_ledger.proofs.IndexMapLemmas.{number_at, value_here}
 use Rattle.dsr_ledger.proofs.ledger.recordings.Ledger.hinted_seat.Goals as goal
 
 pub returns-then-eq : goal.returns-then-eq

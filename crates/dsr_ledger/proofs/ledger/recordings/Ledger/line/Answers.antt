@@ -1,22 +1,8 @@
-use Rattle.std.proofs.Common.{◌≡◌, ℕ, refl, sym, ap, subst, ◌∙◌, length}
-use Rattle.std.specs.Prelude.{Option, Some}
-use Rattle.std.specs.Option.{option_and_then}
-use Rattle.std.specs.List.{position}
-use Rattle.std.specs.Str.{bytes_eq}
-use Rattle.std.proofs.lemmas.Option.{same_Some}
-use Rattle.std.proofs.lemmas.Result.{IfOk-weaker}
-use Rattle.indexmap.proofs.CallerLemmas.{keys-with_value_at}
-use Rattle.dsr_ledger.specs.declared.ledger.recording.Recording.{Recording}
-use Rattle.dsr_ledger.specs.declared.ledger.summary_key.SummaryKey.{SummaryKey}
-use Rattle.dsr_ledger.specs.Numbered.{AreBelow, place_in, place_by}
-use Rattle.dsr_ledger.specs.Seats.{seat_numbers}
-use Rattle.dsr_ledger.specs.SummaryKeys.{summary_key_in}
-use Rattle.dsr_ledger.specs.Tallies.{line_keys, IsWide}
-use Rattle.dsr_ledger.specs.Recordings.{party_number, key_number, seat_of, seat_at, recording_tally}
-use Rattle.dsr_ledger.specs.Seated.{AreSeated}
-use Rattle.dsr_ledger.proofs.LedgerLemmas.{below_with, got, got_here, put_here, each_put, each_related, parties_are_numbered, summary_keys_are_numbered, grown_tally, grown_lines}
+use Rattle.dsr_ledger.proofs.Common.{◌≡◌, ℕ, refl, sym, ap, subst, ◌∙◌, length, Option, Some, option_and_then, position, bytes_eq, same_Some, IfOk-weaker, keys-with_value_at, Recording, SummaryKey, AreBelow, place_in, place_by, seat_numbers, summary_key_in, line_keys, IsWide, party_number, key_number, seat_of, seat_at, recording_tally, AreSeated}
+use Rattle.dsr_ledger.proofs.RecordingLemmas.{below_with}
+use Rattle.dsr_ledger.proofs.LedgerLemmas.{got, got_here, put_here, each_put, each_related, parties_are_numbered, summary_keys_are_numbered, grown_tally, grown_lines}
 use Rattle.dsr_ledger.proofs.NumberedLemmas.{by_numbered}
-use Rattle.dsr_ledger.proofs.PlanLemmas.{seats_below}
+use Rattle.dsr_ledger.proofs.SeatedLemmas.{seats_below}
 use Rattle.dsr_ledger.proofs.ledger.recordings.Ledger.line.Goals as goal
 
 pub line-requires : goal.line-requires

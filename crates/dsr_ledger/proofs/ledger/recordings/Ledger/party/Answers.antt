@@ -1,10 +1,4 @@
-use Rattle.std.proofs.Common.{rules, ◌≡◌, ◌++◌, ◌∷◌, [], ap, ◌∙◌, cond, length}
-use Rattle.std.specs.Prelude.{None, Some}
-use Rattle.std.specs.List.{position}
-use Rattle.std.specs.Str.{bytes_eq}
-use Rattle.std.proofs.lemmas.Slice.Eq.{bytes_eq-Decides}
-use Rattle.dsr_ledger.specs.SummaryKeys.{summary_key_in}
-use Rattle.dsr_ledger.specs.Recordings.{party_number, key_number}
+use Rattle.dsr_ledger.proofs.Common.{rules, ◌≡◌, ◌++◌, ◌∷◌, [], ap, ◌∙◌, cond, length, None, Some, position, bytes_eq, bytes_eq-Decides, summary_key_in, party_number, key_number}
 use Rattle.dsr_ledger.proofs.NumberedLemmas.{place_more}
 use Rattle.dsr_ledger.proofs.TextLemmas.{text_itself}
 use Rattle.dsr_ledger.proofs.LedgerLemmas.{party_tally}

@@ -1,17 +1,4 @@
-use Rattle.std.proofs.Common.{rules, subst, sym, ◌≡◌, ℕ, List, ◌++◌, ◌∷◌, [], ap, ◌∙◌, cond, length}
-use Rattle.std.specs.Prelude.{None, Some}
-use Rattle.std.specs.List.{position}
-use Rattle.std.specs.Map.{keys_of, lookup}
-use Rattle.std.specs.Str.{bytes_eq}
-use Rattle.std.proofs.lemmas.List.{map-append, length-map}
-use Rattle.std.proofs.lemmas.Slice.Eq.{bytes_eq-Decides}
-use Rattle.std.proofs.lemmas.Result.{on_ok_weaker, on_err_weaker}
-use Rattle.indexmap.specs.IndexMap.{get, keys, index_of, IsUnchanged, Updates}
-use Rattle.indexmap.proofs.CallerLemmas.{insert_entry-new}
-use Rattle.dsr_ledger.specs.declared.ledger.recording.Recording.{Recording}
-use Rattle.dsr_ledger.specs.Numbered.{AreBelow}
-use Rattle.dsr_ledger.specs.Seats.{seat_numbers}
-use Rattle.dsr_ledger.specs.Tallies.{line_keys}
+use Rattle.dsr_ledger.proofs.Common.{rules, subst, sym, ◌≡◌, ℕ, List, ◌++◌, ◌∷◌, [], ap, ◌∙◌, cond, length, None, Some, position, keys_of, lookup, bytes_eq, map-append, length-map, bytes_eq-Decides, on_ok_weaker, on_err_weaker, get, keys, index_of, IsUnchanged, Updates, insert_entry-new, Recording, AreBelow, seat_numbers, line_keys}
 use Rattle.dsr_ledger.proofs.NumberedLemmas.{place_more}
 use Rattle.dsr_ledger.proofs.TextLemmas.{text_itself}
 use Rattle.dsr_ledger.proofs.LedgerLemmas.{each_inserted}

@@ -1,19 +1,7 @@
-use Rattle.std.proofs.Common.{◌≡◌, ℕ, List, refl, ap, ◌∙◌, length}
-use Rattle.std.specs.Prelude.{Option, Some}
-use Rattle.std.specs.Option.{option_and_then}
-use Rattle.std.specs.List.{position}
-use Rattle.std.specs.Str.{bytes_eq}
-use Rattle.std.proofs.lemmas.Result.{IfOk-weaker}
-use Rattle.indexmap.specs.IndexMap.{index_of}
-use Rattle.indexmap.proofs.CallerLemmas.{keys-with_value_at}
-use Rattle.dsr_ledger.specs.declared.ledger.recording.Recording.{Recording}
-use Rattle.dsr_ledger.specs.Numbered.{AreBelow, place_in}
-use Rattle.dsr_ledger.specs.Seats.{seat_numbers}
-use Rattle.dsr_ledger.specs.SummaryKeys.{summary_key_in}
-use Rattle.dsr_ledger.specs.Tallies.{line_keys}
-use Rattle.dsr_ledger.specs.Recordings.{party_number, key_number, seat_of, recording_tally, KeepsSeats}
-use Rattle.dsr_ledger.proofs.PlanLemmas.{seats_twice}
-use Rattle.dsr_ledger.proofs.LedgerLemmas.{below_with, got, put_here, each_put, each_related, parties_are_numbered, seated_tally, seated_grows}
+use Rattle.dsr_ledger.proofs.Common.{◌≡◌, ℕ, List, refl, ap, ◌∙◌, length, Option, Some, option_and_then, position, bytes_eq, IfOk-weaker, index_of, keys-with_value_at, Recording, AreBelow, place_in, seat_numbers, summary_key_in, line_keys, party_number, key_number, seat_of, recording_tally, KeepsSeats}
+use Rattle.dsr_ledger.proofs.KeepsLemmas.{seats_twice}
+use Rattle.dsr_ledger.proofs.RecordingLemmas.{below_with}
+use Rattle.dsr_ledger.proofs.LedgerLemmas.{got, put_here, each_put, each_related, parties_are_numbered, seated_tally, seated_grows}
 use Rattle.dsr_ledger.proofs.ledger.recordings.Ledger.seat.Goals as goal
 
 pub invariant_of-self : goal.invariant_of-self

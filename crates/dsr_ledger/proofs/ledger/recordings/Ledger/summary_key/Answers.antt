@@ -1,10 +1,6 @@
-use Rattle.std.proofs.Common.{rules, ◌≡◌, ◌++◌, ◌∷◌, [], refl, ap, ◌∙◌, cond, length}
-use Rattle.std.specs.Prelude.{None, Some}
-use Rattle.std.specs.List.{position}
-use Rattle.dsr_ledger.specs.SummaryKeys.{summary_key_eq}
-use Rattle.dsr_ledger.specs.Recordings.{key_number}
+use Rattle.dsr_ledger.proofs.Common.{rules, ◌≡◌, ◌++◌, ◌∷◌, [], refl, ap, ◌∙◌, cond, length, None, Some, position, summary_key_eq, key_number}
 use Rattle.dsr_ledger.proofs.NumberedLemmas.{place_more}
-use Rattle.dsr_ledger.proofs.SummaryKeyLemmas.{same_summary_key}
+use Rattle.dsr_ledger.proofs.KeyLemmas.{same_summary_key}
 use Rattle.dsr_ledger.proofs.ledger.recordings.Ledger.summary_key.Goals as goal
 
 pub returns-clause-there : goal.returns-clause-there

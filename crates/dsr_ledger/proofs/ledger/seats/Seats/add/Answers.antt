@@ -1,6 +1,4 @@
-use Rattle.std.proofs.Common.{rules, ◌≡◌, ◌++◌, ◌∷◌, [], sym, ap, ◌∙◌, subst, nat_eq, map-id}
-use Rattle.dsr_ledger.specs.Indexes.{AreIndexed}
-use Rattle.dsr_ledger.specs.Numbered.{AreApart}
+use Rattle.dsr_ledger.proofs.Common.{rules, ◌≡◌, ◌++◌, ◌∷◌, [], sym, ap, ◌∙◌, subst, nat_eq, map-id, AreIndexed, AreApart}
 use Rattle.dsr_ledger.proofs.NumberedLemmas.{apart_more, same_number}
 use Rattle.dsr_ledger.proofs.ledger.seats.Seats.add.Goals as goal
 

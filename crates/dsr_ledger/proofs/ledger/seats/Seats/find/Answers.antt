@@ -1,4 +1,4 @@
-use Rattle.std.proofs.Common.{map-id}
+use Rattle.dsr_ledger.proofs.Common.{map-id}
 use Rattle.dsr_ledger.proofs.ledger.seats.Seats.find.Goals as goal
 
 pub find-requires : goal.find-requires

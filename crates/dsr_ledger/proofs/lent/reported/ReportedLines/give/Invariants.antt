@@ -1,6 +1,4 @@
-use Rattle.std.proofs.Common.{◌≡◌, take}
-use Rattle.std.specs.Prelude.{vec_capacity}
-use Rattle.dsr_ledger.specs.Taking.{Takes}
+use Rattle.dsr_ledger.proofs.Common.{◌≡◌, take, vec_capacity, Takes}
 use Rattle.dsr_ledger.proofs.lent.reported.ReportedLines.give.Given as goal
 
 abbrev pub invariant-loop-line : goal.invariant-loop-line

@@ -1,0 +1,84 @@
+-- The report's parts made of the files' states are those of the files that they represent.
+use Rattle.dsr_ledger.proofs.Common.{◌≡◌, ℕ, List, [], ◌∷◌, ◌++◌, true, sym, ◌∙◌, ap, arith, Bool, ◌+◌, append_assoc, false, refl, not, ◌&&◌, ◌||◌, Option, option_map, None, Some, map, ℤ, filter, if◌then◌else◌, list_any, flat_map, range_with_len, bytes_eq, map-id, list_any-append, Summary, key_of, outcome_of, file_line, report_head, missing, first_head, summaries_of, File, Filed, standing, filed, found_in, sums_at, openings_of, FileBooks, Summaries, tally_at, FileStands, Stands, Usage, usages_in, is_ours, ended_whole, naming, difference, differs, differences_in, differences, has_number, is_there, missing_for, rejects_in, rejects, BTreeSet, contains, nat_cmp, filter_of_map_range_with_len_more, Kept, int_sum_by, line_kept, is_number_kept, not_in, sums_or_zeros, difference_to, differences_to, differences_kept}
+use Rattle.dsr_records.specs.declared.record.Head.{Head}
+use Rattle.dsr_ledger.proofs.TextLemmas.{text_itself}
+use Rattle.dsr_ledger.proofs.EachLemmas.{zero-add}
+use Rattle.dsr_ledger.proofs.FilesLemmas.{openings_are, zip_folds, zip_maps}
+use Rattle.dsr_ledger.specs.declared.closed.ClosedBooks.{ClosedBooks}
+use Rattle.dsr_ledger.specs.inner.Closed.{AreClosed}
+
+-- the numbers that are not in a set of the numbers that are there
+pub not_in_is : (head : Option Head) (numbers : BTreeSet ℕ) (ds : List Filed) → ((n : ℕ) → contains nat_cmp numbers n ≡ is_there n ds)
+    → not_in (option_map key_of head) numbers ≡ missing_for head ds
+not_in_is None numbers ds is = refl
+not_in_is (Some head) numbers ds is = λ i. filter (λ n. not (is n i)) (range_with_len 1 head.number_of_files)
+
+-- the numbers from 1 that pass a test, up to the next one
+pub filter_range_more : (p : ℕ → Bool) (n : ℕ) → filter p (range_with_len 1 (n + 1)) ≡ filter p (range_with_len 1 n) ++ filter p ((n + 1) ∷ [])
+filter_range_more p n = simp map-id at (filter_of_map_range_with_len_more p (λ k. k) 1 n (n + 1) (omega arith))
+
+-- the state of a summary that is there has the sums of the usages that name it
+sums_found : (ss : List Summary) (us : List Usage) (id : List ℕ) → list_any (λ s. bytes_eq id s.id) ss ≡ true
+    → sums_or_zeros (found_in ss us id) ≡ record { usages = int_sum_by (λ u. u.usages) (naming id us); amount = int_sum_by (λ u. u.amount) (naming id us) }
+sums_found [] us id h = absurd (cc)
+sums_found (s ∷ ss) us id h =
+    let sum = λ (f : Usage → ℤ). zero-add (int_sum_by f (naming id us)) in
+    grind (arith, sum (λ u. u.usages), sum (λ u. u.amount), sums_found ss us id)
+
+-- each summary with its state
+differences_found : (place : ℕ) (m : Summaries) (us : List Usage) (done ss all : List Summary) → all ≡ done ++ ss
+    → ((id : List ℕ) → sums_at m id ≡ found_in all us id) → map (λ s. difference_to place (sums_or_zeros (sums_at m s.id)) s) ss ≡ map (difference place us) ss
+differences_found place m us done [] all split is = refl
+differences_found place m us done (s ∷ ss) all split is =
+    let p : Summary → Bool = λ t. bytes_eq s.id t.id in
+    let there : list_any p all ≡ true = grind (arith, ap (list_any p) split, list_any-append p done (s ∷ ss), text_itself s.id) in
+    let here = ap (λ o. difference_to place (sums_or_zeros o) s) (is s.id) ∙ ap (λ x. difference_to place x s) (sums_found all us s.id there) in
+    let rest = differences_found place m us (done ++ s ∷ []) ss all (split ∙ sym (append_assoc done (s ∷ []) ss)) is in
+    λ i. here i ∷ rest i
+
+filter_none : {X : Type 0} (xs : List X) → filter (λ x. false) xs ≡ []
+filter_none [] = refl
+filter_none (x ∷ xs) = filter_none xs
+
+both_or_none : {X : Type 0} (a b : Bool) (p : X → Bool) (xs : List X) → (if a && b then filter p xs else []) ≡ filter (λ x. a && (b && p x)) xs
+both_or_none true true p xs = refl
+both_or_none true false p xs = sym (filter_none xs)
+both_or_none false b p xs = sym (filter_none xs)
+
+pub differences_stand : (f : FileBooks) (d : Filed) → FileStands f d → differences_kept f ≡ differences_in d
+differences_stand f d s =
+    let ss = summaries_of d.file.opening in let us = usages_in d.file.blocks in
+    (λ i. if is_ours (s.standing i) && ended_whole (s.outcome i) then differences_to (s.place i) f.summaries (summaries_of (s.opening i)) else [])
+    ∙ ap (λ l. if is_ours d.standing && ended_whole d.file.outcome then filter differs l else [])
+    (differences_found d.place f.summaries us [] ss ss refl s.summaries)
+    ∙ both_or_none (is_ours d.standing) (ended_whole d.file.outcome) differs (map (difference d.place us) ss)
+
+-- closed books, as they were made of the states
+pub record Assembled (kept : Kept) (numbers : BTreeSet ℕ) (c : ClosedBooks) : Type 0 where
+  pub key : c.key ≡ option_map key_of (first_head (openings_of kept.files.items))
+  pub lines : c.files ≡ map line_kept kept.files.items
+  pub own : (n : ℕ) → contains nat_cmp numbers n ≡ list_any (is_number_kept n) kept.files.items
+  pub missing : c.missing ≡ not_in c.key numbers
+  pub differences : c.differences ≡ flat_map differences_kept kept.files.items
+  pub ledger : c.ledger ≡ kept.ledger
+  pub rejects : c.rejects ≡ flat_map (λ f. f.rejects.items) kept.files.items
+
+pub closed_is : (kept : Kept) (numbers : BTreeSet ℕ) (c : ClosedBooks) → Assembled kept numbers c → (files : List File) → Stands kept files → AreClosed c files
+unfolding missing differences rejects
+closed_is kept numbers c a files h =
+    let fs = kept.files.items in let key = a.key ∙ ap (λ os. option_map key_of (first_head os)) (openings_are 1 [] fs files h.each) in
+    let there : (n : ℕ) → contains nat_cmp numbers n ≡ is_there n (filed files) =
+    λ n. a.own n ∙ zip_folds FileStands (is_number_kept n) _ ◌||◌ (list_any (is_number_kept n)) (is_there n)
+    (λ f d s i. is_ours (s.standing i) && has_number n (s.opening i)) refl (λ _ _. refl) (λ _ _. refl) fs (filed files) h.each in
+    record {
+      key = key;
+      lines = a.lines ∙ zip_maps FileStands line_kept file_line (λ f d s.
+          let number = ap (option_map (λ o. o.head.file_number)) s.opening in
+          λ i. record { number = number i; standing = s.standing i; blocks = s.blocks i; outcome = outcome_of (s.outcome i) }) fs (filed files) h.each;
+      missing = a.missing ∙ ap (λ k. not_in k numbers) key ∙ not_in_is (report_head files) numbers (filed files) there;
+      differences = a.differences ∙ zip_folds FileStands differences_kept differences_in ◌++◌ (flat_map differences_kept) (flat_map differences_in)
+          differences_stand refl (λ _ _. refl) (λ _ _. refl) fs (filed files) h.each;
+      ledger = λ q. ap (λ l. tally_at l q) a.ledger ∙ h.ledger q;
+      rejects = a.rejects ∙ zip_folds FileStands (λ f. f.rejects.items) rejects_in ◌++◌ (flat_map (λ f. f.rejects.items)) (flat_map rejects_in)
+          (λ f d s. s.rejects) refl (λ _ _. refl) (λ _ _. refl) fs (filed files) h.each;
+    }

@@ -1,0 +1,44 @@
+-- The state of the books represents a list of files.
+use Rattle.std.specs.Prelude.{◌≡◌, ℕ, Option, List, length}
+use Rattle.std.specs.List.{list_any, AllZip}
+use Rattle.dsr_records.specs.meaning.Blocks.{BlockParts}
+use Rattle.dsr_events.specs.meaning.Openings.{OpeningParts}
+use Rattle.dsr_ledger.specs.meaning.Keys.{Key}
+use Rattle.dsr_ledger.specs.declared.ledger.recordings.Ledger.{Ledger}
+use Rattle.dsr_ledger.specs.declared.file.FileBooks.{FileBooks}
+use Rattle.dsr_ledger.specs.declared.verdict.Verdict.{Verdict}
+use Rattle.dsr_ledger.specs.meaning.Files.{File, Filed, filed_after, summaries_of, with_one}
+use Rattle.dsr_ledger.specs.meaning.Verdicts.{has_id, verdict_of}
+use Rattle.dsr_ledger.specs.meaning.Bookings.{Booking, verdict_bookings}
+use Rattle.dsr_ledger.specs.meaning.Findings.{usages_in, rejects_in}
+use Rattle.dsr_ledger.specs.inner.IdSteps.{is_in}
+use Rattle.dsr_ledger.specs.inner.Summaries.{sums_at, found_in}
+use Rattle.dsr_ledger.specs.inner.Tallies.{tally_plus, key_tally}
+use Rattle.dsr_ledger.specs.inner.Recordings.{tally_at}
+use Rattle.dsr_ledger.specs.inner.FileSteps.{IsBlockInRange}
+
+-- the state of a file represents it
+pub record FileStands (f : FileBooks) (d : Filed) : Type 0 where
+  pub place : f.place ≡ d.place
+  pub opening : f.opening ≡ d.file.opening
+  pub standing : f.standing ≡ d.standing
+  pub blocks : f.blocks ≡ length d.file.blocks
+  pub ids : (id : List ℕ) → is_in f.ids id ≡ list_any (has_id id) d.file.blocks
+  pub summaries : (id : List ℕ) → sums_at f.summaries id ≡ found_in (summaries_of d.file.opening) (usages_in d.file.blocks) id
+  pub rejects : f.rejects.items ≡ rejects_in d
+  pub outcome : f.outcome ≡ d.file.outcome
+
+-- each state represents its file, the first at this place, after files with the earlier openings
+abbrev pub FilesStand : ℕ → List (Option OpeningParts) → List FileBooks → List File → Type 0
+FilesStand place earlier fs files = AllZip FileStands fs (filed_after place earlier files)
+
+-- the ledger has for each key the tally of these bookings
+abbrev pub LedgerStands : Ledger → List Booking → Type 0
+LedgerStands ledger bs = (key : Key) → tally_at ledger key ≡ key_tally bs key
+
+-- a block in range was taken with this verdict: its file has one more block, and the ledger has its bookings added
+pub record Took (d : Filed) (b : BlockParts) (v : Verdict) (g : FileBooks) (old new : Ledger) : Type 0 where
+  pub is_verdict : v ≡ verdict_of d b
+  pub stands : FileStands g (with_one d b)
+  pub tallies : (key : Key) → tally_at new key ≡ tally_plus (tally_at old key) (key_tally (verdict_bookings (summaries_of d.file.opening) (b, v)) key)
+  pub range : IsBlockInRange b

@@ -1,0 +1,58 @@
+-- What the booked blocks add to the ledger: one booking for each usage.
+use Rattle.std.specs.Prelude.{ℕ, Option, None, Some, List, [], ◌∷◌, find, option_map}
+use Rattle.std.specs.List.{flat_map}
+use Rattle.std.specs.Str.{bytes_eq}
+use Rattle.dsr_records.specs.declared.record.Summary.{Summary}
+use Rattle.dsr_records.specs.declared.record.Usage.{Usage}
+use Rattle.dsr_records.specs.meaning.Works.{WorkParts}
+use Rattle.dsr_records.specs.meaning.Blocks.{BlockParts}
+use Rattle.dsr_ledger.specs.meaning.Keys.{Key}
+use Rattle.dsr_ledger.specs.declared.ledger.summary_key.SummaryKey.{SummaryKey}
+use Rattle.dsr_ledger.specs.declared.verdict.Verdict.{Verdict}
+use Rattle.dsr_ledger.specs.declared.verdict.Verdict.TheVariants.{Booked, Rejected}
+use Rattle.dsr_ledger.specs.meaning.Files.{File, Filed, filed, summaries_of}
+use Rattle.dsr_ledger.specs.meaning.Verdicts.{judged_in}
+
+-- the territory, use type and currency of a summary, under which its usages count
+abbrev pub summary_key_of : Summary → SummaryKey
+summary_key_of s = record { territory = s.territory; use_type = s.use_type; currency = s.currency }
+
+-- the key of a ledger line: an ISRC, with the territory, use type and currency of a summary
+abbrev pub key_under : List ℕ → SummaryKey → Key
+key_under isrc p = record { isrc = isrc; territory = p.territory; use_type = p.use_type; currency = p.currency }
+
+-- one booked usage, with the key that it counts under and the works of its block
+pub record Booking : Type 0 where
+  pub key : Key
+  pub usage : Usage
+  pub works : List WorkParts
+
+-- the summary key of the first summary with this identifier
+abbrev pub summary_key_named : List Summary → List ℕ → Option SummaryKey
+summary_key_named summaries id = option_map summary_key_of (find (λ s. bytes_eq id s.id) summaries)
+
+-- the booking of a usage whose summary has this key; none if it names no summary
+abbrev pub booked_under : List ℕ → List WorkParts → Usage → Option SummaryKey → List Booking
+booked_under isrc works u None = []
+booked_under isrc works u (Some p) = record { key = key_under isrc p; usage = u; works = works } ∷ []
+
+-- the bookings of a block's usages, in order, where `key_of` gives the summary key of an identifier
+abbrev pub usage_bookings : (List ℕ → Option SummaryKey) → List ℕ → List WorkParts → List Usage → List Booking
+usage_bookings key_of isrc works us = flat_map (λ u. booked_under isrc works u (key_of u.summary_id)) us
+
+-- the bookings of a block that is booked
+unfoldable pub block_bookings : List Summary → BlockParts → List Booking
+block_bookings summaries b = usage_bookings (summary_key_named summaries) b.resource.isrc b.works b.usages
+
+-- the bookings of a block with its verdict: none if it is rejected
+abbrev pub verdict_bookings : List Summary → BlockParts × Verdict → List Booking
+verdict_bookings summaries (b, Booked) = block_bookings summaries b
+verdict_bookings summaries (b, Rejected reason) = []
+
+-- the bookings of a file
+abbrev pub filed_bookings : Filed → List Booking
+filed_bookings d = flat_map (verdict_bookings (summaries_of d.file.opening)) (judged_in d)
+
+-- all bookings of the files
+abbrev pub bookings : List File → List Booking
+bookings files = flat_map filed_bookings (filed files)

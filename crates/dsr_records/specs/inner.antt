@@ -1,0 +1,7 @@
+-- The definitions that relate the fields and results of the code to those of `meaning`.
+pub mod Rows
+pub mod Checked
+pub mod Taken
+pub mod Marks
+pub mod Names
+pub mod Boxes
