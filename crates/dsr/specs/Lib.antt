@@ -1,4 +1,4 @@
--- the definitions to be trusted
+-- The definitions to be trusted
 pub mod CommandLine
 pub mod Inputs
 pub mod Faults

@@ -1,4 +1,4 @@
--- Definitions that relate the code to those of `meaning`.
+-- The definitions that relate the code to those of `meaning`.
 pub mod Fours
 pub mod Parts
 pub mod Kept

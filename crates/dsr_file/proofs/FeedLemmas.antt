@@ -14,7 +14,7 @@ use Rattle.dsr_file.specs.meaning.Texts.{text_events, so_far}
 use Rattle.dsr_file.specs.meaning.Runs.{FileText, IsSomeRun, IsRun, BeginsEvents, HasEvents}
 use Rattle.dsr_file.specs.inner.Standing.{Stands, IsDone}
 use Rattle.dsr_file.specs.inner.Feeding.{Fed, FedSome}
-use Rattle.dsr_file.specs.meaning.Closing.{event_at}
+use Rattle.dsr_file.specs.inner.Closing.{event_at}
 use Rattle.dsr_file.proofs.LawLemmas.{so_far_begins_lem}
 use Rattle.dsr_file.proofs.RunLemmas.{cut_off_run, cut_off_later}
 use Rattle.dsr_file.proofs.StandLemmas.{stands_joined}

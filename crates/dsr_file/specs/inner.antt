@@ -6,4 +6,5 @@ pub mod Cutting
 pub mod Allowance
 pub mod Standing
 pub mod ReaderSteps
+pub mod Closing
 pub mod Feeding

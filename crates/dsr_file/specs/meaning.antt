@@ -4,7 +4,6 @@ pub mod Readings
 pub mod Parts
 pub mod Faults
 pub mod Texts
-pub mod Closing
 pub mod Runs
 pub mod ReadCounts
 pub mod Sources

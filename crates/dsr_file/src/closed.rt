@@ -6,7 +6,7 @@ ghost use Rattle.dsr_records.specs.meaning.Blocks.{OpensBlock};
 ghost use Rattle.dsr_records.specs.meaning.Reads.{has_texts, kind_of_record};
 ghost use Rattle.dsr_file.specs.meaning.Runs.{IsSomeRun};
 ghost use Rattle.dsr_file.specs.inner.Counting.{block_count};
-ghost use Rattle.dsr_file.specs.meaning.Closing.{event_at};
+ghost use Rattle.dsr_file.specs.inner.Closing.{event_at};
 
 use crate::sink::Sink;
 use dsr_cells::NoMemory;
@@ -39,7 +39,7 @@ fn new_block(alloc: Global) -> Result<BoxedBlock, NoMemory> {
 impl Model for Closed {
     ghost use Rattle.std.specs.Prelude.{Option};
     ghost use Rattle.dsr_events.specs.declared.event.EventPart.{EventPart};
-    ghost use Rattle.dsr_file.specs.meaning.Closing.{part_closed, IsOne};
+    ghost use Rattle.dsr_file.specs.inner.Closing.{part_closed, IsOne};
 
     ghost Value = { Option EventPart };
 

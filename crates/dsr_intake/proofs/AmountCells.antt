@@ -6,7 +6,8 @@ use Rattle.std.proofs.Math.Seq.{take-append_seam}
 use Rattle.dsr_intake.specs.inner.Puts.{end_of_line}
 
 -- the first bytes of a text and one more byte: all, or all but the last
-front : (count : ℕ) (text : List ℕ) (is_last : Bool) → count ≡ length text + length (end_of_line is_last) → take count (text ++ 10 ∷ []) ≡ text ++ end_of_line is_last
+front : (count : ℕ) (text : List ℕ) (is_last : Bool) → count ≡ length text + length (end_of_line is_last)
+    → take count (text ++ 10 ∷ []) ≡ text ++ end_of_line is_last
 front count text true all = take_all count (text ++ 10 ∷ []) (omega (arith, all, length-append text (10 ∷ [])))
 front count text false all =
     let short : count ≡ length text = omega (arith, all) in

@@ -1,4 +1,4 @@
--- The names of definitions that the proofs cite, passed on from one place. Declares nothing.
+-- The names that several proof files cite, of definitions and of lemmas, passed on from one place. Declares nothing.
 pub use Rattle.std.proofs.Common.{Bool, Bor, Err, List, Ok, Result, T, [], ap, append-nil, append_assoc, arith, cond, decimal, drop, false, fold, get_or, inl, inr, length, length-append, map, map-id, nat_eq, not, of_z, refl, rules, set, subst, suc, sum, sym, take, to_z, true, true≢false, zero, ℕ, ⊎_elim, ◌&&◌, ◌*◌, ◌++◌, ◌+◌, ◌-◌, ◌<◌, ◌^◌, ◌||◌, ◌∙◌, ◌∷◌, ◌≡◌, ◌≢◌, ◌≤◌, ◌⊎◌}
 pub use Rattle.std.proofs.Math.Logic.{∥∥₁_elim, ∥∥₁_map}
 pub use Rattle.std.proofs.Math.Seq.{map-set_same, take-append_seam, take-length}

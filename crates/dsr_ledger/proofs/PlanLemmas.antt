@@ -45,5 +45,5 @@ step_of ledger summaries place isrc works us i u plan h at =
     }
 
 -- the state of a summary, with no more usages
-pub shown_none : (id : List ℕ) (o : Option SummaryState) → o ≡ option_map (state_with id []) o
-shown_none id o = grind (arith, ints)
+pub states_none : (id : List ℕ) (o : Option SummaryState) → o ≡ option_map (state_with id []) o
+states_none id o = grind (arith, ints)

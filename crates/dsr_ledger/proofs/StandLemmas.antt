@@ -1,13 +1,13 @@
 -- The state of a file represents it after a block too.
 use Rattle.dsr_ledger.proofs.Common.{◌≡◌, ℕ, List, [], ◌∷◌, ◌++◌, length, true, sym, ◌∙◌, ap, arith, Bool, cond, ◌+◌, length-append, option_map, find, is_some, bytes_eq, flat_map_more, list_any-append, Summary, summaries_of, Filed, standing, found_in, no_sums, state_at, sums_with, is_known, FileBooks, BlockParts, Ledger, Verdict, verdict_bookings, IsSameFile, TakesBlock, tally_at, FileStands, Took, Usage, has_id, is_summary, verdict_of, verdict_by, usages_in, rejects_from, rejects, is_in, tally_plus, key_tally}
 use Rattle.std.specs.Prelude.{position}
-use Rattle.dsr_ledger.proofs.StateLemmas.{sums_with-append, sums_after, known_shown, is_some-map}
+use Rattle.dsr_ledger.proofs.StateLemmas.{sums_with-append, sums_after, is_some_state, is_some-map}
 use Rattle.dsr_ledger.proofs.JudgedLemmas.{rejects_more}
 
 -- the summaries of the state are those of the file
 known_is : (f : FileBooks) (d : Filed) → FileStands f d → (id : List ℕ) → is_known f.summaries id ≡ is_summary (summaries_of d.file.opening) id
 known_is f d h id =
-    sym (known_shown f.summaries id) ∙ sym (is_some-map (λ s. s.sums) (state_at f.summaries id)) ∙ ap is_some (h.summaries id)
+    sym (is_some_state f.summaries id) ∙ sym (is_some-map (λ s. s.sums) (state_at f.summaries id)) ∙ ap is_some (h.summaries id)
     ∙ is_some-map _ (find (λ s. bytes_eq id s.id) (summaries_of d.file.opening))
 
 -- so the verdict is that of the file

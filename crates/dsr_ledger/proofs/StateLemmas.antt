@@ -8,8 +8,8 @@ is_some-map f None = refl
 is_some-map f (Some x) = refl
 
 -- each summary that has a number has a state
-pub known_shown : (summaries : Summaries) (id : List ℕ) → is_some (state_at summaries id) ≡ is_known summaries id
-known_shown summaries id = sym (some_index (bytes_eq id) summaries.states.entries)
+pub is_some_state : (summaries : Summaries) (id : List ℕ) → is_some (state_at summaries id) ≡ is_known summaries id
+is_some_state summaries id = sym (some_index (bytes_eq id) summaries.states.entries)
 
 -- after a usage was added to the summary that it names, and to no other
 pub counted : (id : List ℕ) (u : Usage) (s : Option SummaryState) → cond (bytes_eq u.summary_id id) (option_map (state_plus u) s) s
@@ -34,7 +34,7 @@ pub uncounted : (summaries : Summaries) (u : Usage) → index_at summaries u.sum
 uncounted summaries u absent id =
     let o = state_at summaries id in
     cond_both (bytes_eq u.summary_id id) (option_map (state_plus u) o) o (λ x. o ≡ x) (λ e.
-    let none = ap (state_at summaries) (sym (same_text u.summary_id id e)) ∙ not_there _ (known_shown summaries u.summary_id ∙ ap is_some absent) in
+    let none = ap (state_at summaries) (sym (same_text u.summary_id id e)) ∙ not_there _ (is_some_state summaries u.summary_id ∙ ap is_some absent) in
     none ∙ sym (ap (option_map (state_plus u)) none)) (λ _. refl)
     ∙ counted id u o
 
@@ -48,9 +48,9 @@ sums_with-append id us vs s = λ i. record { usages = more (λ u. u.usages) s.us
         ∙ int_sum_by-append f (naming id us) (naming id vs)))
 
 -- after one more usage
-pub shown_more : (id : List ℕ) (us : List Usage) (u : Usage) (o p q : Option SummaryState) → p ≡ option_map (state_with id us) o
+pub states_more : (id : List ℕ) (us : List Usage) (u : Usage) (o p q : Option SummaryState) → p ≡ option_map (state_with id us) o
     → q ≡ option_map (state_with id (u ∷ [])) p → q ≡ option_map (state_with id (us ++ u ∷ [])) o
-shown_more id us u o p q was is = is ∙ ap (option_map (state_with id (u ∷ []))) was ∙ both o
+states_more id us u o p q was is = is ∙ ap (option_map (state_with id (u ∷ []))) was ∙ both o
   where
     both : (o : Option SummaryState) → option_map (state_with id (u ∷ [])) (option_map (state_with id us) o) ≡ option_map (state_with id (us ++ u ∷ [])) o
     both None = refl
@@ -65,10 +65,10 @@ sums_fit_after id us s n m room small h =
     let a = abs-int_sum_by (λ (x : Usage). x.amount) (10 ^ 22) own (each_weaker IsInRange _ (λ x r. let y = r.amount in omega arith) own kept) in
     record { usages = omega (arith, ints, h.usages); amount = omega (arith, ints, h.amount) }
 
-pub shown_fits_at : (o : Option SummaryState) (id : List ℕ) (us : List Usage) (n m : ℕ) → length us + m ≤ n → AllByRecursion IsInRange us
+pub states_fit_at : (o : Option SummaryState) (id : List ℕ) (us : List Usage) (n m : ℕ) → length us + m ≤ n → AllByRecursion IsInRange us
     → ForSome o (StateFits n) → ForSome (option_map (state_with id us) o) (StateFits m)
-shown_fits_at None id us n m room small h = λ x e. absurd (cc)
-shown_fits_at (Some s) id us n m room small h = λ x e.
+states_fit_at None id us n m room small h = λ x e. absurd (cc)
+states_fit_at (Some s) id us n m room small h = λ x e.
     let is : state_with id us s ≡ x = cc in
     subst (StateFits m) is (sums_fit_after id us s.sums n m room small (h s refl))
 

@@ -17,8 +17,7 @@
 //!    maps with seeded hashers (`seeded`). A recording owns its seats and lines (`ledger/recording`,
 //!    `seats`, `line`), a line its sums and parts (`sums`, `parts`), whose numbers are `wide`. A long
 //!    list whose numbers do not rise has an index of them (`ledger/index`); in a short one, `hints`
-//!    have the probable places of lines and summaries. `key` is the key of a ledger line, which only
-//!    specs use.
+//!    have the probable places of lines and summaries.
 //! 5. `assemble` closes the books (`closed`): it makes the parts of the `report` that say how the files
 //!    did (`file_lines`, `missing`, `differences`, `rejects`). Closed books give the lines of the
 //!    ledger one after another (`assemble/ledger`) to whoever takes them (`taking`), in the order of

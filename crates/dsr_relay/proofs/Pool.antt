@@ -34,4 +34,5 @@ takes_one p zero none well queued filling = (
 takes_one p (suc n) some well queued filling = (reuse, record p { filling = 1; back = p.back - 1 }, (filling, omega arith, refl), refl)
 
 pub never_lacks_memory : NeverLacksMemory
-never_lacks_memory first p turns fresh passes queued filling = takes_one p p.back refl (passes_well first p turns passes (untouched_well first fresh)) queued filling
+never_lacks_memory first p turns fresh passes queued filling = takes_one p p.back refl (passes_well first p turns passes (untouched_well first fresh))
+    queued filling

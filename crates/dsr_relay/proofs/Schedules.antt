@@ -194,4 +194,5 @@ delivered first lanes steps fresh h no_more =
     all_taken l g true is stuck =
         let whole : l.source ≡ l.taken ++ (events_of l.queue ++ g.of_source.0) =
         g.of_source.1 ∙ ap (λ s. s ++ g.of_source.0) (sym g.in_order) ∙ append_assoc l.taken (events_of l.queue) g.of_source.0 in
-        sym (whole ∙ ap (λ r. l.taken ++ r) (ended_whole l.taken (events_of l.queue ++ g.of_source.0) (subst IsOrderly whole g.orderly) is) ∙ append_nil l.taken)
+        sym (whole
+        ∙ ap (λ r. l.taken ++ r) (ended_whole l.taken (events_of l.queue ++ g.of_source.0) (subst IsOrderly whole g.orderly) is) ∙ append_nil l.taken)

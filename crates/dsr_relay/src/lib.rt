@@ -32,8 +32,8 @@
 //! the channel, are those that the feed sent. No clause says that a thread runs, or that a call which waits returns.
 //! [`laws`] has the laws of the relays of all files together, and that of the memory of one relay.
 //!
-//! **Where to begin.** `specs/meaning/Views.antt` has the ends as contracts see them, and `specs/meaning/Rule.antt` the rule; then read
-//! `feed`, `tap` and `open`.
+//! **Where to begin.** `specs/meaning/Views.antt` has the ends as contracts see them, and
+//! `specs/meaning/Rule.antt` the rule; then read `feed`, `tap` and `open`.
 #![tactic(auto)]
 
 mod batch;

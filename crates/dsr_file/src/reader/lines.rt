@@ -3,7 +3,7 @@ ghost use Rattle.std.specs.Prelude.{◌≡◌, ◌++◌, [], ◌+◌, ◌<◌, �
 ghost use Rattle.std.specs.Option.{option_to_list};
 ghost use Rattle.dsr_records.specs.meaning.Records.{LayoutTable};
 ghost use Rattle.dsr_events.specs.meaning.Placed.{Placed};
-ghost use Rattle.dsr_file.specs.meaning.Closing.{event_at};
+ghost use Rattle.dsr_file.specs.inner.Closing.{event_at};
 
 use crate::closed::Closed;
 use crate::cutter::Cut;

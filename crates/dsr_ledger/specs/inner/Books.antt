@@ -14,7 +14,7 @@ pub record Stands (kept : Kept) (files : List File) : Type 0 where
   pub each : FilesStand 1 [] kept.files.items files
   pub ledger : LedgerStands kept.ledger (bookings files)
 
--- a file has at most so many blocks, each in range
+-- a file has at most `most_blocks` blocks, each in range
 pub record IsSmallFile (file : File) : Type 0 where
   pub few : length file.blocks ≤ most_blocks
   pub range : AllByRecursion IsBlockInRange file.blocks

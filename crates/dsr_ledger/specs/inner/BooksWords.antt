@@ -30,7 +30,7 @@ ended_at books k = option_map_or (λ f. is_some f.outcome) (slice_get books.kept
 abbrev pub blocks_at : Books → ℕ → ℕ
 blocks_at books k = option_map_or (λ f. f.blocks) (slice_get books.kept.files.items k) 0
 
--- file k can take a block: it has an opening, has not ended, and has fewer than the most blocks
+-- file k can take a block: it has an opening, has not ended, and has fewer than `most_blocks` blocks
 pub record CanBook (books : Books) (k : ℕ) : Type 0 where
   pub opening : has_opening_at books k ≡ true
   pub going : ended_at books k ≡ false

@@ -14,6 +14,6 @@ pub record IsLined (ledger : Ledger) (isrc : List ℕ) (shares : List SeatShare)
   pub line_is : line_at ledger isrc summary_key ≡ Some i
   pub wide : IsWideAt ledger isrc shares i
 
--- the line of each usage, where `key` gives the summary key of an identifier
+-- the line of each usage, where `key_of` gives the summary key of an identifier
 abbrev pub AreLined : Ledger → (List ℕ → Option SummaryKey) → List ℕ → List SeatShare → List Usage → List ℕ → Type 0
-AreLined ledger key isrc shares us is = AllZip (λ u i. IsLined ledger isrc shares (key u.summary_id) i) us is
+AreLined ledger key_of isrc shares us is = AllZip (λ u i. IsLined ledger isrc shares (key_of u.summary_id) i) us is

@@ -35,7 +35,7 @@ abbrev pub number_at : Summaries → List ℕ → Option ℕ
 number_at summaries id = option_map (λ s. s.key) (state_at summaries id)
 
 -- each summary has the number of its key, where `key_of` gives the summary key of an identifier; an identifier has a
--- summary if it has a key
+-- summary exactly if it has a key
 abbrev pub AreNumbered : Ledger → (List ℕ → Option SummaryKey) → Summaries → Type 0
 AreNumbered ledger key_of summaries =
     (id : List ℕ) → option_map (key_number ledger) (key_of id) ≡ option_map Some (number_at summaries id)

@@ -17,6 +17,6 @@ most_usages = 63
 abbrev pub whole_share : ℕ
 whole_share = 1000000
 
--- the amount of a usage is below this, in units, either way
+-- the amount of a usage, in units, is below this in absolute value
 abbrev pub amount_bound : ℕ
 amount_bound = 10 ^ 22

@@ -31,7 +31,7 @@ fn add_usage(ledger: &mut Ledger, summaries: &mut Summaries, plan: &Plan, i: usi
     ensures range { IsInRange usage.now }
     ensures numbers { SameNumbers ledger.old ledger.new }
     ensures index { (id : List ℕ) → index_at summaries.new id ≡ index_at summaries.old id }
-    ensures shown { (id : List ℕ) → state_at summaries.new id ≡ option_map
+    ensures states { (id : List ℕ) → state_at summaries.new id ≡ option_map
         (state_with id (usage.now ∷ [])) (state_at summaries.old id) }
     ensures tallies { (isrc : List ℕ) (works : List WorkParts) (us : List Usage)
         (key_of : List ℕ → Option SummaryKey)
@@ -57,7 +57,7 @@ pub fn add_usages(ledger: &mut Ledger, summaries: &mut Summaries, plan: &Plan, u
         → ForSome (state_at summaries.old id) (StateFits (length usages.now)) }
     ensures range { AllByRecursion IsInRange usages.now }
     ensures keys { ledger.new.summary_keys ≡ ledger.old.summary_keys }
-    ensures shown { (id : List ℕ) → state_at summaries.new id ≡ option_map
+    ensures states { (id : List ℕ) → state_at summaries.new id ≡ option_map
         (state_with id usages.now) (state_at summaries.old id) }
     ensures tallies { (isrc : List ℕ) (works : List WorkParts) (key_of : List ℕ → Option SummaryKey)
         → IsPlanned ledger.old summaries.old key_of isrc works usages.now plan.now

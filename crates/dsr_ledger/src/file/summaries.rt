@@ -36,7 +36,7 @@ impl SummaryState {
     /// Adds a usage that names the summary.
     fn count(&mut self, usage: &Usage)
         requires { SumsFit 1 self.old.sums }
-        ensures shown { self.new ≡ state_plus usage.now self.old }
+        ensures states { self.new ≡ state_plus usage.now self.old }
         ensures range { IsInRange usage.now }
     {
         self.sums.add(usage);
@@ -172,7 +172,7 @@ impl Summaries {
         requires fits { ForSome (state_at self.old usage.now.summary_id) (StateFits 1) }
         ensures range { IsInRange usage.now }
         ensures index { (q : List ℕ) → index_at self.new q ≡ index_at self.old q }
-        ensures shown { (q : List ℕ) → state_at self.new q ≡ option_map
+        ensures states { (q : List ℕ) → state_at self.new q ≡ option_map
             (state_with q (usage.now ∷ [])) (state_at self.old q) }
     {
         let (_, state) = self.states.pair_mut(number);

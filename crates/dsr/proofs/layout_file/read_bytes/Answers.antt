@@ -1,4 +1,4 @@
-use Rattle.std.proofs.Common.{◌≤◌, ◌++◌, arith, length, take, length-append, length-take}
+use Rattle.std.proofs.Common.{◌≤◌, ◌++◌, arith, length, take, length-append, length-take, rules}
 use Rattle.dsr_file.proofs.ReadLemmas.{consumes_more}
 use Rattle.dsr.proofs.layout_file.read_bytes.Goals as goal
 
@@ -13,3 +13,6 @@ returns-then-is_err-clause-refused g c =
     let most : length (kept ++ piece) ≤ 65537 =
     simp length-append (omega (arith, more, c.min-room.ensures, c.len-in-loop-piece.ensures, c.len.ensures, c.loop-piece-test.true)) in
     (kept ++ piece, consumes_more _ _ _ kept piece c.loop-piece.invariant.consumed c.in-Ok.ensures.bytes.0, most)
+
+pub returns-in_default-clause-taken : goal.returns-in_default-clause-taken
+returns-in_default-clause-taken g c = search rules

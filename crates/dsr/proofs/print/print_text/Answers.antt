@@ -1,4 +1,4 @@
-use Rattle.std.proofs.Common.{◌≡◌, ◌-◌, length, take, drop, subst, arith, length-drop}
+use Rattle.std.proofs.Common.{◌≡◌, ◌-◌, length, take, drop, subst, arith, length-drop, rules}
 use Rattle.std.proofs.lemmas.List.{take_all}
 use Rattle.std.proofs.Math.Seq.{take-add}
 use Rattle.std.proofs.KnownBytes.{Appends-trans}
@@ -20,3 +20,9 @@ loop-written-preserved g c =
       appended = rw (take-add w c.in-Ok.count bs) (Appends-trans a b d (take w bs) (take c.in-Ok.count (drop w bs)) was.appended
           (subst (λ l. Appends b d (take c.in-Ok.count l)) whole c.in-Ok.ensures.bytes));
     }
+
+pub returns-in_default-clause-whole : goal.returns-in_default-clause-whole
+returns-in_default-clause-whole g c = search rules
+
+pub returns-in_default-2-clause-whole : goal.returns-in_default-2-clause-whole
+returns-in_default-2-clause-whole g c = search rules

@@ -1,6 +1,6 @@
 use Rattle.std.proofs.Common.{◌≡◌, ◌∙◌, ◌++◌, ap, sym, subst, arith, length-drop}
 use Rattle.std.specs.Option.{option_to_list}
-use Rattle.dsr_file.specs.meaning.Closing.{event_at}
+use Rattle.dsr_file.specs.inner.Closing.{event_at}
 use Rattle.dsr_file.specs.inner.Feeding.{Fed}
 use Rattle.dsr_file.proofs.ClosedLemmas.{not_some, if_some_more}
 use Rattle.dsr_file.proofs.FeedLemmas.{prefix_part, part_run, fed_more, fed_all, fed_some}
@@ -44,7 +44,8 @@ put_into-requires-clause-run g c =
     let kept = c.exchange_into.ensures.kept c.if-exchange_into.false in
     rw (kept.0, kept.1)
     (part_run k.0 c.take_part-used.new.self _ (g.S.Sink.list c.loop-sink.sink) c.loop-sink.file.place c.place-place.result
-    c.take_part-used.new.part c.place-place.ensures.place c.take_part-used.ensures.begins (c.take_part-used.ensures.stands k.0 _ _ (c.loop-sink.invariant.stands k.0 k.1 k.2)))
+    c.take_part-used.new.part c.place-place.ensures.place c.take_part-used.ensures.begins
+    (c.take_part-used.ensures.stands k.0 _ _ (c.loop-sink.invariant.stands k.0 k.1 k.2)))
 
 pub loop-sink-preserved : goal.loop-sink-preserved
 loop-sink-preserved g c =

@@ -9,4 +9,5 @@ returns-then-front_of-front c same =
     let text : c.args.text.now ≡ c.in-Ok.bytes = sym c.as_bytes.ensures.value ∙ sym whole.same in
     let fronts = sym c.front_of.ensures.value ∙ c.if-front_of-front.true ∙ c.front.ensures.value in
     let backs = sym c.back_of.ensures ∙ eqb-true c.back_of.result c.back.result same ∙ c.back.ensures in
-    text ∙ same_by_numbers 8 c.in-Ok.bytes c.args.self.now (ap length whole.same ∙ whole.long ∙ sym c.front.ensures.twelve) c.front_of.ensures.bytes c.front.ensures.bytes fronts backs
+    text ∙ same_by_numbers 8 c.in-Ok.bytes c.args.self.now (ap length whole.same ∙ whole.long ∙ sym c.front.ensures.twelve)
+    c.front_of.ensures.bytes c.front.ensures.bytes fronts backs

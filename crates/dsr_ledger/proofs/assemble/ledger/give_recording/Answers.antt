@@ -66,7 +66,8 @@ loop-entry-preserved g c =
             | then-entry w ↦
                 let own = subst (λ ns. line_tally (place_by (party_in ps) ns) l ≡ tally_of (at_key key bs)) (sym c.as_slice-numbers.ensures.value) tally in
                 line_added bs name items i e c.loop-entry-test.true c.entry-item.is took old c.loop-entry.taker c.if-entry.taker so_far
-                (subst (λ t. Takes took c.loop-entry.taker t (line_of key (at_key key bs) ∷ [])) (sym w.taker-is) (w.give_line.ensures.line (at_key key bs) own))
+                (subst (λ t. Takes took c.loop-entry.taker t (line_of key (at_key key bs) ∷ [])) (sym w.taker-is)
+                (w.give_line.ensures.line (at_key key bs) own))
                 (sym (ap (λ t. t.is_booked) tally) ∙ w.if-entry.true)
             | else-entry w ↦ line_passed bs name items i e c.loop-entry-test.true c.entry-item.is took old c.loop-entry.taker c.if-entry.taker so_far
                 w.taker-is (sym (ap (λ t. t.is_booked) tally) ∙ w.if-entry.false)

@@ -1,8 +1,8 @@
 use Rattle.dsr_ledger.proofs.Common.{◌≡◌, ◌+◌, [], ◌∷◌, ◌++◌, take, length, refl, sym, ap, ◌∙◌, subst, arith, option_map, Some, slice_get, AllByRecursion, take_more, length-take, slice_get_read, usage_bookings, IsSmall, IsInRange, tally_at, state_at, state_with, tally_plus, key_tally, TallyFits}
 use Rattle.dsr_ledger.proofs.EachLemmas.{each_append}
 use Rattle.dsr_ledger.proofs.KeepsLemmas.{numbers_stay, numbers_twice, planned_stays}
-use Rattle.dsr_ledger.proofs.PlanLemmas.{shown_none}
-use Rattle.dsr_ledger.proofs.StateLemmas.{shown_more, shown_fits_at}
+use Rattle.dsr_ledger.proofs.PlanLemmas.{states_none}
+use Rattle.dsr_ledger.proofs.StateLemmas.{states_more, states_fit_at}
 use Rattle.dsr_ledger.proofs.TallyLemmas.{tally_more, tally_plus-none, tally_fits_after}
 use Rattle.dsr_ledger.proofs.SmallLemmas.{each_small, each_usage}
 use Rattle.dsr_ledger.proofs.booking.apply.add_usages.Goals as goal
@@ -26,7 +26,7 @@ add_usage-requires-clause-ledger_fits c q =
 pub add_usage-requires-clause-summaries_fit : goal.add_usage-requires-clause-summaries_fit
 add_usage-requires-clause-summaries_fit c id =
     let i = c.loop-i.i in let us = take i c.args.usages.now in let below = c.loop-i-test.true in
-    rw (c.loop-i.invariant.shown id) (shown_fits_at (state_at c.args.summaries.now id) id us (length c.args.usages.now) 1
+    rw (c.loop-i.invariant.states id) (states_fit_at (state_at c.args.summaries.now id) id us (length c.args.usages.now) 1
     (omega (arith, length-take i c.args.usages.now)) c.loop-i.invariant.range (c.requires.summaries_fit id))
 
 pub loop-i-init : goal.loop-i-init
@@ -34,7 +34,7 @@ loop-i-init c = record {
   range = tt;
   numbers = numbers_stay c.args.ledger.now;
   index = λ id. refl;
-  shown = λ id. shown_none id (state_at c.args.summaries.now id);
+  states = λ id. states_none id (state_at c.args.summaries.now id);
   tallies = λ isrc works place h q. tally_plus-none (tally_at c.args.ledger.now q);
 }
 
@@ -48,9 +48,9 @@ loop-i-preserved c =
       range = subst (AllByRecursion IsInRange) (sym more) (each_append IsInRange us (u ∷ []) before.range (step.range, tt));
       numbers = numbers_twice c.args.ledger.now c.loop-i.ledger c.add_usage.new.ledger before.numbers step.numbers;
       index = λ id. step.index id ∙ before.index id;
-      shown = λ id.
-          shown_more id us u (state_at c.args.summaries.now id) (state_at c.loop-i.summaries id) (state_at c.add_usage.new.summaries id) (before.shown id)
-          (step.shown id) ∙ ap (λ l. option_map (state_with id l) (state_at c.args.summaries.now id)) (sym more);
+      states = λ id.
+          states_more id us u (state_at c.args.summaries.now id) (state_at c.loop-i.summaries id) (state_at c.add_usage.new.summaries id) (before.states id)
+          (step.states id) ∙ ap (λ l. option_map (state_with id l) (state_at c.args.summaries.now id)) (sym more);
       tallies = λ isrc works place h q.
           let planned =
           planned_stays c.args.ledger.now c.loop-i.ledger c.args.summaries.now c.loop-i.summaries place isrc works all c.args.plan.now before.numbers

@@ -1,4 +1,4 @@
-use Rattle.std.proofs.Common.{sym, ◌∙◌, ap, drop}
+use Rattle.std.proofs.Common.{sym, ◌∙◌, ap, drop, rules}
 use Rattle.dsr_cells.specs.meaning.Cells.{cells}
 use Rattle.dsr_records.specs.inner.Rows.{cells_left}
 use Rattle.dsr_records.proofs.LineChecks.{found}
@@ -12,3 +12,6 @@ returns-in-Some c =
     found c.args.layout.now c.args.line.now c.first_cell.result.0.now c.in-Some.role.now (cells_left c.first_cell.result.1) c.take.new.self
     (sym c.has_many_cells.ensures ∙ c.if-has_many_cells.false) (ap (λ text. cells text.now) (sym c.of-whole.ensures) ∙ c.first_cell.ensures)
     c.in-Some.ensures c.take.ensures
+
+pub returns-else-skips : goal.returns-else-skips
+returns-else-skips c = search rules

@@ -1,4 +1,5 @@
 use Rattle.std.proofs.Common.{◌≡◌, ◌+◌, [], ◌∷◌, ◌++◌, length, sym, ap, ◌∙◌, subst, arith, append_assoc, length-append}
+use Rattle.std.proofs.lemmas.Grind.{common_steps}
 use Rattle.crossbeam_channel.specs.Claims.{view}
 use Rattle.dsr_events.specs.meaning.Placed.{Placed}
 use Rattle.dsr_events.specs.meaning.Orderly.{IsOrderly}
@@ -72,3 +73,9 @@ returns-in_default-clause-sent g c =
       batch = batch i;
     } in
     next ∙ ap (λ (v : FeedView). record v { sent = v.sent ++ e ∷ []; batch = batch_after v.batch e }) c.self.view_is
+
+pub invariant_of-self-2 : goal.invariant_of-self-2
+invariant_of-self-2 g c = grind (arith, common_steps)
+
+pub returns-clause-refused : goal.returns-clause-refused
+returns-clause-refused g c = grind (arith, common_steps)

@@ -1,4 +1,4 @@
-use Rattle.std.proofs.Common.{◌≡◌, ◌+◌, ◌≤◌, [], ◌∷◌, ◌++◌, length, sym, ap, ◌∙◌, subst, arith, append_assoc, length-append}
+use Rattle.std.proofs.Common.{◌≡◌, ◌+◌, ◌≤◌, [], ◌∷◌, ◌++◌, length, sym, ap, ◌∙◌, subst, arith, append_assoc, length-append, rules}
 use Rattle.crossbeam_channel.specs.Claims.{view}
 use Rattle.dsr_events.specs.meaning.Placed.{block_event}
 use Rattle.dsr_events.specs.meaning.Orderly.{IsOrderly}
@@ -67,3 +67,12 @@ returns-in_default-clause-sent g c = λ _.
       batch = batch i;
     } in
     next ∙ ap (λ (v : FeedView). record v { sent = v.sent ++ e ∷ []; batch = batch_after v.batch e }) c.self.view_is
+
+pub invariant_of-self : goal.invariant_of-self
+invariant_of-self g c = search rules
+
+pub returns-then-not-put_block-clause-kept : goal.returns-then-not-put_block-clause-kept
+returns-then-not-put_block-clause-kept g c = search rules
+
+pub returns-clause-kept : goal.returns-clause-kept
+returns-clause-kept g c = search rules

@@ -16,8 +16,8 @@ invariant_of-self-2 g c =
     let none = ap (λ (v : TapView). v.held) c.self.view_is ∙ c.requires.none_held in
     let last = sym c.events.ensures ∙ c.in-Some.ensures.cases.0 in
     let next =
-    lot_next (view t.pass) (view c.take_next.new.pass) c.in_ok-batch.batch t.count t.held _ _ _ c.last.view_is c.in_ok-batch.ensures.taken c.self.invariant.whole
-    none last c.in_ok-batch.ensures.orderly.0 in
+    lot_next (view t.pass) (view c.take_next.new.pass) c.in_ok-batch.batch t.count t.held _ _ _ c.last.view_is c.in_ok-batch.ensures.taken
+    c.self.invariant.whole none last c.in_ok-batch.ensures.orderly.0 in
     record {
       seat = c.in_ok-batch.ensures.seat;
       knows = takes_again _ _ c.in_ok-batch.ensures.taken;
@@ -34,8 +34,8 @@ returns-clause-taken g c =
     let none = ap (λ (v : TapView). v.held) c.self.view_is ∙ c.requires.none_held in
     let last = sym c.events.ensures ∙ c.in-Some.ensures.cases.0 in
     let next =
-    lot_next (view t.pass) (view c.take_next.new.pass) c.in_ok-batch.batch t.count t.held _ _ _ c.last.view_is c.in_ok-batch.ensures.taken c.self.invariant.whole
-    none last c.in_ok-batch.ensures.orderly.0 in
+    lot_next (view t.pass) (view c.take_next.new.pass) c.in_ok-batch.batch t.count t.held _ _ _ c.last.view_is c.in_ok-batch.ensures.taken
+    c.self.invariant.whole none last c.in_ok-batch.ensures.orderly.0 in
     let seat = c.in_ok-batch.ensures.seat in
     let was = c.self.invariant.seat in
     let front = next.front in
@@ -59,5 +59,5 @@ returns-clause-orderly g c =
     let t = c.self.inside in
     let none = ap (λ (v : TapView). v.held) c.self.view_is ∙ c.requires.none_held in
     let last = sym c.events.ensures ∙ c.in-Some.ensures.cases.0 in
-    (lot_next (view t.pass) (view c.take_next.new.pass) c.in_ok-batch.batch t.count t.held _ _ _ c.last.view_is c.in_ok-batch.ensures.taken c.self.invariant.whole none
-    last c.in_ok-batch.ensures.orderly.0).orderly
+    (lot_next (view t.pass) (view c.take_next.new.pass) c.in_ok-batch.batch t.count t.held _ _ _ c.last.view_is c.in_ok-batch.ensures.taken
+    c.self.invariant.whole none last c.in_ok-batch.ensures.orderly.0).orderly

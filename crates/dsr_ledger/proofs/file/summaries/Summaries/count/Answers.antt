@@ -13,10 +13,10 @@ count-requires c =
 pub returns-clause-index : goal.returns-clause-index
 returns-clause-index c = λ q. ap (position (bytes_eq q)) (keys-with_value_at c.args.self.now.states c.args.number c.count.new.self)
 
-pub returns-clause-shown : goal.returns-clause-shown
-returns-clause-shown c = λ q.
+pub returns-clause-states : goal.returns-clause-states
+returns-clause-states c = λ q.
     let m = c.args.self.now.states in let e = c.pair_mut-state.ensures in let v = c.pair_mut-state.result.1.now in let u = c.args.usage.now in
     let s = state_at c.args.self.now q in
-    changed bytes_eq bytes_eq-Decides nat_list_eq_equiv m c.args.number _ v e.unique e.value (state_plus u) c.count.new.self c.count.ensures.shown q
+    changed bytes_eq bytes_eq-Decides nat_list_eq_equiv m c.args.number _ v e.unique e.value (state_plus u) c.count.new.self c.count.ensures.states q
     ∙ ap (λ k. cond (bytes_eq k q) (option_map (state_plus u) s) s) (key_is bytes_eq bytes_eq-Decides m c.args.number _ v e.value u.summary_id c.requires.there)
     ∙ counted q u s
