@@ -9,7 +9,9 @@ use Rattle.std.proofs.lemmas.Map.Text.{is_eq-slice_cmp}
 use Rattle.std.proofs.lemmas.Slice.Eq.{bytes_eq-Decides}
 use Rattle.std.proofs.lemmas.Nat.{mul-add-lt}
 use Rattle.std.proofs.Math.Nat.{pow-suc}
-use Rattle.dsr_cells.specs.inner.Order.{number_of_bytes, AreBytes}
+use Rattle.dsr_texts.specs.inner.Bytes.{AreBytes}
+use Rattle.dsr_texts.proofs.Bytes.{small_front, small_back}
+use Rattle.dsr_cells.specs.inner.Order.{number_of_bytes}
 
 below : (bytes : List ℕ) → AreBytes bytes → number_of_bytes bytes < 256 ^ length bytes
 below [] small = omega arith
@@ -62,17 +64,6 @@ cut (suc n) [] [] l = refl
 cut (suc n) [] (y ∷ ys) l = absurd (omega arith)
 cut (suc n) (x ∷ xs) [] l = absurd (omega arith)
 cut (suc n) (x ∷ xs) (y ∷ ys) l = ap (ordering_then (nat_cmp x y)) (cut n xs ys (omega arith)) ∙ then_assoc (nat_cmp x y) _ _
-
-pub small_front : (n : ℕ) (xs : List ℕ) → AreBytes xs → AreBytes (take n xs)
-small_front zero xs small i = omega arith
-small_front (suc n) [] small i = small i
-small_front (suc n) (x ∷ xs) small zero = small 0
-small_front (suc n) (x ∷ xs) small (suc i) = small_front n xs (λ j. small (suc j)) i
-
-pub small_back : (n : ℕ) (xs : List ℕ) → AreBytes xs → AreBytes (drop n xs)
-small_back zero xs small = small
-small_back (suc n) [] small = small
-small_back (suc n) (x ∷ xs) small = small_back n xs (λ j. small (suc j))
 
 same_fronts : (n : ℕ) (xs ys : List ℕ) → length xs ≡ length ys → length (take n xs) ≡ length (take n ys)
 same_fronts zero xs ys l = refl

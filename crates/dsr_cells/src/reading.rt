@@ -6,7 +6,7 @@ ghost use Rattle.dsr_cells.specs.meaning.Values.{parts_after, raw_parts, value_o
 use crate::cells::values;
 use crate::escape::unescape;
 use crate::parts::{first_part, plain_part};
-use crate::text::{NoMemory, Text, Texts};
+use dsr_texts::{NoMemory, Text, Texts};
 use std::alloc::Global;
 
 /// The number of values of a list cell.

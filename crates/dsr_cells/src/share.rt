@@ -2,8 +2,8 @@
 ghost use Rattle.std.specs.Prelude.{◌≡◌, ◌≤◌};
 ghost use Rattle.dsr_cells.specs.meaning.Numbers.{share_of};
 
-use crate::inline_items::InlineItems;
 use crate::number::read_decimal;
+use dsr_texts::InlineItems;
 use std::marker::Model;
 
 /// A party's share of a work, from 0 to 100 percent.

@@ -8,8 +8,8 @@ use Rattle.std.proofs.lemmas.Bool.Decides.{Decides-eqb}
 use Rattle.std.proofs.lemmas.List.{drop-drop, take-append-drop, length-take, length-drop, take_all}
 use Rattle.std.proofs.lemmas.Nat.{le_bytes_4, le_bytes_8}
 use Rattle.std.proofs.lemmas.Slice.Eq.{bytes_eq-Decides}
-use Rattle.dsr_cells.specs.inner.Order.{AreBytes}
-use Rattle.dsr_cells.proofs.Ordered.{small_front, small_back}
+use Rattle.dsr_texts.specs.inner.Bytes.{AreBytes}
+use Rattle.dsr_texts.proofs.Bytes.{small_front, small_back}
 
 -- a number that is read from `half` bytes, and from which they can be told again
 abbrev IsInjective : ℕ → (List ℕ → ℕ) → Type 0

@@ -3,3 +3,4 @@ mod cells;
 mod events;
 mod file;
 mod records;
+mod texts;

@@ -4,7 +4,7 @@ use Rattle.std.specs.Int.{from_le_bytes}
 use Rattle.std.specs.Str.{bytes_eq}
 use Rattle.std.proofs.lemmas.Nat.{le_bytes_4}
 use Rattle.std.proofs.lemmas.Slice.Eq.{bytes_eq-Decides}
-use Rattle.dsr_cells.specs.inner.Order.{AreBytes}
+use Rattle.dsr_texts.specs.inner.Bytes.{AreBytes}
 use Rattle.dsr_records.specs.inner.Names.{start_of}
 
 -- two texts of four bytes are equal if their numbers are

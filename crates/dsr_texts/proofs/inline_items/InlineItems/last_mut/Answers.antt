@@ -1,0 +1,11 @@
+use Rattle.std.proofs.Common.{refl, ◌∙◌}
+use Rattle.dsr_texts.proofs.Views.{take-set_last, take-last}
+use Rattle.dsr_texts.proofs.inline_items.InlineItems.last_mut.Goals as goal
+
+pub returns : goal.returns
+returns g c =
+    let some = rw (← c.self.view_is) at c.requires in
+    rw (← c.self.view_is) (
+      (refl, λ w. take-set_last _ _ w some c.self.invariant),
+      record { writes_back = tt; value = c.in-Some.ensures.value ∙ take-last _ _ _ some c.self.invariant },
+    )

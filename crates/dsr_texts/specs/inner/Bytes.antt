@@ -1,0 +1,5 @@
+-- Numbers that are bytes.
+use Rattle.std.specs.Prelude.{ℕ, ◌<◌, List, get_or}
+
+abbrev pub AreBytes : List ℕ → Type 0
+AreBytes bytes = (i : ℕ) → get_or bytes i 0 < 256
