@@ -1,3 +1,1 @@
-pub mod Naming
-pub mod Printing
 pub mod Watching

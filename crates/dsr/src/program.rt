@@ -1,24 +1,16 @@
 //! From the program's arguments to its exit status.
-ghost use Rattle.std.specs.Prelude.{◌≡◌, false, List, All, IfOk, IfErr, Err, None, MatchOption, vec_len};
-ghost use Rattle.dsr_records.specs.meaning.Layouts.{standard_layout};
+ghost use Rattle.std.specs.Prelude.{◌≡◌, false, List, All, IfOk, IfErr, Err, MatchOption, vec_len};
 ghost use Rattle.dsr_file.specs.meaning.Runs.{FileText};
 ghost use Rattle.dsr_intake.specs.meaning.Options.{refusal_of};
 ghost use Rattle.dsr_intake.specs.meaning.Outcomes.{IsReported, IsUnwritten, IsLateRun};
 
-use crate::arguments::asked;
-use crate::command::{Asked, CommandFault};
-use crate::faults::{
-    UNFINISHED, exit_status, write_bad_layout, write_cannot_open, write_cannot_read, write_fault,
-    write_line,
-};
-use crate::inputs::{Input, Inputs, OpenError, open_inputs};
-use crate::layout_file::{LayoutReadError, read_layout};
-use crate::print::print_text;
-use crate::watched::watch;
 use dsr_cells::{NoMemory, Text};
+use dsr_command::{
+    Asked, CommandFault, Input, Inputs, OpenError, REFUSED, UNFINISHED, asked, cannot_open,
+    exit_status, no_memory, open_inputs, options_of, print_text, refuse, watch, write_fault,
+};
 use dsr_file::Source;
 use dsr_intake::{Options, Outlet, RunError, Status, ToWrite, run};
-use dsr_records::Layout;
 use std::alloc::Global;
 use std::env::Env;
 use std::fs::{File, Files};
@@ -27,10 +19,7 @@ use std::random::RandomSource;
 use std::sync::Wait;
 use std::thread::Threads;
 use std::time::Clock;
-use std::{env, fs, io};
-
-/// The exit status for a command line, a file or a layout that is refused.
-const REFUSED: u8 = 2;
+use std::{env, io};
 
 /// Does what the program's arguments ask for, and returns the exit status. Errors are written to `fault`.
 pub fn serve<
@@ -180,88 +169,4 @@ fn run_sources<
 {
     let mut sources = sources;
     run(rt, alloc, &mut sources, Box::into_inner(options), out)
-}
-
-/// The options that a command line asks for, with the standard layout if it names none; in a box, since a layout takes
-/// about 2 kB. The error is the exit status; standard error has its line, as far as it took it.
-fn options_of<H: Files<File = File>, F: Write>(
-    rt: &H,
-    alloc: Global,
-    asked: &Asked,
-    fault: &mut F,
-) -> Result<Box<Options>, u8>
-    ensures capacity { IfOk result (λ o. o.value.capacity ≡ asked.now.capacity) }
-    ensures reads { IfOk result (λ o. o.value.max_reads ≡ asked.now.max_reads) }
-    ensures layout { asked.now.layout ≡ None → IfOk result (λ o. o.value.layout ≡ standard_layout) }
-{
-    let options = Options {
-        capacity: asked.capacity,
-        max_reads: asked.max_reads,
-        layout: layout_of(rt, alloc, &asked.layout, fault)?,
-    };
-    match Box::new(alloc, options) {
-        Ok(options) => Ok(options),
-        Err(_) => Err(no_memory(fault)),
-    }
-}
-
-/// The layout in the named file, or the standard one if none is named. The error is the exit status; standard error has
-/// its line, as far as it took it.
-fn layout_of<H: Files<File = File>, F: Write>(
-    rt: &H,
-    alloc: Global,
-    name: &Option<Text>,
-    fault: &mut F,
-) -> Result<Layout, u8>
-    ensures { name.now ≡ None → IfOk result (λ layout. layout ≡ standard_layout) }
-{
-    let Some(name) = name else {
-        return Ok(Layout::standard());
-    };
-    let Ok(mut file) = fs::open(rt, name.as_str()) else {
-        return Err(cannot_open(name, fault));
-    };
-    match read_layout(alloc, &mut file) {
-        Ok(layout) => Ok(layout),
-        Err(error) => Err(layout_refused(name, error, fault)),
-    }
-}
-
-/// Writes why there is no layout, and returns the exit status.
-fn layout_refused<F: Write>(name: &Text, error: LayoutReadError, fault: &mut F) -> u8 {
-    match error {
-        LayoutReadError::Read => {
-            write_cannot_read(name, fault);
-            REFUSED
-        }
-        LayoutReadError::Bad(error) => {
-            write_bad_layout(error, fault);
-            REFUSED
-        }
-        LayoutReadError::Memory => no_memory(fault),
-    }
-}
-
-/// Writes that a file cannot be opened, and returns the exit status.
-fn cannot_open<F: Write>(name: &Text, fault: &mut F) -> u8
-    ensures { result ≡ 2 }
-{
-    write_cannot_open(name, fault);
-    REFUSED
-}
-
-/// Writes why the arguments are refused, and returns the exit status.
-fn refuse<F: Write>(text: &str, fault: &mut F) -> u8
-    ensures { result ≡ 2 }
-{
-    write_line(text, fault);
-    REFUSED
-}
-
-/// Writes that memory was refused before a file of the report was read, and returns the exit status.
-fn no_memory<F: Write>(fault: &mut F) -> u8
-    ensures { result ≡ 3 }
-{
-    write_line("out of memory", fault);
-    UNFINISHED
 }

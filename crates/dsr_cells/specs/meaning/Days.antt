@@ -17,7 +17,7 @@ pub record CivilDay : Type 0 where
 abbrev pub is_civil_day : CivilDay → Bool
 is_civil_day d = is_in_range 0 9999 d.year && is_in_range 1 12 d.month && is_in_range 1 (days_in_month (pos d.year) d.month) d.day
 
--- the day number that `jiff` gives the date: 0 for 1970-01-01
+-- the day number that `jiff_core` gives the date: 0 for 1970-01-01
 abbrev pub day_number : CivilDay → ℤ
 day_number d = days_from_civil (pos d.year) d.month d.day
 

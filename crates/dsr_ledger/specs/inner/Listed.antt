@@ -107,7 +107,8 @@ pub record IsSeatedLine (parties : List (List ℕ)) (numbers : List ℕ) (line :
   pub within : AreBelow (length numbers) (part_seats line.parts.items.items)
   pub small : ∥ IsOfSmall (place_by (party_in parties) numbers) line ∥₁
 
--- the ledger lines of a recording were taken, in the order of their keys; `whole` are all keys of its lines
+-- the ledger lines of a recording were taken, in the order of their keys; `whole` are keys with its ISRC, among them those of
+-- all its lines
 pub record AddsLines {T : Type 0} (took : T → T → List LedgerLine → Type 0) (parties : List (List ℕ)) (keys : List SummaryKey) (isrc : List ℕ)
     (r : Recording) (old new : T) : Type 0 where
   pub whole : List Key

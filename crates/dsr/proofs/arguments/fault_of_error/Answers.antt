@@ -1,5 +1,0 @@
-use Rattle.std.proofs.Common.{rules}
-use Rattle.dsr.proofs.arguments.fault_of_error.Goals as goal
-
-pub returns : goal.returns
-returns c = search rules

@@ -1,4 +1,0 @@
-use Rattle.dsr.proofs.faults.write_closed.Goals as goal
-
-pub returns : goal.returns
-returns g c = rw c.format-file.ensures.text at c.write_parts.ensures

@@ -1,6 +1,0 @@
-use Rattle.std.proofs.Common.{◌≡◌, ◌++◌, map}
-use Rattle.std.specs.Vec.Iter.{into_iter_items}
-use Rattle.dsr.proofs.watched.watch.Given as goal
-
-abbrev pub invariant-loop-input : goal.invariant-loop-input
-invariant-loop-input g l = map (λ w. w.input) l.watched.items ++ into_iter_items l.input-iterator ≡ l.fn.inputs.items

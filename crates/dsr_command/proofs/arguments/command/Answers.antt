@@ -1,0 +1,16 @@
+use Rattle.std.proofs.Common.{◌∙◌, ap₂}
+use Rattle.std.proofs.lemmas.Result.{IfOk-weaker}
+use Rattle.clap.specs.Words.{with_rule}
+use Rattle.dsr_command.specs.CommandLine.{command_line}
+use Rattle.dsr_command.proofs.arguments.command.Goals as goal
+
+pub returns : goal.returns
+unfolding command_line
+returns c =
+    let two = c.in_ok-arg-2.ensures.shape c.reads_option.ensures.local
+    ∙ ap₂ with_rule (c.in_ok-arg.ensures.shape c.capacity_option.ensures.local ∙ ap₂ with_rule c.bare.ensures c.capacity_option.ensures.rule)
+    c.reads_option.ensures.rule in
+    let three = c.in_ok-arg-3.ensures.shape c.layout_option.ensures.local ∙ ap₂ with_rule two c.layout_option.ensures.rule in
+    let four = c.in_ok-arg-4.ensures.shape c.progress_option.ensures.local ∙ ap₂ with_rule three c.progress_option.ensures.rule in
+    IfOk-weaker c.arg-5.result _ _ (λ command h. h.shape c.names_argument.ensures.local ∙ ap₂ with_rule four c.names_argument.ensures.rule)
+    c.arg-5.ensures

@@ -1,0 +1,81 @@
+-- The exit status of a run, and the line for its error.
+use Rattle.std.specs.Prelude.{ℕ, List, [], ◌∷◌, ◌++◌, codes, decimal, Result, Ok, Err}
+use Rattle.dsr_intake.specs.declared.pipeline.errors.IntakeError.{IntakeError}
+use Rattle.dsr_intake.specs.declared.pipeline.errors.IntakeError.TheVariants as intake
+use Rattle.dsr_intake.specs.declared.pipeline.errors.RunError.{RunError}
+use Rattle.dsr_intake.specs.declared.pipeline.errors.RunError.TheVariants as run
+use Rattle.dsr_intake.specs.declared.statements.verdict.Status.{Status}
+use Rattle.dsr_intake.specs.declared.statements.verdict.Status.TheVariants.{Clean, Remarks}
+use Rattle.dsr_records.specs.declared.layout_fault.LayoutError.{LayoutError}
+use Rattle.dsr_records.specs.declared.layout_fault.LayoutFault.{LayoutFault}
+use Rattle.dsr_records.specs.declared.layout_fault.LayoutFault.TheVariants as layout
+use Rattle.dsr_command.specs.declared.layout_file.LayoutReadError.{LayoutReadError}
+use Rattle.dsr_command.specs.declared.layout_file.LayoutReadError.TheVariants.{Read, Bad, Memory}
+
+-- the exit status of a run: 0 clean, 1 with remarks, 3 if it failed
+abbrev pub status_number : Result Status RunError → ℕ
+status_number (Ok Clean) = 0
+status_number (Ok Remarks) = 1
+status_number (Err error) = 3
+
+-- a line of the program on standard error
+abbrev pub line_of : List ℕ → List ℕ
+line_of text = codes "dsr: " ++ text ++ 10 ∷ []
+
+abbrev pub closed_line : ℕ → List ℕ
+closed_line file = codes "dsr: relay of file " ++ (decimal file ++ (codes " closed early" ++ 10 ∷ []))
+
+abbrev pub failed_line : ℕ → List ℕ
+failed_line written = codes "dsr: write failed after " ++ (decimal written ++ (codes " bytes" ++ 10 ∷ []))
+
+abbrev pub intake_line : IntakeError → List ℕ
+intake_line intake.NoFiles = line_of (codes "no files")
+intake_line intake.TooManyFiles = line_of (codes "too many files")
+intake_line intake.Capacity = line_of (codes "capacity out of range")
+intake_line intake.Reads = line_of (codes "reads out of range")
+intake_line intake.Memory = line_of (codes "out of memory")
+intake_line intake.Thread = line_of (codes "cannot start a thread")
+intake_line (intake.Broken file) = closed_line file
+
+-- the line for a failed run
+abbrev pub fault_line : RunError → List ℕ
+fault_line (run.Intake error) = intake_line error
+fault_line run.Memory = line_of (codes "out of memory")
+fault_line (run.Write written) = failed_line written
+
+abbrev pub layout_fault_text : LayoutFault → List ℕ
+layout_fault_text layout.Large = codes "Large"
+layout_fault_text layout.LongLine = codes "LongLine"
+layout_fault_text layout.NotUtf8 = codes "NotUtf8"
+layout_fault_text layout.UnknownRole = codes "UnknownRole"
+layout_fault_text layout.BadType = codes "BadType"
+layout_fault_text layout.RoleTwice = codes "RoleTwice"
+layout_fault_text layout.TypeTwice = codes "TypeTwice"
+layout_fault_text layout.BadPosition = codes "BadPosition"
+layout_fault_text layout.ManySkips = codes "ManySkips"
+layout_fault_text layout.MissingRole = codes "MissingRole"
+
+-- the line for a file that cannot be opened
+abbrev pub cannot_open_line : List ℕ → List ℕ
+cannot_open_line name = codes "dsr: cannot open " ++ (name ++ 10 ∷ [])
+
+-- the line for a layout file that cannot be read
+abbrev pub cannot_read_line : List ℕ → List ℕ
+cannot_read_line name = codes "dsr: cannot read " ++ (name ++ 10 ∷ [])
+
+-- the line for the first fault of a layout
+abbrev pub bad_layout_line : LayoutError → List ℕ
+bad_layout_line error = codes "dsr: bad layout at line "
+    ++ (decimal error.line ++ (codes ": " ++ (layout_fault_text error.fault ++ 10 ∷ [])))
+
+-- the line for a layout file that gives no layout
+abbrev pub layout_refused_line : List ℕ → LayoutReadError → List ℕ
+layout_refused_line name Read = cannot_read_line name
+layout_refused_line name (Bad error) = bad_layout_line error
+layout_refused_line name Memory = line_of (codes "out of memory")
+
+-- the exit status for a layout file that gives no layout: 2 if it cannot be read or is bad
+abbrev pub layout_refused_status : LayoutReadError → ℕ
+layout_refused_status Read = 2
+layout_refused_status (Bad error) = 2
+layout_refused_status Memory = 3

@@ -1,0 +1,30 @@
+-- The results of reading a layout file.
+use Rattle.std.specs.Prelude.{◌≡◌, ℕ, ◌≤◌, ◌⊎◌, List, length, Option, Result, Ok, Err}
+use Rattle.std.specs.Io.KnownBytes.{Consumes, IsAtEnd}
+use Rattle.dsr_records.specs.meaning.Records.{LayoutTable}
+use Rattle.dsr_records.specs.meaning.Layouts.{layout_of}
+use Rattle.dsr_command.specs.declared.layout_file.LayoutReadError.{LayoutReadError}
+use Rattle.dsr_command.specs.declared.layout_file.LayoutReadError.TheVariants.{Read, Bad, Memory}
+
+-- these bytes were read: all bytes of the reader, or the first 65,537 of them
+pub record IsTaken (before after : Option (List ℕ)) (bytes : List ℕ) : Type 0 where
+  pub consumed : Consumes before after bytes
+  pub most : length bytes ≤ 65537
+  pub whole : IsAtEnd after ⊎ (length bytes ≡ 65537)
+
+-- a read failed or memory was refused; at most 65,537 bytes were read
+abbrev pub IsCutShort : Option (List ℕ) → Option (List ℕ) → Type 0
+IsCutShort before after = (bytes : List ℕ) × Consumes before after bytes × (length bytes ≤ 65537)
+
+-- the result is that of the bytes that were read, unless a read failed or memory was refused
+abbrev pub IsLayoutAnswer : Option (List ℕ) → Option (List ℕ) → Result LayoutTable LayoutReadError → Type 0
+IsLayoutAnswer before after (Ok layout) = (bytes : List ℕ) × IsTaken before after bytes × (layout_of bytes ≡ Ok layout)
+IsLayoutAnswer before after (Err (Bad error)) = (bytes : List ℕ) × IsTaken before after bytes × (layout_of bytes ≡ Err error)
+IsLayoutAnswer before after (Err Read) = IsCutShort before after
+IsLayoutAnswer before after (Err Memory) = IsCutShort before after
+
+-- the error of reading the bytes, which is never Bad
+abbrev pub IsReadError : Option (List ℕ) → Option (List ℕ) → LayoutReadError → Type 0
+IsReadError before after Read = IsCutShort before after
+IsReadError before after (Bad error) = ⊥
+IsReadError before after Memory = IsCutShort before after

@@ -1,0 +1,125 @@
+//! The line for a run that failed, and the exit status.
+ghost use Rattle.std.specs.Prelude.{◌≡◌};
+ghost use Rattle.dsr_command.specs.Faults.{status_number, fault_line, line_of, closed_line, failed_line};
+ghost use Rattle.dsr_command.specs.Faults.{cannot_open_line, cannot_read_line, bad_layout_line, layout_fault_text};
+ghost use Rattle.dsr_command.specs.Printing.{IsWritten};
+
+use crate::print::write_parts;
+use dsr_cells::Text;
+use dsr_intake::{IntakeError, RunError, Status};
+use dsr_records::{LayoutError, LayoutFault};
+use itoa::Buffer;
+use std::io::Write;
+
+/// The exit status for a command line, a file or a layout that is refused.
+pub const REFUSED: u8 = 2;
+
+/// The exit status of a run that failed.
+pub const UNFINISHED: u8 = 3;
+
+/// The exit status of a run.
+pub fn exit_status(outcome: &Result<Status, RunError>) -> u8
+    ensures { result ≡ status_number outcome.now }
+{
+    match outcome {
+        Ok(Status::Clean) => 0,
+        Ok(Status::Remarks) => 1,
+        Err(_) => UNFINISHED,
+    }
+}
+
+/// Writes the line for an error, and returns whether the writer took all of it.
+pub fn write_fault<W: Write>(error: &RunError, out: &mut W) -> bool
+    ensures { IsWritten result (W.contents out.old) (W.contents out.new) (fault_line error.now) }
+{
+    match error {
+        RunError::Intake(error) => write_intake_fault(error, out),
+        RunError::Memory => write_line("out of memory", out),
+        RunError::Write { written } => write_failed(*written, out),
+    }
+}
+
+/// Writes the line for an error without a report.
+fn write_intake_fault<W: Write>(error: &IntakeError, out: &mut W) -> bool
+    ensures { IsWritten result (W.contents out.old) (W.contents out.new)
+        (fault_line (RunError.Intake error.now)) }
+{
+    match error {
+        IntakeError::NoFiles => write_line("no files", out),
+        IntakeError::TooManyFiles => write_line("too many files", out),
+        IntakeError::Capacity => write_line("capacity out of range", out),
+        IntakeError::Reads => write_line("reads out of range", out),
+        IntakeError::Memory => write_line("out of memory", out),
+        IntakeError::Thread => write_line("cannot start a thread", out),
+        IntakeError::Broken(file) => write_closed(*file, out),
+    }
+}
+
+/// Writes a line that begins with the program's name.
+pub(crate) fn write_line<W: Write>(text: &str, out: &mut W) -> bool
+    ensures { IsWritten result (W.contents out.old) (W.contents out.new) (line_of text.now) }
+{
+    write_parts(&["dsr: ", text, "\n"], out)
+}
+
+/// Writes the line for a relay that closed early.
+fn write_closed<W: Write>(file: u32, out: &mut W) -> bool
+    ensures { IsWritten result (W.contents out.old) (W.contents out.new) (closed_line file) }
+{
+    let mut digits = Buffer::new();
+    let file = digits.format(file);
+    write_parts(&["dsr: relay of file ", file, " closed early\n"], out)
+}
+
+/// Writes the line for a write that failed.
+fn write_failed<W: Write>(written: u64, out: &mut W) -> bool
+    ensures { IsWritten result (W.contents out.old) (W.contents out.new) (failed_line written) }
+{
+    let mut digits = Buffer::new();
+    let written = digits.format(written);
+    write_parts(&["dsr: write failed after ", written, " bytes\n"], out)
+}
+
+/// Writes the line for a file that cannot be opened.
+pub(crate) fn write_cannot_open<W: Write>(name: &Text, out: &mut W) -> bool
+    ensures { IsWritten result (W.contents out.old) (W.contents out.new)
+        (cannot_open_line name.now) }
+{
+    write_parts(&["dsr: cannot open ", name.as_str(), "\n"], out)
+}
+
+/// Writes the line for a layout that cannot be read.
+pub(crate) fn write_cannot_read<W: Write>(name: &Text, out: &mut W) -> bool
+    ensures { IsWritten result (W.contents out.old) (W.contents out.new)
+        (cannot_read_line name.now) }
+{
+    write_parts(&["dsr: cannot read ", name.as_str(), "\n"], out)
+}
+
+/// Writes the line for the first fault of a layout.
+pub(crate) fn write_bad_layout<W: Write>(error: LayoutError, out: &mut W) -> bool
+    ensures { IsWritten result (W.contents out.old) (W.contents out.new) (bad_layout_line error) }
+{
+    let mut digits = Buffer::new();
+    let line = digits.format(error.line);
+    let name = layout_fault_name(error.fault);
+    write_parts(&["dsr: bad layout at line ", line, ": ", name, "\n"], out)
+}
+
+/// The name of a layout's fault.
+fn layout_fault_name(fault: LayoutFault) -> &'static str
+    ensures { result.now ≡ layout_fault_text fault }
+{
+    match fault {
+        LayoutFault::Large => "Large",
+        LayoutFault::LongLine => "LongLine",
+        LayoutFault::NotUtf8 => "NotUtf8",
+        LayoutFault::UnknownRole => "UnknownRole",
+        LayoutFault::BadType => "BadType",
+        LayoutFault::RoleTwice => "RoleTwice",
+        LayoutFault::TypeTwice => "TypeTwice",
+        LayoutFault::BadPosition => "BadPosition",
+        LayoutFault::ManySkips => "ManySkips",
+        LayoutFault::MissingRole => "MissingRole",
+    }
+}
