@@ -24,7 +24,7 @@
 //!    the recordings (`assemble/recordings`) and of the summary keys (`assemble/ranks`). They are made
 //!    in lists with room for the longest (`assemble/lists`), so that giving them allocates nothing.
 //!    How many and how long they are at most is known without making them (`assemble/sizes`).
-//!    They borrow their texts (`lent`); a report has copies of them, and its own `parties`.
+//!    They borrow their texts (`lent`); a report has copies of them.
 //!
 //! **Example**, compiled and proved in `crates/dsr_ledger_tests/src/example.rt`:
 //!
@@ -114,7 +114,6 @@ mod ledger;
 mod lent;
 mod missing;
 mod open;
-mod parties;
 mod rejects;
 mod report;
 mod seeded;
@@ -130,10 +129,9 @@ pub use lent::line::LentLine;
 pub use lent::party::LentParty;
 pub use lent::report::LentReport;
 pub use lent::sizes::LedgerSizes;
-pub use parties::Parties;
 pub use report::{
-    Difference, Differences, FileLine, FileLines, LedgerLine, LedgerLines, Numbers, PartyLine,
-    Reject, Rejects, Report, ReportKey,
+    Difference, Differences, FileLine, FileLines, LedgerLine, LedgerLines, Numbers, Parties,
+    PartyLine, Reject, Rejects, Report, ReportKey,
 };
 pub use taking::TakeLines;
 pub use verdict::{Reason, Standing, Verdict};

@@ -1,7 +1,6 @@
 //! The report that the books make.
-use crate::parties::Parties;
 use crate::verdict::{Reason, Standing};
-use dsr_cells::{Day, Isrc, Items, Text};
+use dsr_cells::{Day, InlineItems, Isrc, Items, Text};
 use dsr_events::Outcome;
 
 /// The key of a report.
@@ -55,6 +54,9 @@ pub struct PartyLine {
     /// What the party is owed, in units of 10^-10 of the line's currency.
     pub amount: i128,
 }
+
+/// The parties of a ledger line, by the bytes of their names; up to two are stored in the line itself.
+pub type Parties = InlineItems<PartyLine, 2>;
 
 /// The sums of the booked usages of a recording under a territory, a use type and a currency.
 #[derive(Drop)]

@@ -3,8 +3,7 @@ ghost use Rattle.std.specs.Prelude.{◌≡◌, ◌++◌, ◌∷◌, [], false, I
 
 use crate::lent::line::LentLine;
 use crate::lent::party::LentParty;
-use crate::parties::Parties;
-use crate::report::{LedgerLine, LedgerLines, PartyLine};
+use crate::report::{LedgerLine, LedgerLines, Parties, PartyLine};
 use crate::taking::TakeLines;
 use dsr_cells::{Items, NoMemory, Text};
 use std::alloc::Global;
@@ -13,7 +12,7 @@ use std::alloc::Global;
 fn copy_parties(alloc: Global, lent: &[LentParty<'_>]) -> Result<Parties, NoMemory>
     ensures { IfOk result (λ parties. parties ≡ lent.now) }
 {
-    let mut parties = Parties::with_room(alloc, lent.len())?;
+    let mut parties = Parties::new(alloc);
     for party in lent {
         let line = PartyLine {
             party: Text::copy_of(alloc, party.party())?,

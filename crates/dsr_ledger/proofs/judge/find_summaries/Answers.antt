@@ -1,5 +1,4 @@
-use Rattle.std.proofs.lemmas.Grind.{common_steps}
-use Rattle.dsr_ledger.proofs.Common.{arith}
+use Rattle.dsr_ledger.proofs.Common.{arith, common_steps}
 use Rattle.dsr_ledger.proofs.judge.find_summaries.Goals as goal
 
 pub returns-in_default-clause-known : goal.returns-in_default-clause-known

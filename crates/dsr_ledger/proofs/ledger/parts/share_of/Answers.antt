@@ -1,5 +1,4 @@
-use Rattle.std.proofs.lemmas.Grind.{common_steps}
-use Rattle.dsr_ledger.proofs.Common.{arith}
+use Rattle.dsr_ledger.proofs.Common.{arith, common_steps}
 use Rattle.dsr_ledger.proofs.ledger.parts.share_of.Goals as goal
 
 pub returns-in-Ok : goal.returns-in-Ok
