@@ -26,7 +26,7 @@
 //!    How many and how long they are at most is known without making them (`assemble/sizes`).
 //!    They borrow their texts (`lent`); a report has copies of them.
 //!
-//! **Example**, compiled and proved in `crates/dsr_ledger_tests/src/example.rt`:
+//! **Example**, compiled and proved in `crates/dsr_tests/src/books/example.rt`:
 //!
 //! ```
 //! /// Opens the first file.

@@ -5,8 +5,11 @@
 //!    given point, and `runs` a run on them, which the lib.rt of dsr_intake shows.
 //! 2. `reports`: reports in one file and in several. `collecting`: the collector alone.
 //! 3. `refusals` and `memory`: what is refused and what fails. `turns`: readers that wait for one another.
+//! 4. `books`: the example of dsr_ledger.
 #![tactic(auto)]
 
+#[cfg(test)]
+mod books;
 #[cfg(test)]
 mod collecting;
 #[cfg(test)]

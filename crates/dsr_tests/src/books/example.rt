@@ -1,5 +1,5 @@
 //! The example of dsr_ledger.
-use crate::making::all_ended;
+use crate::books::making::all_ended;
 use dsr_file::{Event, EventList, EventPart, Opening, Outcome};
 use dsr_ledger::{Books, Report};
 use dsr_records::Block;

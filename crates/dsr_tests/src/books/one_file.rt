@@ -1,6 +1,6 @@
 //! The example on a file of one block.
-use crate::example::report_of;
-use crate::making::events_of;
+use crate::books::example::report_of;
+use crate::books::making::events_of;
 use std::test::Fail;
 
 /// A file of one block, with a work of one party.

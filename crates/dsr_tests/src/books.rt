@@ -1,0 +1,9 @@
+//! The example of dsr_ledger, on a file of one block.
+//!
+//! 1. `example`: the one that the lib.rt of dsr_ledger shows.
+//! 2. `making`: the events of a text, and when a report can be made.
+//! 3. `one_file`: the test. What books come to is tried on the program: `cases` has the statements.
+
+mod example;
+mod making;
+mod one_file;
