@@ -1,19 +1,18 @@
 //! Measuring the books.
-
-use crate::taker::{Taker, no_memory};
+use crate::no_memory;
 use dsr_cells::NoMemory;
-use dsr_file::{Event, EventPart, Opening, Outcome};
-use dsr_ledger::{Books, Report};
-use dsr_records::Block;
+use dsr_file::{Ending, Event, EventList, EventPart, Outcome, whole_events};
+use dsr_ledger::Books;
+use dsr_records::{Block, Layout};
 use std::alloc::Global;
-use std::io;
+use std::io::{self, Read};
 use std::time::{Clock, Instant};
 
 /// The most blocks that a file can have.
 const MOST_BLOCKS: u64 = 1 << 37;
 
-/// The number of blocks that wait, so that the clock is read once for all of them.
-const WAITING: usize = 4096;
+/// The most bytes that a file can have.
+const MOST_BYTES: u64 = 1 << 36;
 
 /// What was measured.
 #[derive(Clone, Copy, Drop)]
@@ -28,13 +27,41 @@ pub struct Figures {
     pub report: u128,
 }
 
-/// The books of one file, the blocks that wait for them, and how long the books took so far.
-#[derive(Drop)]
-pub struct Measured {
-    books: Books,
-    waiting: Vec<Block>,
-    blocks: u64,
-    nanos: u128,
+/// All bytes of the input, up to the first failed read.
+fn read_bytes<R: Read>(alloc: Global, input: &mut R) -> Result<Vec<u8>, NoMemory> {
+    let mut bytes = Vec::new(alloc);
+    let mut piece = [0u8; 4096];
+    for _ in 0..u64::MAX {
+        let count = input.read(&mut piece).unwrap_or(0);
+        if count == 0 {
+            break;
+        }
+        bytes.extend_from_slice(&piece[..count])?;
+    }
+    Ok(bytes)
+}
+
+/// The events of the input. One with too many bytes is refused like one for which there is no memory.
+fn read_events<R: Read>(alloc: Global, input: &mut R) -> Result<EventList, NoMemory> {
+    let bytes = read_bytes(alloc, input)?;
+    if bytes.len() as u64 > MOST_BYTES {
+        return Err(NoMemory);
+    }
+    whole_events(alloc, &Layout::standard(), &bytes, Ending::Whole)
+}
+
+/// Opens the file by the first event.
+fn open(books: &mut Books, events: &mut EventList) -> Result<(), NoMemory> {
+    let Some(first) = events.next() else {
+        return Ok(());
+    };
+    match first.part {
+        EventPart::Opened(opening) if books.opened() < books.files() => {
+            books.open_next(Some(opening))?;
+            Ok(())
+        }
+        _ => Ok(()),
+    }
 }
 
 /// Books a block of the file if the books can take it, and returns whether they took it.
@@ -46,124 +73,52 @@ fn book(books: &mut Books, block: &Block) -> Result<bool, NoMemory> {
     Ok(true)
 }
 
+/// Books the block of an event, and returns whether the books took it.
+fn book_event(books: &mut Books, event: &Event) -> Result<bool, NoMemory> {
+    match &event.part {
+        EventPart::Block(block) => book(books, block),
+        _ => Ok(false),
+    }
+}
+
 /// Books all blocks, and returns how many the books took.
-fn book_all(books: &mut Books, blocks: &[Block]) -> Result<u64, NoMemory> {
+fn book_all(books: &mut Books, events: &EventList) -> Result<u64, NoMemory> {
     let mut booked = 0u64;
-    for block in blocks {
-        booked = booked.wrapping_add(u64::from(book(books, block)?));
+    for i in 0..events.len() {
+        if let Some(event) = events.get(i) {
+            booked = booked.wrapping_add(u64::from(book_event(books, event)?));
+        }
     }
     Ok(booked)
 }
 
-/// The report of one file that has ended; None if it has not.
-fn report_of(books: Books) -> Result<Option<Report>, NoMemory> {
-    if books.files() != 1 || books.opened() != 1 || !books.ended(0) {
-        return Ok(None);
-    }
-    Ok(Some(books.into_report()?))
-}
-
-/// Makes the report, and returns the number of lines of its ledger.
+/// Ends the file, and makes the report. Returns the number of lines of its ledger; 0 if the file was not opened.
 fn ledger_lines(books: Books) -> Result<usize, NoMemory> {
-    match report_of(books)? {
-        Some(report) => Ok(report.ledger.len()),
-        None => Ok(0),
+    let mut books = books;
+    if books.files() != 1 || books.opened() != 1 {
+        return Ok(0);
     }
+    if !books.ended(0) {
+        books.end_file(0, Outcome::Whole)?;
+    }
+    Ok(books.into_report()?.ledger.len())
 }
 
-impl Measured {
-    /// Books of one file, which is not opened yet.
-    pub fn new(alloc: Global) -> Result<Measured, NoMemory> {
-        Ok(Measured {
-            books: Books::new(alloc, 1)?,
-            waiting: Vec::with_capacity(alloc, WAITING)?,
-            blocks: 0,
-            nanos: 0,
-        })
-    }
-
-    /// Opens the file.
-    fn open(&mut self, opening: Opening) -> Result<(), NoMemory> {
-        if self.books.opened() < self.books.files() {
-            self.books.open_next(Some(opening))?;
-        }
-        Ok(())
-    }
-
-    /// Books the blocks that wait, and measures how long that takes.
-    fn book_waiting<C: Clock>(&mut self, clock: &C) -> io::Result<()> {
-        let start = Instant::now(clock)?;
-        let booked = book_all(&mut self.books, self.waiting.as_slice()).map_err(no_memory)?;
-        let nanos = start.elapsed(clock)?.as_nanos();
-        self.nanos = self.nanos.wrapping_add(nanos);
-        self.blocks = self.blocks.wrapping_add(booked);
-        self.waiting.clear();
-        Ok(())
-    }
-
-    /// Ends the file.
-    fn end(&mut self, outcome: Outcome) -> Result<(), NoMemory> {
-        if self.books.opened() > 0 && !self.books.ended(0) {
-            self.books.end_file(0, outcome)?;
-        }
-        Ok(())
-    }
-
-    /// Books the blocks that wait, and ends the file.
-    fn book_rest<C: Clock>(&mut self, clock: &C, outcome: Outcome) -> io::Result<()> {
-        self.book_waiting(clock)?;
-        self.end(outcome).map_err(no_memory)
-    }
-
-    /// Lets a block wait.
-    fn keep(&mut self, block: Block) -> Result<(), NoMemory> {
-        match self.waiting.push(block) {
-            Ok(()) => Ok(()),
-            Err(_) => Err(NoMemory),
-        }
-    }
-
-    /// Lets a block wait, and books all that wait once they are many.
-    fn wait<C: Clock>(&mut self, clock: &C, block: Block) -> io::Result<()> {
-        self.keep(block).map_err(no_memory)?;
-        if self.waiting.len() >= WAITING {
-            self.book_waiting(clock)?;
-        }
-        Ok(())
-    }
-
-    /// Takes an event of the file.
-    fn put<C: Clock>(&mut self, clock: &C, event: Event) -> io::Result<()> {
-        match event.part {
-            EventPart::Opened(opening) => self.open(opening).map_err(no_memory),
-            EventPart::Block(block) => self.wait(clock, block),
-            EventPart::Ended(outcome) => self.book_rest(clock, outcome),
-        }
-    }
-
-    /// The books, without what waits.
-    fn into_books(self) -> Books {
-        self.books
-    }
-
-    /// Makes the report, and returns what was measured.
-    pub fn report<C: Clock>(self, clock: &C) -> io::Result<Figures> {
-        let (blocks, nanos) = (self.blocks, self.nanos);
-        let start = Instant::now(clock)?;
-        let lines = ledger_lines(self.into_books()).map_err(no_memory)?;
-        let report = start.elapsed(clock)?.as_nanos();
-        Ok(Figures {
-            blocks,
-            lines,
-            block: nanos / u128::from(blocks.max(1)),
-            report,
-        })
-    }
-}
-
-impl Taker for Measured {
-    fn take<C: Clock>(&mut self, clock: &C, event: Event) -> io::Result<Option<Block>> {
-        self.put(clock, event)?;
-        Ok(None)
-    }
+/// Books the blocks of the input, and measures how long that takes.
+pub fn measure<C: Clock, R: Read>(clock: &C, alloc: Global, input: &mut R) -> io::Result<Figures> {
+    let mut books = Books::new(alloc, 1).map_err(no_memory)?;
+    let mut events = read_events(alloc, input).map_err(no_memory)?;
+    open(&mut books, &mut events).map_err(no_memory)?;
+    let start = Instant::now(clock)?;
+    let blocks = book_all(&mut books, &events).map_err(no_memory)?;
+    let booking = start.elapsed(clock)?.as_nanos();
+    let start = Instant::now(clock)?;
+    let lines = ledger_lines(books).map_err(no_memory)?;
+    let report = start.elapsed(clock)?.as_nanos();
+    Ok(Figures {
+        blocks,
+        lines,
+        block: booking / u128::from(blocks.max(1)),
+        report,
+    })
 }

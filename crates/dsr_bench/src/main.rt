@@ -1,17 +1,15 @@
 //! Measures the reader or the books. It reads a report file from standard input, and prints counts and times.
 //!
-//! 1. `taker`: where the events go. Without an argument they are counted, and the reader reuses the blocks' memory.
-//! 2. `books`: with `--books` the blocks are booked and the report is made. The times go to standard error.
-//! 3. `drive`: passes the bytes of the input to the reader and its events to the taker.
+//! 1. `drive`: passes the bytes of the input to the reader and counts its events. The reader reuses the blocks' memory.
+//! 2. `books`: with `--books` the blocks of the input are booked and the report is made. The times go to standard error.
 #![tactic(auto)]
 
 mod books;
 mod drive;
-mod taker;
 
-use crate::books::Measured;
+use crate::books::measure;
 use crate::drive::read_all;
-use crate::taker::{Counted, no_memory};
+use dsr_cells::NoMemory;
 use std::alloc::AllocGlobal;
 use std::env::{self, Env};
 use std::io::{self, Eprint, Print, Read};
@@ -24,14 +22,15 @@ fn wants_books<R: Env + AllocGlobal>(rt: &R) -> io::Result<bool> {
     Ok(words.next().is_some_and(|word| word.as_str() == "--books"))
 }
 
+/// The error that memory was refused.
+pub(crate) fn no_memory(_: NoMemory) -> io::Error {
+    io::ErrorKind::OutOfMemory.into()
+}
+
 /// Reads a report file, and prints the number of its events and bytes.
-fn measure_reader<R: AllocGlobal + Clock + Print, S: Read>(
-    rt: &R,
-    input: &mut S,
-) -> io::Result<()> {
-    let mut counted = Counted::default();
-    let bytes = read_all(rt, rt.alloc(), &mut counted, input)?;
-    println!(rt; "{} events of {bytes} bytes", counted.events)
+fn measure_reader<R: AllocGlobal + Print, S: Read>(rt: &R, input: &mut S) -> io::Result<()> {
+    let counts = read_all(rt.alloc(), input)?;
+    println!(rt; "{} events of {} bytes", counts.events, counts.bytes)
 }
 
 /// Reads a report file and books it.
@@ -39,9 +38,7 @@ fn measure_books<R: AllocGlobal + Clock + Eprint + Print, S: Read>(
     rt: &R,
     input: &mut S,
 ) -> io::Result<()> {
-    let mut measured = Measured::new(rt.alloc()).map_err(no_memory)?;
-    read_all(rt, rt.alloc(), &mut measured, input)?;
-    let figures = measured.report(rt)?;
+    let figures = measure(rt, rt.alloc(), input)?;
     eprintln!(rt;
         "{} ns a block booked, {} ns the report",
         figures.block, figures.report

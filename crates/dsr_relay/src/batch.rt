@@ -149,7 +149,8 @@ impl Batch {
         if self.count >= self.slots.len() {
             return Err(event);
         }
-        self.slots[self.count] = event;
+        let stale = mem::replace(&mut self.slots[self.count], event);
+        drop(stale);
         self.count += 1;
         Ok(())
     }

@@ -3,7 +3,7 @@ use Rattle.dsr_file.specs.inner.Standing.{bytes_used, ending_told}
 use Rattle.dsr_bench.proofs.drive.feed.Given as goal
 
 abbrev pub invariant-loop : goal.invariant-loop
-invariant-loop g l =
+invariant-loop l =
     record {
       within : l.used ≤ length l.piece;
       told : ending_told l.file ≡ None;
