@@ -6,3 +6,12 @@ returns-in-Waiting-clause-all c = search rules
 
 pub returns-in-Waiting-clause-done : goal.returns-in-Waiting-clause-done
 returns-in-Waiting-clause-done c = search rules
+
+pub returns-in-Done-clause-stands : goal.returns-in-Done-clause-stands
+returns-in-Done-clause-stands c = search rules
+
+pub returns-in-Done-clause-after : goal.returns-in-Done-clause-after
+returns-in-Done-clause-after c = search rules
+
+pub returns-in-Done-clause-progress : goal.returns-in-Done-clause-progress
+returns-in-Done-clause-progress c = search rules
