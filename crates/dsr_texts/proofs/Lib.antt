@@ -1,3 +1,4 @@
 pub mod Bytes
+pub mod Lent
 pub mod Shorts
 pub mod Views

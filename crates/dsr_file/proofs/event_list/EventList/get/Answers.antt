@@ -1,11 +1,6 @@
-use Rattle.std.proofs.Common.{◌≡◌, ℕ, List, Option, None, Some, option_map, slice_get, length, refl, sym, ap, ◌∙◌, Bor}
-use Rattle.std.specs.Slice.{IsItemAt}
-use Rattle.std.proofs.lemmas.Option.{slice_get_past, slice_get_read}
+use Rattle.std.proofs.Common.{◌∙◌, ap, slice_get}
+use Rattle.dsr_texts.proofs.Lent.{lent_item}
 use Rattle.dsr_file.proofs.event_list.EventList.get.Goals as goal
-
-lent_item : {X : Type 0} (xs : List X) (i : ℕ) (r : Option (Bor X)) → IsItemAt xs i r → option_map (λ x. x.now) r ≡ slice_get xs i
-lent_item xs i None h = sym (slice_get_past xs i h.3)
-lent_item xs i (Some x) h = sym (slice_get_read xs (length xs) i x.now refl h.3.0 h.1)
 
 pub returns : goal.returns
 returns c = lent_item _ _ _ c.get.ensures.item ∙ ap (λ l. slice_get l c.args.i) c.self.view_is

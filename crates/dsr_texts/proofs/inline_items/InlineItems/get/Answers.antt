@@ -1,0 +1,6 @@
+use Rattle.std.proofs.Common.{◌∙◌, ap, slice_get}
+use Rattle.dsr_texts.proofs.Lent.{lent_item}
+use Rattle.dsr_texts.proofs.inline_items.InlineItems.get.Goals as goal
+
+pub returns : goal.returns
+returns g c = lent_item _ _ _ c.get.ensures.lookup ∙ ap (λ l. slice_get l c.args.i) c.as_slice.ensures
