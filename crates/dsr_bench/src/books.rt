@@ -1,7 +1,7 @@
 //! Measuring the books.
 use crate::no_memory;
 use dsr_cells::NoMemory;
-use dsr_file::{Ending, Event, EventList, EventPart, Outcome, whole_events};
+use dsr_file::{Ending, Event, EventList, EventPart, Opening, Outcome, whole_events};
 use dsr_ledger::Books;
 use dsr_records::{Block, Layout};
 use std::alloc::Global;
@@ -50,18 +50,21 @@ fn read_events<R: Read>(alloc: Global, input: &mut R) -> Result<EventList, NoMem
     whole_events(alloc, &Layout::standard(), &bytes, Ending::Whole)
 }
 
+/// The opening of an event; None if it is that of a block or an end.
+fn opening_of(event: Event) -> Option<Opening> {
+    match event.part {
+        EventPart::Opened(opening) => Some(opening),
+        _ => None,
+    }
+}
+
 /// Opens the file by the first event.
 fn open(books: &mut Books, events: &mut EventList) -> Result<(), NoMemory> {
-    let Some(first) = events.next() else {
-        return Ok(());
-    };
-    match first.part {
-        EventPart::Opened(opening) if books.opened() < books.files() => {
-            books.open_next(Some(opening))?;
-            Ok(())
-        }
-        _ => Ok(()),
+    let opening = events.next().and_then(opening_of);
+    if books.opened() < books.files() {
+        books.open_next(opening)?;
     }
+    Ok(())
 }
 
 /// Books a block of the file if the books can take it, and returns whether they took it.

@@ -2,8 +2,8 @@
 ghost use Rattle.std.specs.Prelude.{◌≡◌, ◌+◌, ◌≤◌, ◌^◌, None, length};
 ghost use Rattle.dsr_file.specs.inner.Standing.{bytes_used, ending_told};
 
-use dsr_file::{Ending, EventPart, FileReader};
-use dsr_records::Layout;
+use dsr_file::{Ending, Event, EventPart, FileReader};
+use dsr_records::{Block, Layout};
 use std::alloc::Global;
 use std::io::{self, Read};
 
@@ -17,6 +17,14 @@ pub struct Counts {
     pub events: u64,
     /// The number of bytes.
     pub bytes: u64,
+}
+
+/// The block of an event; None if it is that of an opening or an end.
+fn block_of(event: Event) -> Option<Block> {
+    match event.part {
+        EventPart::Block(block) => Some(block),
+        _ => None,
+    }
 }
 
 /// Passes a piece to the reader, and returns how many events it gave.
@@ -34,7 +42,7 @@ fn feed(file: &mut FileReader, piece: &[u8]) -> u64
             break;
         };
         events = events.wrapping_add(1);
-        if let EventPart::Block(block) = event.part {
+        if let Some(block) = block_of(event) {
             file.reuse(block);
         }
     }
