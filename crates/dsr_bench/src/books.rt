@@ -2,7 +2,7 @@
 use crate::no_memory;
 use dsr_cells::NoMemory;
 use dsr_file::{Ending, Event, EventList, EventPart, Opening, Outcome, whole_events};
-use dsr_ledger::Books;
+use dsr_ledger::{Books, Report};
 use dsr_records::{Block, Layout};
 use std::alloc::Global;
 use std::io::{self, Read};
@@ -95,16 +95,28 @@ fn book_all(books: &mut Books, events: &EventList) -> Result<u64, NoMemory> {
     Ok(booked)
 }
 
-/// Ends the file, and makes the report. Returns the number of lines of its ledger; 0 if the file was not opened.
-fn ledger_lines(books: Books) -> Result<usize, NoMemory> {
-    let mut books = books;
-    if books.files() != 1 || books.opened() != 1 {
-        return Ok(0);
-    }
-    if !books.ended(0) {
+/// Ends the file.
+fn end(books: &mut Books) -> Result<(), NoMemory> {
+    if books.opened() > 0 && !books.ended(0) {
         books.end_file(0, Outcome::Whole)?;
     }
-    Ok(books.into_report()?.ledger.len())
+    Ok(())
+}
+
+/// The report of one file that has ended; None if it has not.
+fn report_of(books: Books) -> Result<Option<Report>, NoMemory> {
+    if books.files() != 1 || books.opened() != 1 || !books.ended(0) {
+        return Ok(None);
+    }
+    Ok(Some(books.into_report()?))
+}
+
+/// Makes the report, and returns the number of lines of its ledger.
+fn ledger_lines(books: Books) -> Result<usize, NoMemory> {
+    match report_of(books)? {
+        Some(report) => Ok(report.ledger.len()),
+        None => Ok(0),
+    }
 }
 
 /// Books the blocks of the input, and measures how long that takes.
@@ -115,6 +127,7 @@ pub fn measure<C: Clock, R: Read>(clock: &C, alloc: Global, input: &mut R) -> io
     let start = Instant::now(clock)?;
     let blocks = book_all(&mut books, &events).map_err(no_memory)?;
     let booking = start.elapsed(clock)?.as_nanos();
+    end(&mut books).map_err(no_memory)?;
     let start = Instant::now(clock)?;
     let lines = ledger_lines(books).map_err(no_memory)?;
     let report = start.elapsed(clock)?.as_nanos();
