@@ -58,13 +58,24 @@ fn opening_of(event: Event) -> Option<Opening> {
     }
 }
 
-/// Opens the file by the first event.
-fn open(books: &mut Books, events: &mut EventList) -> Result<(), NoMemory> {
-    let opening = events.next().and_then(opening_of);
+/// Opens the file with this opening, if it has one.
+fn open(books: &mut Books, opening: Option<Opening>) -> Result<(), NoMemory> {
     if books.opened() < books.files() {
         books.open_next(opening)?;
     }
     Ok(())
+}
+
+/// Books of one file, opened by the first of its events.
+fn open_books(alloc: Global, events: &mut EventList) -> Result<Books, NoMemory> {
+    let mut books = Books::new(alloc, 1)?;
+    match open(&mut books, events.next().and_then(opening_of)) {
+        Ok(()) => Ok(books),
+        Err(error) => {
+            drop(books);
+            Err(error)
+        }
+    }
 }
 
 /// Books a block of the file if the books can take it, and returns whether they took it.
@@ -119,22 +130,63 @@ fn ledger_lines(books: Books) -> Result<usize, NoMemory> {
     }
 }
 
-/// Books the blocks of the input, and measures how long that takes.
-pub fn measure<C: Clock, R: Read>(clock: &C, alloc: Global, input: &mut R) -> io::Result<Figures> {
-    let mut books = Books::new(alloc, 1).map_err(no_memory)?;
-    let mut events = read_events(alloc, input).map_err(no_memory)?;
-    open(&mut books, &mut events).map_err(no_memory)?;
+/// Books all blocks and ends the file. Returns how many blocks the books took, and for how many nanoseconds.
+fn book_timed<C: Clock>(
+    clock: &C,
+    books: &mut Books,
+    events: &EventList,
+) -> io::Result<(u64, u128)> {
     let start = Instant::now(clock)?;
-    let blocks = book_all(&mut books, &events).map_err(no_memory)?;
-    let booking = start.elapsed(clock)?.as_nanos();
-    end(&mut books).map_err(no_memory)?;
-    let start = Instant::now(clock)?;
+    let blocks = book_all(books, events).map_err(no_memory)?;
+    let nanos = start.elapsed(clock)?.as_nanos();
+    end(books).map_err(no_memory)?;
+    Ok((blocks, nanos))
+}
+
+/// Makes the report of books. Returns the number of lines of its ledger, and the nanoseconds that it took.
+fn report_timed<C: Clock>(clock: &C, books: Books) -> io::Result<(usize, u128)> {
+    let start = Instant::now(clock);
     let lines = ledger_lines(books).map_err(no_memory)?;
-    let report = start.elapsed(clock)?.as_nanos();
+    let nanos = start?.elapsed(clock)?.as_nanos();
+    Ok((lines, nanos))
+}
+
+/// What was measured of the books, given the number of blocks that they took and the nanoseconds.
+fn figures_of<C: Clock>(clock: &C, books: Books, booked: (u64, u128)) -> io::Result<Figures> {
+    let (lines, report) = report_timed(clock, books)?;
+    let (blocks, booking) = booked;
     Ok(Figures {
         blocks,
         lines,
         block: booking / u128::from(blocks.max(1)),
         report,
     })
+}
+
+/// Books the events, and measures how long that takes.
+fn measure_events<C: Clock>(
+    clock: &C,
+    alloc: Global,
+    events: &mut EventList,
+) -> io::Result<Figures> {
+    let mut books = open_books(alloc, events).map_err(no_memory)?;
+    match book_timed(clock, &mut books, events) {
+        Ok(booked) => figures_of(clock, books, booked),
+        Err(error) => {
+            drop(books);
+            Err(error)
+        }
+    }
+}
+
+/// Books the blocks of the input, and measures how long that takes.
+pub fn measure<C: Clock, R: Read>(clock: &C, alloc: Global, input: &mut R) -> io::Result<Figures> {
+    match read_events(alloc, input) {
+        Ok(mut events) => {
+            let figures = measure_events(clock, alloc, &mut events);
+            drop(events);
+            figures
+        }
+        Err(error) => Err(no_memory(error)),
+    }
 }
