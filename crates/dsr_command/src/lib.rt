@@ -29,8 +29,7 @@
 //!
 //! **The promise.** A command line is read as clap's definition of its rules says. The sources are those of the names, in
 //! their order. A layout is that of the first 65,537 bytes of its file. The lines and the exit statuses are those of
-//! `specs/Faults.antt`; a line is written whole, or up to the byte at which the writer fails. If memory is refused, each
-//! call says so.
+//! `specs/Faults.antt`; what is written of a line is all of it or its first bytes. If memory is refused, each call says so.
 //!
 //! **Where to begin.** `specs/CommandLine.antt` and `specs/Faults.antt`; then `src/inputs.rt`.
 #![tactic(auto)]
