@@ -2,8 +2,8 @@
 //!
 //! 1. `text` keeps a text: up to 22 bytes in place (`short`), longer ones on the heap (`kept`). A text
 //!    takes 24 bytes, and can be written over, which reuses its memory.
-//! 2. `inline_items` is the list type of blocks, whose first items are in place and whose memory is
-//!    reused; `items` is that of openings and reports.
+//! 2. `inline_items` is the list type of blocks, and of the parties of a report's line: its first items
+//!    are in place, and its memory is reused. `items` is that of openings and reports.
 //!
 //! dsr_cells passes all of these on, so the crates above it name them `dsr_cells::Text` and so on.
 //!
