@@ -10,9 +10,11 @@
 
 mod program;
 
+use dsr_intake::ToWrite;
 use std::process::ExitCode;
 
 fn main(rt: HostRuntime) -> ExitCode {
-    let mut fault = rt.stderr();
-    ExitCode::from(program::serve(&rt, rt.stdout(), &mut fault))
+    let mut out = ToWrite::new(rt.stdout());
+    let mut fault = ToWrite::new(rt.stderr());
+    ExitCode::from(program::serve(&rt, &mut out, &mut fault))
 }

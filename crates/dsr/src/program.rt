@@ -1,8 +1,12 @@
 //! From the program's arguments to its exit status.
-ghost use Rattle.std.specs.Prelude.{◌≡◌, false, List, All, IfOk, IfErr, Err, MatchOption, vec_len};
+ghost use Rattle.std.specs.Prelude.{◌≡◌, false, List, All, IfOk, IfErr, Err, MatchOption, map, vec_len};
+ghost use Rattle.std.specs.String.{string_bytes};
 ghost use Rattle.dsr_file.specs.meaning.Runs.{FileText};
 ghost use Rattle.dsr_intake.specs.meaning.Options.{refusal_of};
 ghost use Rattle.dsr_intake.specs.meaning.Outcomes.{IsReported, IsUnwritten, IsLateRun};
+ghost use Rattle.dsr_command.specs.Faults.{fault_line, status_number};
+ghost use Rattle.dsr_command.specs.Printing.{IsTold};
+ghost use Rattle.dsr.specs.Serving.{outputs, HadRun, IsServed, IsShown, IsDone};
 
 use dsr_cells::{NoMemory, Text};
 use dsr_command::{
@@ -10,11 +14,11 @@ use dsr_command::{
     exit_status, no_memory, open_inputs, options_of, print_text, refuse, watch, write_fault,
 };
 use dsr_file::Source;
-use dsr_intake::{Options, Outlet, RunError, Status, ToWrite, run};
+use dsr_intake::{Options, Outlet, RunError, Status, run};
 use std::alloc::Global;
 use std::env::Env;
 use std::fs::{File, Files};
-use std::io::{Eprint, ErrorKind, StdinLock, Write};
+use std::io::{Eprint, ErrorKind, StdinLock};
 use std::random::RandomSource;
 use std::sync::Wait;
 use std::thread::Threads;
@@ -35,36 +39,24 @@ pub fn serve<
         + Copy
         + Send
         + 'static,
-    W: Write + Drop,
-    F: Write,
->(rt: &H, out: W, fault: &mut F) -> u8 {
-    let alloc = rt.alloc();
-    let words = match words(rt, alloc, fault) {
-        Ok(words) => words,
-        Err(status) => return status,
-    };
-    match asked(alloc, &words) {
-        Ok(asked) => read_and_print(rt, alloc, &asked, out, fault),
-        Err(CommandFault::Help(text)) => show(&text, out, fault),
-        Err(CommandFault::Refused(text)) => {
-            let _ = fault.write_all(text.as_str().as_bytes());
-            REFUSED
-        }
-        Err(CommandFault::Memory) => no_memory(fault),
+    W: Outlet,
+    F: Outlet,
+>(rt: &H, out: &mut W, fault: &mut F) -> u8
+    requires { (W.told out.old).failed ≡ false }
+{
+    match words(rt, fault) {
+        Ok(words) => answer(rt, &words, out, fault),
+        Err(status) => status,
     }
 }
 
 /// The arguments after the program's name. The error is the exit status; standard error has its line, as far as it took
 /// it.
-fn words<H: Env + AllocGlobal, F: Write>(
-    rt: &H,
-    alloc: Global,
-    fault: &mut F,
-) -> Result<Vec<String>, u8> {
+fn words<H: Env + AllocGlobal, F: Outlet>(rt: &H, fault: &mut F) -> Result<Vec<String>, u8> {
     match env::args(rt) {
         Ok(mut words) => {
             let _name = words.next();
-            match words.collect(alloc) {
+            match words.collect(rt.alloc()) {
                 Ok(words) => Ok(words),
                 Err(_) => Err(no_memory(fault)),
             }
@@ -76,22 +68,10 @@ fn words<H: Env + AllocGlobal, F: Write>(
     }
 }
 
-/// Prints a text that was asked for, and returns the exit status.
-fn show<W: Write + Drop, F: Write>(text: &Text, out: W, fault: &mut F) -> u8 {
-    let mut out = out;
-    match print_text(text.as_str().as_bytes(), &mut out) {
-        Ok(()) => 0,
-        Err(written) => {
-            let written = written as u64;
-            write_fault(&RunError::Write { written }, fault);
-            UNFINISHED
-        }
-    }
-}
-
-/// Reads the files of the report and prints its statement. Returns the exit status.
-fn read_and_print<
-    H: Files<File = File>
+/// Does what these words ask for, and returns the exit status.
+fn answer<
+    H: AllocGlobal
+        + Files<File = File>
         + io::Input<Reader = StdinLock<'static>>
         + Threads
         + Wait
@@ -101,48 +81,129 @@ fn read_and_print<
         + Copy
         + Send
         + 'static,
-    W: Write + Drop,
-    F: Write,
->(rt: &H, alloc: Global, asked: &Asked, out: W, fault: &mut F) -> u8 {
+    W: Outlet,
+    F: Outlet,
+>(rt: &H, words: &[String], out: &mut W, fault: &mut F) -> u8
+    requires { (W.told out.old).failed ≡ false }
+    ensures { IsDone (⟦<Input as Source>⟧.told) (map string_bytes words.now)
+        (outputs (W.told out.old) (F.told fault.old)) (outputs (W.told out.new) (F.told fault.new))
+        result }
+{
+    match asked(rt.alloc(), words) {
+        Ok(asked) => read_and_print(rt, &asked, out, fault),
+        Err(CommandFault::Help(text)) => show(&text, out, fault),
+        Err(CommandFault::Refused(text)) => refused(&text, fault),
+        Err(CommandFault::Memory) => no_memory(fault),
+    }
+}
+
+/// Prints a text that was asked for, and returns the exit status.
+fn show<W: Outlet, F: Outlet>(text: &Text, out: &mut W, fault: &mut F) -> u8
+    ensures { IsShown text.now (outputs (W.told out.old) (F.told fault.old))
+        (outputs (W.told out.new) (F.told fault.new)) result }
+{
+    match print_text(text.as_str().as_bytes(), out) {
+        Ok(()) => 0,
+        Err(written) => {
+            let written = written as u64;
+            write_fault(&RunError::Write { written }, fault);
+            UNFINISHED
+        }
+    }
+}
+
+/// Writes why words are refused, and returns the exit status.
+fn refused<F: Outlet>(text: &Text, fault: &mut F) -> u8
+    ensures status { result ≡ 2 }
+    ensures told { IsTold (F.told fault.old) (F.told fault.new) text.now }
+{
+    let _ = print_text(text.as_str().as_bytes(), fault);
+    REFUSED
+}
+
+/// Reads the files of the report and prints its statement. Returns the exit status.
+fn read_and_print<
+    H: AllocGlobal
+        + Files<File = File>
+        + io::Input<Reader = StdinLock<'static>>
+        + Threads
+        + Wait
+        + RandomSource
+        + Clock
+        + Eprint
+        + Copy
+        + Send
+        + 'static,
+    W: Outlet,
+    F: Outlet,
+>(rt: &H, asked: &Asked, out: &mut W, fault: &mut F) -> u8
+    requires { (W.told out.old).failed ≡ false }
+    ensures { IsServed (⟦<Input as Source>⟧.told) asked.now
+        (outputs (W.told out.old) (F.told fault.old)) (outputs (W.told out.new) (F.told fault.new))
+        result }
+{
+    let alloc = rt.alloc();
     let options = match options_of(rt, alloc, asked, fault) {
         Ok(options) => options,
         Err(status) => return status,
     };
-    let inputs = match open_inputs(rt, alloc, &asked.files) {
-        Ok(inputs) => inputs,
-        Err(OpenError::CannotOpen(name)) => return cannot_open(&name, fault),
-        Err(OpenError::Memory) => return no_memory(fault),
-    };
-    let mut outlet = ToWrite::new(out);
-    let answer = if asked.progress {
-        run_watched(rt, alloc, inputs, options, &mut outlet)
-    } else {
-        run_sources(rt, alloc, inputs, options, &mut outlet)
-    };
-    if let Err(error) = &answer {
-        write_fault(error, fault);
+    match open_inputs(rt, alloc, &asked.files) {
+        Ok(inputs) => run_inputs(rt, alloc, asked.progress, inputs, options, out, fault),
+        Err(OpenError::CannotOpen(name)) => {
+            drop(options);
+            cannot_open(&name, fault)
+        }
+        Err(OpenError::Memory) => {
+            drop(options);
+            no_memory(fault)
+        }
     }
-    exit_status(&answer)
 }
 
-/// Reads the files and writes their statement, with progress on standard error.
-fn run_watched<
+/// Reads these inputs, with progress on standard error if that is asked for, and prints their statement. Returns the exit
+/// status.
+fn run_inputs<
     H: Threads + Wait + RandomSource + Clock + Eprint + Copy + Send + 'static,
     W: Outlet,
+    F: Outlet,
 >(
     rt: &H,
     alloc: Global,
+    progress: bool,
     inputs: Inputs,
     options: Box<Options>,
     out: &mut W,
-) -> Result<Status, RunError>
+    fault: &mut F,
+) -> u8
     requires sources { All (λ i. (⟦<Input as Source>⟧.told i).failed ≡ false) inputs.items }
     requires outlet { (W.told out.old).failed ≡ false }
+    ensures { HadRun (⟦<Input as Source>⟧.told) options.value inputs.items
+        (outputs (W.told out.old) (F.told fault.old)) (outputs (W.told out.new) (F.told fault.new))
+        result }
 {
-    match watch(rt, alloc, inputs) {
-        Ok(watched) => run_sources(rt, alloc, watched, options, out),
-        Err(NoMemory) => Err(RunError::Memory),
+    if !progress {
+        return status_of(&run_sources(rt, alloc, inputs, options, out), fault);
     }
+    match watch(rt, alloc, inputs) {
+        Ok(watched) => status_of(&run_sources(rt, alloc, watched, options, out), fault),
+        Err(NoMemory) => {
+            drop(options);
+            no_memory(fault)
+        }
+    }
+}
+
+/// The exit status of a run. The line of its error is written to `fault`.
+fn status_of<F: Outlet>(answer: &Result<Status, RunError>, fault: &mut F) -> u8
+    ensures status { result ≡ status_number answer.now }
+    ensures quiet { IfOk answer.now (λ _. F.told fault.new ≡ F.told fault.old) }
+    ensures told { IfErr answer.now (λ error. IsTold (F.told fault.old) (F.told fault.new)
+        (fault_line error)) }
+{
+    if let Err(error) = answer {
+        write_fault(error, fault);
+    }
+    exit_status(answer)
 }
 
 /// Reads these sources and writes their statement.

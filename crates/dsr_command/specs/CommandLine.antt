@@ -2,7 +2,7 @@
 use Rattle.std.specs.Prelude.{◌≡◌, ◌≢◌, ◌≤◌, ℕ, Bool, pos, true, false, List, [], Option, Some, None, codes, unwrap_or}
 use Rattle.std.specs.Str.Parse.{IsNumeral, digits_value, without_leading_plus}
 use Rattle.clap.specs.Lexer.{usize_max}
-use Rattle.clap.specs.Words.{App, Row, Rule, Text, all_of, first_of, new_app, new_rule, one_of, with_rule}
+use Rattle.clap.specs.Words.{App, Row, Rule, Text, all_of, fault_of, first_of, matches_of, new_app, new_rule, one_of, with_rule}
 use Rattle.clap.specs.Simple.{on_top}
 use Rattle.clap.specs.declared.builder.action.ArgAction.TheVariants.{Set, SetTrue, Append}
 use Rattle.clap.specs.declared.builder.value_parser.ValueParser.TheVariants as vp
@@ -81,3 +81,11 @@ abbrev pub IsFaultOf : Kinds → CommandFault → Type 0
 IsFaultOf kinds (Help text) = (kind : ErrorKind) × IsAmong kind kinds × (is_request kind ≡ true)
 IsFaultOf kinds (Refused text) = (kind : ErrorKind) × IsAmong kind kinds × (is_request kind ≡ false)
 IsFaultOf kinds Memory = Unit {0}
+
+-- these words ask for this run: they have no fault, and it is what their rows ask for
+abbrev pub IsAskedFor : List Text → Asked → Type 0
+IsAskedFor words asked = (fault_of command_line words ≡ []) × IsAskedBy (matches_of command_line words) asked
+
+-- these words ask for no run, and this is the answer to them
+abbrev pub IsFaultFor : List Text → CommandFault → Type 0
+IsFaultFor words fault = IsFaultOf (fault_of command_line words) fault

@@ -1,5 +1,5 @@
 -- The exit status of a run, and the line for its error.
-use Rattle.std.specs.Prelude.{ℕ, List, [], ◌∷◌, ◌++◌, codes, decimal, Result, Ok, Err}
+use Rattle.std.specs.Prelude.{◌≡◌, ◌⊎◌, ℕ, List, [], ◌∷◌, ◌++◌, codes, decimal, Option, None, Some, Result, Ok, Err}
 use Rattle.dsr_intake.specs.declared.pipeline.errors.IntakeError.{IntakeError}
 use Rattle.dsr_intake.specs.declared.pipeline.errors.IntakeError.TheVariants as intake
 use Rattle.dsr_intake.specs.declared.pipeline.errors.RunError.{RunError}
@@ -79,3 +79,10 @@ abbrev pub layout_refused_status : LayoutReadError → ℕ
 layout_refused_status Read = 2
 layout_refused_status (Bad error) = 2
 layout_refused_status Memory = 3
+
+-- the exit status and the line for a layout file that is not used: none if no file is named
+abbrev pub IsLayoutRefusal : Option (List ℕ) → ℕ → List ℕ → Type 0
+IsLayoutRefusal None status line = ⊥
+IsLayoutRefusal (Some name) status line =
+    ((status ≡ 2) × (line ≡ cannot_open_line name))
+    ⊎ ((error : LayoutReadError) × (status ≡ layout_refused_status error) × (line ≡ layout_refused_line name error))

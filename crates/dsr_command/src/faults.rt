@@ -6,10 +6,9 @@ ghost use Rattle.dsr_command.specs.Printing.{IsWritten};
 
 use crate::print::write_parts;
 use dsr_cells::Text;
-use dsr_intake::{IntakeError, RunError, Status};
+use dsr_intake::{IntakeError, Outlet, RunError, Status};
 use dsr_records::{LayoutError, LayoutFault};
 use itoa::Buffer;
-use std::io::Write;
 
 /// The exit status for a command line, a file or a layout that is refused.
 pub const REFUSED: u8 = 2;
@@ -28,9 +27,9 @@ pub fn exit_status(outcome: &Result<Status, RunError>) -> u8
     }
 }
 
-/// Writes the line for an error, and returns whether the writer took all of it.
-pub fn write_fault<W: Write>(error: &RunError, out: &mut W) -> bool
-    ensures { IsWritten result (W.contents out.old) (W.contents out.new) (fault_line error.now) }
+/// Writes the line for an error, and returns whether the outlet took all of it.
+pub fn write_fault<W: Outlet>(error: &RunError, out: &mut W) -> bool
+    ensures { IsWritten result (W.told out.old) (W.told out.new) (fault_line error.now) }
 {
     match error {
         RunError::Intake(error) => write_intake_fault(error, out),
@@ -40,8 +39,8 @@ pub fn write_fault<W: Write>(error: &RunError, out: &mut W) -> bool
 }
 
 /// Writes the line for an error without a report.
-fn write_intake_fault<W: Write>(error: &IntakeError, out: &mut W) -> bool
-    ensures { IsWritten result (W.contents out.old) (W.contents out.new)
+fn write_intake_fault<W: Outlet>(error: &IntakeError, out: &mut W) -> bool
+    ensures { IsWritten result (W.told out.old) (W.told out.new)
         (fault_line (RunError.Intake error.now)) }
 {
     match error {
@@ -56,15 +55,15 @@ fn write_intake_fault<W: Write>(error: &IntakeError, out: &mut W) -> bool
 }
 
 /// Writes a line that begins with the program's name.
-pub(crate) fn write_line<W: Write>(text: &str, out: &mut W) -> bool
-    ensures { IsWritten result (W.contents out.old) (W.contents out.new) (line_of text.now) }
+pub(crate) fn write_line<W: Outlet>(text: &str, out: &mut W) -> bool
+    ensures { IsWritten result (W.told out.old) (W.told out.new) (line_of text.now) }
 {
     write_parts(&["dsr: ", text, "\n"], out)
 }
 
 /// Writes the line for a relay that closed early.
-fn write_closed<W: Write>(file: u32, out: &mut W) -> bool
-    ensures { IsWritten result (W.contents out.old) (W.contents out.new) (closed_line file) }
+fn write_closed<W: Outlet>(file: u32, out: &mut W) -> bool
+    ensures { IsWritten result (W.told out.old) (W.told out.new) (closed_line file) }
 {
     let mut digits = Buffer::new();
     let file = digits.format(file);
@@ -72,8 +71,8 @@ fn write_closed<W: Write>(file: u32, out: &mut W) -> bool
 }
 
 /// Writes the line for a write that failed.
-fn write_failed<W: Write>(written: u64, out: &mut W) -> bool
-    ensures { IsWritten result (W.contents out.old) (W.contents out.new) (failed_line written) }
+fn write_failed<W: Outlet>(written: u64, out: &mut W) -> bool
+    ensures { IsWritten result (W.told out.old) (W.told out.new) (failed_line written) }
 {
     let mut digits = Buffer::new();
     let written = digits.format(written);
@@ -81,24 +80,24 @@ fn write_failed<W: Write>(written: u64, out: &mut W) -> bool
 }
 
 /// Writes the line for a file that cannot be opened.
-pub(crate) fn write_cannot_open<W: Write>(name: &Text, out: &mut W) -> bool
-    ensures { IsWritten result (W.contents out.old) (W.contents out.new)
+pub(crate) fn write_cannot_open<W: Outlet>(name: &Text, out: &mut W) -> bool
+    ensures { IsWritten result (W.told out.old) (W.told out.new)
         (cannot_open_line name.now) }
 {
     write_parts(&["dsr: cannot open ", name.as_str(), "\n"], out)
 }
 
 /// Writes the line for a layout that cannot be read.
-pub(crate) fn write_cannot_read<W: Write>(name: &Text, out: &mut W) -> bool
-    ensures { IsWritten result (W.contents out.old) (W.contents out.new)
+pub(crate) fn write_cannot_read<W: Outlet>(name: &Text, out: &mut W) -> bool
+    ensures { IsWritten result (W.told out.old) (W.told out.new)
         (cannot_read_line name.now) }
 {
     write_parts(&["dsr: cannot read ", name.as_str(), "\n"], out)
 }
 
 /// Writes the line for the first fault of a layout.
-pub(crate) fn write_bad_layout<W: Write>(error: LayoutError, out: &mut W) -> bool
-    ensures { IsWritten result (W.contents out.old) (W.contents out.new) (bad_layout_line error) }
+pub(crate) fn write_bad_layout<W: Outlet>(error: LayoutError, out: &mut W) -> bool
+    ensures { IsWritten result (W.told out.old) (W.told out.new) (bad_layout_line error) }
 {
     let mut digits = Buffer::new();
     let line = digits.format(error.line);

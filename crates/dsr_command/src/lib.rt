@@ -14,9 +14,11 @@
 //!
 //! ```
 //! /// Prints a text that was asked for, and returns the exit status.
-//! fn show<W: Write + Drop, F: Write>(text: &Text, out: W, fault: &mut F) -> u8 {
-//!     let mut out = out;
-//!     match print_text(text.as_str().as_bytes(), &mut out) {
+//! fn show<W: Outlet, F: Outlet>(text: &Text, out: &mut W, fault: &mut F) -> u8
+//!     ensures { IsShown text.now (outputs (W.told out.old) (F.told fault.old))
+//!         (outputs (W.told out.new) (F.told fault.new)) result }
+//! {
+//!     match print_text(text.as_str().as_bytes(), out) {
 //!         Ok(()) => 0,
 //!         Err(written) => {
 //!             let written = written as u64;
@@ -29,7 +31,7 @@
 //!
 //! **The promise.** A command line is read as clap's definition of its rules says. The sources are those of the names, in
 //! their order. A layout is that of the first 65,537 bytes of its file. The lines and the exit statuses are those of
-//! `specs/Faults.antt`; what is written of a line is all of it or its first bytes. If memory is refused, each call says so.
+//! `specs/Faults.antt`; a line is written whole, or the outlet has failed in it. If memory is refused, each call says so.
 //!
 //! **Where to begin.** `specs/CommandLine.antt` and `specs/Faults.antt`; then `src/inputs.rt`.
 #![tactic(auto)]

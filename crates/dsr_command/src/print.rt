@@ -1,42 +1,40 @@
-//! Printing a text that the command line asks for.
-ghost use Rattle.std.specs.Prelude.{◌≤◌, OnOk, IfErr, length, take};
-ghost use Rattle.std.specs.Io.KnownBytes.{Appends};
+//! Printing a text that the command line asks for, and lines.
+ghost use Rattle.std.specs.Prelude.{◌≤◌, MatchResult, length, take};
+ghost use Rattle.dsr_intake.specs.meaning.Written.{IsFlushed, IsCut};
 ghost use Rattle.dsr_command.specs.Printing.{IsWritten, joined};
 
-use std::io::Write;
+use dsr_file::Failed;
+use dsr_intake::{Outlet, write_all};
 
 /// Writes the whole text and flushes.
 ///
 /// # Errors
 ///
 /// How many bytes of the text were written, if a write or the flush fails.
-pub fn print_text<W: Write>(text: &[u8], out: &mut W) -> Result<(), usize>
-    ensures whole { OnOk result (Appends (W.contents out.old) (W.contents out.new) text.now) }
-    ensures part { IfErr result (λ n. (n ≤ length text.now)
-        × Appends (W.contents out.old) (W.contents out.new) (take n text.now)) }
+pub fn print_text<W: Outlet>(text: &[u8], out: &mut W) -> Result<(), usize>
+    ensures { MatchResult result
+        (λ _. IsFlushed text.now (W.told out.old) (W.told out.new))
+        (λ n. (n ≤ length text.now) × IsCut (take n text.now) (W.told out.old) (W.told out.new)) }
 {
-    let mut written = 0;
-    while written < text.len() {
-        match out.write(&text[written..]) {
-            Ok(count) if count > 0 => written += count,
-            _ => return Err(written),
-        }
-    }
+    write_all(out, text)?;
     match out.flush() {
         Ok(()) => Ok(()),
-        Err(_) => Err(written),
+        Err(Failed) => Err(text.len()),
     }
 }
 
-/// Writes the parts one after another, and returns whether the writer took all of them.
-pub(crate) fn write_parts<W: Write>(parts: &[&str], out: &mut W) -> bool
-    ensures { IsWritten result (W.contents out.old) (W.contents out.new) (joined parts.now) }
+/// Writes the parts one after another and flushes, and returns whether the outlet took all of them.
+pub(crate) fn write_parts<W: Outlet>(parts: &[&str], out: &mut W) -> bool
+    ensures { IsWritten result (W.told out.old) (W.told out.new) (joined parts.now) }
 {
     for part in parts {
-        match print_text(part.as_bytes(), out) {
+        match write_all(out, part.as_bytes()) {
             Ok(()) => {}
             Err(_count) => return false,
         }
     }
-    true
+    match out.flush() {
+        Ok(()) => true,
+        Err(Failed) => false,
+    }
 }

@@ -8,12 +8,12 @@ use crate::faults::{
 };
 use crate::layout_file::LayoutReadError;
 use dsr_cells::Text;
-use std::io::Write;
+use dsr_intake::Outlet;
 
 /// Writes why there is no layout, and returns the exit status.
-pub(crate) fn layout_refused<F: Write>(name: &Text, error: LayoutReadError, fault: &mut F) -> u8
+pub(crate) fn layout_refused<F: Outlet>(name: &Text, error: LayoutReadError, fault: &mut F) -> u8
     ensures status { result ≡ layout_refused_status error }
-    ensures told { IsTold (F.contents fault.old) (F.contents fault.new)
+    ensures told { IsTold (F.told fault.old) (F.told fault.new)
         (layout_refused_line name.now error) }
 {
     match error {
@@ -30,27 +30,27 @@ pub(crate) fn layout_refused<F: Write>(name: &Text, error: LayoutReadError, faul
 }
 
 /// Writes that a file cannot be opened, and returns the exit status.
-pub fn cannot_open<F: Write>(name: &Text, fault: &mut F) -> u8
+pub fn cannot_open<F: Outlet>(name: &Text, fault: &mut F) -> u8
     ensures status { result ≡ 2 }
-    ensures told { IsTold (F.contents fault.old) (F.contents fault.new) (cannot_open_line name.now) }
+    ensures told { IsTold (F.told fault.old) (F.told fault.new) (cannot_open_line name.now) }
 {
     write_cannot_open(name, fault);
     REFUSED
 }
 
 /// Writes why the arguments are refused, and returns the exit status.
-pub fn refuse<F: Write>(text: &str, fault: &mut F) -> u8
+pub fn refuse<F: Outlet>(text: &str, fault: &mut F) -> u8
     ensures status { result ≡ 2 }
-    ensures told { IsTold (F.contents fault.old) (F.contents fault.new) (line_of text.now) }
+    ensures told { IsTold (F.told fault.old) (F.told fault.new) (line_of text.now) }
 {
     write_line(text, fault);
     REFUSED
 }
 
 /// Writes that memory was refused before a file of the report was read, and returns the exit status.
-pub fn no_memory<F: Write>(fault: &mut F) -> u8
+pub fn no_memory<F: Outlet>(fault: &mut F) -> u8
     ensures status { result ≡ 3 }
-    ensures told { IsTold (F.contents fault.old) (F.contents fault.new)
+    ensures told { IsTold (F.told fault.old) (F.told fault.new)
         (line_of (codes "out of memory")) }
 {
     write_line("out of memory", fault);

@@ -56,7 +56,7 @@ mod pipeline;
 mod statements;
 mod to_write;
 
-pub use outlet::Outlet;
+pub use outlet::{Outlet, write_all};
 pub use pipeline::collector::collect;
 pub use pipeline::errors::{CollectError, IntakeError, RunError};
 pub use pipeline::feed_sink::FeedSink;

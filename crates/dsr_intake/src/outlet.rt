@@ -49,8 +49,12 @@ pub trait Outlet {
         ensures { result ≡ (told self.now).failed };
 }
 
-/// Writes all bytes. The error is how many of them were written.
-pub(crate) fn write_all<W: Outlet>(out: &mut W, bytes: &[u8]) -> Result<(), usize>
+/// Writes all bytes.
+///
+/// # Errors
+///
+/// How many of the bytes were written before a write failed.
+pub fn write_all<W: Outlet>(out: &mut W, bytes: &[u8]) -> Result<(), usize>
     ensures written { MatchResult result
         (λ _. IsTaken bytes.now (W.told out.old) (W.told out.new))
         (λ n. (n ≤ length bytes.now) × IsCut (take n bytes.now) (W.told out.old) (W.told out.new)) }

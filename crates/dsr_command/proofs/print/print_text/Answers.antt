@@ -1,28 +1,18 @@
-use Rattle.std.proofs.Common.{◌≡◌, ◌-◌, length, take, drop, subst, arith, length-drop, rules}
+use Rattle.std.proofs.Common.{length, arith}
 use Rattle.std.proofs.lemmas.List.{take_all}
-use Rattle.std.proofs.Math.Seq.{take-add}
-use Rattle.std.proofs.KnownBytes.{Appends-trans}
-use Rattle.std.specs.Io.KnownBytes.{Appends}
-use Rattle.std.proofs.lemmas.Grind.{common_steps}
+use Rattle.dsr_command.proofs.Printing.{flushed_after, cut_at_flush}
 use Rattle.dsr_command.proofs.print.print_text.Goals as goal
 
-pub loop-written-preserved : goal.loop-written-preserved
-loop-written-preserved g c =
-    let was = c.loop-written.invariant in
-    let a = g.W.Write.contents c.args.out.now in
-    let b = g.W.Write.contents c.loop-written.out in
-    let d = g.W.Write.contents c.write.new.self in
-    let w = c.loop-written.written in
-    let bs = c.args.text.now in
-    let whole : take (length bs - w) (drop w bs) ≡ drop w bs = take_all (length bs - w) (drop w bs) (omega (arith, length-drop w bs)) in
-    record {
-      within = grind (arith, common_steps);
-      appended = rw (take-add w c.in-Ok.count bs) (Appends-trans a b d (take w bs) (take c.in-Ok.count (drop w bs)) was.appended
-          (subst (λ l. Appends b d (take c.in-Ok.count l)) whole c.in-Ok.ensures.bytes));
-    }
+pub returns-in-Ok : goal.returns-in-Ok
+returns-in-Ok g c =
+    flushed_after (g.W.Outlet.told c.args.out.now) (g.W.Outlet.told c.write_all.new.out) (g.W.Outlet.told c.flush.new.self) c.args.text.now
+    c.in_ok-write_all.ensures.written c.flush.ensures.bytes c.in-Ok.ensures.failed c.in-Ok.ensures.flushes
 
-pub returns-in_default-clause-whole : goal.returns-in_default-clause-whole
-returns-in_default-clause-whole g c = search rules
-
-pub returns-in_default-2-clause-whole : goal.returns-in_default-2-clause-whole
-returns-in_default-2-clause-whole g c = search rules
+pub returns-in-Err : goal.returns-in-Err
+returns-in-Err g c =
+    let text = c.args.text.now in (
+      omega arith,
+      rw (take_all (length text) text (omega arith))
+          (cut_at_flush (g.W.Outlet.told c.args.out.now) (g.W.Outlet.told c.write_all.new.out) (g.W.Outlet.told c.flush.new.self) text
+          c.in_ok-write_all.ensures.written c.flush.ensures.bytes c.in-Err.ensures.failed c.in-Err.ensures.flushes.0),
+    )

@@ -1,34 +1,35 @@
 use Rattle.std.proofs.Common.{◌≡◌, ◌∙◌, ◌+◌, ◌++◌, ap, sym, subst, take, drop}
-use Rattle.std.specs.Io.KnownBytes.{Appends}
-use Rattle.std.proofs.KnownBytes.{Appends-trans}
+use Rattle.dsr_intake.specs.meaning.Written.{IsTaken}
 use Rattle.dsr_command.specs.Printing.{joined}
-use Rattle.dsr_command.proofs.Printing.{joined_at, joined_next, written_in_part}
+use Rattle.dsr_command.proofs.Printing.{joined_at, joined_next, taken_none, taken_more, cut_after, written_in_part}
 use Rattle.dsr_command.proofs.print.write_parts.Goals as goal
+
+pub loop-part-init : goal.loop-part-init
+loop-part-init g c = taken_none (g.W.Outlet.told c.args.out.now)
 
 pub loop-part-preserved : goal.loop-part-preserved
 loop-part-preserved g c =
     let parts = c.args.parts.now in
     let i = c.loop-part.part-index in
-    let a = g.W.Write.contents c.args.out.now in
-    let b = g.W.Write.contents c.loop-part.out in
-    let d = g.W.Write.contents c.print_text.new.out in
+    let a = g.W.Outlet.told c.args.out.now in
+    let b = g.W.Outlet.told c.loop-part.out in
+    let d = g.W.Outlet.told c.write_all.new.out in
     let next : joined (take (i + 1) parts) ≡ joined (take i parts) ++ c.as_bytes.result.now =
     joined_next parts i _ c.loop-part-test.true ∙ ap (λ l. joined (take i parts) ++ l) (sym c.as_bytes.ensures.value) in
-    subst (λ l. Appends a d l) (sym next)
-    (Appends-trans a b d (joined (take i parts)) c.as_bytes.result.now c.loop-part.invariant c.in-Ok.ensures.whole)
+    subst (λ l. IsTaken l a d) (sym next) (taken_more a b d (joined (take i parts)) c.as_bytes.result.now c.loop-part.invariant c.in-Ok.ensures.written)
 
 pub returns-in-Err : goal.returns-in-Err
 returns-in-Err g c =
     let parts = c.args.parts.now in
     let i = c.loop-part.part-index in
-    let a = g.W.Write.contents c.args.out.now in
-    let b = g.W.Write.contents c.loop-part.out in
-    let d = g.W.Write.contents c.print_text.new.out in
+    let a = g.W.Outlet.told c.args.out.now in
+    let b = g.W.Outlet.told c.loop-part.out in
+    let d = g.W.Outlet.told c.write_all.new.out in
     let n = c.in-Err._count in
     let front = joined (take i parts) in
     let part = c.as_bytes.result.now in
     let rest = joined (drop (i + 1) parts) in
     let line : joined parts ≡ front ++ (part ++ rest) =
     joined_at parts i _ c.loop-part-test.true ∙ ap (λ l. front ++ (l ++ rest)) (sym c.as_bytes.ensures.value) in
-    written_in_part a d (joined parts) front part rest n line c.in-Err.ensures.part.0
-    (Appends-trans a b d front (take n part) c.loop-part.invariant c.in-Err.ensures.part.1)
+    written_in_part a d (joined parts) front part rest n line c.in-Err.ensures.written.0
+    (cut_after a b d front (take n part) c.loop-part.invariant c.in-Err.ensures.written.1)

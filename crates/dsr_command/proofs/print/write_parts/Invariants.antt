@@ -1,7 +1,7 @@
 use Rattle.std.proofs.Common.{take}
-use Rattle.std.specs.Io.KnownBytes.{Appends}
+use Rattle.dsr_intake.specs.meaning.Written.{IsTaken}
 use Rattle.dsr_command.specs.Printing.{joined}
 use Rattle.dsr_command.proofs.print.write_parts.Given as goal
 
 abbrev pub invariant-loop-part : goal.invariant-loop-part
-invariant-loop-part g l = Appends (g.W.Write.contents l.fn.out) (g.W.Write.contents l.out) (joined (take l.part-index l.parts))
+invariant-loop-part g l = IsTaken (joined (take l.part-index l.parts)) (g.W.Outlet.told l.fn.out) (g.W.Outlet.told l.out)
