@@ -85,3 +85,15 @@ abbrev pub IsDone : (Input → Told) → List (List ℕ) → Outputs → Outputs
 IsDone told words before after status =
     ((asked : Asked) × IsAskedFor words asked × IsServed told asked before after status)
     ⊎ ((fault : CommandFault) × IsFaultFor words fault × IsTurnedDown fault before after status)
+
+-- the arguments cannot be had: one is not UTF-8, or memory was refused
+abbrev pub AreUnread : Written → Written → ℕ → Type 0
+AreUnread before after status =
+    ((status ≡ 2) × IsTold before after (line_of (codes "an argument is not UTF-8")))
+    ⊎ ((status ≡ 3) × IsTold before after (line_of (codes "out of memory")))
+
+-- what the program does for its arguments: what it does for their words, or it cannot have them
+abbrev pub IsAnswered : (Input → Told) → Outputs → Outputs → ℕ → Type 0
+IsAnswered told before after status =
+    ((words : List (List ℕ)) × IsDone told words before after status)
+    ⊎ ((after.out ≡ before.out) × AreUnread before.fault after.fault status)

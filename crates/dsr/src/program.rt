@@ -1,12 +1,12 @@
 //! From the program's arguments to its exit status.
-ghost use Rattle.std.specs.Prelude.{◌≡◌, false, List, All, IfOk, IfErr, Err, MatchOption, map, vec_len};
+ghost use Rattle.std.specs.Prelude.{◌≡◌, false, List, All, IfOk, IfErr, OnOk, Err, MatchOption, map, vec_len};
 ghost use Rattle.std.specs.String.{string_bytes};
 ghost use Rattle.dsr_file.specs.meaning.Runs.{FileText};
 ghost use Rattle.dsr_intake.specs.meaning.Options.{refusal_of};
 ghost use Rattle.dsr_intake.specs.meaning.Outcomes.{IsReported, IsUnwritten, IsLateRun};
 ghost use Rattle.dsr_command.specs.Faults.{fault_line, status_number};
 ghost use Rattle.dsr_command.specs.Printing.{IsTold};
-ghost use Rattle.dsr.specs.Serving.{outputs, HadRun, IsServed, IsShown, IsDone};
+ghost use Rattle.dsr.specs.Serving.{outputs, AreUnread, HadRun, IsServed, IsShown, IsDone, IsAnswered};
 
 use dsr_cells::{NoMemory, Text};
 use dsr_command::{
@@ -43,6 +43,8 @@ pub fn serve<
     F: Outlet,
 >(rt: &H, out: &mut W, fault: &mut F) -> u8
     requires { (W.told out.old).failed ≡ false }
+    ensures { IsAnswered (⟦<Input as Source>⟧.told) (outputs (W.told out.old) (F.told fault.old))
+        (outputs (W.told out.new) (F.told fault.new)) result }
 {
     match words(rt, fault) {
         Ok(words) => answer(rt, &words, out, fault),
@@ -52,7 +54,10 @@ pub fn serve<
 
 /// The arguments after the program's name. The error is the exit status; standard error has its line, as far as it took
 /// it.
-fn words<H: Env + AllocGlobal, F: Outlet>(rt: &H, fault: &mut F) -> Result<Vec<String>, u8> {
+fn words<H: Env + AllocGlobal, F: Outlet>(rt: &H, fault: &mut F) -> Result<Vec<String>, u8>
+    ensures quiet { OnOk result (F.told fault.new ≡ F.told fault.old) }
+    ensures refused { IfErr result (AreUnread (F.told fault.old) (F.told fault.new)) }
+{
     match env::args(rt) {
         Ok(mut words) => {
             let _name = words.next();
@@ -61,10 +66,17 @@ fn words<H: Env + AllocGlobal, F: Outlet>(rt: &H, fault: &mut F) -> Result<Vec<S
                 Err(_) => Err(no_memory(fault)),
             }
         }
-        Err(error) => Err(match error.kind() {
-            ErrorKind::OutOfMemory => no_memory(fault),
-            _ => refuse("an argument is not UTF-8", fault),
-        }),
+        Err(error) => Err(no_words(error.kind(), fault)),
+    }
+}
+
+/// Writes why there are no arguments, and returns the exit status.
+fn no_words<F: Outlet>(kind: ErrorKind, fault: &mut F) -> u8
+    ensures { AreUnread (F.told fault.old) (F.told fault.new) result }
+{
+    match kind {
+        ErrorKind::OutOfMemory => no_memory(fault),
+        _ => refuse("an argument is not UTF-8", fault),
     }
 }
 
