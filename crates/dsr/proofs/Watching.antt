@@ -9,10 +9,10 @@ use Rattle.dsr_file.specs.meaning.Sources.{Told}
 use Rattle.dsr_intake.specs.declared.pipeline.errors.RunError.{RunError}
 use Rattle.dsr_intake.specs.declared.pipeline.errors.RunError.TheVariants as error
 use Rattle.dsr_intake.specs.declared.pipeline.options.Options.{Options}
-use Rattle.dsr_intake.specs.declared.statements.verdict.Status.{Status}
+use Rattle.dsr_statement.specs.declared.verdict.Status.{Status}
 use Rattle.dsr_intake.specs.meaning.Outcomes.{IsReported, IsUnwritten}
 use Rattle.dsr_intake.specs.meaning.Texts.{GaveEach}
-use Rattle.dsr_intake.specs.meaning.Written.{Written}
+use Rattle.dsr_statement.specs.meaning.Written.{Written}
 use Rattle.dsr_command.specs.Faults.{fault_line}
 use Rattle.dsr_command.specs.Printing.{IsTold}
 use Rattle.dsr.specs.Serving.{outputs, HadAnswer}

@@ -13,9 +13,9 @@ use Rattle.dsr_file.specs.meaning.Runs.{FileText}
 use Rattle.dsr_file.specs.meaning.Sources.{Told}
 use Rattle.dsr_intake.specs.declared.pipeline.errors.RunError.{RunError}
 use Rattle.dsr_intake.specs.declared.pipeline.options.Options.{Options}
-use Rattle.dsr_intake.specs.declared.statements.verdict.Status.{Status}
+use Rattle.dsr_statement.specs.declared.verdict.Status.{Status}
 use Rattle.dsr_intake.specs.meaning.Outcomes.{IsReported, IsUnwritten}
-use Rattle.dsr_intake.specs.meaning.Written.{Written, IsFlushed, IsCut}
+use Rattle.dsr_statement.specs.meaning.Written.{Written, IsFlushed, IsCut}
 use Rattle.dsr_records.specs.meaning.Layouts.{standard_layout}
 
 -- standard output and standard error

@@ -1,4 +1,3 @@
 -- The definitions that relate the code to those of `meaning`.
-pub mod Fours
 pub mod Parts
 pub mod Order

@@ -1,8 +1,4 @@
--- The definitions to be trusted: what a cell is, and what it may spell.
+-- The definitions to be trusted: how a text is cut into lines, a line into cells and a cell into values.
+pub mod Lines
 pub mod Cells
 pub mod Values
-pub mod Numbers
-pub mod Texts
-pub mod Days
-pub mod Written
-pub mod Lines

@@ -9,9 +9,9 @@ ghost use Rattle.std.specs.Hash as fed;
 ghost use Rattle.std.proofs.Common.{rules};
 ghost use Rattle.dsr_texts.specs.inner.Bytes.{AreBytes};
 ghost use Rattle.dsr_cells.specs.inner.Order.{number_of_bytes};
-ghost use Rattle.dsr_cells.specs.meaning.Texts.{is_isrc_text};
+ghost use Rattle.dsr_values.specs.meaning.Texts.{is_isrc_text};
 
-use crate::bytes::{all_capitals, all_capitals_or_digits, all_digits};
+use dsr_values::is_isrc;
 use std::cmp::Ordering;
 use std::hash::{Hash, Hasher};
 use std::marker::Model;
@@ -27,7 +27,7 @@ pub struct Isrc {
 
 impl Model for Isrc {
     ghost use Rattle.std.specs.Prelude.{◌≡◌, List, ℕ, true};
-    ghost use Rattle.dsr_cells.specs.meaning.Texts.{is_isrc_text};
+    ghost use Rattle.dsr_values.specs.meaning.Texts.{is_isrc_text};
 
     ghost Value = { List ℕ };
 
@@ -36,14 +36,6 @@ impl Model for Isrc {
     ghost invariant = { λ a. is_isrc_text a.bytes ≡ true };
 
     ghost inverse = { λ t. record { bytes = t } };
-}
-
-/// Whether the bytes are two capitals, three capitals or digits, and seven digits.
-fn is_isrc(bytes: &[u8]) -> bool
-    requires { length bytes.now ≡ 12 }
-    ensures { result ≡ is_isrc_text bytes.now }
-{
-    all_capitals(&bytes[..2]) && all_capitals_or_digits(&bytes[2..5]) && all_digits(&bytes[5..])
 }
 
 /// The first eight bytes as a big-endian number, so that its order is that of the bytes.

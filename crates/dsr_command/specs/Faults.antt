@@ -4,8 +4,8 @@ use Rattle.dsr_intake.specs.declared.pipeline.errors.IntakeError.{IntakeError}
 use Rattle.dsr_intake.specs.declared.pipeline.errors.IntakeError.TheVariants as intake
 use Rattle.dsr_intake.specs.declared.pipeline.errors.RunError.{RunError}
 use Rattle.dsr_intake.specs.declared.pipeline.errors.RunError.TheVariants as run
-use Rattle.dsr_intake.specs.declared.statements.verdict.Status.{Status}
-use Rattle.dsr_intake.specs.declared.statements.verdict.Status.TheVariants.{Clean, Remarks}
+use Rattle.dsr_statement.specs.declared.verdict.Status.{Status}
+use Rattle.dsr_statement.specs.declared.verdict.Status.TheVariants.{Clean, Remarks}
 use Rattle.dsr_records.specs.declared.layout_fault.LayoutError.{LayoutError}
 use Rattle.dsr_records.specs.declared.layout_fault.LayoutFault.{LayoutFault}
 use Rattle.dsr_records.specs.declared.layout_fault.LayoutFault.TheVariants as layout

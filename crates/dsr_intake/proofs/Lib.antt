@@ -3,8 +3,3 @@ pub mod Promises
 pub mod Joining
 pub mod Filing
 pub mod Rounds
-pub mod Sending
-pub mod Lines
-pub mod Bounds
-pub mod AmountCells
-pub mod LedgerBytes

@@ -10,16 +10,9 @@
 //!    waits. `pipeline/seed`: the seed of the hashes in the books.
 //! 5. `pipeline/gather` again: joins the threads, and returns the readers and the closed books. `intake`
 //!    makes their report; the statement of a run is put from lines that borrow their texts from them.
-//! 6. `statements/room`: allocates all memory that writing the statement needs, before its first byte is written.
-//! 7. `statements/write`: puts the statement, by `statements/lines`, `statements/cells`, `statements/key` and
-//!    `statements/names`, into a `Put` (`statements/put`): first into `statements/bound`, which
-//!    computes an upper bound of its bytes (that of the ledger's lines by `statements/ledger_bytes`), then into
-//!    `statements/pieces`. `statements/ledger_put` puts the lines of the ledger as they are given. `statements/status`:
+//! 6. dsr_statement allocates all memory that writing the statement needs, writes it to an outlet in pieces, and says
 //!    whether it has remarks.
-//! 8. `statements/pieces`: writes what is put to an `outlet`, in pieces of up to 64 KiB, and flushes it at the end. What
-//!    waits is in a `statements/slice_buffer`, into which `statements/copying` copies each cell. `to_write` makes an outlet
-//!    of a `std::io::Write`.
-//! 9. `pipeline/run`: all stages together.
+//! 7. `pipeline/run`: all stages together.
 //!
 //! **Example**, compiled and proved in `crates/dsr_tests/src/runs.rt`. `Script` is a reader that gives a text, `Page`
 //! an outlet that keeps what it takes; a program has files and standard output instead:
@@ -47,23 +40,16 @@
 //! flushed, and the status is that report's. If there is no report, nothing was written; if a write or the flush fails,
 //! exactly the reported number of first bytes was written.
 //!
-//! **Where to begin.** `specs/meaning` has the definitions on which the promise of `run` rests, and `specs/inner`
-//! relates the code to them. `pipeline/errors` has each error with its text.
+//! **Where to begin.** `specs/meaning`, here and in dsr_statement, has the definitions on which the promise of `run`
+//! rests, and `specs/inner` relates the code to them. `pipeline/errors` has each error with its text.
 #![tactic(auto)]
 
-mod outlet;
 mod pipeline;
-mod statements;
-mod to_write;
 
-pub use outlet::{Outlet, write_all};
+pub use dsr_statement::{Outlet, Status, ToWrite, statement, status, write_all};
 pub use pipeline::collector::collect;
 pub use pipeline::errors::{CollectError, IntakeError, RunError};
 pub use pipeline::feed_sink::FeedSink;
 pub use pipeline::gather::intake;
 pub use pipeline::options::Options;
 pub use pipeline::run::run;
-pub use statements::status::status;
-pub use statements::verdict::Status;
-pub use statements::write::statement;
-pub use to_write::ToWrite;

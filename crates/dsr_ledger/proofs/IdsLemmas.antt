@@ -3,8 +3,8 @@ use Rattle.dsr_ledger.proofs.Common.{◌≡◌, ℕ, ◌+◌, ◌-◌, ◌<◌, 
 use Rattle.std.proofs.lemmas.Fmt.{decimal-digits_value}
 use Rattle.std.proofs.lemmas.Str.Parse.{digits_value_short}
 use Rattle.std.specs.Char.{is_ascii_digit}
-use Rattle.dsr_cells.specs.meaning.Numbers.{number_of, is_digits, digits_sum}
-use Rattle.dsr_cells.proofs.Numbers.{own}
+use Rattle.dsr_values.specs.meaning.Numbers.{number_of, is_digits, digits_sum}
+use Rattle.dsr_values.proofs.Numbers.{own}
 use Rattle.dsr_ledger.specs.declared.ids.number_range.NumberRange.{NumberRange}
 use Rattle.dsr_ledger.specs.declared.ids.Noted.{Noted}
 use Rattle.dsr_ledger.specs.declared.ids.Noted.TheVariants.{Before, InNumbers, InRun, InRest}

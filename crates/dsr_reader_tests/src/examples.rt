@@ -3,4 +3,6 @@ mod cells;
 mod events;
 mod file;
 mod records;
+mod scan;
 mod texts;
+mod values;

@@ -1,6 +1,6 @@
-//! The examples of dsr_texts, dsr_cells, dsr_records, dsr_events and dsr_file, and tests of what their contracts leave open.
+//! The examples of the seven crates from dsr_values to dsr_file, and tests of what their contracts leave open.
 //!
-//! 1. `examples`: those that the lib.rt files of these five crates show.
+//! 1. `examples`: those that the lib.rt files of these crates show.
 //! 2. `memory`: calls that take memory. Contracts say what each returns if memory is refused; here each succeeds if it is
 //!    not.
 //! 3. `reads`: how far a file is read, which contracts do not say of one that ends for want of memory.

@@ -2,6 +2,5 @@
 pub mod Rows
 pub mod Checked
 pub mod Taken
-pub mod Marks
 pub mod Names
 pub mod Boxes

@@ -3,9 +3,9 @@ ghost use Rattle.std.specs.Prelude.{◌≡◌, ◌≢◌, ◌+◌, ◌-◌, ◌<
 ghost use Rattle.std.specs.Prelude.{[], slice_index, not, false, IfSome};
 ghost use Rattle.std.specs.List.{position, position_or_len};
 ghost use Rattle.dsr_cells.specs.meaning.Cells.{cells};
-ghost use Rattle.dsr_records.specs.inner.Marks.{tab_bits};
+ghost use Rattle.dsr_scan.specs.Tabs.{tab_bits};
 
-use crate::tab_bits::{more_tabs_of, tabs_of};
+use dsr_scan::tabs_of;
 
 /// The index of the first TAB.
 fn find_tab(bytes: &[u8]) -> Option<usize>
@@ -24,6 +24,14 @@ fn first_tab(bytes: &[u8]) -> usize
         Some(place) => place,
         None => bytes.len(),
     }
+}
+
+/// The same as `tabs_of`, not inlined, for the rare cases.
+#[inline(never)]
+fn more_tabs_of(bytes: &[u8]) -> u64
+    ensures { result ≡ tab_bits (take 64 bytes.now) }
+{
+    tabs_of(bytes)
 }
 
 /// The text before the TAB at an index, and the text after it.

@@ -1,8 +1,8 @@
 //! Reading the cells of a row: each call returns what the column's text spells, or the fault of the column.
 ghost use Rattle.std.specs.Prelude.{◌≡◌, ℕ, List, [], ◌∷◌, ◌++◌, Some, None, MatchResult, OnOk, OnSome, is_some, false, take};
-ghost use Rattle.dsr_cells.specs.meaning.Days.{day_of};
-ghost use Rattle.dsr_cells.specs.meaning.Numbers.{amount_of, number_of, usages_of};
-ghost use Rattle.dsr_cells.specs.meaning.Texts.{is_identifier_text};
+ghost use Rattle.dsr_values.specs.meaning.Days.{day_of};
+ghost use Rattle.dsr_values.specs.meaning.Numbers.{amount_of, number_of, usages_of};
+ghost use Rattle.dsr_values.specs.meaning.Texts.{is_identifier_text};
 ghost use Rattle.dsr_records.specs.declared.kinds.Column.TheVariants as columns;
 ghost use Rattle.dsr_records.specs.declared.kinds.RecordFault.TheVariants as faults;
 ghost use Rattle.dsr_records.specs.inner.Rows.{ReadsText, ReadsValue, share_count};

@@ -7,12 +7,12 @@ use Rattle.dsr_ledger.specs.declared.report.Report.{Report}
 use Rattle.dsr_intake.specs.declared.pipeline.options.Options.{Options}
 use Rattle.dsr_intake.specs.declared.pipeline.errors.RunError.{RunError}
 use Rattle.dsr_intake.specs.declared.pipeline.errors.RunError.TheVariants as error
-use Rattle.dsr_intake.specs.declared.statements.verdict.Status.{Status}
+use Rattle.dsr_statement.specs.declared.verdict.Status.{Status}
 use Rattle.dsr_intake.specs.meaning.Options.{IsLate}
-use Rattle.dsr_intake.specs.meaning.Statement.{statement_of}
-use Rattle.dsr_intake.specs.meaning.Status.{status_of}
+use Rattle.dsr_statement.specs.meaning.Statement.{statement_of}
+use Rattle.dsr_statement.specs.meaning.Status.{status_of}
 use Rattle.dsr_intake.specs.meaning.Texts.{GaveEach, report_of_texts}
-use Rattle.dsr_intake.specs.meaning.Written.{Written, IsFlushed, IsCut}
+use Rattle.dsr_statement.specs.meaning.Written.{Written, IsFlushed, IsCut}
 
 -- the report is the one of the texts that the readers gave
 abbrev pub IsReportOf : {R : Type 0} → (R → Told) → Options → List R → List R → Report → Type 0

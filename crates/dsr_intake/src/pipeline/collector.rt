@@ -318,7 +318,10 @@ pub(crate) fn collect_books<H: Wait + RandomSource>(
     let Ok(mut books) = Books::with_seed(alloc, taps.len() as u32, random_seed(rt)) else {
         return Err(CollectError::Memory);
     };
-    book_all(rt, &mut books, taps)?;
+    if let Err(error) = book_all(rt, &mut books, taps) {
+        drop(books);
+        return Err(error);
+    }
     match books.close() {
         Ok(books) => Ok(books),
         Err(NoMemory) => Err(CollectError::Memory),

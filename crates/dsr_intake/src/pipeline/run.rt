@@ -8,21 +8,18 @@ ghost use Rattle.dsr_ledger.specs.inner.Lent.{IsReady, IsLent};
 ghost use Rattle.dsr_ledger.specs.meaning.Reports.{report_of};
 ghost use Rattle.dsr_intake.specs.meaning.Options.{refusal_of};
 ghost use Rattle.dsr_intake.specs.meaning.Outcomes.{IsReported, IsUnwritten, IsLateRun};
-ghost use Rattle.dsr_intake.specs.meaning.Statement.{statement_of};
-ghost use Rattle.dsr_intake.specs.meaning.Status.{status_of};
-ghost use Rattle.dsr_intake.specs.meaning.Written.{IsFlushed};
+ghost use Rattle.dsr_statement.specs.meaning.Statement.{statement_of};
+ghost use Rattle.dsr_statement.specs.meaning.Status.{status_of};
+ghost use Rattle.dsr_statement.specs.meaning.Written.{IsFlushed};
 ghost use Rattle.dsr_intake.specs.inner.Unfinished.{IsUnfinished};
 
-use crate::outlet::Outlet;
 use crate::pipeline::errors::{IntakeError, RunError};
 use crate::pipeline::gather::read_books;
 use crate::pipeline::options::Options;
-use crate::statements::status::lent_status;
-use crate::statements::verdict::Status;
-use crate::statements::write::{room_for, write_statement};
 use dsr_cells::NoMemory;
 use dsr_file::Source;
 use dsr_ledger::{ClosedBooks, LentReport};
+use dsr_statement::{Outlet, Status, lent_status, room_for, write_statement};
 use std::alloc::Global;
 use std::random::RandomSource;
 use std::sync::Wait;
@@ -57,8 +54,14 @@ pub fn run<
         (IfErr result IsLateRun)
         (λ e. (result ≡ Err (RunError.Intake e)) × (readers.new ≡ readers.old)) }
 {
-    match read_books(rt, alloc, readers, &options) {
-        Ok(books) => write_books(alloc, &books, out),
+    let books = read_books(rt, alloc, readers, &options);
+    drop(options);
+    match books {
+        Ok(books) => {
+            let answer = write_books(alloc, &books, out);
+            drop(books);
+            answer
+        }
         Err(error) => Err(RunError::Intake(error)),
     }
 }

@@ -2,7 +2,7 @@
 use Rattle.std.specs.Prelude.{is_some, find, ℕ, Bool, true, false, not, nat_lt, ◌==◌, List, [], ◌∷◌, ◌++◌, length, sum_by, sum, Option, None, Some, slice_get}
 use Rattle.std.specs.List.{list_any}
 use Rattle.std.specs.Str.{bytes_eq}
-use Rattle.dsr_cells.specs.meaning.Texts.{is_isrc_text}
+use Rattle.dsr_values.specs.meaning.Texts.{is_isrc_text}
 use Rattle.dsr_records.specs.declared.record.Summary.{Summary}
 use Rattle.dsr_records.specs.declared.record.Usage.{Usage}
 use Rattle.dsr_records.specs.meaning.Works.{WorkParts}

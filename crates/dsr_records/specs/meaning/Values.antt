@@ -2,8 +2,8 @@
 use Rattle.std.specs.Prelude.{ℕ, nat_lt, if◌then◌else◌, List, map, length, Option, Some, None, Result, Ok, Err, ℤ, pos}
 use Rattle.std.specs.Option.{unwrap_or}
 use Rattle.dsr_cells.specs.meaning.Cells.{cells}
-use Rattle.dsr_cells.specs.meaning.Days.{CivilDay, day_of}
-use Rattle.dsr_cells.specs.meaning.Numbers.{number_of, usages_of, amount_of, share_of}
+use Rattle.dsr_values.specs.meaning.Days.{CivilDay, day_of}
+use Rattle.dsr_values.specs.meaning.Numbers.{number_of, usages_of, amount_of, share_of}
 use Rattle.dsr_cells.specs.meaning.Values.{raw_parts, value_of}
 use Rattle.dsr_records.specs.declared.kinds.Kind.{Kind}
 use Rattle.dsr_records.specs.declared.kinds.Kind.TheVariants.{Head, Summary, Resource, Work, Usage, Foot, Skipped}

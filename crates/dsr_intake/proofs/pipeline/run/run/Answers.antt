@@ -5,13 +5,13 @@ use Rattle.dsr_file.specs.meaning.Sources.{Told}
 use Rattle.dsr_intake.specs.declared.pipeline.errors.RunError.{RunError}
 use Rattle.dsr_intake.specs.declared.pipeline.errors.RunError.TheVariants as error
 use Rattle.dsr_intake.specs.declared.pipeline.options.Options.{Options}
-use Rattle.dsr_intake.specs.declared.statements.verdict.Status.{Status}
+use Rattle.dsr_statement.specs.declared.verdict.Status.{Status}
 use Rattle.dsr_intake.specs.meaning.Options.{refusal_of}
 use Rattle.dsr_intake.specs.meaning.Outcomes.{IsReported, IsUnwritten}
-use Rattle.dsr_intake.specs.meaning.Statement.{statement_of}
-use Rattle.dsr_intake.specs.meaning.Status.{status_of}
+use Rattle.dsr_statement.specs.meaning.Statement.{statement_of}
+use Rattle.dsr_statement.specs.meaning.Status.{status_of}
 use Rattle.dsr_intake.specs.meaning.Texts.{GaveEach, report_of_texts}
-use Rattle.dsr_intake.specs.meaning.Written.{Written, IsFlushed}
+use Rattle.dsr_statement.specs.meaning.Written.{Written, IsFlushed}
 use Rattle.dsr_intake.specs.inner.Unfinished.{IsUnfinished}
 use Rattle.dsr_intake.proofs.pipeline.run.run.Goals as goal
 
@@ -40,18 +40,18 @@ pub returns-in-Ok-clause-reported : goal.returns-in-Ok-clause-reported
 unfolding report_of_texts
 returns-in-Ok-clause-reported g c =
     let p = c.in-Ok.ensures.books in
-    let did = c.write_books.ensures in
-    reported g.R.Source.told c.args.options c.args.readers.now.items c.read_books.new.readers.items (g.W.Outlet.told c.args.out.now)
-    (g.W.Outlet.told c.write_books.new.out) p.0 p.1 c.write_books.result (did.written _ p.2) (did.status _ p.2) c.requires.outlet
+    let did = c.write_books-answer.ensures in
+    reported g.R.Source.told c.args.options c.args.readers.now.items c.read_books-books.new.readers.items (g.W.Outlet.told c.args.out.now)
+    (g.W.Outlet.told c.write_books-answer.new.out) p.0 p.1 c.write_books-answer.result (did.written _ p.2) (did.status _ p.2) c.requires.outlet
 
 pub returns-in-Ok-clause-unwritten : goal.returns-in-Ok-clause-unwritten
 unfolding report_of_texts
 returns-in-Ok-clause-unwritten g c =
     let p = c.in-Ok.ensures.books in
-    unwritten g.R.Source.told c.args.options c.args.readers.now.items c.read_books.new.readers.items (g.W.Outlet.told c.args.out.now)
-    (g.W.Outlet.told c.write_books.new.out) p.0 p.1 c.write_books.result (c.write_books.ensures.unfinished _ p.2)
+    unwritten g.R.Source.told c.args.options c.args.readers.now.items c.read_books-books.new.readers.items (g.W.Outlet.told c.args.out.now)
+    (g.W.Outlet.told c.write_books-answer.new.out) p.0 p.1 c.write_books-answer.result (c.write_books-answer.ensures.unfinished _ p.2)
 
 pub returns-in-Ok-clause-refused : goal.returns-in-Ok-clause-refused
 returns-in-Ok-clause-refused g c =
     not_refused (refusal_of (vec_len c.args.readers.now) c.args.options) _ _ _ _ c.in-Ok.ensures.refused (λ e r. true≢false (ap is_ok r.0))
-    c.write_books.ensures.late
+    c.write_books-answer.ensures.late

@@ -1,7 +1,0 @@
-use Rattle.std.proofs.Common.{rules}
-use Rattle.std.proofs.lemmas.List.{append-nil}
-use Rattle.dsr_intake.proofs.Lines.{turn}
-use Rattle.dsr_intake.proofs.statements.cells.put_amount.Goals as goal
-
-pub returns : goal.returns
-returns g c = turn c.put_amount.ensures (search (rules, append-nil))

@@ -1,6 +1,0 @@
-use Rattle.std.proofs.Common.{rules}
-use Rattle.dsr_intake.proofs.Lines.{then, turn}
-use Rattle.dsr_intake.proofs.statements.lines.put_head.Goals as goal
-
-pub returns-in-None : goal.returns-in-None
-returns-in-None g c = rw c.in-None.is (turn (then c.put.ensures c.put_end.ensures) (search rules))

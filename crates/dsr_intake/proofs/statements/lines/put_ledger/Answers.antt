@@ -1,7 +1,0 @@
-use Rattle.dsr_intake.specs.meaning.Statement.{ledger_lines}
-use Rattle.dsr_intake.proofs.Lines.{then}
-use Rattle.dsr_intake.proofs.statements.lines.put_ledger.Goals as goal
-
-pub returns : goal.returns
-unfolding ledger_lines
-returns g c = then c.put_sums.ensures (then c.put_parties.ensures c.put_unclaimed.ensures)

@@ -1,9 +1,0 @@
-use Rattle.std.proofs.Common.{append_assoc, rules}
-use Rattle.std.proofs.lemmas.List.{append-nil}
-use Rattle.dsr_intake.specs.meaning.Statement.{unclaimed_line}
-use Rattle.dsr_intake.proofs.Lines.{then, turn}
-use Rattle.dsr_intake.proofs.statements.lines.put_unclaimed.Goals as goal
-
-pub returns : goal.returns
-unfolding unclaimed_line
-returns g c = turn (then c.put.ensures (then c.put_key.ensures c.put_last_amount.ensures)) (search (rules, append_assoc, append-nil))

@@ -1,4 +1,0 @@
-//! Scanning bytes with SIMD.
-mod utf8;
-
-pub use utf8::text_of;

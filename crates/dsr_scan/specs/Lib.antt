@@ -1,0 +1,2 @@
+-- The definition in the contracts of this crate.
+pub mod Tabs

@@ -1,0 +1,5 @@
+pub mod Sending
+pub mod LineLemmas
+pub mod Bounds
+pub mod AmountCells
+pub mod LedgerBytes

@@ -1,0 +1,73 @@
+-- What is put, cell by cell and line by line.
+use Rattle.std.proofs.Common.{◌≡◌, ℕ, ◌+◌, ◌<◌, ◌≤◌, ◌++◌, ◌∙◌, List, [], ◌∷◌, length, take, get_or, suc, sym, subst, ap, arith, append_assoc}
+use Rattle.std.specs.Prelude.{ℤ}
+use Rattle.std.specs.Fmt.{signed_decimal}
+use Rattle.std.specs.List.{flat_map}
+use Rattle.std.proofs.lemmas.List.{append-nil, take_all, take_more, length-take-le}
+use Rattle.std.proofs.lemmas.Grind.{flat_map-append}
+use Rattle.dsr_ledger.specs.declared.report.FileLine.{FileLine}
+use Rattle.dsr_statement.specs.meaning.Statement.{file_line, file_lines}
+use Rattle.dsr_statement.specs.inner.Puts.{Puts}
+
+pub nothing : {P : Type 0} {after : P → P → List ℕ → Type 0} (p : P) → Puts after p p []
+nothing {P} {after} p = record { carries = λ start put h. rw (append-nil put) h }
+
+pub then : {P : Type 0} {after : P → P → List ℕ → Type 0} {p q r : P} {xs ys : List ℕ} → Puts after p q xs → Puts after q r ys → Puts after p r (xs ++ ys)
+then {P} {after} {p} {q} {r} {xs} {ys} first second =
+    record { carries = λ start put h. rw (← append_assoc put xs ys) (second.carries start (put ++ xs) (first.carries start put h)) }
+
+pub turn : {P : Type 0} {after : P → P → List ℕ → Type 0} {p q : P} {xs ys : List ℕ} → Puts after p q xs → xs ≡ ys → Puts after p q ys
+turn {P} {after} {p} {q} puts e = subst (λ l. Puts after p q l) e puts
+
+-- the lines of one more item
+pub one_more : {P : Type 0} {after : P → P → List ℕ → Type 0} {p q r : P} {X : Type 0} (f : X → List ℕ) (xs : List X) (x : X)
+    → Puts after p q (flat_map f xs) → Puts after q r (f x) → Puts after p r (flat_map f (xs ++ x ∷ []))
+one_more f xs x before now = turn (then before now) (sym (flat_map-append f xs (x ∷ []) ∙ ap (λ l. flat_map f xs ++ l) (append-nil (f x))))
+
+-- the lines of the first items of a list, and of one more
+pub more : {P : Type 0} {after : P → P → List ℕ → Type 0} {p q r : P} {X : Type 0} (f : X → List ℕ) (xs : List X) (i : ℕ) (x d : X) → i < length xs
+    → x ≡ get_or xs i d → Puts after p q (flat_map f (take i xs)) → Puts after q r (f x) → Puts after p r (flat_map f (take (i + 1) xs))
+more f xs i x d less is before now =
+    let front : take (i + 1) xs ≡ take i xs ++ x ∷ [] = take_more xs i d less ∙ ap (λ y. take i xs ++ y ∷ []) (sym is) in
+    turn (one_more f (take i xs) x before now) (sym (ap (flat_map f) front))
+
+-- the lines of all items
+pub all : {P : Type 0} {after : P → P → List ℕ → Type 0} {p q : P} {X : Type 0} (f : X → List ℕ) (xs : List X) (i : ℕ) → length xs ≤ i
+    → Puts after p q (flat_map f (take i xs)) → Puts after p q (flat_map f xs)
+all f xs i end puts = turn puts (ap (flat_map f) (take_all i xs end))
+
+-- the line of one more file
+pub file_lines_more : (place : ℕ) (files : List FileLine) (f : FileLine)
+    → file_lines place (files ++ f ∷ []) ≡ file_lines place files ++ file_line (place + length files) f
+file_lines_more place [] f =
+    let on : place ≡ place + 0 = omega arith in
+    append-nil (file_line place f) ∙ ap (λ n. file_line n f) on
+file_lines_more place (x ∷ xs) f =
+    let on : suc place + length xs ≡ place + suc (length xs) = omega arith in
+    ap (λ l. file_line place x ++ l) (file_lines_more (suc place) xs f ∙ ap (λ n. file_lines (suc place) xs ++ file_line n f) on)
+    ∙ sym (append_assoc (file_line place x) (file_lines (suc place) xs) (file_line (place + suc (length xs)) f))
+
+pub more_files : {P : Type 0} {after : P → P → List ℕ → Type 0} {p q r : P} {f : FileLine} (files : List FileLine) (i place : ℕ) (d : FileLine)
+    → i < length files → place ≡ i + 1 → Puts after p q (file_lines 1 (take i files)) → Puts after q r (file_line place f) → f ≡ get_or files i d
+    → Puts after p r (file_lines 1 (take (i + 1) files))
+more_files {P} {after} {p} {q} {r} {f} files i place d less at before now is =
+    let was = take i files in
+    let next = take_more files i d less ∙ ap (λ x. was ++ x ∷ []) (sym is) in
+    let here : place ≡ 1 + length was = omega (arith, at, length-take-le i files (omega (arith, less))) in
+    let line = ap (file_lines 1) next ∙ file_lines_more 1 was f in
+    turn (then before (turn now (ap (λ n. file_line n f) here))) (sym line)
+
+-- the same number, in another form
+pub signed : {P : Type 0} {after : P → P → List ℕ → Type 0} {p q : P} {n : ℤ} (m : ℤ)
+    → Puts after p q (9 ∷ signed_decimal n) → n ≡ m → Puts after p q (9 ∷ signed_decimal m)
+signed m puts same = turn puts (ap (λ x. 9 ∷ signed_decimal x) same)
+
+-- the same cell, in another form
+pub cell : {P : Type 0} {after : P → P → List ℕ → Type 0} {p q : P} {x : List ℕ} (y : List ℕ) → Puts after p q (9 ∷ x) → x ≡ y → Puts after p q (9 ∷ y)
+cell y puts same = turn puts (ap (λ l. 9 ∷ l) same)
+
+-- the cells of a report's line, with the two days put at once
+pub days_within : (head id files first last days end : List ℕ)
+    → head ++ (id ++ (files ++ ((first ++ (last ++ [])) ++ (days ++ end))))
+    ≡ head ++ ((id ++ (files ++ (first ++ (last ++ (days ++ []))))) ++ end)
+days_within head id files first last days end = search (append_assoc, append-nil)

@@ -1,0 +1,5 @@
+use Rattle.dsr_statement.proofs.LineLemmas.{then}
+use Rattle.dsr_statement.proofs.cells.put_text.Goals as goal
+
+pub returns : goal.returns
+returns g c = then c.put.ensures c.put-2.ensures

@@ -1,0 +1,9 @@
+use Rattle.std.proofs.Common.{append_assoc, rules}
+use Rattle.std.proofs.lemmas.List.{append-nil}
+use Rattle.dsr_statement.proofs.LineLemmas.{then, turn}
+use Rattle.dsr_statement.proofs.key.put_key_cells.Goals as goal
+
+pub returns : goal.returns
+returns g c =
+    turn (then c.put_text.ensures (then c.put_text-2.ensures (then c.put_text-3.ensures c.put_text-4.ensures)))
+    (search (rules, append_assoc, append-nil))

@@ -1,0 +1,15 @@
+use Rattle.std.proofs.Common.{append_assoc, rules}
+use Rattle.std.proofs.lemmas.List.{append-nil}
+use Rattle.dsr_statement.specs.meaning.Statement.{outcome_cells}
+use Rattle.dsr_statement.proofs.LineLemmas.{then, turn}
+use Rattle.dsr_statement.proofs.lines.put_outcome.Goals as goal
+
+pub returns-in-Whole : goal.returns-in-Whole
+unfolding outcome_cells
+returns-in-Whole g c = rw c.in-Whole.is (turn c.put_text.ensures (search (rules, append-nil)))
+
+pub returns-in-Fault : goal.returns-in-Fault
+unfolding outcome_cells
+returns-in-Fault g c =
+    rw c.in-Fault.is (turn (then c.put_text-in-Fault.ensures (then c.put_number.ensures (then c.put_text-in-Fault-2.ensures c.put_column.ensures)))
+    (search (rules, append_assoc, append-nil)))

@@ -1,0 +1,16 @@
+use Rattle.std.proofs.Common.{refl, ap, arith}
+use Rattle.std.proofs.lemmas.List.{take_all}
+use Rattle.dsr_statement.specs.meaning.Statement.{file_lines}
+use Rattle.dsr_statement.proofs.LineLemmas.{turn, more_files}
+use Rattle.dsr_statement.proofs.write.put_files.Goals as goal
+
+pub loop-file-preserved : goal.loop-file-preserved
+loop-file-preserved g c =
+    record {
+      place = omega (arith, c.loop-file.invariant.place);
+      lines = more_files c.args.files.now c.loop-file.file-index c.loop-file.place _ c.loop-file-test.true
+          c.loop-file.invariant.place c.loop-file.invariant.lines c.put_file.ensures refl;
+    }
+
+pub returns : goal.returns
+returns g c = turn c.loop-file.invariant.lines (ap (file_lines 1) (take_all c.loop-file.file-index c.args.files.now c.loop-file-test.false))

@@ -1,0 +1,68 @@
+//! The cells with which each line of a ledger key begins.
+ghost use Rattle.std.specs.Prelude.{◌≡◌, ◌++◌, ◌∷◌, true, IfSome};
+ghost use Rattle.dsr_statement.specs.meaning.Statement.{tabbed, key_cells};
+ghost use Rattle.dsr_statement.specs.inner.Puts.{Puts};
+
+use crate::cells::put_text;
+use crate::put::Put;
+use crate::slice_buffer::SliceBuffer;
+use dsr_ledger::LentLine;
+
+/// Room for this many bytes of a key's cells.
+pub(crate) const KEY_ROOM: usize = 256;
+
+/// The cells of a key, written into this room, if they are wanted and fit.
+pub(crate) fn laid_key<'a>(
+    are_wanted: bool,
+    room: &'a mut SliceBuffer<'_>,
+    line: &LentLine<'_>,
+) -> Option<&'a [u8]>
+    ensures { IfSome result (λ k. k.now ≡ tabbed (key_cells line.now)) }
+{
+    if are_wanted && lay_key(room, line) {
+        Some(room.as_slice())
+    } else {
+        None
+    }
+}
+
+/// Writes the cells of a key over what the room has. Returns whether they fit.
+fn lay_key(room: &mut SliceBuffer<'_>, line: &LentLine<'_>) -> bool
+    ensures { result ≡ true → room.new ≡ tabbed (key_cells line.now) }
+{
+    room.clear();
+    lay_cell(room, line.isrc.as_bytes())
+        && lay_cell(room, line.territory.as_str().as_bytes())
+        && lay_cell(room, line.use_type.as_str().as_bytes())
+        && lay_cell(room, line.currency.as_str().as_bytes())
+}
+
+/// Appends a cell, after a tab. Returns whether it fits.
+#[inline(always)]
+fn lay_cell(room: &mut SliceBuffer<'_>, cell: &[u8]) -> bool
+    ensures { result ≡ true → room.new ≡ room.old ++ 9 ∷ cell.now }
+{
+    room.append(b"\t") && room.append(cell)
+}
+
+/// Puts the cells of a line's key: those of `key`, if they were laid there.
+#[inline(always)]
+pub(crate) fn put_key<P: Put>(out: &mut P, key: Option<&[u8]>, line: &LentLine<'_>)
+    requires { IfSome key (λ k. k.now ≡ tabbed (key_cells line.now)) }
+    ensures { Puts P.after out.old out.new (tabbed (key_cells line.now)) }
+{
+    match key {
+        Some(cells) => out.put(cells),
+        None => put_key_cells(out, line),
+    }
+}
+
+/// Puts the cells of a line's key one by one.
+fn put_key_cells<P: Put>(out: &mut P, line: &LentLine<'_>)
+    ensures { Puts P.after out.old out.new (tabbed (key_cells line.now)) }
+{
+    put_text(out, line.isrc.as_bytes());
+    put_text(out, line.territory.as_str().as_bytes());
+    put_text(out, line.use_type.as_str().as_bytes());
+    put_text(out, line.currency.as_str().as_bytes())
+}

@@ -1,0 +1,190 @@
+//! The lines of a statement.
+ghost use Rattle.std.specs.Prelude.{◌≡◌, ◌∷◌, [], IfSome};
+ghost use Rattle.std.specs.Fmt.{signed_decimal};
+ghost use Rattle.std.specs.List.{flat_map};
+ghost use Rattle.dsr_statement.specs.meaning.Statement.{tabbed, head_line, report_line, number_cell, outcome_cells, column_cells};
+ghost use Rattle.dsr_statement.specs.meaning.Statement.{key_cells, file_line, missing_line, difference_line, ledger_lines};
+ghost use Rattle.dsr_statement.specs.meaning.Statement.{sums_line, party_line, unclaimed_line, reject_line};
+ghost use Rattle.dsr_statement.specs.inner.Laid.{day_cells};
+ghost use Rattle.dsr_statement.specs.inner.Puts.{Puts};
+
+use crate::cells::{put_amount, put_end, put_last_amount, put_number, put_signed, put_text};
+use crate::key::{laid_key, put_key};
+use crate::names::{reason_name, standing_name};
+use crate::put::Put;
+use crate::slice_buffer::SliceBuffer;
+use dsr_events::Outcome;
+use dsr_ledger::{Difference, FileLine, LentLine, LentParty, Reject, ReportKey};
+use dsr_records::Column;
+
+/// Puts the first line. `days` has the cells of the report's days.
+pub(crate) fn put_head<P: Put>(out: &mut P, key: &Option<ReportKey>, days: &[u8])
+    requires { IfSome key.now (λ k. days.now ≡ day_cells k) }
+    ensures { Puts P.after out.old out.new (head_line key.now) }
+{
+    match key {
+        Some(key) => put_report(out, key, days),
+        None => {
+            out.put(b"NOREPORT");
+            put_end(out)
+        }
+    }
+}
+
+/// Puts the line of the report's key. `days` has the cells of its days.
+fn put_report<P: Put>(out: &mut P, key: &ReportKey, days: &[u8])
+    requires { days.now ≡ day_cells key.now }
+    ensures { Puts P.after out.old out.new (report_line key.now) }
+{
+    let first = i128::from(key.first_day.number());
+    let last = i128::from(key.last_day.number());
+    out.put(b"REPORT");
+    put_text(out, key.message_id.as_str().as_bytes());
+    put_number(out, u64::from(key.number_of_files));
+    out.put(days);
+    put_signed(out, last - first + 1);
+    put_end(out)
+}
+
+/// Puts the line of the file at this place in the order given, from 1.
+pub(crate) fn put_file<P: Put>(out: &mut P, place: u64, file: &FileLine)
+    ensures { Puts P.after out.old out.new (file_line place file.now) }
+{
+    out.put(b"FILE");
+    put_number(out, place);
+    put_file_number(out, file.number);
+    put_text(out, standing_name(file.standing).as_bytes());
+    put_number(out, file.blocks);
+    put_outcome(out, file.outcome);
+    put_end(out)
+}
+
+/// Puts the number that a file's opening gives it, or a hyphen.
+fn put_file_number<P: Put>(out: &mut P, number: Option<u32>)
+    ensures { Puts P.after out.old out.new (9 ∷ number_cell number) }
+{
+    match number {
+        Some(number) => put_number(out, u64::from(number)),
+        None => put_text(out, b"-"),
+    }
+}
+
+/// Puts the cells that say how a file ended.
+fn put_outcome<P: Put>(out: &mut P, outcome: Outcome)
+    ensures { Puts P.after out.old out.new (tabbed (outcome_cells outcome)) }
+{
+    match outcome {
+        Outcome::Whole => put_text(out, b"Whole"),
+        Outcome::Fault { line, fault } => {
+            put_text(out, b"Fault");
+            put_number(out, line);
+            put_text(out, fault.name().as_bytes());
+            put_column(out, fault.column())
+        }
+    }
+}
+
+/// Puts the column, if the fault has one.
+fn put_column<P: Put>(out: &mut P, column: Option<Column>)
+    ensures { Puts P.after out.old out.new (tabbed (column_cells column)) }
+{
+    match column {
+        Some(column) => put_text(out, column.name().as_bytes()),
+        None => {}
+    }
+}
+
+/// Puts the line of a missing file.
+pub(crate) fn put_missing<P: Put>(out: &mut P, number: u32)
+    ensures { Puts P.after out.old out.new (missing_line number) }
+{
+    out.put(b"MISSING");
+    put_number(out, u64::from(number));
+    put_end(out)
+}
+
+/// Puts the line of a difference.
+pub(crate) fn put_difference<P: Put>(out: &mut P, difference: &Difference)
+    ensures { Puts P.after out.old out.new (difference_line difference.now) }
+{
+    out.put(b"SUMMARY");
+    put_number(out, u64::from(difference.file));
+    put_text(out, difference.summary_id.as_str().as_bytes());
+    put_usages(out, difference.stated_usages, difference.found_usages);
+    put_amount(out, difference.stated_amount);
+    put_last_amount(out, difference.found_amount);
+}
+
+/// Puts the usages that a summary states, and those that were found for it.
+fn put_usages<P: Put>(out: &mut P, stated: i64, found: i128)
+    ensures { Puts P.after out.old out.new
+        (tabbed (signed_decimal stated ∷ signed_decimal found ∷ [])) }
+{
+    put_signed(out, i128::from(stated));
+    put_signed(out, found)
+}
+
+/// Puts the lines of a ledger line: its sums, its parties, and the unclaimed amount. The cells of
+/// the key, with which each of them begins, are written into `room` once.
+pub(crate) fn put_ledger<P: Put>(out: &mut P, room: &mut SliceBuffer<'_>, line: &LentLine<'_>)
+    ensures { Puts P.after out.old out.new (ledger_lines line.now) }
+{
+    let key = laid_key(out.copies_bytes(), room, line);
+    put_sums(out, key, line);
+    put_parties(out, key, line);
+    put_unclaimed(out, key, line)
+}
+
+/// Puts the line of a key's sums. `key` has the key's cells, if they fit.
+fn put_sums<P: Put>(out: &mut P, key: Option<&[u8]>, line: &LentLine<'_>)
+    requires { IfSome key (λ k. k.now ≡ tabbed (key_cells line.now)) }
+    ensures { Puts P.after out.old out.new (sums_line line.now) }
+{
+    out.put(b"LEDGER");
+    put_key(out, key, line);
+    put_signed(out, line.usages);
+    put_last_amount(out, line.amount);
+}
+
+/// Puts the lines of a key's parties. `key` has the key's cells, if they fit.
+fn put_parties<P: Put>(out: &mut P, key: Option<&[u8]>, line: &LentLine<'_>)
+    requires { IfSome key (λ k. k.now ≡ tabbed (key_cells line.now)) }
+    ensures { Puts P.after out.old out.new (flat_map (party_line line.now) line.now.parties) }
+{
+    for party in line.parties {
+        put_party(out, key, line, party);
+    }
+}
+
+/// Puts the line of a party. `key` has the key's cells, if they fit.
+fn put_party<P: Put>(out: &mut P, key: Option<&[u8]>, line: &LentLine<'_>, party: &LentParty<'_>)
+    requires { IfSome key (λ k. k.now ≡ tabbed (key_cells line.now)) }
+    ensures { Puts P.after out.old out.new (party_line line.now party.now) }
+{
+    out.put(b"PARTY");
+    put_key(out, key, line);
+    put_text(out, party.party().as_bytes());
+    put_last_amount(out, party.amount());
+}
+
+/// Puts the line of a key's unclaimed amount. `key` has the key's cells, if they fit.
+fn put_unclaimed<P: Put>(out: &mut P, key: Option<&[u8]>, line: &LentLine<'_>)
+    requires { IfSome key (λ k. k.now ≡ tabbed (key_cells line.now)) }
+    ensures { Puts P.after out.old out.new (unclaimed_line line.now) }
+{
+    out.put(b"UNCLAIMED");
+    put_key(out, key, line);
+    put_last_amount(out, line.unclaimed);
+}
+
+/// Puts the line of a rejected block.
+pub(crate) fn put_reject<P: Put>(out: &mut P, reject: &Reject)
+    ensures { Puts P.after out.old out.new (reject_line reject.now) }
+{
+    out.put(b"REJECT");
+    put_number(out, u64::from(reject.file));
+    put_number(out, reject.position);
+    put_text(out, reject.block_id.as_str().as_bytes());
+    put_text(out, reason_name(reject.reason).as_bytes());
+    put_end(out)
+}

@@ -1,0 +1,186 @@
+//! Writing the bytes of a statement to an outlet, in pieces.
+ghost use Rattle.std.specs.Prelude.{◌≡◌, ◌<◌, ◌≤◌, ◌++◌, [], List, ℕ, true, false, if◌then◌else◌, length, take, OnOk, IfErr};
+ghost use Rattle.dsr_statement.specs.meaning.Written.{Written, IsFlushed, IsCut};
+ghost use Rattle.dsr_statement.specs.inner.Pieces.{IsSent, Holds, Carries, MOST};
+
+use crate::outlet::{Outlet, write_all};
+use crate::put::Put;
+use crate::slice_buffer::SliceBuffer;
+use dsr_cells::fill_amount;
+use dsr_file::Failed;
+use itoa::Buffer;
+
+/// Room for this many bytes that wait, to be written at once.
+pub(crate) const PIECE: usize = 65_536;
+
+/// An outlet, how many bytes it took, and whether it has failed.
+#[derive(Drop)]
+pub(crate) struct Sender<'a, W> {
+    out: &'a mut W,
+    written: u64,
+    failed: bool,
+}
+
+impl<'a, W: Outlet> Sender<'a, W> {
+    /// Writes all bytes, unless the outlet has failed.
+    fn send(&mut self, bytes: &[u8])
+        ensures same_outlet { self.new.out.ghost_name ≡ self.old.out.ghost_name }
+        ensures sent { (sent : List ℕ) (before : Written)
+            → IsSent self.old.failed sent self.old.written before (W.told self.old.out.now)
+            → IsSent self.new.failed (sent ++ bytes.now) self.new.written before (W.told self.new.out.now) }
+    {
+        if self.failed {
+            return;
+        }
+        match write_all(self.out, bytes) {
+            Ok(()) => self.written = self.written.saturating_add(bytes.len() as u64),
+            Err(count) => {
+                self.failed = true;
+                self.written = self.written.saturating_add(count as u64);
+            }
+        }
+    }
+}
+
+/// A buffered writer to an outlet.
+#[derive(Drop)]
+pub(crate) struct Pieces<'a, W> {
+    sender: Sender<'a, W>,
+    /// The bytes that wait to be written.
+    waiting: SliceBuffer<'a>,
+}
+
+impl<'a, W: Outlet> Pieces<'a, W> {
+    /// A buffered writer to this outlet, with this room for what waits.
+    pub(crate) fn new(out: &'a mut W, room: &'a mut [u8]) -> Pieces<'a, W>
+        ensures same_outlet { result.sender.out.ghost_name ≡ out.entry.ghost_name }
+        ensures nothing { Holds W.told [] (W.told out.old) result }
+    {
+        let sender = Sender {
+            out,
+            written: 0,
+            failed: false,
+        };
+        Pieces {
+            sender,
+            waiting: SliceBuffer::new(room),
+        }
+    }
+
+    /// Lets these bytes wait if there is room for them. Returns whether they wait.
+    #[inline(always)]
+    fn keep(&mut self, bytes: &[u8]) -> bool
+        ensures { Carries W.told self.old self.new (if result then bytes.now else []) }
+    {
+        self.waiting.append(bytes)
+    }
+
+    /// Writes what waits, and lets these bytes wait; if there are too many, writes them too.
+    #[cold]
+    #[inline(never)]
+    fn put_past(&mut self, bytes: &[u8])
+        ensures { Carries W.told self.old self.new bytes.now }
+    {
+        self.send_waiting();
+        if self.keep(bytes) {
+            return;
+        }
+        self.send_past(bytes);
+    }
+
+    /// Writes what waits, and then these bytes.
+    fn send_past(&mut self, bytes: &[u8])
+        ensures { Carries W.told self.old self.new bytes.now }
+    {
+        self.send_waiting();
+        self.sender.send(bytes);
+    }
+
+    /// Writes what waits.
+    fn send_waiting(&mut self)
+        ensures nothing { Carries W.told self.old self.new [] }
+        ensures empty { self.new.waiting ≡ [] }
+    {
+        self.sender.send(self.waiting.as_slice());
+        self.waiting.clear();
+    }
+
+    /// Writes what waits, and flushes. The error is how many bytes were written.
+    pub(crate) fn finish(&mut self) -> Result<(), u64>
+        ensures same_outlet { self.new.sender.out.ghost_name ≡ self.old.sender.out.ghost_name }
+        ensures whole { OnOk result ((put : List ℕ) (before : Written)
+            → Holds W.told put before self.old
+            → IsFlushed put before (W.told self.new.sender.out.now)) }
+        ensures part { IfErr result (λ n. (put : List ℕ) (before : Written)
+            → Holds W.told put before self.old → length put < MOST
+            → (n ≤ length put) × IsCut (take n put) before (W.told self.new.sender.out.now)) }
+    {
+        self.send_waiting();
+        if self.sender.failed {
+            return Err(self.sender.written);
+        }
+        match self.sender.out.flush() {
+            Ok(()) => Ok(()),
+            Err(Failed) => Err(self.sender.written),
+        }
+    }
+
+    /// Returns the outlet.
+    pub(crate) fn into_outlet(self) -> &'a mut W
+        ensures same_outlet { result.ghost_name ≡ self.entry.sender.out.ghost_name }
+        ensures held { result.now ≡ self.entry.sender.out.now }
+    {
+        let Pieces { sender, .. } = self;
+        let Sender { out, .. } = sender;
+        out
+    }
+}
+
+impl<'a, W: Outlet> Put for Pieces<'a, W> {
+    ghost after = { Carries W.told };
+
+    #[inline(always)]
+    fn put(&mut self, bytes: &[u8]) {
+        if self.keep(bytes) {
+            return;
+        }
+        self.put_past(bytes);
+    }
+
+    fn put_decimal(&mut self, number: u64) {
+        let mut buffer = Buffer::new();
+        self.put(buffer.format(number).as_bytes());
+    }
+
+    fn put_signed_decimal(&mut self, number: i128) {
+        let mut buffer = Buffer::new();
+        self.put(buffer.format(number).as_bytes());
+    }
+
+    fn put_amount(&mut self, amount: i128, is_last: bool) {
+        // `fill_amount` leaves the last byte, so the end of the line is already there.
+        let mut cell = [b'\n'; 64];
+        let start = fill_amount(&mut cell, amount) - 1;
+        cell[start] = b'\t';
+        let end = if is_last { 64 } else { 63 };
+        self.put(&cell[start..end]);
+    }
+
+    fn copies_bytes(&self) -> bool {
+        true
+    }
+
+    /// The bytes themselves matter.
+    fn put_length(&mut self, _most: u64) -> bool {
+        false
+    }
+
+    /// Once the outlet has failed, what waits is never written.
+    fn drop_if_failed(&mut self) -> bool {
+        if !self.sender.failed {
+            return false;
+        }
+        self.waiting.clear();
+        true
+    }
+}

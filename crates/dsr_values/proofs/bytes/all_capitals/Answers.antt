@@ -1,0 +1,10 @@
+use Rattle.std.proofs.Common.{rules, tests}
+use Rattle.std.specs.Char.{is_ascii_uppercase}
+use Rattle.std.proofs.lemmas.Iterator.Search.{all_from_yields_List}
+use Rattle.std.proofs.lemmas.Iterator.{YieldsList-from_slice}
+use Rattle.dsr_values.proofs.bytes.all_capitals.Goals as goal
+
+pub returns : goal.returns
+returns c =
+    all_from_yields_List is_ascii_uppercase _ _ _ c.all.ensures.ran (YieldsList-from_slice c.args.bytes.now c.iter.ensures.rest)
+    (λ x b q k. search (rules, tests))
