@@ -231,15 +231,23 @@ fn read_layout_name(alloc: Global, matches: &ArgMatches<'_>) -> Result<Option<Te
 fn fault_of_error(alloc: Global, error: Error) -> CommandFault
     ensures { Answers (kind_of error) result }
 {
-    let Ok(string) = error.to_string(alloc) else {
+    let kind = error.kind();
+    let string = error.to_string(alloc);
+    drop(error);
+    let Ok(string) = string else {
         return CommandFault::Memory;
     };
-    let Ok(text) = Text::copy_of(alloc, &string) else {
+    let text = Text::copy_of(alloc, &string);
+    drop(string);
+    let Ok(text) = text else {
         return CommandFault::Memory;
     };
-    match error.kind() {
+    match kind {
         ErrorKind::DisplayHelp | ErrorKind::DisplayVersion => CommandFault::Help(text),
-        ErrorKind::OutOfMemory => CommandFault::Memory,
+        ErrorKind::OutOfMemory => {
+            drop(text);
+            CommandFault::Memory
+        }
         _ => CommandFault::Refused(text),
     }
 }

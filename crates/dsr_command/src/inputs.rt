@@ -135,12 +135,18 @@ fn standard_input<H: io::Input<Reader = StdinLock<'static>>>(
     ensures sources { IfOk result (λ v. map (λ i. i.name) v.items ≡ sources_of []) }
     ensures refused { IfErr result (IsRefusal []) }
 {
-    let mut inputs = Vec::new(alloc);
-    let Ok(reader) = Box::new(alloc, rt.reader()) else {
-        return Err(OpenError::Memory);
+    let reader = match Box::new(alloc, rt.reader()) {
+        Ok(reader) => reader,
+        Err(refused) => {
+            drop(refused);
+            return Err(OpenError::Memory);
+        }
     };
     let input = Input::new(None, InputReader::Standard(reader));
-    if inputs.push(input).is_err() {
+    let mut inputs = Vec::new(alloc);
+    if let Err(refused) = inputs.push(input) {
+        drop(refused);
+        drop(inputs);
         return Err(OpenError::Memory);
     }
     Ok(inputs)

@@ -61,15 +61,37 @@ pub fn close(alloc: Global, kept: Kept) -> Result<ClosedBooks, NoMemory>
         → IfOk result (λ books. AreClosed books files) }
 {
     let Kept { files, ledger } = kept;
-    let told = told_of(alloc, files.as_slice())?;
-    let (key, rejects) = key_and_rejects(alloc, files)?;
-    let missing = missing_numbers(alloc, &key, &told.numbers)?;
+    let Ok(told) = told_of(alloc, files.as_slice()) else {
+        drop(files);
+        drop(ledger);
+        return Err(NoMemory);
+    };
+    let Ok((key, rejects)) = key_and_rejects(alloc, files) else {
+        drop(told);
+        drop(ledger);
+        return Err(NoMemory);
+    };
+    let Told {
+        lines,
+        numbers,
+        differences,
+    } = told;
+    let missing = missing_numbers(alloc, &key, &numbers);
+    drop(numbers);
+    let Ok(missing) = missing else {
+        drop(key);
+        drop(rejects);
+        drop(lines);
+        drop(differences);
+        drop(ledger);
+        return Err(NoMemory);
+    };
     Ok(ClosedBooks {
         alloc,
         key,
-        files: told.lines,
+        files: lines,
         missing,
-        differences: told.differences,
+        differences,
         rejects,
         ledger,
     })

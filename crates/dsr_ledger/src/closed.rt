@@ -61,15 +61,20 @@ impl ClosedBooks {
         ensures { (files : List File) → AreClosed self files
             → IfOk result (λ r. r ≡ report_of files) }
     {
-        let lines = self.copied_lines()?;
+        let Ok(lines) = self.copied_lines() else {
+            drop(self);
+            return Err(NoMemory);
+        };
         let ClosedBooks {
             key,
             files,
             missing,
             differences,
             rejects,
+            ledger,
             ..
         } = self;
+        drop(ledger);
         Ok(Report {
             key,
             files,

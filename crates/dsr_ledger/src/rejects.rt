@@ -58,8 +58,21 @@ pub fn key_and_rejects(
     let mut key = None;
     let mut rejects = Items::new(alloc);
     for file in files {
-        key = key_after(key, file.opening);
-        add_rejects(&mut rejects, file.rejects)?;
+        let FileBooks {
+            opening,
+            ids,
+            summaries,
+            rejects: more,
+            ..
+        } = file;
+        drop(ids);
+        drop(summaries);
+        key = key_after(key, opening);
+        let Ok(()) = add_rejects(&mut rejects, more) else {
+            drop(key);
+            drop(rejects);
+            return Err(NoMemory);
+        };
     }
     Ok((key, rejects))
 }

@@ -44,13 +44,23 @@ fn text(alloc: Global, n: u64) -> Result<Vec<u8>, AllocError> {
     Ok(text)
 }
 
-/// The events of that file.
-fn events(alloc: Global, n: u64) -> Option<EventList> {
-    let text = text(alloc, n).ok()?;
+/// The events of a file of at most 1,000 bytes.
+fn events_of(alloc: Global, text: &[u8]) -> Option<EventList> {
     if text.len() > 1000 {
         return None;
     }
-    whole_events(alloc, &Layout::standard(), text.as_slice(), Ending::Whole).ok()
+    let layout = Layout::standard();
+    let events = whole_events(alloc, &layout, text, Ending::Whole);
+    drop(layout);
+    events.ok()
+}
+
+/// The events of that file.
+fn events(alloc: Global, n: u64) -> Option<EventList> {
+    let text = text(alloc, n).ok()?;
+    let events = events_of(alloc, text.as_slice());
+    drop(text);
+    events
 }
 
 /// Its opening.

@@ -9,6 +9,7 @@ use dsr_relay::{Feed, Tap, open_relay};
 use std::alloc::Global;
 use std::sync::Wait;
 use std::thread;
+use std::thread::Threads;
 
 /// Sends a block that allocates nothing, and returns whether it was taken.
 fn send_plain_block<R: Wait>(rt: &R, alloc: Global, feed: &mut Feed) -> bool
@@ -84,23 +85,30 @@ fn sends_take_no_memory(rt: HostRuntime) {
     assert!(rt; is_right);
 }
 
+/// Sends a file of 70 blocks from a thread. Returns whether it has ended, and how many of its events were taken and sent;
+/// None if memory is refused for the relay or the thread.
+fn events_of_thread<H: Threads + Wait + Copy + Send + 'static>(
+    rt: &H,
+    alloc: Global,
+) -> Option<(bool, u64, u64)> {
+    let own_rt = *rt;
+    let (feed, mut tap) = open_relay(alloc, 1).ok()?;
+    let sender = thread::spawn(rt, move || send_file(&own_rt, alloc, feed, 70)).ok()?;
+    let taken = take_batches(rt, &mut tap);
+    let has_ended = tap.ended();
+    drop(tap);
+    let feed = sender.join(rt);
+    let sent = feed.sent_count();
+    drop(feed);
+    Some((has_ended, taken, sent))
+}
+
 /// A file goes from thread to thread. If an allocation is refused it has fewer blocks, and what was
 /// sent is taken.
 #[test]
 fn a_file_goes_through_or_no_memory(rt: HostRuntime) {
-    let alloc: Global = rt.alloc();
-    let Ok((feed, mut tap)) = open_relay(alloc, 1) else {
-        return;
-    };
-    let Ok(sender) = thread::spawn(&rt, move || send_file(&rt, alloc, feed, 70)) else {
-        return;
-    };
-    let taken = take_batches(&rt, &mut tap);
-    let has_ended = tap.ended();
-    drop(tap);
-    let feed = sender.join(&rt);
-    let sent = feed.sent_count();
-    drop(feed);
-    assert!(rt; has_ended);
-    assert_eq!(rt; taken, sent);
+    if let Some((has_ended, taken, sent)) = events_of_thread(&rt, rt.alloc()) {
+        assert!(rt; has_ended);
+        assert_eq!(rt; taken, sent);
+    }
 }

@@ -1,5 +1,5 @@
 //! Blocks that are exchanged for stale ones of a batch that came back.
-ghost use Rattle.std.specs.Prelude.{◌≡◌, ◌+◌, ◌<◌, ◌≤◌, [], false, length};
+ghost use Rattle.std.specs.Prelude.{◌≡◌, ◌+◌, ◌<◌, ◌≤◌, [], true, false, length};
 ghost use Rattle.dsr_events.specs.meaning.Orderly.{has_ended};
 
 use crate::events::{are_right, block};
@@ -60,23 +60,49 @@ fn takes_blocks<R: Wait>(rt: &R, tap: &mut Tap, place: u64) -> bool
     right
 }
 
-/// Sends a batch of an opening and three blocks, and then one of five blocks. A block is exchanged for an empty one in the
-/// first round of a batch and for a stale one after that, but not for the opening. Returns whether all of that is so.
-fn blocks_are_exchanged<R: Wait>(rt: &R, alloc: Global, feed: &mut Feed, tap: &mut Tap) -> bool
+/// Sends a batch of an opening and three blocks, the last two of which are exchanged for empty ones, since the feed has no
+/// old ones yet. Returns whether all of that is so.
+fn first_blocks_are_exchanged<R: Wait>(
+    rt: &R,
+    alloc: Global,
+    feed: &mut Feed,
+    tap: &mut Tap,
+) -> bool
     requires { (feed.old.sent ≡ []) × (tap.old.taken ≡ []) }
+    ensures name { tap.new.name ≡ tap.old.name }
+    ensures going { has_ended feed.new.sent ≡ false }
+    ensures few { length feed.new.sent ≤ 4 }
+    ensures some { result ≡ true → 0 < length feed.new.sent }
 {
     send_blocks(rt, alloc, feed, 1)
         && exchanged(rt, alloc, feed) == Some(0)
         && exchanged(rt, alloc, feed) == Some(0)
         && flushes(rt, feed)
         && takes_batch(rt, tap) == Some(4)
-        && exchanged(rt, alloc, feed).is_none()
+}
+
+/// Sends a batch of five blocks. The first one is not exchanged for the opening of the batch that came back; the others are
+/// exchanged for its blocks, and then for an empty one. Returns whether all of that is so.
+fn later_blocks_are_exchanged<R: Wait>(rt: &R, alloc: Global, feed: &mut Feed) -> bool
+    requires going { has_ended feed.old.sent ≡ false }
+    requires few { (0 < length feed.old.sent) × (length feed.old.sent ≤ 4) }
+{
+    exchanged(rt, alloc, feed).is_none()
         && send_block(rt, alloc, feed)
         && exchanged(rt, alloc, feed) == Some(1)
         && exchanged(rt, alloc, feed) == Some(2)
         && exchanged(rt, alloc, feed) == Some(3)
         && exchanged(rt, alloc, feed) == Some(0)
         && flushes(rt, feed)
+}
+
+/// Whether a block is exchanged for an empty one in the first round of a batch and for a stale one after that, but not for
+/// the opening.
+fn blocks_are_exchanged<R: Wait>(rt: &R, alloc: Global, feed: &mut Feed, tap: &mut Tap) -> bool
+    requires { (feed.old.sent ≡ []) × (tap.old.taken ≡ []) }
+{
+    first_blocks_are_exchanged(rt, alloc, feed, tap)
+        && later_blocks_are_exchanged(rt, alloc, feed)
         && !tap.ended()
         && takes_blocks(rt, tap, 4)
 }

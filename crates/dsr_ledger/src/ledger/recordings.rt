@@ -126,8 +126,13 @@ impl Ledger {
         }
         let number = self.recordings.len();
         let made = Recording::with_room(alloc, lines)?;
-        self.recordings.insert(isrc, made)?;
-        Ok(number)
+        match self.recordings.insert(isrc, made) {
+            Ok(former) => {
+                drop(former);
+                Ok(number)
+            }
+            Err(error) => Err(error.into()),
+        }
     }
 
     /// The number of a party, which is given one if it has none. A number past 32 bits is reported as `NoMemory`.
@@ -192,9 +197,11 @@ impl Ledger {
         ensures there { IfOk result (λ number. key_number self.new key ≡ Some number) }
     {
         if let Some(number) = self.summary_keys.get_index_of(&key) {
+            drop(key);
             return u32::try_from(number).map_err(|_| NoMemory);
         }
         let Ok(number) = u32::try_from(self.summary_keys.len()) else {
+            drop(key);
             return Err(NoMemory);
         };
         self.summary_keys.insert(key)?;

@@ -6,14 +6,14 @@ use Rattle.dsr_ledger.proofs.assemble.close.Goals as goal
 pub returns : goal.returns
 returns c = λ files h.
     let same : c.as_slice.result.now ≡ c.args.kept.files.items = c.as_slice.ensures.value in
-    closed_is c.args.kept c.in_ok-told.told.numbers _ (record {
-      key = c.in_ok-key.ensures.key;
-      lines = c.in_ok-told.ensures.lines ∙ ap (map line_kept) same;
-      own = λ n. c.in_ok-told.ensures.own n ∙ ap (list_any (is_number_kept n)) same;
-      missing = c.in_ok-missing.ensures;
-      differences = c.in_ok-told.ensures.differences ∙ ap (flat_map differences_kept) same;
+    closed_is c.args.kept c.in-Ok.told.numbers _ (record {
+      key = c.in-Ok-key_and_rejects.ensures.key;
+      lines = c.in-Ok.ensures.lines ∙ ap (map line_kept) same;
+      own = λ n. c.in-Ok.ensures.own n ∙ ap (list_any (is_number_kept n)) same;
+      missing = c.in-Ok-missing.ensures;
+      differences = c.in-Ok.ensures.differences ∙ ap (flat_map differences_kept) same;
       ledger = refl;
-      rejects = c.in_ok-key.ensures.rejects;
+      rejects = c.in-Ok-key_and_rejects.ensures.rejects;
     }) files h
 
 pub invariant_of-result : goal.invariant_of-result

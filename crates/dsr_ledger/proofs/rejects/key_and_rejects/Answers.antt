@@ -9,7 +9,7 @@ loop-file-preserved c =
     record {
       key = ap (λ k. option_or k (option_map key_of (first_head (openings_of rest)))) c.key_after-key.ensures ∙ key_step key file.opening (openings_of rest)
           ∙ ap (λ fs. option_or key (option_map key_of (first_head (openings_of fs)))) (sym c.in-Some.ensures.steps.0) ∙ c.loop-file.invariant.key;
-      rejects = ap (λ rs. rs ++ flat_map own rest) c.in_ok-add_rejects.ensures ∙ append_assoc rejects file.rejects.items (flat_map own rest)
+      rejects = ap (λ rs. rs ++ flat_map own rest) c.in-Ok.ensures ∙ append_assoc rejects file.rejects.items (flat_map own rest)
           ∙ ap (λ rs. rejects ++ rs) (sym (flat_map-cons own file rest)) ∙ ap (λ fs. rejects ++ flat_map own fs) (sym c.in-Some.ensures.steps.0)
           ∙ c.loop-file.invariant.rejects;
     }
