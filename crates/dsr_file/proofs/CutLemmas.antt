@@ -6,7 +6,7 @@ use Rattle.std.proofs.lemmas.List.{append-nil, take_more}
 use Rattle.std.proofs.lemmas.Grind.{common_steps}
 use Rattle.std.proofs.lemmas.Bool.Decides.{nat_tests}
 use Rattle.std.specs.List.{slice_split, onto_first, list_any, starts_with}
-use Rattle.dsr_cells.specs.meaning.Lines.{is_line_feed, byte_order_mark, without_mark, pieces}
+use Rattle.dsr_cells.specs.meaning.Lines.{is_line_feed, byte_order_mark, without_mark}
 use Rattle.dsr_file.specs.inner.Cutting.{IsSettled, CutsTo}
 use Rattle.dsr_file.proofs.PartLemmas.{onto_last, onto_first-last, onto_last-cons, onto_last_push}
 

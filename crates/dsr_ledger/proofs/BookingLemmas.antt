@@ -1,5 +1,5 @@
 -- The bookings of the files after a block, an opening or an outcome.
-use Rattle.dsr_ledger.proofs.Common.{◌≡◌, ℕ, List, [], ◌∷◌, ◌++◌, sym, ◌∙◌, ap, arith, Bool, zero, suc, ◌+◌, append_assoc, append-nil, refl, ◌||◌, Option, Some, slice_get, ℤ, ◌+ℤ◌, flat_map, OpeningParts, summaries_of, File, Filed, filed_after, standing, opened, with_block, with_outcome, with_one, BlockParts, Ledger, Verdict, verdict_bookings, Booking, filed_bookings, bookings, tally_at, same_Some, Outcome, LedgerStands, verdict_of, judged_in, tally_plus, key_tally, Tally, flat_map-append, ints, Key}
+use Rattle.dsr_ledger.proofs.Common.{◌≡◌, ℕ, List, [], ◌∷◌, ◌++◌, sym, ◌∙◌, ap, arith, Bool, zero, suc, append_assoc, append-nil, refl, ◌||◌, Option, Some, slice_get, ℤ, ◌+ℤ◌, flat_map, OpeningParts, summaries_of, File, Filed, filed_after, standing, opened, with_block, with_outcome, with_one, BlockParts, Ledger, Verdict, verdict_bookings, Booking, filed_bookings, bookings, tally_at, same_Some, Outcome, LedgerStands, verdict_of, judged_in, tally_plus, key_tally, Tally, flat_map-append, ints, Key}
 use Rattle.dsr_ledger.proofs.JudgedLemmas.{judged_more}
 use Rattle.dsr_ledger.proofs.TallyLemmas.{key_tally-append, tally_plus-assoc}
 use Rattle.dsr_ledger.proofs.FilesLemmas.{filed_after-push, next_filed}

@@ -1,5 +1,5 @@
 -- The states of the files, and one of them.
-use Rattle.dsr_ledger.proofs.Common.{◌≡◌, ℕ, List, [], ◌∷◌, ◌++◌, length, get_or, true, sym, ◌∙◌, ap, arith, Bool, zero, suc, ◌+◌, append_assoc, append-nil, false, set, refl, subst, Option, Some, map, slice_get, AllByRecursion, AllZip, length-map, option_map_or, OpeningParts, File, Filed, filed_after, standing, with_file, filed, openings_of, FileBooks, BlockParts, gets, same_Some, all_zipped_more, Outcome, FileStands, FilesStand, IsSmallFile}
+use Rattle.dsr_ledger.proofs.Common.{◌≡◌, ℕ, List, [], ◌∷◌, ◌++◌, length, get_or, true, sym, ◌∙◌, ap, arith, Bool, zero, suc, ◌+◌, append_assoc, append-nil, false, set, refl, subst, Option, Some, map, slice_get, AllByRecursion, AllZip, length-map, option_map_or, OpeningParts, File, Filed, filed_after, standing, with_file, openings_of, FileBooks, BlockParts, gets, same_Some, all_zipped_more, Outcome, FileStands, FilesStand, IsSmallFile}
 
 -- a change of a file that keeps its opening
 abbrev pub changed : (File → List BlockParts) → (File → Option Outcome) → File → File

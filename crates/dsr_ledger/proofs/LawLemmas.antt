@@ -1,11 +1,10 @@
 -- The laws of shares.
-use Rattle.dsr_ledger.proofs.Common.{All-from_recursion, recursion_from_All, ◌≡◌, ℕ, ◌+◌, ◌<◌, ◌≤◌, List, [], ◌∷◌, length, true, subst, sym, ◌∙◌, arith, ◌*◌, rules, ℤ, pos, ◌+ℤ◌, ◌-ℤ◌, filter, map, unsigned_abs, negsuc, ◌*ℤ◌, ◌≤ℤ◌, ◌<ℤ◌, All, list_any, AllByRecursion, zip, keys_of, eq_by_cmp, nat_list_cmp_total, ints, quot-rem, rem_below, int_div, exact_bytes, PartyLine, int_sum_by, text_cmp, in_order, key_cmp, Key, Booking, bookings, Part, rounded, parts_of, all_parts, is_for, party_amount, part_of, work_parts, party_lines, at_key, is_at_key, line_of, ledger, ltb-true, LedgerLine, File, report_of}
+use Rattle.dsr_ledger.proofs.Common.{All-from_recursion, recursion_from_All, ◌≡◌, ℕ, ◌<◌, ◌≤◌, List, [], ◌∷◌, length, true, subst, sym, ◌∙◌, arith, ◌*◌, rules, ℤ, pos, ◌+ℤ◌, ◌-ℤ◌, filter, map, unsigned_abs, negsuc, ◌*ℤ◌, ◌≤ℤ◌, ◌<ℤ◌, All, list_any, AllByRecursion, zip, keys_of, eq_by_cmp, nat_list_cmp_total, ints, quot-rem, rem_below, int_div, exact_bytes, PartyLine, int_sum_by, text_cmp, in_order, key_cmp, Key, Booking, bookings, Part, rounded, parts_of, all_parts, is_for, party_amount, part_of, work_parts, party_lines, at_key, is_at_key, line_of, ledger, ltb-true, LedgerLine, File, report_of}
 use Rattle.dsr_ledger.proofs.EachLemmas.{each_weaker, each_filter, each_flat, each_map, each_of}
 use Rattle.dsr_ledger.proofs.TallyLemmas.{unclaimed_not_negative}
 use Rattle.dsr_ledger.proofs.OrderLemmas.{mapped_in_order, keys_among}
 use Rattle.dsr_ledger.proofs.KeyLemmas.{key_total, key_exact}
 use Rattle.dsr_ledger.proofs.SmallLemmas.{IsWhole, bookings_whole}
-use Rattle.dsr_ledger.proofs.LineLemmas.{line}
 use Rattle.dsr_ledger.proofs.PartyLemmas.{lines_are, names_of, shares_conserved, some_for}
 use Rattle.dsr_ledger.specs.meaning.Laws.{line_bookings, line_parts, exact_sum, AddsUp, IsNear, IsRoundedDown, NoneIsNegative, IsWithin, SharesAddUp, SharesAreNear, SharesAreWithin}
 

@@ -1,5 +1,5 @@
 -- The ledger's tallies when a party, a summary key, a recording, a seat or a line is added, or a line is changed.
-use Rattle.dsr_ledger.proofs.Common.{◌≡◌, ℕ, ◌+◌, List, [], ◌∷◌, ◌++◌, length, refl, ap, subst, ◌∙◌, arith, cond, nat_eq, ⊎_elim, sym, Bool, false, Option, None, Some, slice_get, Result, Ok, Err, OnOk, OnErr, same_Some, SeatShare, IsNumbered, Grows, place_by, IsWithNumber, AreBelow, place_in, AreSeated, HaveSeats, position, option_and_then, bytes_eq, cond_both, bytes_eq-Decides, Line, Tally, line_in, lines_tally, AreWithin, LinesGrow, line_keys, nat_list_eq_equiv, IndexMap, get, index_of, with_value_at, IsUnique, SummaryKey, Recording, seat_numbers, summary_key_eq, party_number, key_number, seat_of, seat_at, recording_tally, IsLineOf, Ledger}
+use Rattle.dsr_ledger.proofs.Common.{◌≡◌, ℕ, List, [], ◌∷◌, ◌++◌, length, refl, ap, subst, ◌∙◌, arith, cond, nat_eq, ⊎_elim, sym, Bool, false, Option, None, Some, slice_get, Result, Ok, Err, OnOk, OnErr, same_Some, SeatShare, IsNumbered, Grows, place_by, IsWithNumber, AreBelow, place_in, AreSeated, HaveSeats, position, option_and_then, bytes_eq, cond_both, bytes_eq-Decides, Line, Tally, line_in, lines_tally, AreWithin, LinesGrow, line_keys, nat_list_eq_equiv, IndexMap, get, index_of, with_value_at, IsUnique, SummaryKey, Recording, seat_numbers, summary_key_eq, party_number, key_number, seat_of, seat_at, recording_tally, IsLineOf, Ledger}
 use Rattle.dsr_ledger.proofs.NumberedLemmas.{by_numbered, by_new_key, grows_more, numbers_agree, places_are_numbered, taken, by_new_number}
 use Rattle.dsr_ledger.proofs.IndexMapLemmas.{key_is, own_value, written, written_here}
 use Rattle.dsr_ledger.proofs.KeyLemmas.{same_summary_key}

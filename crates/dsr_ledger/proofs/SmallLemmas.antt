@@ -1,5 +1,5 @@
 -- The bookings of files: how many there are, how large they are, and that shares add up to at most 100 percent.
-use Rattle.dsr_ledger.proofs.Common.{◌≡◌, ℕ, ◌≤◌, length, List, [], ◌∷◌, ◌++◌, Bool, true, false, refl, arith, suc, ◌+◌, ◌*◌, ◌^◌, Option, None, Some, AllByRecursion, ltb-false, Summary, Usage, WorkParts, BlockParts, Key, Standing, Verdict, Booked, Rejected, File, filed, summaries_of, filed_after, standing, reasons, first_reason, verdict_by, judged, judged_in, share_total, verdict, SummaryKey, Booking, booked_under, key_under, usage_bookings, block_bookings, summary_key_named, verdict_bookings, filed_bookings, bookings, OpeningParts, IsInRange, IsBlockInRange, IsSmall, AreSmall, AreOfSmall, IsSmallFile, IsReached, Kept}
+use Rattle.dsr_ledger.proofs.Common.{◌≡◌, ℕ, ◌≤◌, length, List, [], ◌∷◌, ◌++◌, Bool, true, false, refl, arith, suc, ◌*◌, ◌^◌, Option, None, Some, AllByRecursion, ltb-false, Summary, Usage, WorkParts, BlockParts, Key, Standing, Verdict, Booked, Rejected, File, filed, summaries_of, filed_after, standing, reasons, first_reason, verdict_by, judged, judged_in, share_total, verdict, SummaryKey, Booking, booked_under, key_under, usage_bookings, block_bookings, summary_key_named, verdict_bookings, filed_bookings, bookings, OpeningParts, IsInRange, IsBlockInRange, IsSmall, AreSmall, AreOfSmall, IsSmallFile, IsReached, Kept}
 use Rattle.dsr_ledger.specs.declared.verdict.Reason.{Reason}
 use Rattle.dsr_ledger.proofs.EachLemmas.{each_flat, each_of, each_weaker, AreFew, few_flat}
 use Rattle.dsr_ledger.proofs.FilesLemmas.{length-stand}

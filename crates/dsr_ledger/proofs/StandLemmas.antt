@@ -1,6 +1,5 @@
 -- The state of a file represents it after a block too.
-use Rattle.dsr_ledger.proofs.Common.{◌≡◌, ℕ, List, [], ◌∷◌, ◌++◌, length, true, sym, ◌∙◌, ap, arith, Bool, cond, ◌+◌, length-append, option_map, find, is_some, bytes_eq, flat_map_more, list_any-append, Summary, summaries_of, Filed, standing, found_in, no_sums, state_at, sums_with, is_known, FileBooks, BlockParts, Ledger, Verdict, verdict_bookings, IsSameFile, TakesBlock, tally_at, FileStands, Took, Usage, has_id, is_summary, verdict_of, verdict_by, usages_in, rejects_from, rejects, is_in, tally_plus, key_tally}
-use Rattle.std.specs.Prelude.{position}
+use Rattle.dsr_ledger.proofs.Common.{◌≡◌, ℕ, List, [], ◌∷◌, ◌++◌, length, true, sym, ◌∙◌, ap, arith, Bool, cond, ◌+◌, length-append, option_map, find, is_some, bytes_eq, flat_map_more, list_any-append, Summary, summaries_of, Filed, found_in, no_sums, state_at, sums_with, is_known, FileBooks, BlockParts, Ledger, Verdict, verdict_bookings, IsSameFile, TakesBlock, tally_at, FileStands, Took, Usage, has_id, is_summary, verdict_of, verdict_by, usages_in, rejects_from, is_in, tally_plus, key_tally}
 use Rattle.dsr_ledger.proofs.StateLemmas.{sums_with-append, sums_after, is_some_state, is_some-map}
 use Rattle.dsr_ledger.proofs.JudgedLemmas.{rejects_more}
 

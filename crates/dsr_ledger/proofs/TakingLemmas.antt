@@ -1,5 +1,5 @@
 -- Lines that are taken one after another.
-use Rattle.dsr_ledger.proofs.Common.{◌≡◌, List, [], ◌++◌, append_assoc, append-nil, sym, subst, ◌+◌, Bool, ap, ◌∙◌, LedgerLine, Takes, map, filter, map-append, filter-append, Key, Booking, at_key, line_of, key_tally, booked_lines}
+use Rattle.dsr_ledger.proofs.Common.{◌≡◌, List, [], ◌++◌, append_assoc, append-nil, sym, subst, Bool, ap, ◌∙◌, LedgerLine, Takes, map, filter, map-append, filter-append, Key, Booking, at_key, line_of, key_tally, booked_lines}
 
 module _ {T : Type 0} {took : T → T → List LedgerLine → Type 0} where
   -- no line

@@ -1,5 +1,5 @@
 //! Amounts of money.
-ghost use Rattle.std.specs.Prelude.{◌≡◌, ◌≤◌, ◌<◌, ◌^◌, ◌+◌, ◌/◌, ◌%◌, ◌++◌, ◌∷◌, length, drop, decimal, unsigned_abs, is_ok, if◌then◌else◌, nat_lt, Some, None, pos, IfSome};
+ghost use Rattle.std.specs.Prelude.{◌≡◌, ◌≤◌, ◌<◌, ◌^◌, ◌+◌, ◌/◌, ◌%◌, ◌++◌, ◌∷◌, length, drop, decimal, unsigned_abs, Some, None, pos, IfSome};
 ghost use Rattle.std.specs.Option.{option_map};
 ghost use Rattle.dsr_values.specs.meaning.Numbers.{amount_of, decimal_of};
 ghost use Rattle.dsr_values.specs.meaning.Written.{padded_number, written};

@@ -1,5 +1,5 @@
 -- What the books represent.
-use Rattle.std.specs.Prelude.{ℕ, ◌^◌, ◌≤◌, Bool, false, is_some, List, [], length, slice_get}
+use Rattle.std.specs.Prelude.{ℕ, ◌≤◌, Bool, false, is_some, List, [], length, slice_get}
 use Rattle.std.specs.Option.{option_map_or}
 use Rattle.std.specs.List.{AllByRecursion}
 use Rattle.dsr_ledger.specs.meaning.Limits.{most_blocks}

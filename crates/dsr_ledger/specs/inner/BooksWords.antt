@@ -1,5 +1,5 @@
 -- The books, as a caller sees them.
-use Rattle.std.specs.Prelude.{◌≡◌, ℕ, ◌^◌, ◌<◌, Bool, true, false, is_some, List, length, slice_get}
+use Rattle.std.specs.Prelude.{◌≡◌, ℕ, ◌<◌, Bool, true, false, is_some, List, length, slice_get}
 use Rattle.std.specs.Option.{option_map_or}
 use Rattle.dsr_ledger.specs.meaning.Limits.{most_blocks}
 use Rattle.dsr_ledger.specs.declared.books.Books.{Books}

@@ -1,5 +1,5 @@
 //! A line of a recording: the sums of the bookings of one summary key, and the parties' parts.
-ghost use Rattle.std.specs.Prelude.{◌≡◌, ◌≤◌, ◌^◌, ℕ, List, Option, [], map};
+ghost use Rattle.std.specs.Prelude.{◌≡◌, ◌≤◌, ℕ, List, Option, [], map};
 ghost use Rattle.dsr_ledger.specs.meaning.Limits.{amount_bound};
 ghost use Rattle.dsr_ledger.specs.inner.Owed.{part_seats, parts_size};
 ghost use Rattle.dsr_ledger.specs.meaning.Parts.{part_of};

@@ -68,7 +68,7 @@ fn reserve_line(lines: &mut Vec<Line>) -> Result<(), NoMemory>
 }
 
 impl Recording {
-    ghost use Rattle.std.specs.Prelude.{◌≤◌, ◌^◌, ℕ, List, Option, Some, None, [], IfOk, map, if◌then◌else◌};
+    ghost use Rattle.std.specs.Prelude.{◌≤◌, ℕ, List, Option, Some, None, [], IfOk, map, if◌then◌else◌};
     ghost use Rattle.dsr_ledger.specs.inner.Numbered.{IsWithNumber};
     ghost use Rattle.dsr_ledger.specs.inner.Owed.{parts_size};
     ghost use Rattle.dsr_ledger.specs.meaning.Parts.{part_of};

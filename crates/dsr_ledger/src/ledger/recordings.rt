@@ -30,7 +30,7 @@ pub struct Ledger {
 }
 
 impl Ledger {
-    ghost use Rattle.std.specs.Prelude.{◌≤◌, ◌^◌, Option, IfOk, IfSome, None, map, if◌then◌else◌};
+    ghost use Rattle.std.specs.Prelude.{◌≤◌, Option, IfOk, IfSome, None, map, if◌then◌else◌};
     ghost use Rattle.dsr_ledger.specs.meaning.Keys.{Key, key_eq};
     ghost use Rattle.dsr_ledger.specs.meaning.Bookings.{key_under};
     ghost use Rattle.dsr_ledger.specs.inner.Owed.{parts_size};

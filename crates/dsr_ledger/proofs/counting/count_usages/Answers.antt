@@ -1,4 +1,4 @@
-use Rattle.dsr_ledger.proofs.Common.{◌+◌, [], ◌∷◌, ◌++◌, take, sym, ap, ◌∙◌, subst, arith, length, option_map, AllByRecursion, take_more, length-take, IsInRange, state_at, state_with}
+use Rattle.dsr_ledger.proofs.Common.{[], ◌∷◌, ◌++◌, take, sym, ap, ◌∙◌, subst, arith, length, option_map, AllByRecursion, take_more, length-take, IsInRange, state_at, state_with}
 use Rattle.dsr_ledger.proofs.EachLemmas.{each_append}
 use Rattle.dsr_ledger.proofs.StateLemmas.{states_more, states_fit_at}
 use Rattle.dsr_ledger.proofs.counting.count_usages.Goals as goal
