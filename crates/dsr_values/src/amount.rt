@@ -169,10 +169,10 @@ fn fill_wide(room: &mut [u8; 64], total: i128) -> usize
     start
 }
 
-/// Writes the text of an amount, or a sum of amounts, in units of 10^-10, as `write_amount` writes it,
-/// before the last byte of the room. Returns the offset of its first byte, which is at least 1. The
-/// last byte stays, so with a byte put before the text the room has a whole cell of a line. It takes
-/// no memory.
+/// Writes the text of an amount, or a sum of amounts, in units of 10^-10, before the last byte of the
+/// room: a minus sign below zero, the whole part without leading zeros, a point and ten decimals.
+/// Returns the offset of its first byte, which is at least 1. The last byte stays, so with a byte put
+/// before the text the room has a whole cell of a line. It takes no memory.
 pub fn fill_amount(room: &mut [u8; 64], total: i128) -> usize
     ensures start { (0 < result) × (result ≤ 63) }
     ensures written { drop result room.new ≡ written total ++ drop 63 room.old }
