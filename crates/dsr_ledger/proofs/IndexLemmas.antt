@@ -1,6 +1,9 @@
 -- The index of a list of numbers: if they ascend, and with one more number.
-use Rattle.dsr_ledger.proofs.Common.{◌≡◌, ℕ, ◌<◌, cond, List, [], ◌∷◌, ◌++◌, length, get_or, nat_eq, refl, sym, ap, ◌∙◌, arith, subst, ◌+◌, ◌-◌, ◌≤◌, take, drop, Result, Ok, Err, None, Some, slice_get, map, nat_tests, length_push, length-map, drop_all, drop-append-le, take_more, get_or-map, get_or_append_left, get_or_push, length-take, get_or_default, get_or-take, list_any_none, position-Some, gets, slice_get-get_or, place_in, AreApart, IsSearchInRange, IsBinarySearchResult, IsNonDecreasingBy, nat_cmp, ordering_index, ranked, insert_key, Rise}
+use Rattle.dsr_ledger.proofs.Common.{◌≡◌, ℕ, zero, suc, ◌<◌, cond, not, List, [], ◌∷◌, ◌++◌, length, get_or, nat_eq, refl, sym, ap, ◌∙◌, arith, subst, ◌+◌, ◌-◌, ◌≤◌, take, drop, Result, Ok, Err, Option, None, Some, slice_get, map, nat_tests, length_push, length-map, drop_all, drop-append-le, take_more, get_or-map, get_or_append_left, get_or_push, length-take, get_or_default, get_or-take, list_any_none, position-Some, gets, slice_get-get_or, place_in, AreApart, IsSearchInRange, IsBinarySearchResult, IsNonDecreasingBy, nat_cmp, ordering_index, ranked, insert_key, Rise}
 use Rattle.std.specs.Result.{result_ok}
+use Rattle.std.specs.List.{position, prefix_len}
+use Rattle.std.specs.Prelude.{option_map}
+use Rattle.std.proofs.lemmas.List.{length-drop}
 use Rattle.dsr_ledger.proofs.NumberedLemmas.{none_any, position_is, position_none}
 
 -- one more number, above the last one
@@ -36,6 +39,33 @@ module _ {X : Type 0} (number : X → ℕ) (n : ℕ) where
   searched [] rise (Ok i) bound h = absurd (omega (arith, bound))
   searched [] rise (Err i) bound h = refl
   searched (x ∷ xs) rise r bound h = search_is (x ∷ xs) x rise r bound h
+
+-- what a search of the first items finds, and what a search of the others finds once it has found nothing
+module _ {X : Type 0} (number : X → ℕ) (n : ℕ) where
+  abbrev passed_of : List X → ℕ
+  passed_of xs = prefix_len (λ x. not (nat_eq n (number x))) xs
+
+  abbrev passed : List X → ℕ
+  passed xs = prefix_len (λ k. not (nat_eq n k)) (map number xs)
+
+  first_passed : (k : ℕ) (xs : List X) → passed_of (take k xs) < length (take k xs) → passed xs ≡ passed_of (take k xs)
+  first_passed zero xs less = absurd (omega (arith, less))
+  first_passed (suc k) [] less = absurd (omega (arith, less))
+  first_passed (suc k) (x ∷ xs) less = grind (arith, first_passed k xs)
+
+  later_passed : (k : ℕ) (xs : List X) → length (take k xs) ≤ passed_of (take k xs) → passed xs ≡ length (take k xs) + passed (drop k xs)
+  later_passed zero xs all = grind (arith)
+  later_passed (suc k) [] all = refl
+  later_passed (suc k) (x ∷ xs) all = grind (arith, later_passed k xs)
+
+  pub found_first : (k i : ℕ) (xs : List X) → Some i ≡ position (λ x. nat_eq n (number x)) (take k xs) → Some i ≡ place_in (map number xs) n
+  found_first k i xs here =
+      grind (arith, nat_tests, first_passed k xs, length-map xs number, length-take k xs)
+
+  pub found_later : (k : ℕ) (xs : List X) (o : Option ℕ) → None ≡ position (λ x. nat_eq n (number x)) (take k xs) → o ≡ place_in (map number (drop k xs)) n
+      → option_map (λ i. i + k) o ≡ place_in (map number xs) n
+  found_later k xs o none there =
+      grind (arith, nat_tests, later_passed k xs, length-map xs number, length-map (drop k xs) number, length-take k xs, length-drop k xs)
 
 -- a number that a list of numbers lacks goes last
 pub goes_last : (ns : List ℕ) (n : ℕ) → place_in ns n ≡ None → insert_key nat_eq ns n ≡ ns ++ n ∷ []

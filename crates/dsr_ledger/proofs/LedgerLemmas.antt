@@ -1,5 +1,5 @@
 -- The ledger's tallies when a party, a summary key, a recording, a seat or a line is added, or a line is changed.
-use Rattle.dsr_ledger.proofs.Common.{◌≡◌, ℕ, List, [], ◌∷◌, ◌++◌, length, refl, ap, subst, ◌∙◌, arith, cond, nat_eq, ⊎_elim, sym, Bool, false, Option, None, Some, slice_get, Result, Ok, Err, OnOk, OnErr, same_Some, SeatShare, IsNumbered, Grows, place_by, IsWithNumber, AreBelow, place_in, AreSeated, HaveSeats, position, option_and_then, bytes_eq, cond_both, bytes_eq-Decides, Line, Tally, line_in, lines_tally, AreWithin, LinesGrow, line_keys, nat_list_eq_equiv, IndexMap, get, index_of, with_value_at, IsUnique, SummaryKey, Recording, seat_numbers, summary_key_eq, party_number, key_number, seat_of, seat_at, recording_tally, IsLineOf, Ledger}
+use Rattle.dsr_ledger.proofs.Common.{◌≡◌, ℕ, List, [], ◌∷◌, ◌++◌, length, refl, ap, subst, ◌∙◌, arith, cond, nat_eq, ⊎_elim, sym, Bool, false, Option, None, Some, slice_get, Result, Ok, Err, OnOk, OnErr, same_Some, SeatShare, IsNumbered, Grows, place_by, IsWithNumber, AreBelow, place_in, AreSeated, HaveSeats, position, option_and_then, bytes_eq, cond_both, bytes_eq-Decides, Line, Tally, line_in, line_tally, lines_tally, no_tally, read_at, AreWithin, LinesGrow, line_keys, nat_list_eq_equiv, IndexMap, get, index_of, with_value_at, IsUnique, SummaryKey, Recording, seat_numbers, summary_key_eq, party_number, key_number, seat_of, seat_at, recording_tally, IsLineOf, Ledger}
 use Rattle.dsr_ledger.proofs.NumberedLemmas.{by_numbered, by_new_key, grows_more, numbers_agree, places_are_numbered, taken, by_new_number}
 use Rattle.dsr_ledger.proofs.IndexMapLemmas.{key_is, own_value, written, written_here}
 use Rattle.dsr_ledger.proofs.KeyLemmas.{same_summary_key}
@@ -56,6 +56,19 @@ module _ (old new : List ℕ → Option ℕ) (name : List ℕ) (m : ℕ) (none :
       → recording_tally new number o ≡ recording_tally old number o
   party_tally number None below = refl
   party_tally number (Some r) below = ap (λ seat. lines_tally seat r.lines.items number) (seats_kept r (below r refl))
+
+-- a summary key that gets a new number has no line yet, so no tally changes
+module _ (old new : SummaryKey → Option ℕ) (key : SummaryKey) (m : ℕ) (none : old key ≡ None)
+    (is : (q : SummaryKey) → new q ≡ cond (summary_key_eq key q) (Some m) (old q)) where
+  pub key_tally : (party : List ℕ → Option ℕ) (q : SummaryKey) (o : Option Recording) → ((r : Recording) → o ≡ Some r → AreBelow m (line_keys r.lines.items))
+      → recording_tally party (new q) o ≡ recording_tally party (old q) o
+  key_tally party q None below = refl
+  key_tally party q (Some r) below =
+      ap (read_at (line_tally (seat_of party r)) no_tally r.lines.items)
+      (by_new_key summary_key_eq same_summary_key old new key m (line_keys r.lines.items) none is (below r refl) q)
+
+  pub keys_grow : Grows old new
+  keys_grow q i e = grind (arith, is q, same_summary_key key q, none)
 
 -- a recording in which a party has a seat that may be new
 module _ (party : List ℕ → Option ℕ) (m : ℕ) (numbered : IsNumbered party m) (v w : Recording) (name : List ℕ) (n : ℕ) (is : party name ≡ Some n)

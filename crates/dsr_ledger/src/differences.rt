@@ -6,6 +6,7 @@ ghost use Rattle.dsr_ledger.specs.meaning.Findings.{differs};
 ghost use Rattle.dsr_ledger.specs.inner.Summaries.{sums_at};
 ghost use Rattle.dsr_ledger.specs.inner.Assembly.{sums_or_zeros, difference_to, differences_to, differences_kept};
 
+use crate::append::append;
 use crate::file::FileBooks;
 use crate::file::summaries::Summaries;
 use crate::report::{Difference, Differences};
@@ -68,7 +69,7 @@ fn add_difference(
         return Ok(());
     }
     let difference = difference_of(alloc, place, summary, &found)?;
-    differences.push(difference).map_err(|_difference| NoMemory)
+    append(differences, difference)
 }
 
 /// Adds the differences of summaries, in their order.

@@ -2,6 +2,7 @@
 ghost use Rattle.std.specs.Prelude.{◌≡◌, IfOk, map};
 ghost use Rattle.dsr_ledger.specs.inner.Assembly.{line_kept};
 
+use crate::append::append;
 use crate::file::FileBooks;
 use crate::report::{FileLine, FileLines};
 use dsr_cells::{Items, NoMemory};
@@ -29,7 +30,7 @@ pub fn file_lines(alloc: Global, files: &[FileBooks]) -> Result<FileLines, NoMem
 {
     let mut lines = Items::new(alloc);
     for file in files {
-        lines.push(file_line(file)).map_err(|_line| NoMemory)?;
+        append(&mut lines, file_line(file))?;
     }
     Ok(lines)
 }

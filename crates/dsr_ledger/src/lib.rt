@@ -97,6 +97,7 @@
 //! counts; `src/books.rt` has the public functions.
 #![tactic(auto)]
 
+mod append;
 mod assemble;
 mod booking;
 mod books;
@@ -113,6 +114,7 @@ pub mod laws;
 mod ledger;
 mod lent;
 mod missing;
+mod narrow;
 mod open;
 mod rejects;
 mod report;

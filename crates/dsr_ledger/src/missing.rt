@@ -5,6 +5,7 @@ ghost use Rattle.std.specs.BTreeSet.{contains};
 ghost use Rattle.std.specs.Ordering.{nat_cmp};
 ghost use Rattle.dsr_ledger.specs.inner.Assembly.{is_number_kept, not_in};
 
+use crate::append::append;
 use crate::file::FileBooks;
 use crate::report::{Numbers, ReportKey};
 use crate::verdict::Standing;
@@ -43,7 +44,7 @@ fn add_absent(absent: &mut Numbers, number: u32, numbers: &BTreeSet<u32>) -> Res
     if numbers.contains(&number) {
         return Ok(());
     }
-    absent.push(number).map_err(|_number| NoMemory)
+    append(absent, number)
 }
 
 /// The numbers from 1 to `last`, inclusive, that are not in the set, ascending.

@@ -3,9 +3,9 @@ ghost use Rattle.std.specs.Prelude.{◌≡◌, ◌+◌, ◌<◌, List, [], ◌�
 ghost use Rattle.std.specs.List.{list_any};
 ghost use Rattle.dsr_ledger.specs.meaning.Limits.{most_files};
 ghost use Rattle.dsr_ledger.specs.meaning.Files.{opened, is_same_report, has_same_number, is_of_report, first_head, standing, summaries_of};
-ghost use Rattle.dsr_ledger.specs.meaning.Bookings.{summary_key_named};
+ghost use Rattle.dsr_ledger.specs.meaning.Bookings.{summary_key_named, summary_key_of};
 ghost use Rattle.dsr_ledger.specs.inner.FileSteps.{IsNumberedFile};
-ghost use Rattle.dsr_ledger.specs.inner.Recordings.{KeepsKeys};
+ghost use Rattle.dsr_ledger.specs.inner.Recordings.{KeepsKeys, key_number};
 ghost use Rattle.dsr_ledger.specs.inner.Summaries.{sums_at, found_in, AreNumbered};
 ghost use Rattle.dsr_ledger.specs.inner.Stands.{FileStands};
 ghost use Rattle.dsr_ledger.specs.inner.Openings.{openings_of};
@@ -89,6 +89,15 @@ fn standing_after(files: &[FileBooks], opening: &Option<Opening>) -> Standing
     }
 }
 
+/// The number of a summary's key in the ledger.
+fn numbered_key(ledger: &mut Ledger, alloc: Global, summary: &Summary) -> Result<u32, NoMemory>
+    ensures keeps { KeepsKeys ledger.old ledger.new }
+    ensures there { IfOk result (λ number. key_number ledger.new (summary_key_of summary.now)
+        ≡ Some number) }
+{
+    ledger.summary_key(SummaryKey::of(alloc, summary)?)
+}
+
 /// The states of these summaries, before any usage. Their keys are numbered in the ledger.
 #[tactic(auto, using(std::proofs::lemmas::List::take_all))]
 fn states_of(
@@ -103,7 +112,7 @@ fn states_of(
 {
     let mut summaries = Summaries::with_room(alloc, seeded, stated.len())?;
     for summary in stated {
-        let key = ledger.summary_key(SummaryKey::of(alloc, summary)?)?;
+        let key = numbered_key(ledger, alloc, summary)?;
         summaries.add(alloc, summary, key)?;
     }
     Ok(summaries)

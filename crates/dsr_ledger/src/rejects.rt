@@ -6,6 +6,7 @@ ghost use Rattle.dsr_ledger.specs.meaning.Files.{first_head};
 ghost use Rattle.dsr_ledger.specs.inner.Openings.{openings_of};
 ghost use Rattle.dsr_ledger.specs.meaning.Reports.{key_of};
 
+use crate::append::append;
 use crate::file::FileBooks;
 use crate::report::{Reject, Rejects, ReportKey};
 use dsr_cells::{Items, NoMemory};
@@ -41,7 +42,7 @@ fn add_rejects(rejects: &mut Rejects, more: Vec<Reject>) -> Result<(), NoMemory>
     ensures { OnOk result (rejects.new ≡ rejects.old ++ more.items) }
 {
     for reject in more {
-        rejects.push(reject).map_err(|_reject| NoMemory)?;
+        append(rejects, reject)?;
     }
     Ok(())
 }

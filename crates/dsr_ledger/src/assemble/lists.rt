@@ -29,6 +29,7 @@ pub struct Lists<'a> {
 }
 
 /// The number of lines of the recording that has most.
+#[tactic(auto, using(std::proofs::lemmas::List::take_all))]
 fn most_lines(recordings: &[(&Isrc, &Recording)]) -> usize
     ensures { All (λ e. length e.1.now.lines.items ≤ result) recordings.now }
 {
@@ -52,6 +53,7 @@ fn most_parts(lines: &[Line], least: usize) -> usize
 }
 
 /// The number of parts of the line of these recordings that has most.
+#[tactic(auto, using(std::proofs::lemmas::List::take_all))]
 fn most_parts_of_all(recordings: &[(&Isrc, &Recording)]) -> usize
     ensures { All (λ e. All (λ l. length l.parts.items.items ≤ result) e.1.now.lines.items)
         recordings.now }

@@ -9,6 +9,7 @@ use crate::lent::sizes::LedgerSizes;
 use dsr_cells::{Isrc, Text};
 
 /// The length of the longest of these ISRCs.
+#[tactic(auto, using(std::proofs::lemmas::List::take_all))]
 fn longest_isrc(recordings: &[(&Isrc, &Recording)]) -> usize
     ensures { All (λ e. length e.0.now ≤ result) recordings.now }
 {

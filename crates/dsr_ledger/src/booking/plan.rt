@@ -11,6 +11,7 @@ ghost use Rattle.dsr_ledger.specs.inner.Lined.{AreLined};
 use crate::file::summaries::Summaries;
 use crate::ledger::parts::SeatShare;
 use crate::ledger::recordings::Ledger;
+use crate::narrow::narrow;
 use dsr_cells::{Isrc, NoMemory};
 use dsr_records::Work;
 use std::alloc::Global;
@@ -62,7 +63,7 @@ fn plan_work(
     let shares = work.shares.as_slice();
     for (i, party) in work.parties.as_slice().iter().enumerate() {
         let number = ledger.seat(alloc, recording, party, next_seat(plan.as_slice()))?;
-        let seat = u32::try_from(number).map_err(|_| NoMemory)?;
+        let seat = narrow(number)?;
         plan.push(SeatShare {
             seat,
             share: shares[i].parts(),

@@ -77,8 +77,6 @@ fn is_above<T: Numbered>(items: &[T], number: u32) -> bool
 }
 
 /// The numbers of items, in their order.
-#[cold]
-#[inline(never)]
 fn gather<T: Numbered>(
     alloc: Global,
     seeded: Seeded,
@@ -92,6 +90,25 @@ fn gather<T: Numbered>(
         numbers.insert(item.number())?;
     }
     Ok(numbers)
+}
+
+/// The set of the numbers of items, in their order, and of one more number.
+#[cold]
+#[inline(never)]
+fn boxed<T: Numbered>(
+    alloc: Global,
+    seeded: Seeded,
+    items: &[T],
+    number: u32,
+) -> Result<Box<IndexSet<u32, Seeded>>, NoMemory>
+    requires apart { AreApart (map T.number_of items.now) }
+    requires absent { place_in (map T.number_of items.now) number ≡ None }
+    ensures { IfOk result (λ numbers.
+        numbers.value.keys ≡ map T.number_of items.now ++ number ∷ []) }
+{
+    let mut numbers = gather(alloc, seeded, items)?;
+    numbers.insert(number)?;
+    Ok(Box::new(alloc, numbers)?)
 }
 
 /// The place of a number among items that have no set.
@@ -147,9 +164,7 @@ impl Index {
         if items.len() < FEW || is_above(behind(items), number) {
             return Ok(());
         }
-        let mut numbers = gather(alloc, seeded, items)?;
-        numbers.insert(number)?;
-        self.numbers = Some(Box::new(alloc, numbers)?);
+        self.numbers = Some(boxed(alloc, seeded, items, number)?);
         Ok(())
     }
 }

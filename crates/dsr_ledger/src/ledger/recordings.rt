@@ -11,6 +11,7 @@ ghost use Rattle.dsr_ledger.specs.declared.ledger.recording.Recording.{Recording
 use crate::ledger::parts::SeatShare;
 use crate::ledger::recording::Recording;
 use crate::ledger::summary_key::SummaryKey;
+use crate::narrow::narrow;
 use crate::seeded::Seeded;
 use dsr_cells::{Isrc, NoMemory, Text};
 use dsr_records::Usage;
@@ -145,11 +146,9 @@ impl Ledger {
         ensures there { IfOk result (λ number. party_number self.new name.now ≡ Some number) }
     {
         if let Some(number) = self.parties.get_index_of(name) {
-            return u32::try_from(number).map_err(|_| NoMemory);
+            return narrow(number);
         }
-        let Ok(number) = u32::try_from(self.parties.len()) else {
-            return Err(NoMemory);
-        };
+        let number = narrow(self.parties.len())?;
         self.parties.insert(name.copy(alloc)?)?;
         Ok(number)
     }
@@ -198,9 +197,9 @@ impl Ledger {
     {
         if let Some(number) = self.summary_keys.get_index_of(&key) {
             drop(key);
-            return u32::try_from(number).map_err(|_| NoMemory);
+            return narrow(number);
         }
-        let Ok(number) = u32::try_from(self.summary_keys.len()) else {
+        let Ok(number) = narrow(self.summary_keys.len()) else {
             drop(key);
             return Err(NoMemory);
         };

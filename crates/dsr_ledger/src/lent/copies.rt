@@ -1,6 +1,7 @@
 //! Copies of lines that are lent.
 ghost use Rattle.std.specs.Prelude.{◌≡◌, ◌++◌, ◌∷◌, [], false, IfOk, OnOk};
 
+use crate::append::append;
 use crate::lent::line::LentLine;
 use crate::lent::party::LentParty;
 use crate::report::{LedgerLine, LedgerLines, Parties, PartyLine};
@@ -18,7 +19,10 @@ fn copy_parties(alloc: Global, lent: &[LentParty<'_>]) -> Result<Parties, NoMemo
             party: Text::copy_of(alloc, party.party())?,
             amount: party.amount(),
         };
-        parties.push(line).map_err(|_line| NoMemory)?;
+        if let Err(refused) = parties.push(line) {
+            drop(refused);
+            return Err(NoMemory);
+        }
     }
     Ok(parties)
 }
@@ -66,7 +70,7 @@ impl Copies {
         ensures { OnOk result (self.new.lines ≡ self.old.lines ++ line.now ∷ []) }
     {
         let copy = copy_line(self.alloc, line)?;
-        self.lines.push(copy).map_err(|_line| NoMemory)
+        append(&mut self.lines, copy)
     }
 }
 

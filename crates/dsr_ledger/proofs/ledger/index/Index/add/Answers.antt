@@ -25,9 +25,3 @@ returns-then-items-lt-FEW-clause-ok g c =
           more_rise ns n (omega (arith, long, many))
           (subst (λ ms. Rise (ms ++ n ∷ [])) behind (w.is_above.ensures w.if-is_above.true (subst Rise (sym behind) rise)))
     ])
-
-pub returns-clause-ok : goal.returns-clause-ok
-returns-clause-ok g c =
-    let ns = map g.T.Numbered.number_of c.args.items.now in let n = c.args.number in
-    let all : c.in_ok-new.field-0.value.keys ≡ insert_key nat_eq c.in_ok-numbers.numbers.keys n = search rules in
-    all ∙ ap (λ ks. insert_key nat_eq ks n) c.in_ok-numbers.ensures ∙ goes_last ns n c.requires.absent

@@ -14,6 +14,6 @@ returns-clause-same c = λ q.
 pub returns-clause-there : goal.returns-clause-there
 returns-clause-there c =
     let l = c.args.self.now in let ks = l.parties.keys in let name = c.args.name.now in let none : party_number l name ≡ None = search rules in
-    let all : c.insert.new.self.keys ≡ ks ++ name ∷ [] = search rules in let long : length ks ≡ c.in-Ok.number = search rules in
+    let all : c.insert.new.self.keys ≡ ks ++ name ∷ [] = search rules in let long : length ks ≡ c.in_ok-number.number = search rules in
     ap (position (bytes_eq name)) all ∙ place_more bytes_eq bytes_eq-Decides ks name name none
     ∙ ap (λ b. cond b (Some (length ks)) (party_number l name)) (text_itself name) ∙ ap Some long
