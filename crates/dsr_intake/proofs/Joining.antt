@@ -5,7 +5,8 @@ use Rattle.std.proofs.lemmas.List.Elements.{All-head, All-tail, All-cons, All-ap
 use Rattle.dsr_events.specs.meaning.Placed.{Placed}
 use Rattle.dsr_events.specs.meaning.Orderly.{IsOrderly}
 use Rattle.dsr_file.specs.meaning.Runs.{FileText, events_of_text}
-use Rattle.dsr_file.specs.meaning.Sources.{Told, GaveText}
+use Rattle.dsr_io.specs.meaning.Told.{Told}
+use Rattle.dsr_file.specs.meaning.Sources.{GaveText}
 use Rattle.dsr_relay.specs.declared.name.Name.{Name}
 use Rattle.dsr_relay.specs.meaning.Views.{TapView}
 use Rattle.dsr_records.specs.meaning.Records.{LayoutTable}

@@ -5,7 +5,8 @@ use Rattle.dsr_events.specs.declared.fault.Outcome.{Outcome}
 use Rattle.dsr_file.specs.declared.reading.ReadFileError.{ReadFileError}
 use Rattle.dsr_file.specs.declared.reading.ReadFileError.TheVariants.{Memory, Refused}
 use Rattle.dsr_events.specs.meaning.Placed.{Placed}
-use Rattle.dsr_file.specs.meaning.Sources.{Told, IsRead, IsRefused}
+use Rattle.dsr_io.specs.meaning.Told.{Told}
+use Rattle.dsr_file.specs.meaning.Sources.{IsRead, IsRefused}
 use Rattle.dsr_file.specs.meaning.Refusals.{IsRefusal}
 use Rattle.dsr_file.proofs.RunLemmas.{run_orderly}
 use Rattle.dsr_threads.specs.declared.options.Options.{Options}

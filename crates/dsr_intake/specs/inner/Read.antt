@@ -1,7 +1,7 @@
 -- Books of the texts that readers gave.
 use Rattle.std.specs.Prelude.{List, map}
 use Rattle.dsr_file.specs.meaning.Runs.{FileText, events_of_text}
-use Rattle.dsr_file.specs.meaning.Sources.{Told}
+use Rattle.dsr_io.specs.meaning.Told.{Told}
 use Rattle.dsr_ledger.specs.declared.closed.ClosedBooks.{ClosedBooks}
 use Rattle.dsr_ledger.specs.inner.Closed.{AreClosed}
 use Rattle.dsr_threads.specs.declared.options.Options.{Options}

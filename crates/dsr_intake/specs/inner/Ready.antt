@@ -1,6 +1,6 @@
 -- Options and readers that are not refused before anything is read.
 use Rattle.std.specs.Prelude.{◌≡◌, ◌<◌, ◌≤◌, false, List, length, All}
-use Rattle.dsr_file.specs.meaning.Sources.{Told}
+use Rattle.dsr_io.specs.meaning.Told.{Told}
 use Rattle.dsr_threads.specs.declared.options.Options.{Options}
 use Rattle.dsr_threads.specs.declared.options.TheConstants.{MOST_FILES, MOST_MESSAGES, MOST_READS}
 

@@ -8,7 +8,8 @@ use Rattle.dsr_events.specs.declared.fault.Outcome.{Outcome}
 use Rattle.dsr_events.specs.meaning.Openings.{OpeningParts}
 use Rattle.dsr_events.specs.meaning.Placed.{Placed}
 use Rattle.dsr_file.specs.meaning.Runs.{FileText, events_of_text}
-use Rattle.dsr_file.specs.meaning.Sources.{Told, GaveText}
+use Rattle.dsr_io.specs.meaning.Told.{Told}
+use Rattle.dsr_file.specs.meaning.Sources.{GaveText}
 use Rattle.dsr_ledger.specs.declared.report.Report.{Report}
 use Rattle.dsr_ledger.specs.meaning.Files.{File}
 use Rattle.dsr_ledger.specs.meaning.Reports.{report_of}

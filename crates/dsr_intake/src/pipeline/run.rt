@@ -10,7 +10,7 @@ ghost use Rattle.dsr_threads.specs.meaning.Options.{refusal_of};
 ghost use Rattle.dsr_intake.specs.meaning.Outcomes.{IsReported, IsUnwritten, IsLateRun};
 ghost use Rattle.dsr_statement.specs.meaning.Statement.{statement_of};
 ghost use Rattle.dsr_statement.specs.meaning.Status.{status_of};
-ghost use Rattle.dsr_statement.specs.meaning.Written.{IsFlushed};
+ghost use Rattle.dsr_io.specs.meaning.Written.{IsFlushed};
 ghost use Rattle.dsr_intake.specs.inner.Unfinished.{IsUnfinished};
 
 use crate::pipeline::gather::read_books;

@@ -2,7 +2,8 @@
 use Rattle.std.specs.Prelude.{◌≡◌, true, List}
 use Rattle.dsr_events.specs.meaning.Placed.{Placed}
 use Rattle.dsr_file.specs.meaning.Runs.{FileText, events_of_text}
-use Rattle.dsr_file.specs.meaning.Sources.{Told, GaveText}
+use Rattle.dsr_io.specs.meaning.Told.{Told}
+use Rattle.dsr_file.specs.meaning.Sources.{GaveText}
 use Rattle.dsr_threads.specs.declared.options.Options.{Options}
 use Rattle.dsr_threads.specs.inner.Ends.{ends_clean}
 
