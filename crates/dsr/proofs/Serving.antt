@@ -5,7 +5,7 @@ use Rattle.std.specs.Prelude.{Result, Ok, Err, MatchResult, take}
 use Rattle.dsr_command.specs.declared.command.Asked.{Asked}
 use Rattle.dsr_command.specs.Faults.{cannot_open_line, line_of}
 use Rattle.dsr_command.specs.Printing.{AreRefused, IsTold}
-use Rattle.dsr_statement.specs.meaning.Written.{Written, IsFlushed, IsCut}
+use Rattle.dsr_io.specs.meaning.Written.{Written, IsFlushed, IsCut}
 use Rattle.dsr.specs.Serving.{outputs, IsOnlyTold, HadNoRun}
 
 -- only this was told, and the output is as it was

@@ -5,14 +5,14 @@ use Rattle.std.proofs.lemmas.List.Elements.{All-nil, All-cons, All-head, All-tai
 use Rattle.std.proofs.lemmas.Result.{IfOk-weaker, IfErr-weaker}
 use Rattle.dsr_command.specs.declared.inputs.Input.{Input}
 use Rattle.dsr_file.specs.meaning.Runs.{FileText}
-use Rattle.dsr_file.specs.meaning.Sources.{Told}
-use Rattle.dsr_intake.specs.declared.pipeline.errors.RunError.{RunError}
-use Rattle.dsr_intake.specs.declared.pipeline.errors.RunError.TheVariants as error
-use Rattle.dsr_intake.specs.declared.pipeline.options.Options.{Options}
+use Rattle.dsr_io.specs.meaning.Told.{Told}
+use Rattle.dsr_threads.specs.declared.errors.RunError.{RunError}
+use Rattle.dsr_threads.specs.declared.errors.RunError.TheVariants as error
+use Rattle.dsr_threads.specs.declared.options.Options.{Options}
 use Rattle.dsr_statement.specs.declared.verdict.Status.{Status}
 use Rattle.dsr_intake.specs.meaning.Outcomes.{IsReported, IsUnwritten}
 use Rattle.dsr_intake.specs.meaning.Texts.{GaveEach}
-use Rattle.dsr_statement.specs.meaning.Written.{Written}
+use Rattle.dsr_io.specs.meaning.Written.{Written}
 use Rattle.dsr_command.specs.Faults.{fault_line}
 use Rattle.dsr_command.specs.Printing.{IsTold}
 use Rattle.dsr.specs.Serving.{outputs, HadAnswer}

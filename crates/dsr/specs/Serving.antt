@@ -10,12 +10,12 @@ use Rattle.dsr_command.specs.Faults.{IsLayoutRefusal, cannot_open_line, failed_l
 use Rattle.dsr_command.specs.Inputs.{sources_of}
 use Rattle.dsr_command.specs.Printing.{IsTold}
 use Rattle.dsr_file.specs.meaning.Runs.{FileText}
-use Rattle.dsr_file.specs.meaning.Sources.{Told}
-use Rattle.dsr_intake.specs.declared.pipeline.errors.RunError.{RunError}
-use Rattle.dsr_intake.specs.declared.pipeline.options.Options.{Options}
+use Rattle.dsr_io.specs.meaning.Told.{Told}
+use Rattle.dsr_threads.specs.declared.errors.RunError.{RunError}
+use Rattle.dsr_threads.specs.declared.options.Options.{Options}
 use Rattle.dsr_statement.specs.declared.verdict.Status.{Status}
 use Rattle.dsr_intake.specs.meaning.Outcomes.{IsReported, IsUnwritten}
-use Rattle.dsr_statement.specs.meaning.Written.{Written, IsFlushed, IsCut}
+use Rattle.dsr_io.specs.meaning.Written.{Written, IsFlushed, IsCut}
 use Rattle.dsr_records.specs.meaning.Layouts.{standard_layout}
 
 -- standard output and standard error

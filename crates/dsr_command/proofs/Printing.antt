@@ -6,7 +6,7 @@ use Rattle.std.proofs.KnownBytes.{Appends-kept, Appends-nil, Appends-trans}
 use Rattle.std.proofs.lemmas.List.{append_assoc, append-nil, length-append, map-append, take_more, take-append-drop, take-append-le}
 use Rattle.std.proofs.lemmas.List.Folds.{concat-append}
 use Rattle.std.proofs.Math.Seq.{take-append-add}
-use Rattle.dsr_statement.specs.meaning.Written.{Written, IsTaken, IsFlushed, IsCut}
+use Rattle.dsr_io.specs.meaning.Written.{Written, IsTaken, IsFlushed, IsCut}
 use Rattle.dsr_command.specs.Printing.{IsWritten, joined}
 
 joined_append : (xs ys : List (Bor (List ℕ))) → joined (xs ++ ys) ≡ joined xs ++ joined ys

@@ -3,7 +3,7 @@ use Rattle.std.specs.Prelude.{◌≡◌, ◌≤◌, ◌⊎◌, ℕ, Bool, true, 
 use Rattle.std.specs.List.{concat}
 use Rattle.std.specs.Borrow.{Bor}
 use Rattle.dsr_command.specs.Faults.{IsLayoutRefusal, line_of}
-use Rattle.dsr_statement.specs.meaning.Written.{Written, IsFlushed, IsCut}
+use Rattle.dsr_io.specs.meaning.Written.{Written, IsFlushed, IsCut}
 
 -- the parts, one after another
 abbrev pub joined : List (Bor (List ℕ)) → List ℕ

@@ -13,7 +13,7 @@ use Rattle.dsr_events.specs.declared.fault.Outcome.{Outcome}
 use Rattle.dsr_events.specs.declared.fault.Outcome.TheVariants as outcomes
 use Rattle.dsr_events.specs.declared.event.EventPart.{EventPart}
 use Rattle.dsr_events.specs.declared.event.EventPart.TheVariants.{Ended}
-use Rattle.dsr_file.specs.declared.read_count.ReadCount.{ReadCount}
+use Rattle.dsr_io.specs.declared.read_count.ReadCount.{ReadCount}
 use Rattle.dsr_file.specs.declared.reader.phase.Phase.TheVariants as phases
 use Rattle.dsr_file.specs.declared.reader.FileReader.{FileReader}
 use Rattle.dsr_events.specs.meaning.Placed.{Placed}
@@ -23,8 +23,9 @@ use Rattle.dsr_file.specs.meaning.Parts.{events_of, last_of}
 use Rattle.dsr_file.specs.meaning.Texts.{events_so_far, placed, readings, text_events, so_far}
 use Rattle.dsr_events.specs.meaning.Ends.{is_memory}
 use Rattle.dsr_file.specs.meaning.Runs.{FileText, ended, BeginsEvents, HasEvents, IsCutOff, EndsWith}
-use Rattle.dsr_file.specs.meaning.ReadCounts.{Answered, AddsRead}
-use Rattle.dsr_file.specs.meaning.Sources.{Told, Gave, before_last, HasEarlier, Stopped, IsRead, IsRefused}
+use Rattle.dsr_io.specs.meaning.ReadCounts.{Answered, AddsRead}
+use Rattle.dsr_io.specs.meaning.Told.{Told}
+use Rattle.dsr_file.specs.meaning.Sources.{Gave, before_last, HasEarlier, Stopped, IsRead, IsRefused}
 use Rattle.dsr_file.specs.inner.Standing.{Stands, StandsAt, IsDone}
 use Rattle.dsr_file.specs.inner.Feeding.{Fed, FedSome, Reads}
 use Rattle.dsr_file.proofs.LawLemmas.{fault_is_final_lem}

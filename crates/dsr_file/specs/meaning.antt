@@ -5,6 +5,5 @@ pub mod Parts
 pub mod Faults
 pub mod Texts
 pub mod Runs
-pub mod ReadCounts
 pub mod Sources
 pub mod Refusals

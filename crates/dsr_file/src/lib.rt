@@ -13,7 +13,7 @@
 //!    last: Whole, or the first fault with its line. It takes the lines of each piece
 //!    (`reader/lines`) and the last line (`reader/ending`), makes the events (`reader/events`), and
 //!    knows how far it has come (`reader/phase`).
-//! 5. [`read_file`] (`reading`) reads a [`Source`] (`source`), which counts its reads (`read_count`), to its end or to
+//! 5. [`read_file`] (`reading`) reads a [`Source`] of dsr_io, which counts its reads, to its end or to
 //!    the limit on reads, and puts the events into a [`Sink`] (`sink`), by the loop in `feeding`. A closed
 //!    block is exchanged for an old one of the sink ([`Sink::put_block`]), so that it is not moved and
 //!    the next one seldom needs new memory. [`FileReader::reuse`] does the same for a caller of `take`.
@@ -74,20 +74,17 @@ mod feeding;
 mod grammar;
 pub mod laws;
 mod line_feed;
-mod read_count;
 mod reader;
 mod reading;
 mod same_text;
 mod sink;
-mod source;
 mod stage;
 mod whole;
 
 pub use dsr_events::{Ending, Event, EventPart, FileFault, Opening, Outcome, Summaries};
+pub use dsr_io::{Failed, FromRead, ReadCount, Source};
 pub use event_list::EventList;
-pub use read_count::ReadCount;
 pub use reader::FileReader;
 pub use reading::{ReadFileError, read_file};
 pub use sink::Sink;
-pub use source::{Failed, FromRead, Source};
 pub use whole::whole_events;

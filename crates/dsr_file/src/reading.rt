@@ -10,8 +10,8 @@ use crate::closed::Closed;
 use crate::feeding::{feed, finish_all};
 use crate::reader::FileReader;
 use crate::sink::Sink;
-use crate::source::Source;
 use dsr_events::{Ending, Event, Outcome};
+use dsr_io::Source;
 use dsr_records::Layout;
 use std::alloc::Global;
 

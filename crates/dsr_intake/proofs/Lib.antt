@@ -1,5 +1,3 @@
-pub mod EndLemmas
-pub mod Promises
 pub mod Joining
 pub mod Filing
 pub mod Rounds

@@ -1,4 +1,4 @@
-//! The examples that the lib.rt files show, one file for each crate.
+//! The examples that the lib.rt files show, one file for each crate except dsr_io.
 mod cells;
 mod events;
 mod file;

@@ -5,7 +5,7 @@ use Rattle.std.specs.Result.{OnOk}
 use Rattle.std.proofs.Math.Seq.{take-append-add}
 use Rattle.std.proofs.lemmas.List.{append-nil, take-append-le}
 use Rattle.std.proofs.KnownBytes.{Appends-trans}
-use Rattle.dsr_statement.specs.meaning.Written.{Written, IsCut}
+use Rattle.dsr_io.specs.meaning.Written.{Written, IsCut}
 use Rattle.dsr_statement.specs.inner.Pieces.{IsCount, IsBroken, IsSent, Holds, Carries}
 use Rattle.dsr_statement.specs.inner.Puts.{Puts}
 use Rattle.dsr_statement.specs.declared.pieces.Pieces.{Pieces}

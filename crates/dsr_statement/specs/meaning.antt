@@ -1,6 +1,4 @@
--- The definitions to be trusted: the bytes of a statement, the names that it prints, its status, and the state of an
--- outlet.
+-- The definitions to be trusted: the bytes of a statement, the names that it prints, and its status.
 pub mod Names
 pub mod Statement
 pub mod Status
-pub mod Written

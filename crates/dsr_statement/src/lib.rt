@@ -4,8 +4,8 @@
 //! 2. `write`: puts the statement, by `lines`, `cells`, `key` and `names`, into a `Put` (`put`): first into `bound`,
 //!    which computes an upper bound of its bytes (that of the ledger's lines by `ledger_bytes`), then into `pieces`.
 //!    `ledger_put` puts the lines of the ledger as they are given.
-//! 3. `pieces`: writes what is put to an `outlet`, in pieces of up to 64 KiB, and flushes it at the end. What waits is in a
-//!    `slice_buffer`, into which `copying` copies each cell. `to_write` makes an outlet of a `std::io::Write`.
+//! 3. `pieces`: writes what is put to an [`Outlet`] of dsr_io, in pieces of up to 64 KiB, and flushes it at the end. What
+//!    waits is in a `slice_buffer`, into which `copying` copies each cell.
 //! 4. `remarks`: whether the statement has remarks (`verdict`).
 //!
 //! **Example**, compiled and proved in `crates/dsr_tests/src/collecting.rt`:
@@ -31,7 +31,7 @@
 //! returns the same bytes. The status is that of the same report.
 //!
 //! **Where to begin.** `specs/meaning/Statement.antt` and `specs/meaning/Status.antt` have the definitions, and
-//! `specs/meaning/Written.antt` what an outlet tells; `src/lines.rt` puts each line, and `src/write.rt` the whole.
+//! `Written.antt` of dsr_io what an outlet tells; `src/lines.rt` puts each line, and `src/write.rt` the whole.
 #![tactic(auto)]
 
 mod bound;
@@ -42,19 +42,16 @@ mod ledger_bytes;
 mod ledger_put;
 mod lines;
 mod names;
-mod outlet;
 mod pieces;
 mod put;
 mod remarks;
 mod room;
 mod slice_buffer;
-mod to_write;
 mod verdict;
 mod write;
 
-pub use outlet::{Outlet, write_all};
+pub use dsr_io::{Outlet, ToWrite, write_all};
 pub use remarks::{lent_status, status};
 pub use room::Room;
-pub use to_write::ToWrite;
 pub use verdict::Status;
 pub use write::{room_for, statement, write_statement};

@@ -1,13 +1,12 @@
 //! Writing the bytes of a statement to an outlet, in pieces.
 ghost use Rattle.std.specs.Prelude.{◌≡◌, ◌<◌, ◌≤◌, ◌++◌, [], List, ℕ, true, false, if◌then◌else◌, length, take, OnOk, IfErr};
-ghost use Rattle.dsr_statement.specs.meaning.Written.{Written, IsFlushed, IsCut};
+ghost use Rattle.dsr_io.specs.meaning.Written.{Written, IsFlushed, IsCut};
 ghost use Rattle.dsr_statement.specs.inner.Pieces.{IsSent, Holds, Carries, MOST};
 
-use crate::outlet::{Outlet, write_all};
 use crate::put::Put;
 use crate::slice_buffer::SliceBuffer;
 use dsr_cells::fill_amount;
-use dsr_file::Failed;
+use dsr_io::{Failed, Outlet, write_all};
 use itoa::Buffer;
 
 /// Room for this many bytes that wait, to be written at once.

@@ -5,7 +5,7 @@ ghost use Rattle.dsr_statement.specs.meaning.Statement.{statement_of, file_lines
 ghost use Rattle.dsr_ledger.specs.declared.report.LedgerLine.{LedgerLine as LedgerLineValue};
 ghost use Rattle.dsr_ledger.specs.declared.report.Report.{Report as ReportValue};
 ghost use Rattle.dsr_ledger.specs.inner.Lent.{IsReady, IsLent, LinesLent};
-ghost use Rattle.dsr_statement.specs.meaning.Written.{IsFlushed, IsCut};
+ghost use Rattle.dsr_io.specs.meaning.Written.{IsFlushed, IsCut};
 ghost use Rattle.dsr_statement.specs.inner.Pieces.{Carries, MOST};
 ghost use Rattle.dsr_statement.specs.inner.Puts.{Puts};
 ghost use Rattle.dsr_statement.specs.inner.Bound.{IsUpTo};
@@ -15,13 +15,12 @@ use crate::bound::Bound;
 use crate::ledger_bytes::ledger_bytes;
 use crate::ledger_put::LedgerPut;
 use crate::lines::{put_difference, put_file, put_head, put_missing, put_reject};
-use crate::outlet::Outlet;
 use crate::pieces::Pieces;
 use crate::put::Put;
 use crate::room::Room;
 use crate::slice_buffer::SliceBuffer;
-use crate::to_write::ToWrite;
 use dsr_cells::NoMemory;
+use dsr_io::{Outlet, ToWrite};
 use dsr_ledger::{Difference, FileLine, LentLedger, LentReport, Reject, Report};
 use std::alloc::Global;
 

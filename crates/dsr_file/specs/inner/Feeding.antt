@@ -8,8 +8,9 @@ use Rattle.dsr_events.specs.meaning.Placed.{Placed}
 use Rattle.dsr_events.specs.meaning.Orderly.{has_ended}
 use Rattle.dsr_file.specs.meaning.Texts.{so_far}
 use Rattle.dsr_file.specs.meaning.Runs.{BeginsEvents, HasEvents}
-use Rattle.dsr_file.specs.meaning.ReadCounts.{Answered}
-use Rattle.dsr_file.specs.meaning.Sources.{Told, HasEarlier}
+use Rattle.dsr_io.specs.meaning.ReadCounts.{Answered}
+use Rattle.dsr_io.specs.meaning.Told.{Told}
+use Rattle.dsr_file.specs.meaning.Sources.{HasEarlier}
 use Rattle.dsr_file.specs.inner.Standing.{Stands, IsDone}
 
 -- the reader represents some bytes and these events

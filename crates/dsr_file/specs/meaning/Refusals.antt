@@ -4,7 +4,8 @@ use Rattle.dsr_records.specs.meaning.Records.{LayoutTable}
 use Rattle.dsr_file.specs.declared.reading.ReadFileError.{ReadFileError}
 use Rattle.dsr_file.specs.declared.reading.ReadFileError.TheVariants.{Memory, Refused}
 use Rattle.dsr_events.specs.meaning.Placed.{Placed}
-use Rattle.dsr_file.specs.meaning.Sources.{Told, IsRefused}
+use Rattle.dsr_io.specs.meaning.Told.{Told}
+use Rattle.dsr_file.specs.meaning.Sources.{IsRefused}
 
 -- if memory was refused, nothing was read or put; a refused event comes after those that were put
 abbrev pub IsRefusal : LayoutTable → ℕ → Told → Told → List Placed → ReadFileError → Type 0

@@ -1,22 +1,17 @@
 -- The bytes that a source gave, and the events that were put while it was read.
-use Rattle.std.specs.Prelude.{◌≡◌, ℕ, ◌+◌, ◌-◌, ◌*◌, ◌<◌, ◌≤◌, ◌⊎◌, Bool, true, false, List, [], ◌∷◌, ◌++◌, length, take, Option, None, Some}
+use Rattle.std.specs.Prelude.{◌≡◌, ℕ, ◌+◌, ◌-◌, ◌*◌, ◌<◌, ◌≤◌, ◌⊎◌, true, false, List, [], ◌∷◌, ◌++◌, length, take, Option, None, Some}
 use Rattle.std.specs.Io.KnownBytes.{Consumes, IsAtEnd}
 use mathlib.Core.List.{IsPrefix}
 use Rattle.dsr_records.specs.meaning.Records.{LayoutTable}
 use Rattle.dsr_events.specs.declared.fault.Ending.{Ending}
 use Rattle.dsr_events.specs.declared.fault.Ending.TheVariants.{Whole, Read, Reads}
-use Rattle.dsr_file.specs.declared.read_count.ReadCount.{ReadCount}
+use Rattle.dsr_io.specs.declared.read_count.ReadCount.{ReadCount}
 use Rattle.dsr_events.specs.meaning.Placed.{Placed}
 use Rattle.dsr_events.specs.meaning.Orderly.{has_ended}
-use Rattle.dsr_file.specs.meaning.ReadCounts.{Answered}
+use Rattle.dsr_io.specs.meaning.ReadCounts.{Answered}
+use Rattle.dsr_io.specs.meaning.Told.{Told}
 use Rattle.dsr_file.specs.meaning.Texts.{text_events, so_far}
 use Rattle.dsr_file.specs.meaning.Runs.{FileText, events_of_text, known_lines, IsRun, IsCutOff}
-
--- a source's state: the bytes that it has left, if they are known, whether a read failed, and the count of its reads
-pub record Told : Type 0 where
-  pub remaining : Option (List ℕ)
-  pub failed : Bool
-  pub reads : ReadCount
 
 -- a source gave these bytes, and no read was made beyond the limit: each read gave some of them, or none, and the last one
 -- at most 4,096. Whoever reads cannot know which read will be the last, so this holds of each.

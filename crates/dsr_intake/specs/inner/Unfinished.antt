@@ -1,12 +1,12 @@
 -- A statement that was not written, or not completely.
 use Rattle.std.specs.Prelude.{◌≡◌, ◌≤◌, length, take}
 use Rattle.dsr_ledger.specs.declared.report.Report.{Report}
-use Rattle.dsr_intake.specs.declared.pipeline.errors.IntakeError.TheVariants as intake
-use Rattle.dsr_intake.specs.declared.pipeline.errors.RunError.{RunError}
-use Rattle.dsr_intake.specs.declared.pipeline.errors.RunError.TheVariants as error
+use Rattle.dsr_threads.specs.declared.errors.IntakeError.TheVariants as intake
+use Rattle.dsr_threads.specs.declared.errors.RunError.{RunError}
+use Rattle.dsr_threads.specs.declared.errors.RunError.TheVariants as error
 use Rattle.dsr_intake.specs.meaning.Outcomes.{IsUntouched}
 use Rattle.dsr_statement.specs.meaning.Statement.{statement_of}
-use Rattle.dsr_statement.specs.meaning.Written.{Written, IsCut}
+use Rattle.dsr_io.specs.meaning.Written.{Written, IsCut}
 
 -- memory was refused, and nothing was written; or the outlet took the first bytes of the report's statement, and failed
 abbrev pub IsUnfinished : Report → Written → Written → RunError → Type 0

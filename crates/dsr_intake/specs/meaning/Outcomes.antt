@@ -2,17 +2,17 @@
 use Rattle.std.specs.Prelude.{◌≡◌, ◌≤◌, List, length, take, false}
 use Rattle.std.specs.Io.KnownBytes.{Keeps}
 use Rattle.dsr_file.specs.meaning.Runs.{FileText}
-use Rattle.dsr_file.specs.meaning.Sources.{Told}
+use Rattle.dsr_io.specs.meaning.Told.{Told}
 use Rattle.dsr_ledger.specs.declared.report.Report.{Report}
-use Rattle.dsr_intake.specs.declared.pipeline.options.Options.{Options}
-use Rattle.dsr_intake.specs.declared.pipeline.errors.RunError.{RunError}
-use Rattle.dsr_intake.specs.declared.pipeline.errors.RunError.TheVariants as error
+use Rattle.dsr_threads.specs.declared.options.Options.{Options}
+use Rattle.dsr_threads.specs.declared.errors.RunError.{RunError}
+use Rattle.dsr_threads.specs.declared.errors.RunError.TheVariants as error
 use Rattle.dsr_statement.specs.declared.verdict.Status.{Status}
-use Rattle.dsr_intake.specs.meaning.Options.{IsLate}
+use Rattle.dsr_threads.specs.meaning.Options.{IsLate}
 use Rattle.dsr_statement.specs.meaning.Statement.{statement_of}
 use Rattle.dsr_statement.specs.meaning.Status.{status_of}
 use Rattle.dsr_intake.specs.meaning.Texts.{GaveEach, report_of_texts}
-use Rattle.dsr_statement.specs.meaning.Written.{Written, IsFlushed, IsCut}
+use Rattle.dsr_io.specs.meaning.Written.{Written, IsFlushed, IsCut}
 
 -- the report is the one of the texts that the readers gave
 abbrev pub IsReportOf : {R : Type 0} → (R → Told) → Options → List R → List R → Report → Type 0

@@ -8,11 +8,12 @@ use Rattle.dsr_events.specs.declared.fault.Outcome.{Outcome}
 use Rattle.dsr_events.specs.meaning.Openings.{OpeningParts}
 use Rattle.dsr_events.specs.meaning.Placed.{Placed}
 use Rattle.dsr_file.specs.meaning.Runs.{FileText, events_of_text}
-use Rattle.dsr_file.specs.meaning.Sources.{Told, GaveText}
+use Rattle.dsr_io.specs.meaning.Told.{Told}
+use Rattle.dsr_file.specs.meaning.Sources.{GaveText}
 use Rattle.dsr_ledger.specs.declared.report.Report.{Report}
 use Rattle.dsr_ledger.specs.meaning.Files.{File}
 use Rattle.dsr_ledger.specs.meaning.Reports.{report_of}
-use Rattle.dsr_intake.specs.declared.pipeline.options.Options.{Options}
+use Rattle.dsr_threads.specs.declared.options.Options.{Options}
 
 -- each source gave the text at its place
 abbrev pub GaveEach : {R : Type 0} → (R → Told) → Options → List R → List R → List FileText → Type 0

@@ -1,6 +1,6 @@
 -- What was put into pieces, and how much of it was written.
 use Rattle.std.specs.Prelude.{◌≡◌, ℕ, ◌<◌, ◌≤◌, ◌++◌, Bool, true, false, List, length, take}
-use Rattle.dsr_statement.specs.meaning.Written.{Written, IsTaken, IsCut}
+use Rattle.dsr_io.specs.meaning.Written.{Written, IsTaken, IsCut}
 use Rattle.dsr_statement.specs.declared.pieces.Pieces.{Pieces}
 
 -- the greatest count: 2^64 - 1

@@ -1,5 +1,5 @@
 use Rattle.std.proofs.Common.{◌≡◌, ◌∙◌, ◌+◌, ◌++◌, ap, sym, subst, take, drop}
-use Rattle.dsr_statement.specs.meaning.Written.{IsTaken}
+use Rattle.dsr_io.specs.meaning.Written.{IsTaken}
 use Rattle.dsr_command.specs.Printing.{joined}
 use Rattle.dsr_command.proofs.Printing.{joined_at, joined_next, taken_none, taken_more, cut_after, written_in_part}
 use Rattle.dsr_command.proofs.print.write_parts.Goals as goal

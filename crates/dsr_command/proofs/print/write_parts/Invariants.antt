@@ -1,5 +1,5 @@
 use Rattle.std.proofs.Common.{take}
-use Rattle.dsr_statement.specs.meaning.Written.{IsTaken}
+use Rattle.dsr_io.specs.meaning.Written.{IsTaken}
 use Rattle.dsr_command.specs.Printing.{joined}
 use Rattle.dsr_command.proofs.print.write_parts.Given as goal
 

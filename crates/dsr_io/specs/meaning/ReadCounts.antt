@@ -1,0 +1,18 @@
+-- How the count of a source's reads grows.
+use Rattle.std.specs.Prelude.{◌≡◌, ℕ, ◌+◌, ◌<◌, ◌^◌, min}
+use Rattle.dsr_io.specs.declared.read_count.ReadCount.{ReadCount}
+
+abbrev pub no_reads : ReadCount
+no_reads = record { answered = 0; filled = 0; last = 0 }
+
+-- a count grew by `more`, if it stays below 2^64; otherwise nothing is known
+abbrev pub Grew : ℕ → ℕ → ℕ → Type 0
+Grew old new more = old + more < 2 ^ 64 → new ≡ old + more
+
+-- this many reads were answered, of which `filled` gave bytes
+abbrev pub Answered : ReadCount → ReadCount → ℕ → ℕ → Type 0
+Answered old new reads filled = Grew old.answered new.answered reads × Grew old.filled new.filled filled
+
+-- one read was answered, which gave this many bytes
+abbrev pub AddsRead : ReadCount → ReadCount → ℕ → Type 0
+AddsRead old new bytes = Answered old new 1 (min 1 bytes) × (new.last ≡ bytes)

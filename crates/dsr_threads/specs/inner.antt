@@ -1,0 +1,3 @@
+-- The definitions that relate the code to those of `meaning`.
+pub mod Ends
+pub mod Given

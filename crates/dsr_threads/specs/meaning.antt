@@ -1,0 +1,2 @@
+-- The definitions to be trusted: the options, and what is refused.
+pub mod Options
