@@ -3,8 +3,8 @@ ghost use Rattle.std.specs.Prelude.{◌≡◌};
 ghost use Rattle.dsr_events.specs.meaning.Orderly.{is_ended};
 
 use crate::fault::Outcome;
+use dsr_blocks::{Block, Head, Summary};
 use dsr_cells::Items;
-use dsr_records::{Block, Head, Summary};
 use std::marker::Model;
 
 /// The summaries of a file. Contracts see it as their list.

@@ -21,9 +21,9 @@ use crate::judge::judge;
 use crate::ledger::recordings::Ledger;
 use crate::report::Reject;
 use crate::verdict::{Reason, Standing, Verdict};
+use dsr_blocks::Block;
 use dsr_cells::{Isrc, NoMemory};
 use dsr_events::{Opening, Outcome};
-use dsr_records::Block;
 use std::alloc::Global;
 
 /// The books' state of a file.

@@ -3,7 +3,7 @@ ghost use Rattle.std.specs.Prelude.{◌≡◌, ◌+ℤ◌, pos};
 ghost use Rattle.dsr_ledger.specs.inner.Ranges.{IsInRange, SumsFit};
 
 use crate::wide::Wide;
-use dsr_records::Usage;
+use dsr_blocks::Usage;
 
 /// The sums of the usages and of the amounts, in units.
 #[derive(Drop)]

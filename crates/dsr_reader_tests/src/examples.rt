@@ -1,4 +1,4 @@
-//! The examples that the lib.rt files show, one file for each crate except dsr_io.
+//! The examples that the lib.rt files show, one file for each crate except dsr_io and dsr_blocks.
 mod cells;
 mod events;
 mod file;

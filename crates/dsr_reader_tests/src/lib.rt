@@ -1,8 +1,8 @@
-//! The examples of the eight crates from dsr_values to dsr_file, and tests of what their contracts leave open.
+//! The examples of the nine crates from dsr_values to dsr_file, and tests of what their contracts leave open.
 //!
-//! 1. `examples`: those that the lib.rt files of these crates show, except that of dsr_io.
+//! 1. `examples`: those that the lib.rt files of these crates show, except those of dsr_io and dsr_blocks.
 //! 2. `memory`: calls that take memory. Contracts say what each returns if memory is refused; here each succeeds if it is
-//!    not.
+//!    not. One of these calls is the example of dsr_blocks.
 //! 3. `reads`: how far a file is read, which contracts do not say of one that ends for want of memory. The source of this
 //!    test is the example of dsr_io.
 //!

@@ -3,4 +3,3 @@ pub mod Rows
 pub mod Checked
 pub mod Taken
 pub mod Names
-pub mod Boxes

@@ -4,6 +4,4 @@ pub mod Tables
 pub mod Records
 pub mod Values
 pub mod Reads
-pub mod Works
-pub mod Blocks
 pub mod Layouts

@@ -3,25 +3,25 @@ ghost use Rattle.std.specs.Prelude.{◌≡◌, ◌+◌, ◌<◌, true, length, m
 ghost use Rattle.std.specs.Prelude.{Ok, Err, IfOk, OnOk, OnErr, MatchResult, nat_lt, drop};
 ghost use Rattle.std.specs.Option.{option_map};
 ghost use Rattle.dsr_cells.specs.meaning.Cells.{cells};
-ghost use Rattle.dsr_records.specs.meaning.Blocks.{OpensBlock, with_member};
-ghost use Rattle.dsr_records.specs.declared.kinds.Kind.TheVariants as kinds;
-ghost use Rattle.dsr_records.specs.declared.record.Record.TheVariants as records;
+ghost use Rattle.dsr_blocks.specs.meaning.Blocks.{OpensBlock, with_member};
+ghost use Rattle.dsr_blocks.specs.declared.kinds.Kind.TheVariants as kinds;
+ghost use Rattle.dsr_blocks.specs.declared.record.Record.TheVariants as records;
 ghost use Rattle.dsr_records.specs.inner.Checked.{record_seen};
 ghost use Rattle.dsr_records.specs.meaning.Records.{cell_in};
 ghost use Rattle.dsr_records.specs.inner.Rows.{cells_left};
 ghost use Rattle.dsr_records.specs.meaning.Reads.{AnswersRecord, kind_of_record, id_of_record, has_texts};
 ghost use Rattle.dsr_records.specs.meaning.Values.{id_of, kind_of, record_by_row, record_of};
 
-use crate::block::Block;
 use crate::check::{
     RecordLine, check_foot, check_head, check_resource, check_summary, check_usage, check_work,
 };
-use crate::kinds::{Kind, ReadRecordError, RecordFault};
+use crate::fault::{ReadRecordError, RecordFault};
 use crate::layout::Layout;
 use crate::layout_line::RoleLine;
-use crate::record::Record;
 use crate::rest::Rest;
 use crate::row::Row;
+use crate::write::{write_resource, write_usage, write_work};
+use dsr_blocks::{Block, Kind, Record};
 use dsr_cells::{NoMemory, count_cells};
 use std::alloc::Global;
 use std::marker::Model;
@@ -33,7 +33,7 @@ pub struct CheckedLine<'l> {
 }
 
 impl<'l> Model for CheckedLine<'l> {
-    ghost use Rattle.dsr_records.specs.declared.record.Record.{Record as RecordValue};
+    ghost use Rattle.dsr_blocks.specs.declared.record.Record.{Record as RecordValue};
     ghost use Rattle.dsr_records.specs.inner.Checked.{record_seen};
 
     ghost Value = { RecordValue };
@@ -105,7 +105,7 @@ impl<'l> CheckedLine<'l> {
         ensures memory { OnErr result (has_texts self.now ≡ true) }
     {
         if let RecordLine::Resource(resource) = &self.found {
-            return block.write_resource(alloc, resource);
+            return write_resource(block, alloc, resource);
         }
         Ok(())
     }
@@ -124,8 +124,8 @@ impl<'l> CheckedLine<'l> {
         ensures memory { OnErr result (has_texts self.now ≡ true) }
     {
         match &self.found {
-            RecordLine::Work(work) => block.write_work(alloc, work),
-            RecordLine::Usage(usage) => block.write_usage(alloc, usage),
+            RecordLine::Work(work) => write_work(block, alloc, work),
+            RecordLine::Usage(usage) => write_usage(block, alloc, usage),
             _ => Ok(()),
         }
     }
@@ -183,8 +183,8 @@ pub struct TypedLine<'l> {
 
 impl<'l> Model for TypedLine<'l> {
     ghost use Rattle.std.specs.Prelude.{Result};
-    ghost use Rattle.dsr_records.specs.declared.record.Record.{Record as RecordValue};
-    ghost use Rattle.dsr_records.specs.declared.kinds.RecordFault.{RecordFault as FaultValue};
+    ghost use Rattle.dsr_blocks.specs.declared.record.Record.{Record as RecordValue};
+    ghost use Rattle.dsr_records.specs.declared.fault.RecordFault.{RecordFault as FaultValue};
     ghost use Rattle.dsr_records.specs.meaning.Values.{record_by_row};
 
     ghost Value = { Result RecordValue FaultValue };

@@ -1,45 +1,11 @@
-//! The columns of the kinds, and their names.
+//! The columns of the kinds.
 ghost use Rattle.std.specs.Prelude.{◌≡◌};
-ghost use Rattle.dsr_records.specs.meaning.Tables.{columns_of, column_name, may_be_empty};
+ghost use Rattle.dsr_records.specs.meaning.Tables.{columns_of, may_be_empty};
 
-use crate::kinds::{Column, Kind};
+use dsr_blocks::{Column, Kind};
 
 /// The maximum number of columns of a kind.
 pub(crate) const MOST_COLUMNS: usize = 7;
-
-impl Column {
-    /// The name of the column.
-    pub fn name(self) -> &'static str
-        ensures { result.now ≡ column_name self }
-    {
-        match self {
-            Column::MessageId => "MessageId",
-            Column::FileNumber => "FileNumber",
-            Column::NumberOfFiles => "NumberOfFiles",
-            Column::UsageStartDate => "UsageStartDate",
-            Column::UsageEndDate => "UsageEndDate",
-            Column::Sender => "Sender",
-            Column::Recipient => "Recipient",
-            Column::SummaryRecordId => "SummaryRecordId",
-            Column::Territory => "Territory",
-            Column::UseType => "UseType",
-            Column::Currency => "Currency",
-            Column::Usages => "Usages",
-            Column::Amount => "Amount",
-            Column::BlockId => "BlockId",
-            Column::Isrc => "Isrc",
-            Column::Titles => "Titles",
-            Column::Artists => "Artists",
-            Column::WorkId => "WorkId",
-            Column::Title => "Title",
-            Column::Parties => "Parties",
-            Column::Shares => "Shares",
-            Column::NumberOfLinesInFile => "NumberOfLinesInFile",
-            Column::NumberOfSummaryRecords => "NumberOfSummaryRecords",
-            Column::NumberOfBlocksInFile => "NumberOfBlocksInFile",
-        }
-    }
-}
 
 /// The columns of a kind, in order.
 pub(crate) fn columns(kind: Kind) -> &'static [Column]

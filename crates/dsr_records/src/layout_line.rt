@@ -3,9 +3,9 @@ ghost use Rattle.std.specs.Prelude.{◌≡◌, ◌≤◌, length};
 ghost use Rattle.std.specs.Str.{bytes_eq};
 ghost use Rattle.dsr_records.specs.inner.Names.{start_of};
 
-use crate::kinds::Kind;
 use crate::positions::Positions;
 use arrayvec::ArrayString;
+use dsr_blocks::Kind;
 use std::marker::Model;
 
 /// The first four bytes of a record type as a number; 0 if it is shorter.

@@ -7,13 +7,13 @@ ghost use Rattle.dsr_cells.specs.meaning.Lines.{without_return};
 ghost use Rattle.dsr_records.specs.meaning.Layouts.{empty_layout, is_type_text, is_type_byte, kind_named, position_of, positions_from, with_line, with_text, with_piece, with_lines, layout_of, cell_at, is_left_out};
 
 use crate::column::{MOST_COLUMNS, column_may_be_empty, columns};
-use crate::kinds::{Column, Kind};
 use crate::layout::{Layout, place};
 use crate::layout_fault::{LayoutError, LayoutFault};
 use crate::layout_line::{RoleLine, TypeName};
 use crate::pieces::{Pieces, lines};
 use crate::positions::Positions;
 use arrayvec::ArrayVec;
+use dsr_blocks::{Column, Kind};
 use dsr_cells::{cell, read_number};
 use std::str;
 

@@ -3,15 +3,16 @@ ghost use Rattle.std.specs.Prelude.{◌≡◌, ℕ, List, [], ◌∷◌, ◌++�
 ghost use Rattle.dsr_values.specs.meaning.Days.{day_of};
 ghost use Rattle.dsr_values.specs.meaning.Numbers.{amount_of, number_of, usages_of};
 ghost use Rattle.dsr_values.specs.meaning.Texts.{is_identifier_text};
-ghost use Rattle.dsr_records.specs.declared.kinds.Column.TheVariants as columns;
-ghost use Rattle.dsr_records.specs.declared.kinds.RecordFault.TheVariants as faults;
+ghost use Rattle.dsr_blocks.specs.declared.kinds.Column.TheVariants as columns;
+ghost use Rattle.dsr_records.specs.declared.fault.RecordFault.TheVariants as faults;
 ghost use Rattle.dsr_records.specs.inner.Rows.{ReadsText, ReadsValue, share_count};
 ghost use Rattle.dsr_records.specs.meaning.Tables.{cell_of, file_number_of, is_spelled, may_be_empty, text_of};
 ghost use Rattle.dsr_records.specs.meaning.Values.{shares_of};
 
-use crate::kinds::{Column, RecordFault};
+use crate::fault::RecordFault;
 use crate::row::Row;
 use arrayvec::ArrayVec;
+use dsr_blocks::Column;
 use dsr_cells::{
     Amount, Day, Share, is_currency, is_identifier, is_territory, is_use_type, read_number,
     read_usages, values,

@@ -3,9 +3,9 @@ use Rattle.std.specs.Prelude.{ℕ, zero, suc, Bool, false, not, ◌==◌, ◌&&�
 use Rattle.std.specs.List.{list_any}
 use Rattle.std.specs.Str.{bytes_eq}
 use Rattle.dsr_values.specs.meaning.Days.{CivilDay}
-use Rattle.dsr_records.specs.declared.record.Head.{Head}
-use Rattle.dsr_records.specs.declared.record.Summary.{Summary}
-use Rattle.dsr_records.specs.meaning.Blocks.{BlockParts}
+use Rattle.dsr_blocks.specs.declared.record.Head.{Head}
+use Rattle.dsr_blocks.specs.declared.record.Summary.{Summary}
+use Rattle.dsr_blocks.specs.meaning.Blocks.{BlockParts}
 use Rattle.dsr_events.specs.declared.fault.Outcome.{Outcome}
 use Rattle.dsr_events.specs.meaning.Openings.{OpeningParts}
 use Rattle.dsr_ledger.specs.declared.verdict.Standing.{Standing}

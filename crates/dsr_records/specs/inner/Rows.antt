@@ -4,8 +4,8 @@ use Rattle.std.specs.Borrow.{Bor}
 use Rattle.std.specs.List.{list_all}
 use Rattle.dsr_cells.specs.meaning.Cells.{cells}
 use Rattle.dsr_cells.specs.meaning.Values.{raw_parts}
-use Rattle.dsr_records.specs.declared.kinds.Column.{Column}
-use Rattle.dsr_records.specs.declared.kinds.RecordFault.{RecordFault}
+use Rattle.dsr_blocks.specs.declared.kinds.Column.{Column}
+use Rattle.dsr_records.specs.declared.fault.RecordFault.{RecordFault}
 use Rattle.dsr_records.specs.declared.rest.Rest.{Rest}
 use Rattle.dsr_records.specs.meaning.Records.{column_fault}
 use Rattle.dsr_records.specs.meaning.Tables.{cell_of, is_share, text_of}

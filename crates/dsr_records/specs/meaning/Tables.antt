@@ -7,13 +7,13 @@ use Rattle.dsr_values.specs.meaning.Days.{CivilDay, day_of, day_number}
 use Rattle.dsr_values.specs.meaning.Numbers.{number_of, usages_of, amount_of, share_of}
 use Rattle.dsr_values.specs.meaning.Texts.{is_identifier_text, is_territory_text, is_use_type_text, is_currency_text}
 use Rattle.dsr_cells.specs.meaning.Values.{raw_parts}
-use Rattle.dsr_records.specs.declared.kinds.Column.{Column}
-use Rattle.dsr_records.specs.declared.kinds.Column.TheVariants.{MessageId, FileNumber, NumberOfFiles, UsageStartDate, UsageEndDate, Sender, Recipient}
-use Rattle.dsr_records.specs.declared.kinds.Column.TheVariants.{SummaryRecordId, Territory, UseType, Currency, Usages, Amount, BlockId, Isrc, Titles, Artists}
-use Rattle.dsr_records.specs.declared.kinds.Column.TheVariants.{WorkId, Title, Parties, Shares, NumberOfLinesInFile, NumberOfSummaryRecords}
-use Rattle.dsr_records.specs.declared.kinds.Column.TheVariants.{NumberOfBlocksInFile}
-use Rattle.dsr_records.specs.declared.kinds.Kind.{Kind}
-use Rattle.dsr_records.specs.declared.kinds.Kind.TheVariants.{Head, Summary, Resource, Work, Usage, Foot, Skipped}
+use Rattle.dsr_blocks.specs.declared.kinds.Column.{Column}
+use Rattle.dsr_blocks.specs.declared.kinds.Column.TheVariants.{MessageId, FileNumber, NumberOfFiles, UsageStartDate, UsageEndDate, Sender, Recipient}
+use Rattle.dsr_blocks.specs.declared.kinds.Column.TheVariants.{SummaryRecordId, Territory, UseType, Currency, Usages, Amount, BlockId, Isrc, Titles, Artists}
+use Rattle.dsr_blocks.specs.declared.kinds.Column.TheVariants.{WorkId, Title, Parties, Shares, NumberOfLinesInFile, NumberOfSummaryRecords}
+use Rattle.dsr_blocks.specs.declared.kinds.Column.TheVariants.{NumberOfBlocksInFile}
+use Rattle.dsr_blocks.specs.declared.kinds.Kind.{Kind}
+use Rattle.dsr_blocks.specs.declared.kinds.Kind.TheVariants.{Head, Summary, Resource, Work, Usage, Foot, Skipped}
 
 -- the cell of a column, given the cells of a line's columns
 abbrev pub cell_of : List (Option (List ℕ)) → ℕ → Option (List ℕ)
@@ -32,33 +32,6 @@ columns_of Work = BlockId ∷ WorkId ∷ Title ∷ Parties ∷ Shares ∷ []
 columns_of Usage = BlockId ∷ SummaryRecordId ∷ Usages ∷ Amount ∷ []
 columns_of Foot = NumberOfLinesInFile ∷ NumberOfSummaryRecords ∷ NumberOfBlocksInFile ∷ []
 columns_of Skipped = []
-
--- the name of each column
-abbrev pub column_name : Column → List ℕ
-column_name MessageId = codes "MessageId"
-column_name FileNumber = codes "FileNumber"
-column_name NumberOfFiles = codes "NumberOfFiles"
-column_name UsageStartDate = codes "UsageStartDate"
-column_name UsageEndDate = codes "UsageEndDate"
-column_name Sender = codes "Sender"
-column_name Recipient = codes "Recipient"
-column_name SummaryRecordId = codes "SummaryRecordId"
-column_name Territory = codes "Territory"
-column_name UseType = codes "UseType"
-column_name Currency = codes "Currency"
-column_name Usages = codes "Usages"
-column_name Amount = codes "Amount"
-column_name BlockId = codes "BlockId"
-column_name Isrc = codes "Isrc"
-column_name Titles = codes "Titles"
-column_name Artists = codes "Artists"
-column_name WorkId = codes "WorkId"
-column_name Title = codes "Title"
-column_name Parties = codes "Parties"
-column_name Shares = codes "Shares"
-column_name NumberOfLinesInFile = codes "NumberOfLinesInFile"
-column_name NumberOfSummaryRecords = codes "NumberOfSummaryRecords"
-column_name NumberOfBlocksInFile = codes "NumberOfBlocksInFile"
 
 -- the columns that may be empty or missing
 abbrev pub may_be_empty : Column → Bool

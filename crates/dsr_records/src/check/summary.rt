@@ -1,15 +1,15 @@
 //! SY01: a summary of usages.
 ghost use Rattle.std.specs.Prelude.{◌≡◌, Ok, Err, MatchResult, IfOk};
-ghost use Rattle.dsr_records.specs.declared.kinds.Kind.TheVariants as kinds;
-ghost use Rattle.dsr_records.specs.declared.record.Record.TheVariants as records;
+ghost use Rattle.dsr_blocks.specs.declared.kinds.Kind.TheVariants as kinds;
+ghost use Rattle.dsr_blocks.specs.declared.record.Record.TheVariants as records;
 ghost use Rattle.dsr_records.specs.meaning.Values.{record_by_row};
 
-use crate::kinds::{Column, RecordFault};
-use crate::record::Summary;
+use crate::fault::RecordFault;
 use crate::row::Row;
 use crate::spelled::{
     read_amount, read_currency, read_identifier, read_territory, read_usage_count, read_use_type,
 };
+use dsr_blocks::{Column, Summary};
 use dsr_cells::{Amount, NoMemory, Text};
 use std::alloc::Global;
 use std::marker::Model;
@@ -26,7 +26,7 @@ pub(crate) struct SummaryLine<'l> {
 }
 
 impl<'l> Model for SummaryLine<'l> {
-    ghost use Rattle.dsr_records.specs.declared.record.Summary.{Summary as SummaryRecord};
+    ghost use Rattle.dsr_blocks.specs.declared.record.Summary.{Summary as SummaryRecord};
 
     ghost Value = { SummaryRecord };
 

@@ -1,0 +1,2 @@
+-- The definitions that relate the code to those of `meaning`.
+pub mod Boxes
