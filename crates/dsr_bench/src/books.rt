@@ -117,6 +117,7 @@ fn end(books: &mut Books) -> Result<(), NoMemory> {
 /// The report of one file that has ended; None if it has not.
 fn report_of(books: Books) -> Result<Option<Report>, NoMemory> {
     if books.files() != 1 || books.opened() != 1 || !books.ended(0) {
+        drop(books);
         return Ok(None);
     }
     Ok(Some(books.into_report()?))

@@ -17,9 +17,9 @@
 //!    maps with seeded hashers (`seeded`). A recording owns its seats and lines (`ledger/recording`,
 //!    `seats`, `line`), a line its sums and parts (`sums`, `parts`), whose numbers are `wide`. A long
 //!    list whose numbers do not rise has an index of them (`ledger/index`); in a short one, `hints`
-//!    have the probable places of lines and summaries.
+//!    have the probable places of lines and summaries. Numbers are kept in 32 bits (`narrow`).
 //! 5. `assemble` closes the books (`closed`): it makes the parts of the `report` that say how the files
-//!    did (`file_lines`, `missing`, `differences`, `rejects`). Closed books give the lines of the
+//!    did (`file_lines`, `missing`, `differences`, `rejects`), item by item (`append`). Closed books give the lines of the
 //!    ledger one after another (`assemble/ledger`) to whoever takes them (`taking`), in the order of
 //!    the recordings (`assemble/recordings`) and of the summary keys (`assemble/ranks`). They are made
 //!    in lists with room for the longest (`assemble/lists`), so that giving them allocates nothing.
@@ -57,7 +57,11 @@
 //! fn hand_in(books: &mut Books, event: Event) -> Result<(), Fail> {
 //!     match event.part {
 //!         EventPart::Opened(opening) => open(books, opening),
-//!         EventPart::Block(block) => book(books, &block),
+//!         EventPart::Block(block) => {
+//!             let booked = book(books, &block);
+//!             drop(block);
+//!             booked
+//!         }
 //!         EventPart::Ended(outcome) => end(books, outcome),
 //!     }
 //! }
@@ -72,6 +76,16 @@
 //!     Ok(())
 //! }
 //!
+//! /// The report of books, if their files have ended.
+//! fn close(books: Books) -> Result<Report, Fail> {
+//!     // `all_ended` asks the books whether each file is opened and has ended.
+//!     if !all_ended(&books) {
+//!         drop(books);
+//!         return Err(Fail::new("a file that has not ended"));
+//!     }
+//!     Ok(books.into_report()?)
+//! }
+//!
 //! /// The report of one file with these events.
 //! ///
 //! /// # Errors
@@ -79,12 +93,13 @@
 //! /// A failure of the test: the file does not end, or out of memory.
 //! pub fn report_of(alloc: Global, events: &mut EventList) -> Result<Report, Fail> {
 //!     let mut books = Books::new(alloc, 1)?;
-//!     hand_in_all(&mut books, events)?;
-//!     // `all_ended` asks the books whether each file is opened and has ended.
-//!     if !all_ended(&books) {
-//!         return Err(Fail::new("a file that has not ended"));
+//!     match hand_in_all(&mut books, events) {
+//!         Ok(()) => close(books),
+//!         Err(failure) => {
+//!             drop(books);
+//!             Err(failure)
+//!         }
 //!     }
-//!     Ok(books.into_report()?)
 //! }
 //! ```
 //!

@@ -11,17 +11,12 @@
 //! **Example**, compiled and proved in `crates/dsr_tests/src/collecting.rt`:
 //!
 //! ```
-//! fn two_relays_are_collected(rt: HostRuntime) -> Result<(), AllocError> {
-//!     let alloc = rt.alloc();
-//!     let (answer, ended) = collected(&rt, alloc, u32::MAX)?;
-//!     assert!(rt; ended);
-//!     let Ok(report) = answer else {
-//!         assert!(rt; false);
-//!         return Ok(());
-//!     };
-//!     let written = statement(alloc, &report).map_err(|_| AllocError)?;
-//!     assert!(rt; written.as_slice() == TWO_STATEMENT);
-//!     Ok(())
+//! /// Whether this is the statement of a report.
+//! fn is_statement_of(alloc: Global, report: &Report, expected: &[u8]) -> bool {
+//!     match statement(alloc, report) {
+//!         Ok(written) => written.as_slice() == expected,
+//!         Err(_) => false,
+//!     }
 //! }
 //! ```
 //!

@@ -11,7 +11,7 @@ use std::alloc::{AllocError, Global};
 use std::random::RandomSource;
 use std::sync::Wait;
 use std::thread;
-use std::thread::Threads;
+use std::thread::{JoinHandle, Threads};
 
 /// A sink that sends a number of events, and then refuses the next ones.
 #[derive(Drop)]
@@ -36,19 +36,29 @@ impl<'a, H: Wait> Sink for Limited<'a, H> {
     }
 }
 
+/// Puts the events of a text into a sink, as far as it takes them.
+fn put_text<H: Wait>(alloc: Global, text: &'static [u8], sink: &mut Limited<'_, H>)
+    requires { sink.old.sink.sent ≡ [] }
+{
+    let layout = Layout::standard();
+    let mut reader = FromRead::new(text);
+    let answer = read_file(alloc, &layout, &mut reader, sink, 100);
+    drop(layout);
+    drop(answer);
+}
+
 /// Sends at most `most` events of a text, and closes the relay.
 fn send_text<H: Wait>(rt: &H, alloc: Global, text: &'static [u8], most: u32, feed: Feed)
     requires { feed.sent ≡ [] }
 {
-    let mut reader = FromRead::new(text);
     let mut sink = Limited {
         sink: FeedSink::new(rt, feed),
         left: most,
     };
-    let _ = read_file(alloc, &Layout::standard(), &mut reader, &mut sink, 100);
-    let Limited { sink, left: _ } = sink;
-    let mut feed = sink.into_feed();
+    put_text(alloc, text, &mut sink);
+    let mut feed = sink.sink.into_feed();
     let _ = feed.flush(rt);
+    drop(feed);
 }
 
 /// The two ends of a relay of one message.
@@ -62,6 +72,26 @@ fn open(alloc: Global) -> Result<(Feed, Tap), AllocError>
     }
 }
 
+/// Starts a thread that sends at most `most` events of a text. Returns it with the tap of its relay.
+fn start<H: Threads + Wait + Copy + Send + 'static>(
+    rt: &H,
+    alloc: Global,
+    text: &'static [u8],
+    most: u32,
+) -> Result<(JoinHandle<()>, Tap), AllocError>
+    ensures taken { IfOk result (λ started. started.1.taken ≡ []) }
+{
+    let (feed, tap) = open(alloc)?;
+    let own = *rt;
+    match thread::spawn(rt, move || send_text(&own, alloc, text, most, feed)) {
+        Ok(sender) => Ok((sender, tap)),
+        Err(_) => {
+            drop(tap);
+            Err(AllocError)
+        }
+    }
+}
+
 /// What is collected of two files, where the second thread sends a number of events, and whether
 /// both taps have ended.
 fn collected<H: Threads + Wait + RandomSource + Copy + Send + 'static>(
@@ -69,18 +99,9 @@ fn collected<H: Threads + Wait + RandomSource + Copy + Send + 'static>(
     alloc: Global,
     most: u32,
 ) -> Result<(Result<Report, CollectError>, bool), AllocError> {
-    let (first_feed, first_tap) = open(alloc)?;
-    let (second_feed, second_tap) = open(alloc)?;
+    let (first, first_tap) = start(rt, alloc, FIRST_OF_TWO, u32::MAX)?;
+    let (second, second_tap) = start(rt, alloc, SECOND_OF_TWO, most)?;
     let mut taps = vec![in alloc; first_tap, second_tap]?;
-    let own = *rt;
-    let first = thread::spawn(
-        rt,
-        move || send_text(&own, alloc, FIRST_OF_TWO, u32::MAX, first_feed),
-    )?;
-    let second = thread::spawn(
-        rt,
-        move || send_text(&own, alloc, SECOND_OF_TWO, most, second_feed),
-    )?;
     let answer = collect(rt, alloc, &mut taps);
     let ended = taps.iter().all(|tap| tap.ended());
     drop(taps);
@@ -89,17 +110,25 @@ fn collected<H: Threads + Wait + RandomSource + Copy + Send + 'static>(
     Ok((answer, ended))
 }
 
+/// Whether this is the statement of a report.
+fn is_statement_of(alloc: Global, report: &Report, expected: &[u8]) -> bool {
+    match statement(alloc, report) {
+        Ok(written) => written.as_slice() == expected,
+        Err(_) => false,
+    }
+}
+
 #[test]
 fn two_relays_are_collected(rt: HostRuntime) -> Result<(), AllocError> {
     let alloc = rt.alloc();
     let (answer, ended) = collected(&rt, alloc, u32::MAX)?;
-    assert!(rt; ended);
-    let Ok(report) = answer else {
-        assert!(rt; false);
-        return Ok(());
+    let is_right = match &answer {
+        Ok(report) => is_statement_of(alloc, report, TWO_STATEMENT),
+        Err(_) => false,
     };
-    let written = statement(alloc, &report).map_err(|_| AllocError)?;
-    assert!(rt; written.as_slice() == TWO_STATEMENT);
+    drop(answer);
+    assert!(rt; ended);
+    assert!(rt; is_right);
     Ok(())
 }
 
@@ -107,7 +136,9 @@ fn two_relays_are_collected(rt: HostRuntime) -> Result<(), AllocError> {
 fn a_relay_that_closes_early(rt: HostRuntime) -> Result<(), AllocError> {
     let alloc = rt.alloc();
     let (answer, ended) = collected(&rt, alloc, 1)?;
+    let is_closed = matches!(&answer, Err(CollectError::Closed(2)));
+    drop(answer);
     assert!(rt; !ended);
-    assert!(rt; matches!(answer, Err(CollectError::Closed(2))));
+    assert!(rt; is_closed);
     Ok(())
 }

@@ -2,7 +2,7 @@
 ghost use Rattle.std.specs.Prelude.{◌≡◌, None, false, All, IfOk};
 
 use crate::runs::options;
-use crate::script::{After, Script, Step};
+use crate::script::{After, Script, Step, one_reader};
 use crate::texts::{CLEAN, CLEAN_STATEMENT, HUNDRED_STATEMENT};
 use crate::turns::hundred_blocks;
 use dsr_file::Failed;
@@ -91,25 +91,18 @@ fn ends_well<H: Threads + Wait + RandomSource + Copy + Send + 'static>(
     }
 }
 
-/// A reader of the clean report.
-fn clean_reader(alloc: Global) -> Result<Vec<Script>, AllocError>
-    ensures { IfOk result (λ v. All (λ r. r.failed ≡ false) v.items) }
-{
-    Ok(vec![in alloc; Script::alone(alloc, CLEAN, Step::Full, After::End)?]?)
-}
-
 /// A reader of the file of a hundred blocks.
 fn hundred_reader(alloc: Global) -> Result<Vec<Script>, AllocError>
     ensures { IfOk result (λ v. All (λ r. r.failed ≡ false) v.items) }
 {
     let text = hundred_blocks(alloc)?;
-    Ok(vec![in alloc; Script::alone(alloc, &text, Step::Line, After::End)?]?)
+    one_reader(alloc, &text, Step::Line, After::End)
 }
 
 #[test]
 fn a_clean_report_or_no_memory(rt: HostRuntime) {
     let alloc = rt.alloc();
-    if let Ok(readers) = clean_reader(alloc) {
+    if let Ok(readers) = one_reader(alloc, CLEAN, Step::Full, After::End) {
         assert!(rt; ends_well(&rt, alloc, readers, Status::Clean, CLEAN_STATEMENT));
     }
 }

@@ -1,9 +1,9 @@
 //! Refusals and failures, and what was written before them.
-ghost use Rattle.std.specs.Prelude.{◌≡◌, false};
+ghost use Rattle.std.specs.Prelude.{◌≡◌, false, All, IfOk};
 
 use crate::page::Page;
 use crate::runs::{gives, options};
-use crate::script::{After, Script, Step};
+use crate::script::{After, Script, Step, one_reader};
 use crate::texts::{CLEAN, CLEAN_STATEMENT};
 use dsr_intake::{RunError, Status, ToWrite, run};
 use std::alloc::{AllocError, Global};
@@ -13,24 +13,37 @@ use std::random::RandomSource;
 use std::sync::Wait;
 use std::thread::Threads;
 
-/// How a run on the clean report ends on this page.
-fn writes<H: Threads + Wait + RandomSource + Copy + Send + 'static>(
+/// A reader of the clean report.
+fn clean_reader(alloc: Global) -> Result<Vec<Script>, AllocError>
+    ensures { IfOk result (λ v. All (λ r. r.failed ≡ false) v.items) }
+{
+    one_reader(alloc, CLEAN, Step::Full, After::End)
+}
+
+/// Whether a run on these readers fails after exactly these bytes are written to the page.
+fn fails_after<H: Threads + Wait + RandomSource + Copy + Send + 'static>(
     rt: &H,
     alloc: Global,
-    page: &mut Page,
-) -> Result<Result<Status, RunError>, AllocError>
-    requires { page.old.failed ≡ false }
+    readers: Vec<Script>,
+    page: Page,
+    expected: &[u8],
+) -> bool
+    requires readers { All (λ r. r.failed ≡ false) readers.items }
+    requires page { page.failed ≡ false }
 {
-    let mut readers = vec![in alloc; Script::alone(alloc, CLEAN, Step::Full, After::End)?]?;
-    Ok(run(rt, alloc, &mut readers, options(16, 100), page))
+    let mut readers = readers;
+    let mut page = page;
+    let written = expected.len() as u64;
+    let answer = run(rt, alloc, &mut readers, options(16, 100), &mut page);
+    answer == Err(RunError::Write { written }) && page.bytes() == expected
 }
 
 #[test]
 fn a_writer_that_fails_after_five_bytes(rt: HostRuntime) -> Result<(), AllocError> {
     let alloc = rt.alloc();
-    let mut page = Page::narrow(alloc, 100, 5, true);
-    assert!(rt; writes(&rt, alloc, &mut page)? == Err(RunError::Write { written: 5 }));
-    assert!(rt; page.bytes() == b"REPOR".as_slice());
+    let readers = clean_reader(alloc)?;
+    let page = Page::narrow(alloc, 100, 5, true);
+    assert!(rt; fails_after(&rt, alloc, readers, page, b"REPOR"));
     Ok(())
 }
 
@@ -40,10 +53,9 @@ fn a_writer_that_fails_after_five_bytes(rt: HostRuntime) -> Result<(), AllocErro
 fn a_writer_that_fails_after_every_byte(rt: HostRuntime) -> Result<(), AllocError> {
     let alloc = rt.alloc();
     for room in 0..CLEAN_STATEMENT.len() {
-        let mut page = Page::narrow(alloc, 1, room, true);
-        let written = room as u64;
-        assert!(rt; writes(&rt, alloc, &mut page)? == Err(RunError::Write { written }));
-        assert!(rt; page.bytes() == &CLEAN_STATEMENT[..room]);
+        let readers = clean_reader(alloc)?;
+        let page = Page::narrow(alloc, 1, room, true);
+        assert!(rt; fails_after(&rt, alloc, readers, page, &CLEAN_STATEMENT[..room]));
     }
     Ok(())
 }
@@ -51,10 +63,9 @@ fn a_writer_that_fails_after_every_byte(rt: HostRuntime) -> Result<(), AllocErro
 #[test]
 fn a_flush_that_fails(rt: HostRuntime) -> Result<(), AllocError> {
     let alloc = rt.alloc();
-    let mut page = Page::narrow(alloc, 7, 100_000, false);
-    let written = CLEAN_STATEMENT.len() as u64;
-    assert!(rt; writes(&rt, alloc, &mut page)? == Err(RunError::Write { written }));
-    assert!(rt; page.bytes() == CLEAN_STATEMENT);
+    let readers = clean_reader(alloc)?;
+    let page = Page::narrow(alloc, 7, 100_000, false);
+    assert!(rt; fails_after(&rt, alloc, readers, page, CLEAN_STATEMENT));
     Ok(())
 }
 
@@ -75,39 +86,56 @@ impl Write for Shut {
 #[test]
 fn a_writer_that_takes_nothing(rt: HostRuntime) -> Result<(), AllocError> {
     let alloc = rt.alloc();
-    let mut readers = vec![in alloc; Script::alone(alloc, CLEAN, Step::Full, After::End)?]?;
+    let mut readers = clean_reader(alloc)?;
     let mut out = ToWrite::new(Shut);
     let answer = run(&rt, alloc, &mut readers, options(16, 100), &mut out);
     assert!(rt; answer == Err(RunError::Write { written: 0 }));
     Ok(())
 }
 
-/// The statement of the clean report if a read fails after these bytes.
-fn failed_statement(alloc: Global, given: &[u8]) -> Result<String, AllocError> {
-    let lines = given.iter().filter(|byte| **byte == b'\n').count();
-    let report = "REPORT\tR1\t1\t2024-01-01\t2024-01-31\t31\n";
-    let first = "LEDGER\tGBABC2400001\tGB\tOnDemandStream\tGBP\t10\t0.5000000000\n\
+/// The lines of the first block of the clean report in its statement.
+const FIRST_LINES: &str = "LEDGER\tGBABC2400001\tGB\tOnDemandStream\tGBP\t10\t0.5000000000\n\
 PARTY\tGBABC2400001\tGB\tOnDemandStream\tGBP\tP1\t0.2500000000\n\
 PARTY\tGBABC2400001\tGB\tOnDemandStream\tGBP\tP2\t0.1250000000\n\
 UNCLAIMED\tGBABC2400001\tGB\tOnDemandStream\tGBP\t0.1250000000\n";
-    let second = "LEDGER\tGBABC2400002\tGB\tOnDemandStream\tGBP\t20\t1.0000000000\n\
+
+/// Those of its second block.
+const SECOND_LINES: &str = "LEDGER\tGBABC2400002\tGB\tOnDemandStream\tGBP\t20\t1.0000000000\n\
 UNCLAIMED\tGBABC2400002\tGB\tOnDemandStream\tGBP\t1.0000000000\n";
+
+/// The statement of the clean report if a read fails after these bytes.
+fn failed_statement(alloc: Global, given: &[u8]) -> Result<String, AllocError> {
+    let lines = given.iter().filter(|byte| **byte == b'\n').count();
+    let line = lines + 1;
     if lines <= 2 {
-        return format!(in alloc;
-            "NOREPORT\nFILE\t1\t-\tHeadless\t0\tFault\t{}\tRead\n",
-            lines + 1
-        );
+        return format!(in alloc; "NOREPORT\nFILE\t1\t-\tHeadless\t0\tFault\t{line}\tRead\n");
     }
-    if lines <= 5 {
-        return format!(in alloc; "{report}FILE\t1\t1\tOurs\t0\tFault\t{}\tRead\n", lines + 1);
-    }
-    if lines <= 7 {
-        return format!(in alloc;
-            "{report}FILE\t1\t1\tOurs\t1\tFault\t{}\tRead\n{first}",
-            lines + 1
-        );
-    }
-    format!(in alloc; "{report}FILE\t1\t1\tOurs\t2\tFault\t9\tRead\n{first}{second}")
+    let report = "REPORT\tR1\t1\t2024-01-01\t2024-01-31\t31\n";
+    let (blocks, first, second) = match lines {
+        3..=5 => (0, "", ""),
+        6..=7 => (1, FIRST_LINES, ""),
+        _ => (2, FIRST_LINES, SECOND_LINES),
+    };
+    format!(in alloc; "{report}FILE\t1\t1\tOurs\t{blocks}\tFault\t{line}\tRead\n{first}{second}")
+}
+
+/// Whether the statement is right if a read fails after these bytes of the clean report.
+fn is_right_after<H: Threads + Wait + RandomSource + Copy + Send + 'static>(
+    rt: &H,
+    alloc: Global,
+    given: &[u8],
+) -> Result<bool, AllocError> {
+    let expected = failed_statement(alloc, given)?;
+    let readers = one_reader(alloc, given, Step::Full, After::Failure)?;
+    let options = options(16, 100);
+    Ok(gives(
+        rt,
+        alloc,
+        readers,
+        options,
+        Status::Remarks,
+        expected.as_bytes(),
+    ))
 }
 
 /// The clean report, cut after each number of bytes, and then a read that fails.
@@ -115,25 +143,21 @@ UNCLAIMED\tGBABC2400002\tGB\tOnDemandStream\tGBP\t1.0000000000\n";
 fn a_read_that_fails_after_every_byte(rt: HostRuntime) -> Result<(), AllocError> {
     let alloc = rt.alloc();
     for given in 0..CLEAN.len() + 1 {
-        let text = &CLEAN[..given];
-        let expected = failed_statement(alloc, text)?;
-        let readers = vec![in alloc; Script::alone(alloc, text, Step::Full, After::Failure)?]?;
-        assert!(rt;
-            gives(
-                &rt,
-                alloc,
-                readers,
-                options(16, 100),
-                Status::Remarks,
-                expected.as_bytes()
-            )
-        );
+        assert!(rt; is_right_after(&rt, alloc, &CLEAN[..given])?);
     }
     Ok(())
 }
 
-/// Whether the statement of a file of one line shows this fault. The line has this first byte and this length, no line
-/// feed ends it, and then a read fails.
+/// A reader of one line with this first byte and this length. No line feed ends it, and then a read fails.
+fn line_reader(alloc: Global, first: u8, len: usize) -> Result<Vec<Script>, AllocError>
+    ensures { IfOk result (λ v. All (λ r. r.failed ≡ false) v.items) }
+{
+    let mut line = vec![in alloc; first]?;
+    line.resize(len, b'x')?;
+    one_reader(alloc, &line, Step::Full, After::Failure)
+}
+
+/// Whether the statement of the file of such a line shows this fault.
 fn ends_by<H: Threads + Wait + RandomSource + Copy + Send + 'static>(
     rt: &H,
     alloc: Global,
@@ -141,17 +165,14 @@ fn ends_by<H: Threads + Wait + RandomSource + Copy + Send + 'static>(
     len: usize,
     fault: &str,
 ) -> Result<bool, AllocError> {
-    let mut line = vec![in alloc; first]?;
-    line.resize(len, b'x')?;
-    let readers = vec![in alloc;
-        Script::alone(alloc, line.as_slice(), Step::Full, After::Failure)?,
-    ]?;
     let expected = format!(in alloc; "NOREPORT\nFILE\t1\t-\tHeadless\t0\tFault\t1\t{fault}\n")?;
+    let readers = line_reader(alloc, first, len)?;
+    let options = options(16, 100);
     Ok(gives(
         rt,
         alloc,
         readers,
-        options(16, 100),
+        options,
         Status::Remarks,
         expected.as_bytes(),
     ))

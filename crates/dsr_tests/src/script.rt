@@ -1,5 +1,5 @@
 //! A scripted reader of a text.
-ghost use Rattle.std.specs.Prelude.{◌≡◌, ◌≤◌, None, false, length, IfOk};
+ghost use Rattle.std.specs.Prelude.{◌≡◌, ◌≤◌, None, false, length, All, IfOk};
 
 use dsr_file::{Failed, ReadCount, Source};
 use std::alloc::{AllocError, Global};
@@ -40,6 +40,28 @@ pub enum Wait {
     Unless(u64),
 }
 
+/// How many reads two readers have begun.
+#[derive(Drop)]
+struct Begun {
+    first: AtomicU64,
+    second: AtomicU64,
+}
+
+impl Begun {
+    /// No reads.
+    fn new() -> Begun {
+        Begun {
+            first: AtomicU64::new(0),
+            second: AtomicU64::new(0),
+        }
+    }
+
+    /// The count of the first reader, or that of the second one.
+    fn of(&self, is_first: bool) -> &AtomicU64 {
+        if is_first { &self.first } else { &self.second }
+    }
+}
+
 /// A scripted reader of a text. Its waiting is limited, and then its read fails.
 #[derive(Drop)]
 pub struct Script {
@@ -48,21 +70,21 @@ pub struct Script {
     step: Step,
     after: After,
     wait: Wait,
-    own: Arc<AtomicU64, Global>,
-    other: Arc<AtomicU64, Global>,
+    begun: Arc<Begun, Global>,
+    is_first: bool,
     failed: bool,
     reads: ReadCount,
 }
 
 impl Script {
-    /// A reader of a text. Its reads are counted in `own`, and those of the reader that it waits for in `other`.
-    pub fn new(
+    /// The first or the second of two readers, whose reads are counted in `begun`.
+    fn new(
         text: Vec<u8>,
         step: Step,
         after: After,
         wait: Wait,
-        own: Arc<AtomicU64, Global>,
-        other: Arc<AtomicU64, Global>,
+        begun: Arc<Begun, Global>,
+        is_first: bool,
     ) -> Script
         ensures { result.failed ≡ false }
     {
@@ -72,8 +94,8 @@ impl Script {
             step,
             after,
             wait,
-            own,
-            other,
+            begun,
+            is_first,
             failed: false,
             reads: ReadCount::new(),
         }
@@ -84,20 +106,71 @@ impl Script {
         ensures { IfOk result (λ s. s.failed ≡ false) }
     {
         let text = Vec::from_slice(alloc, text)?;
-        let own = Arc::new(alloc, AtomicU64::new(0))?;
-        let other = Arc::try_clone(&own)?;
-        Ok(Script::new(text, step, after, Wait::Never, own, other))
+        let begun = Arc::new(alloc, Begun::new())?;
+        Ok(Script::new(text, step, after, Wait::Never, begun, true))
     }
 
     /// Whether the reader may go on with its read, the `own`th that it has begun.
     fn may_read(&self, own: u64) -> bool {
+        let other = self.begun.of(!self.is_first);
         match self.wait {
             Wait::Never => true,
-            Wait::First => own > 1 || reaches(&self.other, 1, 10_000_000),
-            Wait::Unless(reads) => self.at < self.text.len()
-                || !reaches(&self.other, reads, 1_000_000),
+            Wait::First => own > 1 || reaches(other, 1, 10_000_000),
+            Wait::Unless(reads) => self.at < self.text.len() || !reaches(other, reads, 1_000_000),
         }
     }
+}
+
+/// One of two readers that may wait for each other.
+#[derive(Clone, Copy)]
+pub struct Part<'t> {
+    pub text: &'t [u8],
+    pub step: Step,
+    pub wait: Wait,
+}
+
+/// The reader of a part, the first or the second one.
+fn reader_of(
+    alloc: Global,
+    part: Part<'_>,
+    begun: Arc<Begun, Global>,
+    is_first: bool,
+) -> Result<Script, AllocError>
+    ensures { IfOk result (λ s. s.failed ≡ false) }
+{
+    match Vec::from_slice(alloc, part.text) {
+        Ok(text) => Ok(Script::new(text, part.step, After::End, part.wait, begun, is_first)),
+        Err(error) => {
+            drop(begun);
+            Err(error)
+        }
+    }
+}
+
+/// Two readers that may wait for each other.
+pub fn two_readers(
+    alloc: Global,
+    first: Part<'_>,
+    second: Part<'_>,
+) -> Result<Vec<Script>, AllocError>
+    ensures { IfOk result (λ v. All (λ r. r.failed ≡ false) v.items) }
+{
+    let begun = Arc::new(alloc, Begun::new())?;
+    let first = reader_of(alloc, first, Arc::try_clone(&begun)?, true)?;
+    let second = reader_of(alloc, second, begun, false)?;
+    Ok(vec![in alloc; first, second]?)
+}
+
+/// The only reader of a report.
+pub fn one_reader(
+    alloc: Global,
+    text: &[u8],
+    step: Step,
+    after: After,
+) -> Result<Vec<Script>, AllocError>
+    ensures { IfOk result (λ v. All (λ r. r.failed ≡ false) v.items) }
+{
+    Ok(vec![in alloc; Script::alone(alloc, text, step, after)?]?)
 }
 
 /// Waits, for at most `turns` turns, until the count is `wanted`. Returns whether it got there.
@@ -147,7 +220,8 @@ impl Script {
         ensures failed { self.new.failed ≡ self.old.failed }
         ensures reads { self.new.reads ≡ self.old.reads }
     {
-        let own = self.own.fetch_add(1, Ordering::SeqCst).wrapping_add(1);
+        let begun = self.begun.of(self.is_first);
+        let own = begun.fetch_add(1, Ordering::SeqCst).wrapping_add(1);
         if !self.may_read(own) {
             return Err(Failed);
         }

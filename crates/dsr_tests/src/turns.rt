@@ -1,49 +1,31 @@
 //! Readers that wait for one another: the files are read concurrently, and a full relay blocks its
 //! reader.
 use crate::runs::{gives, options};
-use crate::script::{After, Script, Step, Wait};
+use crate::script::{Part, Step, Wait, two_readers};
 use crate::texts::{FIRST_OF_TWO, HUNDRED_AND_ONE_STATEMENT, SECOND_OF_TWO, TWO_STATEMENT};
 use dsr_intake::Status;
 use std::alloc::{AllocError, Global};
 use std::random::RandomSource;
 use std::sync;
-use std::sync::Arc;
-use std::sync::atomic::AtomicU64;
 use std::thread::Threads;
 
 /// Each reader's first read waits until the other's has begun.
 #[test]
 fn the_files_are_read_at_once(rt: HostRuntime) -> Result<(), AllocError> {
     let alloc = rt.alloc();
-    let a = Arc::new(alloc, AtomicU64::new(0))?;
-    let b = Arc::new(alloc, AtomicU64::new(0))?;
-    let first = Script::new(
-        Vec::from_slice(alloc, FIRST_OF_TWO)?,
-        Step::Full,
-        After::End,
-        Wait::First,
-        Arc::try_clone(&a)?,
-        Arc::try_clone(&b)?,
-    );
-    let second = Script::new(
-        Vec::from_slice(alloc, SECOND_OF_TWO)?,
-        Step::Full,
-        After::End,
-        Wait::First,
-        b,
-        a,
-    );
-    let readers = vec![in alloc; first, second]?;
-    assert!(rt;
-        gives(
-            &rt,
-            alloc,
-            readers,
-            options(16, 100),
-            Status::Clean,
-            TWO_STATEMENT
-        )
-    );
+    let first = Part {
+        text: FIRST_OF_TWO,
+        step: Step::Full,
+        wait: Wait::First,
+    };
+    let second = Part {
+        text: SECOND_OF_TWO,
+        step: Step::Full,
+        wait: Wait::First,
+    };
+    let readers = two_readers(alloc, first, second)?;
+    let options = options(16, 100);
+    assert!(rt; gives(&rt, alloc, readers, options, Status::Clean, TWO_STATEMENT));
     Ok(())
 }
 
@@ -71,25 +53,18 @@ fn holds_back<H: Threads + sync::Wait + RandomSource + Copy + Send + 'static>(
     capacity: u32,
     reads: u64,
 ) -> Result<bool, AllocError> {
-    let a = Arc::new(alloc, AtomicU64::new(0))?;
-    let b = Arc::new(alloc, AtomicU64::new(0))?;
-    let first = Script::new(
-        Vec::from_slice(alloc, FIRST_OF_TWO)?,
-        Step::Line,
-        After::End,
-        Wait::Unless(reads),
-        Arc::try_clone(&a)?,
-        Arc::try_clone(&b)?,
-    );
-    let second = Script::new(
-        hundred_blocks(alloc)?,
-        Step::Line,
-        After::End,
-        Wait::Never,
-        b,
-        a,
-    );
-    let readers = vec![in alloc; first, second]?;
+    let text = hundred_blocks(alloc)?;
+    let first = Part {
+        text: FIRST_OF_TWO,
+        step: Step::Line,
+        wait: Wait::Unless(reads),
+    };
+    let second = Part {
+        text: &text,
+        step: Step::Line,
+        wait: Wait::Never,
+    };
+    let readers = two_readers(alloc, first, second)?;
     let options = options(capacity, 1000);
     let statement = HUNDRED_AND_ONE_STATEMENT;
     Ok(gives(rt, alloc, readers, options, Status::Clean, statement))

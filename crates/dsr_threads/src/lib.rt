@@ -13,19 +13,29 @@
 //! into another one, and refuses the next:
 //!
 //! ```
+//! /// Puts the events of a text into a sink, as far as it takes them.
+//! fn put_text<H: Wait>(alloc: Global, text: &'static [u8], sink: &mut Limited<'_, H>)
+//!     requires { sink.old.sink.sent ≡ [] }
+//! {
+//!     let layout = Layout::standard();
+//!     let mut reader = FromRead::new(text);
+//!     let answer = read_file(alloc, &layout, &mut reader, sink, 100);
+//!     drop(layout);
+//!     drop(answer);
+//! }
+//!
 //! /// Sends at most `most` events of a text, and closes the relay.
 //! fn send_text<H: Wait>(rt: &H, alloc: Global, text: &'static [u8], most: u32, feed: Feed)
 //!     requires { feed.sent ≡ [] }
 //! {
-//!     let mut reader = FromRead::new(text);
 //!     let mut sink = Limited {
 //!         sink: FeedSink::new(rt, feed),
 //!         left: most,
 //!     };
-//!     let _ = read_file(alloc, &Layout::standard(), &mut reader, &mut sink, 100);
-//!     let Limited { sink, left: _ } = sink;
-//!     let mut feed = sink.into_feed();
+//!     put_text(alloc, text, &mut sink);
+//!     let mut feed = sink.sink.into_feed();
 //!     let _ = feed.flush(rt);
+//!     drop(feed);
 //! }
 //! ```
 //!

@@ -34,7 +34,11 @@ fn end(books: &mut Books, outcome: Outcome) -> Result<(), Fail> {
 fn hand_in(books: &mut Books, event: Event) -> Result<(), Fail> {
     match event.part {
         EventPart::Opened(opening) => open(books, opening),
-        EventPart::Block(block) => book(books, &block),
+        EventPart::Block(block) => {
+            let booked = book(books, &block);
+            drop(block);
+            booked
+        }
         EventPart::Ended(outcome) => end(books, outcome),
     }
 }
@@ -49,6 +53,16 @@ fn hand_in_all(books: &mut Books, events: &mut EventList) -> Result<(), Fail> {
     Ok(())
 }
 
+/// The report of books, if their files have ended.
+fn close(books: Books) -> Result<Report, Fail> {
+    // `all_ended` asks the books whether each file is opened and has ended.
+    if !all_ended(&books) {
+        drop(books);
+        return Err(Fail::new("a file that has not ended"));
+    }
+    Ok(books.into_report()?)
+}
+
 /// The report of one file with these events.
 ///
 /// # Errors
@@ -56,10 +70,11 @@ fn hand_in_all(books: &mut Books, events: &mut EventList) -> Result<(), Fail> {
 /// A failure of the test: the file does not end, or out of memory.
 pub fn report_of(alloc: Global, events: &mut EventList) -> Result<Report, Fail> {
     let mut books = Books::new(alloc, 1)?;
-    hand_in_all(&mut books, events)?;
-    // `all_ended` asks the books whether each file is opened and has ended.
-    if !all_ended(&books) {
-        return Err(Fail::new("a file that has not ended"));
+    match hand_in_all(&mut books, events) {
+        Ok(()) => close(books),
+        Err(failure) => {
+            drop(books);
+            Err(failure)
+        }
     }
-    Ok(books.into_report()?)
 }

@@ -15,9 +15,12 @@ FOOT\t6\t1\t1
 #[test]
 fn the_report_of_one_file(rt: HostRuntime) -> Result<(), Fail> {
     let mut events = events_of(rt.alloc(), TEXT)?;
-    let report = report_of(rt.alloc(), &mut events)?;
+    let report = report_of(rt.alloc(), &mut events);
+    drop(events);
+    let report = report?;
     let line = report.ledger.get(0);
     let found = line.map(|line| (line.amount, line.parties.len()));
+    drop(report);
     assert_eq!(rt; found, Some((24_000_000_000, 1)));
     Ok(())
 }
