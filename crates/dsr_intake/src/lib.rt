@@ -40,8 +40,8 @@
 //! flushed, and the status is that report's. If there is no report, nothing was written; if a write or the flush fails,
 //! exactly the reported number of first bytes was written.
 //!
-//! **Where to begin.** `specs/meaning`, here and in dsr_statement, has the definitions on which the promise of `run`
-//! rests, and `specs/inner` relates the code to them. dsr_threads has each error with its text.
+//! **Where to begin.** `specs/meaning`, here, in dsr_threads and in dsr_statement, has the definitions on which the promise
+//! of `run` rests, and `specs/inner` relates the code to them. dsr_threads has each error with its text.
 #![tactic(auto)]
 
 mod pipeline;
