@@ -2,7 +2,7 @@
 ghost use Rattle.std.specs.Prelude.{◌≡◌, false, List, All, IfOk, IfErr, OnOk, Err, MatchOption, map, vec_len};
 ghost use Rattle.std.specs.String.{string_bytes};
 ghost use Rattle.dsr_file.specs.meaning.Runs.{FileText};
-ghost use Rattle.dsr_threads.specs.meaning.Options.{refusal_of};
+ghost use Rattle.dsr_intake.specs.meaning.Options.{refusal_of};
 ghost use Rattle.dsr_intake.specs.meaning.Outcomes.{IsReported, IsUnwritten, IsLateRun};
 ghost use Rattle.dsr_command.specs.Faults.{fault_line, status_number};
 ghost use Rattle.dsr_command.specs.Printing.{IsTold};

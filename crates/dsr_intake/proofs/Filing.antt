@@ -15,10 +15,10 @@ use Rattle.dsr_relay.proofs.Taking.{going_on}
 use Rattle.dsr_ledger.specs.declared.books.Books.{Books}
 use Rattle.dsr_ledger.specs.meaning.Files.{File}
 use Rattle.dsr_ledger.specs.inner.BooksWords.{Stands}
-use Rattle.dsr_threads.specs.inner.Ends.{ends_clean, is_clean_end}
+use Rattle.dsr_intake.specs.inner.Ends.{ends_clean, is_clean_end}
 use Rattle.dsr_intake.specs.meaning.Texts.{opening_in, block_in, outcome_in, first, file_of}
 use Rattle.dsr_intake.specs.inner.Collecting.{with_part, is_opening, IsGoing, Knows, Changes, IsFollowed, TakesAll}
-use Rattle.dsr_threads.proofs.EndLemmas.{ends_clean_push, has_ended_push}
+use Rattle.dsr_intake.proofs.EndLemmas.{ends_clean_push, has_ended_push}
 
 abbrev event : ℕ → EventPart → Placed
 event n p = record { place = n; part = p }

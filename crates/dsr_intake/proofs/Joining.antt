@@ -10,12 +10,12 @@ use Rattle.dsr_file.specs.meaning.Sources.{GaveText}
 use Rattle.dsr_relay.specs.declared.name.Name.{Name}
 use Rattle.dsr_relay.specs.meaning.Views.{TapView}
 use Rattle.dsr_records.specs.meaning.Records.{LayoutTable}
-use Rattle.dsr_threads.specs.declared.options.Options.{Options}
-use Rattle.dsr_threads.specs.inner.Ends.{ends_clean}
+use Rattle.dsr_intake.specs.declared.pipeline.options.Options.{Options}
+use Rattle.dsr_intake.specs.inner.Ends.{ends_clean}
 use Rattle.dsr_intake.specs.inner.Collecting.{IsDrained}
-use Rattle.dsr_threads.specs.inner.Given.{IsGiven}
+use Rattle.dsr_intake.specs.inner.Given.{IsGiven}
 use Rattle.dsr_intake.specs.meaning.Texts.{GaveEach, file_of}
-use Rattle.dsr_threads.proofs.EndLemmas.{clean_is_whole}
+use Rattle.dsr_intake.proofs.EndLemmas.{clean_is_whole}
 
 All-one : {A : Type 0} (P : A → Type 0) (x : A) → P x → All P (x ∷ [])
 All-one P x h = All-cons P x [] h (All-nil P)

@@ -1,3 +1,5 @@
+pub mod EndLemmas
+pub mod Promises
 pub mod Joining
 pub mod Filing
 pub mod Rounds

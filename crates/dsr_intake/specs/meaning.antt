@@ -1,3 +1,4 @@
--- The definitions to be trusted: the texts that a statement is of, and the result of a run.
+-- The definitions to be trusted: what is refused, the texts that a statement is of, and the result of a run.
+pub mod Options
 pub mod Texts
 pub mod Outcomes

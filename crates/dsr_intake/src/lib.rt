@@ -2,9 +2,9 @@
 //!
 //! A run goes through these stages:
 //!
-//! 1. dsr_threads has the options, and finds what is refused before anything is read.
+//! 1. `pipeline/options`: the options, and what is refused before anything is read.
 //! 2. `pipeline/gather`: opens a relay for each file and starts a thread for it.
-//! 3. dsr_threads: each thread reads its file and sends its events into the relay.
+//! 3. `pipeline/threads`: each thread reads its file, and `pipeline/feed_sink` sends its events into the relay.
 //! 4. `pipeline/collector`: takes the events of all relays, in rounds a message of each that has one,
 //!    books them, and closes the books. `pipeline/patience`: how long it looks for messages before it
 //!    waits. `pipeline/seed`: the seed of the hashes in the books.
@@ -40,14 +40,16 @@
 //! flushed, and the status is that report's. If there is no report, nothing was written; if a write or the flush fails,
 //! exactly the reported number of first bytes was written.
 //!
-//! **Where to begin.** `specs/meaning`, here, in dsr_threads and in dsr_statement, has the definitions on which the promise
-//! of `run` rests, and `specs/inner` relates the code to them. dsr_threads has each error with its text.
+//! **Where to begin.** `specs/meaning`, here and in dsr_statement, has the definitions on which the promise of `run`
+//! rests, and `specs/inner` relates the code to them. `pipeline/errors` has each error with its text.
 #![tactic(auto)]
 
 mod pipeline;
 
 pub use dsr_statement::{Outlet, Status, ToWrite, statement, status, write_all};
-pub use dsr_threads::{CollectError, FeedSink, IntakeError, Options, RunError};
 pub use pipeline::collector::collect;
+pub use pipeline::errors::{CollectError, IntakeError, RunError};
+pub use pipeline::feed_sink::FeedSink;
 pub use pipeline::gather::intake;
+pub use pipeline::options::Options;
 pub use pipeline::run::run;

@@ -2,11 +2,11 @@ use Rattle.std.proofs.Common.{◌≡◌, ◌∙◌, ap, false, true≢false, Lis
 use Rattle.std.specs.Prelude.{Option, Some, None, OnOk, IfOk, IfErr, MatchOption, is_ok, vec_len}
 use Rattle.dsr_file.specs.meaning.Runs.{FileText}
 use Rattle.dsr_io.specs.meaning.Told.{Told}
-use Rattle.dsr_threads.specs.declared.errors.RunError.{RunError}
-use Rattle.dsr_threads.specs.declared.errors.RunError.TheVariants as error
-use Rattle.dsr_threads.specs.declared.options.Options.{Options}
+use Rattle.dsr_intake.specs.declared.pipeline.errors.RunError.{RunError}
+use Rattle.dsr_intake.specs.declared.pipeline.errors.RunError.TheVariants as error
+use Rattle.dsr_intake.specs.declared.pipeline.options.Options.{Options}
 use Rattle.dsr_statement.specs.declared.verdict.Status.{Status}
-use Rattle.dsr_threads.specs.meaning.Options.{refusal_of}
+use Rattle.dsr_intake.specs.meaning.Options.{refusal_of}
 use Rattle.dsr_intake.specs.meaning.Outcomes.{IsReported, IsUnwritten}
 use Rattle.dsr_statement.specs.meaning.Statement.{statement_of}
 use Rattle.dsr_statement.specs.meaning.Status.{status_of}

@@ -1,0 +1,59 @@
+-- How lists of events end.
+use Rattle.std.proofs.Common.{◌≡◌, ℕ, suc, ◌+◌, Bool, true, false, ◌||◌, List, [], ◌∷◌, ◌++◌, length, Some, slice_get, refl, ap, ◌∙◌, arith, length-append}
+use Rattle.dsr_events.specs.declared.fault.FileFault.TheVariants.{Memory}
+use Rattle.dsr_events.specs.declared.fault.Outcome.TheVariants.{Fault}
+use Rattle.dsr_events.specs.declared.event.EventPart.{EventPart}
+use Rattle.dsr_events.specs.declared.event.EventPart.TheVariants.{Opened, Block, Ended}
+use Rattle.dsr_events.specs.meaning.Placed.{Placed}
+use Rattle.dsr_events.specs.meaning.Orderly.{is_ended, has_ended, IsOrderly}
+use Rattle.dsr_events.specs.inner.OrderlyLaws.{slice_get_front}
+use Rattle.dsr_file.specs.meaning.Texts.{placed}
+use Rattle.dsr_intake.specs.inner.Ends.{is_clean_end, ends_clean}
+
+pub ends_clean_push : (xs : List Placed) (e : Placed) → ends_clean (xs ++ e ∷ []) ≡ is_clean_end e.part
+ends_clean_push [] e = refl
+ends_clean_push (x ∷ []) e = refl
+ends_clean_push (x ∷ y ∷ xs) e = ends_clean_push (y ∷ xs) e
+
+pub has_ended_push : (xs : List Placed) (e : Placed) → has_ended (xs ++ e ∷ []) ≡ (has_ended xs || is_ended e.part)
+has_ended_push [] e = or_false (is_ended e.part)
+  where
+    or_false : (b : Bool) → (b || false) ≡ b
+    or_false true = refl
+    or_false false = refl
+has_ended_push (x ∷ xs) e = ap (λ b. is_ended x.part || b) (has_ended_push xs e) ∙ or_assoc (is_ended x.part) (has_ended xs) (is_ended e.part)
+  where
+    or_assoc : (a b c : Bool) → (a || (b || c)) ≡ ((a || b) || c)
+    or_assoc true b c = refl
+    or_assoc false b c = refl
+
+clean_is_ended : (p : EventPart) → is_clean_end p ≡ true → is_ended p ≡ true
+clean_is_ended (Opened o) h = cc
+clean_is_ended (Block b) h = cc
+clean_is_ended (Ended o) h = refl
+
+-- if a list has a clean end, its last event is an Ended
+clean_last : (xs : List Placed) → ends_clean xs ≡ true → (i : ℕ) × (e : Placed) × (slice_get xs i ≡ Some e) × (is_ended e.part ≡ true) × (i + 1 ≡ length xs)
+clean_last [] h = cc
+clean_last (x ∷ []) h = (0, x, refl, clean_is_ended x.part h, refl)
+clean_last (x ∷ y ∷ xs) h = let r = clean_last (y ∷ xs) h in (suc r.0, r.1, r.2, r.3, omega (arith, r.4))
+
+-- nothing follows a clean end
+pub clean_is_whole : (xs ys : List Placed) → IsOrderly (xs ++ ys) → ends_clean xs ≡ true → ys ≡ []
+clean_is_whole xs [] o h = refl
+clean_is_whole xs (y ∷ ys) o h =
+    let l = clean_last xs h in
+    let e = o.ended_last l.0 l.1 (slice_get_front xs (y ∷ ys) l.0 l.1 l.2) l.3 in
+    absurd (omega (arith, e, l.4, length-append xs (y ∷ ys)))
+
+placed_push : (n : ℕ) (parts : List EventPart) (p : EventPart) → (m : ℕ)
+    × (placed n (parts ++ p ∷ []) ≡ placed n parts ++ (record { place = m; part = p }) ∷ [])
+placed_push n [] p = (n, refl)
+placed_push n (q ∷ parts) p = let r = placed_push (n + 1) parts p in (r.0, ap (λ l. record { place = n; part = q } ∷ l) r.1)
+
+-- events that end with Memory have no clean end
+pub memory_is_unclean : (parts : List EventPart) (line : ℕ) (es : List Placed) → es ≡ placed 0 (parts ++ Ended (Fault line Memory) ∷ []) → ends_clean es
+    ≡ false
+memory_is_unclean parts line es h =
+    let r = placed_push 0 parts (Ended (Fault line Memory)) in
+    ap ends_clean (h ∙ r.1) ∙ ends_clean_push (placed 0 parts) (record { place = r.0; part = Ended (Fault line Memory) })

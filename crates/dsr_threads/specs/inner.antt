@@ -1,3 +1,0 @@
--- The definitions that relate the code to those of `meaning`.
-pub mod Ends
-pub mod Given
