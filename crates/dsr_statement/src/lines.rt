@@ -13,9 +13,9 @@ use crate::key::{laid_key, put_key};
 use crate::names::{reason_name, standing_name};
 use crate::put::Put;
 use crate::slice_buffer::SliceBuffer;
+use dsr_blocks::Column;
 use dsr_events::Outcome;
 use dsr_ledger::{Difference, FileLine, LentLine, LentParty, Reject, ReportKey};
-use dsr_records::Column;
 
 /// Puts the first line. `days` has the cells of the report's days.
 pub(crate) fn put_head<P: Put>(out: &mut P, key: &Option<ReportKey>, days: &[u8])
