@@ -17,7 +17,6 @@ pub type WorkList = InlineItems<Work, 1>;
 pub type UsageList = InlineItems<Usage, 4>;
 
 /// The records of one resource, at most 64.
-#[derive(Drop)]
 pub struct Block {
     /// BlockId, which all its records have: 1 to 32 bytes of printable ASCII; empty in an empty block.
     pub id: Text,
@@ -27,6 +26,18 @@ pub struct Block {
     pub works: WorkList,
     /// The usages, in the order of their lines.
     pub usages: UsageList,
+}
+
+/// Written out, so that dropping one is a call: a derived drop is proved anew wherever it happens.
+impl Drop for Block {
+    fn drop(self) {
+        let Block {
+            id: _,
+            resource: _,
+            works: _,
+            usages: _,
+        } = self;
+    }
 }
 
 impl Model for Block {

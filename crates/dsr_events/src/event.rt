@@ -11,12 +11,21 @@ use std::marker::Model;
 pub type Summaries = Items<Summary>;
 
 /// The head of a file and its summaries, whose identifiers are all different.
-#[derive(Drop)]
 pub struct Opening {
     /// The record HEAD.
     pub head: Head,
     /// The summaries, in the order of the file.
     pub summaries: Summaries,
+}
+
+/// Written out, so that dropping one is a call: a derived drop is proved anew wherever it happens.
+impl Drop for Opening {
+    fn drop(self) {
+        let Opening {
+            head: _,
+            summaries: _,
+        } = self;
+    }
 }
 
 impl Model for Opening {

@@ -19,7 +19,6 @@ use std::alloc::Global;
 
 /// The books of a report: they take the openings, blocks and outcomes of its files, and make its
 /// report. Files are numbered from 0.
-#[derive(Drop)]
 pub struct Books {
     files: u32,
     alloc: Global,
@@ -29,6 +28,19 @@ pub struct Books {
     ghost most: { files ≤ most_files },
     ghost room: { length kept.files.items ≤ files },
     ghost reached: { ∥ IsReached kept ∥₁ },
+}
+
+/// Written out, so that dropping one is a call: a derived drop is proved anew wherever it happens.
+impl Drop for Books {
+    fn drop(self) {
+        let Books {
+            files: _,
+            alloc: _,
+            seeded: _,
+            kept: _,
+            plan: _,
+        } = self;
+    }
 }
 
 impl Books {
@@ -193,7 +205,14 @@ impl Books {
         ensures { (files : List File) → Stands self files
             → IfOk result (λ books. AreClosed books files) }
     {
-        close(self.alloc, self.kept)
+        let Books {
+            files: _,
+            alloc,
+            seeded: _,
+            kept,
+            plan: _,
+        } = self;
+        close(alloc, kept)
     }
 
     /// The report of the files, which have all ended. The texts of its key and its rejects are moved

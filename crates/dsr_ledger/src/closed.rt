@@ -11,7 +11,6 @@ use dsr_cells::NoMemory;
 use std::alloc::Global;
 
 /// Books whose files have all ended: their report, but for the lines of the ledger, and the ledger.
-#[derive(Drop)]
 pub struct ClosedBooks {
     pub(crate) alloc: Global,
     pub(crate) key: Option<ReportKey>,
@@ -21,6 +20,21 @@ pub struct ClosedBooks {
     pub(crate) rejects: Rejects,
     pub(crate) ledger: Ledger,
     ghost small: { ∥ AreOfSmall ledger ∥₁ },
+}
+
+/// Written out, so that dropping one is a call: a derived drop is proved anew wherever it happens.
+impl Drop for ClosedBooks {
+    fn drop(self) {
+        let ClosedBooks {
+            alloc: _,
+            key: _,
+            files: _,
+            missing: _,
+            differences: _,
+            rejects: _,
+            ledger: _,
+        } = self;
+    }
 }
 
 impl ClosedBooks {
@@ -66,13 +80,13 @@ impl ClosedBooks {
             return Err(NoMemory);
         };
         let ClosedBooks {
+            alloc: _,
             key,
             files,
             missing,
             differences,
             rejects,
             ledger,
-            ..
         } = self;
         drop(ledger);
         Ok(Report {

@@ -31,7 +31,6 @@ pub enum Noted {
 
 /// The identifiers of a file's blocks. They mostly ascend in a file; while they do, they are noted
 /// without a search, and decimal numbers without a copy.
-#[derive(Drop)]
 pub struct Ids {
     /// The decimal numbers among the ascending ones since the last one that did not ascend.
     pub numbers: Vec<NumberRange>,
@@ -42,6 +41,18 @@ pub struct Ids {
     /// No identifier has a greater rank.
     pub top: u128,
     ghost below: { (q : List ℕ) → is_among (texts_of numbers.items ++ run.items) rest q ≡ true → rank_of q ≤ top },
+}
+
+/// Written out, so that dropping one is a call: a derived drop is proved anew wherever it happens.
+impl Drop for Ids {
+    fn drop(self) {
+        let Ids {
+            numbers: _,
+            run: _,
+            rest: _,
+            top: _,
+        } = self;
+    }
 }
 
 /// The big-endian number with these bytes appended, modulo 2^64.

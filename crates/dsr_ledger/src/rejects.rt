@@ -13,13 +13,14 @@ use dsr_blocks::Head;
 use dsr_cells::{Items, NoMemory};
 use dsr_events::Opening;
 use std::alloc::Global;
+use std::mem;
 
-/// The report key of a head.
-fn key_of(head: Head) -> ReportKey
-    ensures { result ≡ key_of head }
+/// The report key of a head. Its MessageId is moved out of the head.
+fn key_of(head: &mut Head) -> ReportKey
+    ensures { result ≡ key_of head.old }
 {
     ReportKey {
-        message_id: head.message_id,
+        message_id: mem::take(&mut head.message_id),
         number_of_files: head.number_of_files,
         first_day: head.first_day,
         last_day: head.last_day,
@@ -32,7 +33,7 @@ fn key_after(key: Option<ReportKey>, opening: Option<Opening>) -> Option<ReportK
 {
     match (key, opening) {
         (Some(key), _) => Some(key),
-        (None, Some(opening)) => Some(key_of(opening.head)),
+        (None, Some(mut opening)) => Some(key_of(&mut opening.head)),
         (None, None) => None,
     }
 }

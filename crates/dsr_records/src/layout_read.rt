@@ -53,9 +53,12 @@ fn is_type(name: &str) -> bool
 fn all_of_type(bytes: &[u8]) -> bool
     ensures { result ≡ list_all is_type_byte bytes.now }
 {
-    bytes
-        .iter()
-        .all(|byte| byte.is_ascii_alphanumeric() || *byte == b'.')
+    for byte in bytes {
+        if !(byte.is_ascii_alphanumeric() || *byte == b'.') {
+            return false;
+        }
+    }
+    true
 }
 
 /// The position of a column; Some(None) for a hyphen if the column may be empty.

@@ -81,19 +81,8 @@ impl Positions {
         ensures { result ≡ self.now }
     {
         Positions {
-            places: copy_places(&self.places),
+            places: self.places.as_slice().try_into().unwrap(),
             in_order: self.in_order,
         }
     }
-}
-
-/// Equal positions, as a list.
-fn copy_places(from: &ArrayVec<Option<u8>, MOST_COLUMNS>) -> ArrayVec<Option<u8>, MOST_COLUMNS>
-    ensures { result.items ≡ from.now.items }
-{
-    let mut copy = ArrayVec::new();
-    for position in from.as_slice() {
-        copy.push(*position);
-    }
-    copy
 }

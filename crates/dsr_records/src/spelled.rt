@@ -41,10 +41,7 @@ fn there<'l>(row: &Row<'l>, i: usize, column: Column) -> Result<&'l str, RecordF
     ensures { MatchResult result (λ text. cell_of row.now i ≡ Some text.now)
         (λ fault. (cell_of row.now i ≡ None) × (fault ≡ faults.Missing column)) }
 {
-    match row.cell(i) {
-        Some(text) => Ok(text),
-        None => Err(RecordFault::Missing(column)),
-    }
+    row.cell(i).ok_or(RecordFault::Missing(column))
 }
 
 /// An identifier of at most `most` bytes, in a column that requires one.
@@ -74,10 +71,7 @@ pub(crate) fn read_count(row: &Row<'_>, i: usize, column: Column) -> Result<u64,
     ensures { ReadsValue number_of row.now column i result }
 {
     let text = there(row, i, column)?;
-    match read_number(text) {
-        Some(number) => Ok(number),
-        None => Err(RecordFault::Bad(column)),
-    }
+    read_number(text).ok_or(RecordFault::Bad(column))
 }
 
 /// The file number.
@@ -85,10 +79,7 @@ pub(crate) fn read_file_number(row: &Row<'_>, i: usize) -> Result<u32, RecordFau
     ensures { ReadsValue file_number_of row.now columns.FileNumber i result }
 {
     let text = there(row, i, Column::FileNumber)?;
-    match file_number(text) {
-        Some(value) => Ok(value),
-        None => Err(RecordFault::Bad(Column::FileNumber)),
-    }
+    file_number(text).ok_or(RecordFault::Bad(Column::FileNumber))
 }
 
 /// The number of files, which is at least the file number.
@@ -108,10 +99,7 @@ pub(crate) fn read_first_day(row: &Row<'_>, i: usize) -> Result<Day, RecordFault
     ensures { ReadsValue day_of row.now columns.UsageStartDate i result }
 {
     let text = there(row, i, Column::UsageStartDate)?;
-    match Day::read(text) {
-        Some(value) => Ok(value),
-        None => Err(RecordFault::Bad(Column::UsageStartDate)),
-    }
+    Day::read(text).ok_or(RecordFault::Bad(Column::UsageStartDate))
 }
 
 /// The last day of the usages, not before the first.
@@ -165,10 +153,7 @@ pub(crate) fn read_usage_count(row: &Row<'_>, i: usize) -> Result<i64, RecordFau
     ensures { ReadsValue usages_of row.now columns.Usages i result }
 {
     let text = there(row, i, Column::Usages)?;
-    match read_usages(text) {
-        Some(value) => Ok(value),
-        None => Err(RecordFault::Bad(Column::Usages)),
-    }
+    read_usages(text).ok_or(RecordFault::Bad(Column::Usages))
 }
 
 /// An amount.
@@ -177,10 +162,7 @@ pub(crate) fn read_amount(row: &Row<'_>, i: usize) -> Result<Amount, RecordFault
     ensures { ReadsValue amount_of row.now columns.Amount i result }
 {
     let text = there(row, i, Column::Amount)?;
-    match Amount::read(text) {
-        Some(value) => Ok(value),
-        None => Err(RecordFault::Bad(Column::Amount)),
-    }
+    Amount::read(text).ok_or(RecordFault::Bad(Column::Amount))
 }
 
 /// Adds a share to the first ones, unless there are four.
@@ -221,8 +203,5 @@ pub(crate) fn read_share_count(
     ensures count { ReadsValue share_count row.now columns.Shares i result }
     ensures first { OnOk result (first.new.items ≡ take 4 (shares_of (text_of row.now i))) }
 {
-    match count_shares(row.text(i), first) {
-        Some(count) => Ok(count),
-        None => Err(RecordFault::Bad(Column::Shares)),
-    }
+    count_shares(row.text(i), first).ok_or(RecordFault::Bad(Column::Shares))
 }

@@ -17,7 +17,6 @@ use std::snapshot::Snapshot;
 use std::sync::Wait;
 
 /// The receiving end of a relay. Contracts see its name, the events taken, and the held rest of the last message.
-#[derive(Drop)]
 pub struct Tap {
     pub(crate) receiver: RuledReceiver<Batch, Log, InOrder>,
     pub(crate) pass: Pass<Batch, Log>,
@@ -25,6 +24,20 @@ pub struct Tap {
     pub(crate) count: u64,
     pub(crate) ended: bool,
     pub(crate) returns: Returns,
+}
+
+/// Written out, so that dropping one is a call: a derived drop is proved anew wherever it happens.
+impl Drop for Tap {
+    fn drop(self) {
+        let Tap {
+            receiver: _,
+            pass: _,
+            held: _,
+            count: _,
+            ended: _,
+            returns: _,
+        } = self;
+    }
 }
 
 impl Model for Tap {

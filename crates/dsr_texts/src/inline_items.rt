@@ -14,10 +14,16 @@ use std::marker::Model;
 ///
 /// Contracts see it as the list of its items. The memory after them may hold stale items, which are
 /// not part of the list and are overwritten by the items that are added.
-#[derive(Drop)]
 pub struct InlineItems<T, const N: usize> {
     len: usize,
     items: SmallVec<T, N>,
+}
+
+/// Written out, so that dropping one is a call: a derived drop is proved anew wherever it happens.
+impl<T: Drop, const N: usize> Drop for InlineItems<T, N> {
+    fn drop(self) {
+        let InlineItems { len: _, items: _ } = self;
+    }
 }
 
 impl<T, const N: usize> Model for InlineItems<T, N> {

@@ -38,9 +38,15 @@ impl<T: Drop> From<AllocFailed<T>> for NoMemory {
 ///
 /// Contracts see it as the list of its bytes. Texts are ordered by their bytes; a proper prefix of a
 /// text comes before it.
-#[derive(Drop)]
 pub struct Text {
     kept: Kept,
+}
+
+/// Written out, so that dropping one is a call: a derived drop is proved anew wherever it happens.
+impl Drop for Text {
+    fn drop(self) {
+        let Text { kept: _ } = self;
+    }
 }
 
 impl Model for Text {

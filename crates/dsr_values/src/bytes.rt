@@ -13,14 +13,14 @@ use std::simd::prelude::*;
 pub(crate) fn all_digits(bytes: &[u8]) -> bool
     ensures { result ≡ list_all is_ascii_digit bytes.now }
 {
-    bytes.iter().all(|byte| byte.is_ascii_digit())
+    bytes.iter().all(u8::is_ascii_digit)
 }
 
 /// Whether every byte is a capital, A to Z.
 pub(crate) fn all_capitals(bytes: &[u8]) -> bool
     ensures { result ≡ list_all is_ascii_uppercase bytes.now }
 {
-    bytes.iter().all(|byte| byte.is_ascii_uppercase())
+    bytes.iter().all(u8::is_ascii_uppercase)
 }
 
 /// Whether every byte is a capital or a digit.
@@ -36,7 +36,7 @@ pub(crate) fn all_capitals_or_digits(bytes: &[u8]) -> bool
 pub(crate) fn all_letters_or_digits(bytes: &[u8]) -> bool
     ensures { result ≡ list_all is_ascii_alphanumeric bytes.now }
 {
-    bytes.iter().all(|byte| byte.is_ascii_alphanumeric())
+    bytes.iter().all(u8::is_ascii_alphanumeric)
 }
 
 /// Whether every byte is an ASCII letter, an ASCII digit or a hyphen.

@@ -115,10 +115,19 @@ impl<'a> SortedLedger<'a> {
 }
 
 /// The lines of a ledger, and all memory that making them one after another needs.
-#[derive(Drop)]
 pub struct BookedLines<'a> {
     pub sorted: SortedLedger<'a>,
     pub lists: Lists<'a>,
+}
+
+/// Written out, so that dropping one is a call: a derived drop is proved anew wherever it happens.
+impl Drop for BookedLines<'_> {
+    fn drop(self) {
+        let BookedLines {
+            sorted: _,
+            lists: _,
+        } = self;
+    }
 }
 
 impl<'a> BookedLines<'a> {

@@ -23,7 +23,6 @@ const LINE_GROUPS: usize = 16;
 
 /// The parties of a recording, each at its seat, and its lines: one for each summary key, in the order
 /// in which they were added.
-#[derive(Drop)]
 pub struct Recording {
     pub seats: Seats,
     pub lines: Vec<Line>,
@@ -36,6 +35,19 @@ pub struct Recording {
     ghost apart: { AreApart (line_keys lines.items) },
     ghost indexed: { AreIndexed (line_keys lines.items) index } by { Prim.hlevel props },
     ghost within: { AreWithin (length (seat_numbers seats)) lines.items },
+}
+
+/// Written out, so that dropping one is a call: a derived drop is proved anew wherever it happens.
+impl Drop for Recording {
+    fn drop(self) {
+        let Recording {
+            seats: _,
+            lines: _,
+            index: _,
+            hints: _,
+            next: _,
+        } = self;
+    }
 }
 
 /// The group of hints of a summary key.

@@ -19,7 +19,6 @@ use indexmap::{IndexMap, IndexSet};
 use std::alloc::Global;
 
 /// Each party, each summary key and each recording once. Each kind is numbered in order of arrival.
-#[derive(Drop)]
 pub struct Ledger {
     pub parties: IndexSet<Text, Seeded>,
     pub summary_keys: IndexSet<SummaryKey, Seeded>,
@@ -28,6 +27,17 @@ pub struct Ledger {
         → AreBelow (length parties.keys) (seat_numbers r.seats) },
     ghost keyed: { (isrc : List ℕ) (r : Recording) → get bytes_eq recordings isrc ≡ Some r
         → AreBelow (length summary_keys.keys) (line_keys r.lines.items) },
+}
+
+/// Written out, so that dropping one is a call: a derived drop is proved anew wherever it happens.
+impl Drop for Ledger {
+    fn drop(self) {
+        let Ledger {
+            parties: _,
+            summary_keys: _,
+            recordings: _,
+        } = self;
+    }
 }
 
 impl Ledger {

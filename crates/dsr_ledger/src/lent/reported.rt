@@ -11,11 +11,20 @@ use dsr_cells::NoMemory;
 use std::alloc::Global;
 
 /// The lines of a report, and all memory that lending them one after another needs.
-#[derive(Drop)]
 pub struct ReportedLines<'a> {
     lines: &'a [LedgerLine],
     /// The parties of a line. It is filled anew for each line.
     parties: Vec<LentParty<'a>>,
+}
+
+/// Written out, so that dropping one is a call: a derived drop is proved anew wherever it happens.
+impl Drop for ReportedLines<'_> {
+    fn drop(self) {
+        let ReportedLines {
+            lines: _,
+            parties: _,
+        } = self;
+    }
 }
 
 /// The number of parties of the line that has most.
