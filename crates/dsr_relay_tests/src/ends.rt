@@ -2,6 +2,7 @@
 ghost use Rattle.std.specs.Prelude.{◌≡◌, ◌<◌, ◌≤◌, false, length};
 ghost use Rattle.dsr_events.specs.meaning.Orderly.{has_ended};
 
+use crate::events::LONG_TITLE;
 use crate::sending::{ended_comes_back, flushes, relay, send_and_leave, send_block, send_opened};
 use crate::taking::{takes_opened, takes_place};
 use dsr_relay::Feed;
@@ -26,7 +27,7 @@ fn all_comes_back<R: Wait>(rt: &R, alloc: Global, feed: &mut Feed) -> bool
     requires some { 0 < length feed.old.sent }
     requires few { length feed.old.sent ≤ 1 }
 {
-    send_block(rt, alloc, feed)
+    send_block(rt, alloc, feed, LONG_TITLE)
         && !flushes(rt, feed)
         && ended_comes_back(rt, feed, 2)
         && ended_comes_back(rt, feed, 2)

@@ -1,19 +1,17 @@
 //! The events that go through a relay, and how a test recognises them.
-ghost use Rattle.std.specs.Prelude.{◌≡◌, ℕ, ◌<◌, false, IfSome, IfOk};
-ghost use Rattle.dsr_events.specs.meaning.Orderly.{is_ended, MayStandAt};
+ghost use Rattle.std.specs.Prelude.{◌≡◌, ℕ};
+ghost use Rattle.dsr_events.specs.meaning.Orderly.{MayStandAt};
 
-use dsr_cells::{NoMemory, Text, Texts};
-use dsr_file::{Ending, Event, EventList, EventPart, Outcome, whole_events};
-use dsr_records::{Block, Layout, Resource, UsageList, WorkList};
-use std::alloc::{AllocError, Global};
+use dsr_blocks::{Block, Head};
+use dsr_cells::{Day, NoMemory, Text};
+use dsr_events::{Event, EventPart, Opening, Outcome, Summaries};
+use std::alloc::Global;
 
-/// The lines of a file of one block: the parts before, between and after the numbers.
-const LINES: [&[u8]; 4] = [
-    b"HEAD\tR1\t1\t1\t2024-01-01\t2024-01-31\tS\tL\nSY01\tS1\tGB\tRadio\tGBP\t1\t0.01\nAS01\t",
-    b"\tGBABC2400001\tSong\tBand\nMW01\t",
-    b"\tW1\tSong\tP1|P2\t50|25\nSU01\t",
-    b"\tS1\t1\t0.01\nFOOT\t6\t1\t1\n",
-];
+/// A title that a block stores in place.
+pub const SHORT_TITLE: &str = "Song";
+
+/// A title that a block has on the heap.
+pub const LONG_TITLE: &str = "A song whose title is on the heap";
 
 /// The last digit of a number.
 fn digit(n: u64) -> u8 {
@@ -31,93 +29,37 @@ fn digits(n: u64) -> [u8; 5] {
     ]
 }
 
-/// A file of one block, which has this number, a title, a work of two parties and a usage.
-fn text(alloc: Global, n: u64) -> Result<Vec<u8>, AllocError> {
-    let number = digits(n);
-    let mut text = Vec::new(alloc);
-    for (i, lines) in LINES.iter().enumerate() {
-        if i > 0 {
-            text.extend_from_slice(&number)?;
-        }
-        text.extend_from_slice(lines)?;
-    }
-    Ok(text)
+/// The opening of a file without summaries. It allocates nothing.
+pub fn opening(alloc: Global) -> Option<Opening> {
+    let day = Day::read("2024-01-01")?;
+    let message_id = Text::copy_of(alloc, "R1").ok()?;
+    Some(Opening {
+        head: Head {
+            message_id,
+            file_number: 1,
+            number_of_files: 1,
+            first_day: day,
+            last_day: day,
+            sender: Text::default(),
+            recipient: Text::default(),
+        },
+        summaries: Summaries::new(alloc),
+    })
 }
 
-/// The events of a file of at most 1,000 bytes.
-fn events_of(alloc: Global, text: &[u8]) -> Option<EventList> {
-    if text.len() > 1000 {
-        return None;
-    }
-    let layout = Layout::standard();
-    let events = whole_events(alloc, &layout, text, Ending::Whole);
-    drop(layout);
-    events.ok()
-}
-
-/// The events of that file.
-fn events(alloc: Global, n: u64) -> Option<EventList> {
-    let text = text(alloc, n).ok()?;
-    let events = events_of(alloc, text.as_slice());
-    drop(text);
-    events
-}
-
-/// Its opening.
-pub fn opened(alloc: Global) -> Option<EventPart>
-    ensures { IfSome result (λ part. MayStandAt 0 part × (is_ended part ≡ false)) }
-{
-    let mut events = events(alloc, 1)?;
-    let first = events.next();
-    drop(events);
-    match first?.part {
-        EventPart::Opened(opening) => Some(EventPart::Opened(opening)),
-        other => {
-            drop(other);
-            None
-        }
-    }
-}
-
-/// Its block.
-pub fn block(alloc: Global, n: u64) -> Option<EventPart>
-    ensures { IfSome result (λ part. ((place : ℕ) → 0 < place → MayStandAt place part)
-        × (is_ended part ≡ false)) }
-{
-    let mut events = events(alloc, n)?;
-    drop(events.next());
-    let second = events.next();
-    drop(events);
-    match second?.part {
-        EventPart::Block(block) => Some(EventPart::Block(block)),
-        other => {
-            drop(other);
-            None
-        }
-    }
-}
-
-/// A block that allocates nothing: its texts are short, and its lists are empty.
+/// A block with this number and this title. If the title is short, it allocates nothing.
 ///
 /// # Errors
 ///
-/// `NoMemory`: out of memory.
-pub fn plain_block(alloc: Global) -> Result<EventPart, NoMemory>
-    ensures { IfOk result (λ part. ((place : ℕ) → 0 < place → MayStandAt place part)
-        × (is_ended part ≡ false)) }
-{
-    let resource = Resource {
-        block_id: Text::copy_of(alloc, "B1")?,
-        isrc: Text::copy_of(alloc, "GBABC2400001")?,
-        titles: Texts::new(alloc),
-        artists: Texts::new(alloc),
-    };
-    Ok(EventPart::Block(Block {
-        id: Text::copy_of(alloc, "B1")?,
-        resource,
-        works: WorkList::new(alloc),
-        usages: UsageList::new(alloc),
-    }))
+/// `NoMemory`: out of memory for the title.
+pub fn block(alloc: Global, n: u64, title: &str) -> Result<Block, NoMemory> {
+    let mut block = Block::empty(alloc);
+    let number = digits(n);
+    block
+        .id
+        .assign(alloc, str::from_utf8(&number).unwrap_or(""))?;
+    block.resource.titles.next()?.assign(alloc, title)?;
+    Ok(block)
 }
 
 /// The end of a whole file.
@@ -132,7 +74,7 @@ pub fn ended() -> EventPart
 pub enum Seen {
     /// The opening, which has place 0.
     Opening,
-    /// The block that `block` makes for its place.
+    /// The block with a long title whose number is its place.
     Block,
     /// The end of a whole file.
     End,
@@ -140,45 +82,27 @@ pub enum Seen {
     Other,
 }
 
-/// Whether the event is the opening.
-pub fn is_opened(event: &Event) -> bool {
-    event.place == 0 && matches!(&event.part, EventPart::Opened(_))
-}
-
-/// Whether the event is the block number `n` that `block` makes.
-pub fn is_block(event: &Event, n: u64) -> bool {
-    let EventPart::Block(block) = &event.part else {
-        return false;
-    };
-    let Some(title) = block.resource.titles.get(0) else {
-        return false;
-    };
-    let Some(work) = block.works.get(0) else {
-        return false;
-    };
-    event.place == n
-        && block.id.as_str().parse::<u64>() == Ok(n)
-        && title.as_str() == "Song"
-        && work.parties.len() == 2
-        && block.usages.len() == 1
-}
-
-/// Whether the event is the end of a whole file, at this place.
-pub fn is_end(event: &Event, place: u64) -> bool {
-    event.place == place && matches!(&event.part, EventPart::Ended(Outcome::Whole))
+/// Whether this is the block number `n` with a long title.
+fn is_block(block: &Block, n: u64) -> bool {
+    match block.resource.titles.get(0) {
+        Some(title) => { block.id.as_str().parse::<u64>() == Ok(n) && title.as_str() == LONG_TITLE }
+        None => false,
+    }
 }
 
 /// What the event is.
 pub fn as_seen(event: &Event) -> Seen {
-    if is_opened(event) {
-        Seen::Opening
-    } else if is_block(event, event.place) {
-        Seen::Block
-    } else if is_end(event, event.place) {
-        Seen::End
-    } else {
-        Seen::Other
+    match &event.part {
+        EventPart::Opened(_) if event.place == 0 => Seen::Opening,
+        EventPart::Block(block) if is_block(block, event.place) => Seen::Block,
+        EventPart::Ended(Outcome::Whole) => Seen::End,
+        _ => Seen::Other,
     }
+}
+
+/// Whether the event is the end of a whole file, at this place.
+pub fn is_end(event: &Event, place: u64) -> bool {
+    event.place == place && as_seen(event) == Seen::End
 }
 
 /// Whether these are the events of a file of blocks from a place on.

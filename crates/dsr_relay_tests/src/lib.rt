@@ -4,7 +4,8 @@
 //! 2. `events` makes the events that go through a relay, `sending` sends them, and `taking` takes them.
 //! 3. `batches`: batches that are taken without waiting. `ends`: what a call returns once the other end is gone. `reuse`:
 //!    blocks that are exchanged for stale ones.
-//! 4. `memory`: refused allocations. `threads` and `slow_start`: a file that goes from one thread to another.
+//! 4. `passing`: a file that goes from one thread to another. `memory`, where allocations are refused, `threads` and
+//!    `slow_start` let it go through relays of their own.
 //!
 //! The tests are a separate crate, since a crate with tests is proved a second time with them.
 #![tactic(auto)]
@@ -19,6 +20,8 @@ mod events;
 mod example;
 #[cfg(test)]
 mod memory;
+#[cfg(test)]
+mod passing;
 #[cfg(test)]
 mod reuse;
 #[cfg(test)]

@@ -2,28 +2,13 @@
 ghost use Rattle.std.specs.Prelude.{◌≡◌, ◌+◌, ◌<◌, ◌≤◌, [], true, false, length};
 ghost use Rattle.dsr_events.specs.meaning.Orderly.{has_ended};
 
-use crate::events::plain_block;
-use crate::sending::{flushes, send_file, send_opened, send_part};
-use crate::taking::{take_batches, takes_batch, takes_opened};
+use crate::events::SHORT_TITLE;
+use crate::passing::{Passed, pass_file};
+use crate::sending::{flushes, send_block, send_opened};
+use crate::taking::{takes_batch, takes_opened};
 use dsr_relay::{Feed, Tap, open_relay};
 use std::alloc::Global;
 use std::sync::Wait;
-use std::thread;
-use std::thread::Threads;
-
-/// Sends a block that allocates nothing, and returns whether it was taken.
-fn send_plain_block<R: Wait>(rt: &R, alloc: Global, feed: &mut Feed) -> bool
-    requires going { has_ended feed.old.sent ≡ false }
-    requires few { (0 < length feed.old.sent) × (length feed.old.sent < 100000) }
-    ensures going { has_ended feed.new.sent ≡ false }
-    ensures few { length feed.new.sent ≤ length feed.old.sent + 1 }
-    ensures sent { result ≡ true → length feed.new.sent ≡ length feed.old.sent + 1 }
-{
-    match plain_block(alloc) {
-        Ok(part) => send_part(rt, feed, part),
-        Err(_) => false,
-    }
-}
 
 /// Sends a block that allocates nothing, takes it and gives it back. Returns whether all of that succeeded.
 fn passes_block<R: Wait>(rt: &R, alloc: Global, feed: &mut Feed, tap: &mut Tap) -> bool
@@ -33,7 +18,7 @@ fn passes_block<R: Wait>(rt: &R, alloc: Global, feed: &mut Feed, tap: &mut Tap) 
     ensures few { length feed.new.sent ≤ length feed.old.sent + 1 }
     ensures sent { result ≡ true → length feed.new.sent ≡ length feed.old.sent + 1 }
 {
-    if !send_plain_block(rt, alloc, feed) || !flushes(rt, feed) || tap.ended() {
+    if !send_block(rt, alloc, feed, SHORT_TITLE) || !flushes(rt, feed) || tap.ended() {
         return false;
     }
     takes_batch(rt, tap) == Some(1)
@@ -85,30 +70,12 @@ fn sends_take_no_memory(rt: HostRuntime) {
     assert!(rt; is_right);
 }
 
-/// Sends a file of 70 blocks from a thread. Returns whether it has ended, and how many of its events were taken and sent;
-/// None if memory is refused for the relay or the thread.
-fn events_of_thread<H: Threads + Wait + Copy + Send + 'static>(
-    rt: &H,
-    alloc: Global,
-) -> Option<(bool, u64, u64)> {
-    let own_rt = *rt;
-    let (feed, mut tap) = open_relay(alloc, 1).ok()?;
-    let sender = thread::spawn(rt, move || send_file(&own_rt, alloc, feed, 70)).ok()?;
-    let taken = take_batches(rt, &mut tap);
-    let has_ended = tap.ended();
-    drop(tap);
-    let feed = sender.join(rt);
-    let sent = feed.sent_count();
-    drop(feed);
-    Some((has_ended, taken, sent))
-}
-
 /// A file goes from thread to thread. If an allocation is refused it has fewer blocks, and what was
 /// sent is taken.
 #[test]
 fn a_file_goes_through_or_no_memory(rt: HostRuntime) {
-    if let Some((has_ended, taken, sent)) = events_of_thread(&rt, rt.alloc()) {
-        assert!(rt; has_ended);
-        assert_eq!(rt; taken, sent);
+    let alloc: Global = rt.alloc();
+    if let Ok(ends) = open_relay(alloc, 1) {
+        assert!(rt; pass_file(&rt, alloc, ends, 70, true) != Passed::Broken);
     }
 }

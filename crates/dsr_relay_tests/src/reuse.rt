@@ -2,11 +2,10 @@
 ghost use Rattle.std.specs.Prelude.{◌≡◌, ◌+◌, ◌<◌, ◌≤◌, [], true, false, length};
 ghost use Rattle.dsr_events.specs.meaning.Orderly.{has_ended};
 
-use crate::events::{are_right, block};
+use crate::events::{LONG_TITLE, are_right, block};
 use crate::sending::{flushes, relay, send_block, send_blocks};
 use crate::taking::takes_batch;
-use dsr_file::EventPart;
-use dsr_records::Block;
+use dsr_blocks::Block;
 use dsr_relay::{Feed, Tap};
 use std::alloc::Global;
 use std::sync::Wait;
@@ -38,12 +37,9 @@ fn exchanged<R: Wait>(rt: &R, alloc: Global, feed: &mut Feed) -> Option<u64>
     ensures few { length feed.new.sent ≤ length feed.old.sent + 1 }
     ensures some { 0 < length feed.new.sent }
 {
-    let mut part = block(alloc, feed.sent_count())?;
-    let number = match &mut part {
-        EventPart::Block(block) => exchanged_for(rt, feed, block),
-        _ => None,
-    };
-    drop(part);
+    let mut block = block(alloc, feed.sent_count(), LONG_TITLE).ok()?;
+    let number = exchanged_for(rt, feed, &mut block);
+    drop(block);
     number
 }
 
@@ -88,7 +84,7 @@ fn later_blocks_are_exchanged<R: Wait>(rt: &R, alloc: Global, feed: &mut Feed) -
     requires few { (0 < length feed.old.sent) × (length feed.old.sent ≤ 4) }
 {
     exchanged(rt, alloc, feed).is_none()
-        && send_block(rt, alloc, feed)
+        && send_block(rt, alloc, feed, LONG_TITLE)
         && exchanged(rt, alloc, feed) == Some(1)
         && exchanged(rt, alloc, feed) == Some(2)
         && exchanged(rt, alloc, feed) == Some(3)
@@ -155,7 +151,7 @@ fn blocks_are_freed<R: Wait>(rt: &R, alloc: Global, feed: &mut Feed, tap: &mut T
         && flushes(rt, feed)
         && feed.batch_bytes() == 0
         && takes_batch(rt, tap) == Some(3)
-        && send_block(rt, alloc, feed)
+        && send_block(rt, alloc, feed, LONG_TITLE)
         && exchanged(rt, alloc, feed) == Some(0)
 }
 

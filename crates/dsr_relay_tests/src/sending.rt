@@ -2,8 +2,8 @@
 ghost use Rattle.std.specs.Prelude.{◌≡◌, ◌+◌, ◌<◌, ◌≤◌, true, false, [], length, IfOk};
 ghost use Rattle.dsr_events.specs.meaning.Orderly.{has_ended, is_ended, MayStandAt};
 
-use crate::events::{block, ended, is_end, opened};
-use dsr_file::{Event, EventPart};
+use crate::events::{LONG_TITLE, block, ended, is_end, opening};
+use dsr_events::{Event, EventPart};
 use dsr_relay::{Feed, Tap, open_relay};
 use std::alloc::Global;
 use std::sync::Wait;
@@ -49,14 +49,14 @@ pub fn send_opened<R: Wait>(rt: &R, alloc: Global, feed: &mut Feed) -> bool
     ensures few { length feed.new.sent ≤ 1 }
     ensures sent { result ≡ true → length feed.new.sent ≡ 1 }
 {
-    match opened(alloc) {
-        Some(part) => send_part(rt, feed, part),
+    match opening(alloc) {
+        Some(opening) => send_part(rt, feed, EventPart::Opened(opening)),
         None => false,
     }
 }
 
-/// Sends the block of the next place, and returns whether it was taken.
-pub fn send_block<R: Wait>(rt: &R, alloc: Global, feed: &mut Feed) -> bool
+/// Sends the block of the next place with this title, and returns whether it was taken.
+pub fn send_block<R: Wait>(rt: &R, alloc: Global, feed: &mut Feed, title: &str) -> bool
     requires going { has_ended feed.old.sent ≡ false }
     requires few { (0 < length feed.old.sent) × (length feed.old.sent < 100000) }
     ensures name { feed.new.name ≡ feed.old.name }
@@ -64,9 +64,9 @@ pub fn send_block<R: Wait>(rt: &R, alloc: Global, feed: &mut Feed) -> bool
     ensures few { length feed.new.sent ≤ length feed.old.sent + 1 }
     ensures sent { result ≡ true → length feed.new.sent ≡ length feed.old.sent + 1 }
 {
-    match block(alloc, feed.sent_count()) {
-        Some(part) => send_part(rt, feed, part),
-        None => false,
+    match block(alloc, feed.sent_count(), title) {
+        Ok(block) => send_part(rt, feed, EventPart::Block(block)),
+        Err(_) => false,
     }
 }
 
@@ -83,7 +83,7 @@ pub fn send_blocks<R: Wait>(rt: &R, alloc: Global, feed: &mut Feed, blocks: u64)
         return false;
     }
     for _n in 0..blocks {
-        if !send_block(rt, alloc, feed) {
+        if !send_block(rt, alloc, feed, LONG_TITLE) {
             return false;
         }
     }

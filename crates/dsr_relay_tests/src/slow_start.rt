@@ -1,8 +1,9 @@
 //! Feeds that start slowly.
 ghost use Rattle.std.specs.Prelude.{◌≡◌, [], IfOk};
 
-use crate::sending::{relay, send_blocks, send_file};
-use crate::taking::{take_batches, take_file, takes_opened};
+use crate::passing::{Passed, pass_file};
+use crate::sending::{relay, send_blocks};
+use crate::taking::takes_opened;
 use dsr_relay::{Feed, Tap};
 use std::alloc::Global;
 use std::sync::Wait;
@@ -12,39 +13,29 @@ use std::thread::Threads;
 
 /// A new relay, whose feed starts slowly.
 fn slow_relay(alloc: Global, capacity: u32) -> Result<(Feed, Tap), Fail>
-    ensures { IfOk result (λ r. (r.0.sent ≡ []) × (r.1.taken ≡ [])) }
+    ensures { IfOk result (λ r. (r.1.name ≡ r.0.name) × (r.0.sent ≡ []) × (r.1.taken ≡ [])) }
 {
     let (mut feed, tap) = relay(alloc, capacity)?;
     feed.start_slowly();
     Ok((feed, tap))
 }
 
-/// Sends a file of 3,000 blocks through such a relay. Returns how many of its events were right when they were taken, by
-/// batches or one by one.
-fn right_events<H: Threads + Wait + Copy + Send + 'static>(
+/// Passes a file of 3,000 blocks through such a relay, and returns whether all of it arrived.
+fn passes_slowly<H: Threads + Wait + Copy + Send + 'static>(
     rt: &H,
     alloc: Global,
     capacity: u32,
     by_batches: bool,
-) -> Result<u64, Fail> {
-    let own_rt = *rt;
-    let (feed, mut tap) = slow_relay(alloc, capacity)?;
-    let sender = thread::spawn(rt, move || send_file(&own_rt, alloc, feed, 3000))?;
-    let right = if by_batches {
-        take_batches(rt, &mut tap)
-    } else {
-        take_file(rt, &mut tap)
-    };
-    drop(sender.join(rt));
-    drop(tap);
-    Ok(right)
+) -> Result<bool, Fail> {
+    let ends = slow_relay(alloc, capacity)?;
+    Ok(pass_file(rt, alloc, ends, 3000, by_batches) == Passed::Whole(3002))
 }
 
 #[test]
 fn a_slow_start_loses_nothing(rt: HostRuntime) -> Result<(), Fail> {
     for capacity in [1, 2, 3, 7, 8, 16, 17, 40] {
-        assert_eq!(rt; right_events(&rt, rt.alloc(), capacity, true)?, 3002);
-        assert_eq!(rt; right_events(&rt, rt.alloc(), capacity, false)?, 3002);
+        assert!(rt; passes_slowly(&rt, rt.alloc(), capacity, true)?);
+        assert!(rt; passes_slowly(&rt, rt.alloc(), capacity, false)?);
     }
     Ok(())
 }

@@ -1,34 +1,39 @@
-//! A file that goes from one thread to another.
-ghost use Rattle.std.specs.Prelude.{◌≡◌, []};
+//! Files that go from one thread to another, and a tap that moves to a thread.
+ghost use Rattle.std.specs.Prelude.{◌≡◌, ◌<◌, []};
 
-use crate::sending::{relay, send_and_leave, send_file};
-use crate::taking::{take_batches, take_file, takes_end, takes_opened};
-use dsr_relay::{Feed, Tap};
+use crate::passing::{Passed, pass_file};
+use crate::sending::{relay, send_and_leave};
+use crate::taking::takes_opened;
+use dsr_relay::Tap;
 use std::alloc::Global;
-use std::snapshot::Snapshot;
 use std::sync::Wait;
 use std::test::Fail;
 use std::thread;
-use std::thread::Promise;
+use std::thread::Threads;
 
-/// The feed that a thread gives back is of the relay of the feed that it was given.
-#[derive(Drop)]
-struct SameRelay(Snapshot<Feed>);
-
-impl Promise<Feed> for SameRelay {
-    ghost kept_by = { λ p feed. feed.name ≡ p.0.value.name };
+/// Passes a file of `blocks` blocks through a relay of one message.
+fn through_one_place<H: Threads + Wait + Copy + Send + 'static>(
+    rt: &H,
+    alloc: Global,
+    blocks: u64,
+    by_batches: bool,
+) -> Result<Passed, Fail>
+    requires { blocks < 50000 }
+{
+    let ends = relay(alloc, 1)?;
+    Ok(pass_file(rt, alloc, ends, blocks, by_batches))
 }
 
 #[test]
-fn a_feed_moves_to_a_thread(rt: HostRuntime) -> Result<(), Fail> {
-    let alloc: Global = rt.alloc();
-    let (feed, mut tap) = relay(alloc, 1)?;
-    let promise = SameRelay(Snapshot::of(&feed));
-    let sender = thread::spawn_with(&rt, promise, move || send_file(&rt, alloc, feed, 0))?;
-    let is_opened = takes_opened(&rt, &mut tap) && !tap.ended();
-    assert!(rt; is_opened && takes_end(&rt, &mut tap, 1));
-    let settled = tap.take_in(sender.join(&rt));
-    assert_eq!(rt; (settled.taken, settled.left), (2, 0));
+fn blocks_through_one_place(rt: HostRuntime) -> Result<(), Fail> {
+    let none = through_one_place(&rt, rt.alloc(), 0, false)?;
+    let many = through_one_place(&rt, rt.alloc(), 20_000, false)?;
+    let by_batches = through_one_place(&rt, rt.alloc(), 2000, true)?;
+    assert!(rt;
+        none == Passed::Whole(2)
+            && many == Passed::Whole(20_002)
+            && by_batches == Passed::Whole(2002)
+    );
     Ok(())
 }
 
@@ -47,29 +52,5 @@ fn a_tap_moves_to_a_thread(rt: HostRuntime) -> Result<(), Fail> {
     let taker = thread::spawn(&rt, move || take_first(&rt, tap))?;
     let is_sent = send_and_leave(&rt, rt.alloc(), feed);
     assert!(rt; taker.join(&rt) && is_sent);
-    Ok(())
-}
-
-#[test]
-fn many_blocks_through_one_place(rt: HostRuntime) -> Result<(), Fail> {
-    let alloc: Global = rt.alloc();
-    let (feed, mut tap) = relay(alloc, 1)?;
-    let promise = SameRelay(Snapshot::of(&feed));
-    let sender = thread::spawn_with(&rt, promise, move || send_file(&rt, alloc, feed, 20_000))?;
-    assert_eq!(rt; take_file(&rt, &mut tap), 20_002);
-    let settled = tap.take_in(sender.join(&rt));
-    assert_eq!(rt; (settled.taken, settled.left), (20_002, 0));
-    Ok(())
-}
-
-#[test]
-fn batches_through_one_place(rt: HostRuntime) -> Result<(), Fail> {
-    let alloc: Global = rt.alloc();
-    let (feed, mut tap) = relay(alloc, 1)?;
-    let promise = SameRelay(Snapshot::of(&feed));
-    let sender = thread::spawn_with(&rt, promise, move || send_file(&rt, alloc, feed, 2000))?;
-    assert_eq!(rt; take_batches(&rt, &mut tap), 2002);
-    let settled = tap.take_in(sender.join(&rt));
-    assert_eq!(rt; (settled.taken, settled.left), (2002, 0));
     Ok(())
 }

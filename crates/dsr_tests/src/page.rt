@@ -7,7 +7,6 @@ use std::alloc::Global;
 
 /// An outlet that keeps what it takes: at most `at_once` bytes a write, and `room` bytes in all.
 /// Then its writes fail.
-#[derive(Drop)]
 pub struct Page {
     bytes: Vec<u8>,
     at_once: usize,
@@ -16,6 +15,21 @@ pub struct Page {
     failed: bool,
     flush_count: u64,
     unflushed: bool,
+}
+
+/// Written out, so that dropping one is a call: a derived drop is proved anew wherever it happens.
+impl Drop for Page {
+    fn drop(self) {
+        let Page {
+            bytes: _,
+            at_once: _,
+            room: _,
+            flushes: _,
+            failed: _,
+            flush_count: _,
+            unflushed: _,
+        } = self;
+    }
 }
 
 impl Page {

@@ -63,7 +63,6 @@ impl Begun {
 }
 
 /// A scripted reader of a text. Its waiting is limited, and then its read fails.
-#[derive(Drop)]
 pub struct Script {
     text: Vec<u8>,
     at: usize,
@@ -74,6 +73,23 @@ pub struct Script {
     is_first: bool,
     failed: bool,
     reads: ReadCount,
+}
+
+/// Written out, so that dropping one is a call: a derived drop is proved anew wherever it happens.
+impl Drop for Script {
+    fn drop(self) {
+        let Script {
+            text: _,
+            at: _,
+            step: _,
+            after: _,
+            wait: _,
+            begun: _,
+            is_first: _,
+            failed: _,
+            reads: _,
+        } = self;
+    }
 }
 
 impl Script {
