@@ -128,6 +128,12 @@ opening_done all now k books o h = (
   rw (take_whole k now h) at o.stands,
 )
 
+-- the books know the file of the tap that is looked at
+pub known_here : (now : List TapView) (k : ℕ) (books : Books) (t : TapView) → slice_get now k ≡ Some t
+    → Stands books (map (λ x. file_of x.taken) now) → Knows books k (file_of t.taken)
+known_here now k books t at stands =
+    let f : TapView → File = λ x. file_of x.taken in (map f now, stands, slice_get-map f now k ∙ ap (option_map f) at)
+
 -- one more message of file k
 pub round_more : (now : List TapView) (k : ℕ) (books new : Books) (t u : TapView) → slice_get now k ≡ Some t → Stands books (map (λ x. file_of x.taken) now)
     → Changes books new k (file_of t.taken) (file_of u.taken) → Stands new (map (λ x. file_of x.taken) (set now k u))

@@ -1,4 +1,5 @@
-use Rattle.std.proofs.Common.{None, Some, lit<, ap, ◌∙◌, rules, ◌++◌}
+use Rattle.std.proofs.Common.{None, Some, lit<, ap, ◌∙◌, rules, ◌++◌, arith}
+use Rattle.std.proofs.lemmas.Grind.{common_steps}
 use Rattle.std.specs.String.{string_bytes}
 use Rattle.std.proofs.lemmas.Str.Pattern.{split_parts}
 use Rattle.dsr_cells.proofs.Escapes.{unescape_step, unescape_end}
@@ -22,3 +23,12 @@ returns c =
     let none = split_parts 92 c.loop-front.rest.now None c.in_default.ensures.cases (lit< tt) in
     let whole = unescape_end (string_bytes c.loop-front.value) c.loop-front.rest.now _ _ none c.in_ok-push_str-2.ensures.bytes c.loop-front.invariant.value in
     rw whole at c.of_string.ensures
+
+pub loop-front-init : goal.loop-front-init
+loop-front-init c = grind (arith, common_steps)
+
+pub loop-front-smaller : goal.loop-front-smaller
+loop-front-smaller c = grind (arith, common_steps)
+
+pub returns-in_err-push_str-2 : goal.returns-in_err-push_str-2
+returns-in_err-push_str-2 c = grind (arith, common_steps)

@@ -1,4 +1,5 @@
-use Rattle.std.proofs.Common.{◌≡◌, ◌∙◌, ◌<◌, ◌++◌, [], ◌∷◌, Some, ap, subst, length, slice_index_or, false, rules}
+use Rattle.std.proofs.Common.{◌≡◌, ◌∙◌, ◌<◌, ◌++◌, [], ◌∷◌, Some, ap, subst, length, slice_index_or, false, rules, arith}
+use Rattle.std.proofs.lemmas.Grind.{common_steps}
 use Rattle.std.proofs.lemmas.List.Elements.{All-push}
 use Rattle.dsr_command.specs.Inputs.{IsRefusalOf}
 use Rattle.dsr_command.proofs.Naming.{named_next, refused_among}
@@ -27,3 +28,6 @@ returns-in-Err-clause-refused g c =
     let name : c.name-item.result ≡ slice_index_or names k c.name-item.result =
     c.name-item.is ∙ ap (λ xs. slice_index_or xs k c.name-item.result) c.as_slice-name-items.ensures in
     refused_among names k c.name-item.result c.in-Err.error under (subst (λ n. IsRefusalOf n c.in-Err.error) name c.in-Err.ensures.refused)
+
+pub returns-clause-sources : goal.returns-clause-sources
+returns-clause-sources g c = grind (arith, common_steps)

@@ -1,4 +1,5 @@
 use Rattle.std.proofs.Common.{◌≤◌, ◌++◌, arith, length, take, length-append, length-take, rules}
+use Rattle.std.proofs.lemmas.Grind.{common_steps}
 use Rattle.dsr_file.proofs.ReadLemmas.{consumes_more}
 use Rattle.dsr_command.proofs.layout_file.read_bytes.Goals as goal
 
@@ -16,3 +17,18 @@ returns-then-is_err-clause-refused g c =
 
 pub returns-in_default-clause-taken : goal.returns-in_default-clause-taken
 returns-in_default-clause-taken g c = search rules
+
+pub slice_bounds-read-end : goal.slice_bounds-read-end
+slice_bounds-read-end g c = grind (arith, common_steps)
+
+pub returns-then-count-eq0-clause-taken : goal.returns-then-count-eq0-clause-taken
+returns-then-count-eq0-clause-taken g c = grind (arith, common_steps)
+
+pub loop-piece-smaller : goal.loop-piece-smaller
+loop-piece-smaller g c = grind (arith, common_steps)
+
+pub loop-piece-preserved : goal.loop-piece-preserved
+loop-piece-preserved g c = grind (arith, common_steps)
+
+pub returns-clause-taken : goal.returns-clause-taken
+returns-clause-taken g c = grind (arith, common_steps)

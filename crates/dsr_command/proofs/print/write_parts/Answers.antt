@@ -1,4 +1,5 @@
-use Rattle.std.proofs.Common.{◌≡◌, ◌∙◌, ◌+◌, ◌++◌, ap, sym, subst, take, drop}
+use Rattle.std.proofs.Common.{◌≡◌, ◌∙◌, ◌+◌, ◌++◌, ap, sym, subst, take, drop, arith}
+use Rattle.std.proofs.lemmas.Grind.{common_steps}
 use Rattle.dsr_io.specs.meaning.Written.{IsTaken}
 use Rattle.dsr_command.specs.Printing.{joined}
 use Rattle.dsr_command.proofs.Printing.{joined_at, joined_next, taken_none, taken_more, cut_after, written_in_part}
@@ -33,3 +34,9 @@ returns-in-Err g c =
     joined_at parts i _ c.loop-part-test.true ∙ ap (λ l. front ++ (l ++ rest)) (sym c.as_bytes.ensures.value) in
     written_in_part a d (joined parts) front part rest n line c.in-Err.ensures.written.0
     (cut_after a b d front (take n part) c.loop-part.invariant c.in-Err.ensures.written.1)
+
+pub returns-in-Ok-flush : goal.returns-in-Ok-flush
+returns-in-Ok-flush g c = grind (arith, common_steps)
+
+pub returns-in-Err-flush : goal.returns-in-Err-flush
+returns-in-Err-flush g c = grind (arith, common_steps)

@@ -1,4 +1,5 @@
 use Rattle.std.proofs.Common.{◌≡◌, ◌∙◌, ◌++◌, ap, sym, subst, arith, length-drop}
+use Rattle.std.proofs.lemmas.Grind.{common_steps}
 use Rattle.std.specs.Option.{option_to_list}
 use Rattle.dsr_file.specs.inner.Closing.{event_at}
 use Rattle.dsr_file.specs.inner.Feeding.{Fed}
@@ -81,3 +82,15 @@ returns-then-is_some-clause-refused g c =
     (ap (event_at c.place-place.result) (sym kept.0) ∙ was.0, was.1 ∙ kept.1)
     (c.take_part-used.ensures.stands layout _ _ (c.loop-sink.invariant.stands layout b s)) c.take_part-used.ensures.begins)
     c.put_into.ensures.refused
+
+pub loop-sink-init : goal.loop-sink-init
+loop-sink-init g c = grind (arith, common_steps)
+
+pub returns-then-not-is_some-clause-name : goal.returns-then-not-is_some-clause-name
+returns-then-not-is_some-clause-name g c = grind (arith, common_steps)
+
+pub returns-then-is_some-clause-name : goal.returns-then-is_some-clause-name
+returns-then-is_some-clause-name g c = grind (arith, common_steps)
+
+pub returns-then-is_some-clause-fed : goal.returns-then-is_some-clause-fed
+returns-then-is_some-clause-fed g c = grind (arith, common_steps)

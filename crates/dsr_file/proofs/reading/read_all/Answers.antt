@@ -1,4 +1,5 @@
 use Rattle.std.proofs.Common.{◌≡◌, ◌≤◌, ◌∙◌, refl, sym, subst, arith, take, length, length-take}
+use Rattle.std.proofs.lemmas.Grind.{common_steps}
 use Rattle.std.proofs.lemmas.Result.{IfOk-weaker, IfErr-weaker, err_from_is_err_and}
 use Rattle.std.specs.Io.KnownBytes.{Consumes}
 use Rattle.dsr_file.specs.inner.Feeding.{Reads}
@@ -140,3 +141,9 @@ returns-clause-refused g c =
     (g.R.Source.told c.loop.reader) n c.loop.file (g.S.Sink.list c.loop.sink)) end (c.loop.invariant.read layout s) in
     limit_refused layout (g.R.Source.told c.args.reader.now) (g.R.Source.told c.loop.reader)
     c.args.max_reads c.loop.file (g.S.Sink.list c.loop.sink) _ r c.finish_all-2.ensures.grows e (h layout r.given r.stands)) c.finish_all-2.ensures.refused
+
+pub returns-in_err-feed-in-Ok-clause-name : goal.returns-in_err-feed-in-Ok-clause-name
+returns-in_err-feed-in-Ok-clause-name g c = grind (arith, common_steps)
+
+pub returns-in-Ok-eq0-clause-name : goal.returns-in-Ok-eq0-clause-name
+returns-in-Ok-eq0-clause-name g c = grind (arith, common_steps)

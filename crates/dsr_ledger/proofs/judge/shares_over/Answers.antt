@@ -1,3 +1,4 @@
+use Rattle.std.proofs.lemmas.Grind.{common_steps}
 use Rattle.dsr_ledger.proofs.Common.{arith, sum, sym, ap, ◌∙◌, sum_by_more_le, lt-ltb, WorkParts, share_total}
 use Rattle.dsr_ledger.proofs.judge.shares_over.Goals as goal
 
@@ -11,3 +12,12 @@ returns-then-parts-total c =
     let at = c.share-item.is in let value = c.parts-parts.ensures.value in let so_far = c.loop-share.invariant.so_far in let over = c.if-parts-total.true in
     let whole = c.loop-share.invariant.whole in
     sym (lt-ltb 1000000 (share_total works) (omega arith))
+
+pub loop-share-preserved : goal.loop-share-preserved
+loop-share-preserved c = grind (arith, common_steps)
+
+pub loop-work-preserved : goal.loop-work-preserved
+loop-work-preserved c = grind (arith, common_steps)
+
+pub returns : goal.returns
+returns c = grind (arith, common_steps)

@@ -1,3 +1,5 @@
+use Rattle.std.proofs.Common.{arith}
+use Rattle.std.proofs.lemmas.Grind.{common_steps}
 use Rattle.dsr_ledger.proofs.Common.{◌++◌, append_assoc, sym, ap, ◌∙◌, option_map, flat_map, option_or, flat_map-cons, FileBooks, first_head, openings_of, key_of}
 use Rattle.dsr_ledger.proofs.OpeningLemmas.{key_step}
 use Rattle.dsr_ledger.proofs.rejects.key_and_rejects.Goals as goal
@@ -13,3 +15,9 @@ loop-file-preserved c =
           ∙ ap (λ rs. rejects ++ rs) (sym (flat_map-cons own file rest)) ∙ ap (λ fs. rejects ++ flat_map own fs) (sym c.in-Some.ensures.steps.0)
           ∙ c.loop-file.invariant.rejects;
     }
+
+pub returns-clause-key : goal.returns-clause-key
+returns-clause-key c = grind (arith, common_steps)
+
+pub returns-clause-rejects : goal.returns-clause-rejects
+returns-clause-rejects c = grind (arith, common_steps)

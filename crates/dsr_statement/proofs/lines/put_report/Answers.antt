@@ -1,5 +1,6 @@
 use Rattle.std.specs.Prelude.{◌∷◌, [], codes, decimal}
-use Rattle.std.proofs.Common.{rules}
+use Rattle.std.proofs.Common.{rules, arith}
+use Rattle.std.proofs.lemmas.Grind.{common_steps}
 use Rattle.std.specs.Fmt.{signed_decimal}
 use Rattle.dsr_values.specs.meaning.Written.{written_day}
 use Rattle.dsr_statement.specs.meaning.Statement.{report_line, days_in}
@@ -17,3 +18,6 @@ returns g c =
     turn (then c.put.ensures (then id (then files (then days (then many c.put_end.ensures)))))
     (days_within (codes "REPORT") (9 ∷ key.message_id) (9 ∷ decimal key.number_of_files)
     (9 ∷ written_day key.first_day) (9 ∷ written_day key.last_day) (9 ∷ signed_decimal (days_in key)) (10 ∷ []))
+
+pub number-requires : goal.number-requires
+number-requires g c = grind (arith, common_steps)

@@ -1,4 +1,5 @@
 use Rattle.std.proofs.Common.{◌/◌, arith, rules}
+use Rattle.std.proofs.lemmas.Grind.{common_steps}
 use Rattle.std.proofs.lemmas.Fmt.{length-decimal-le}
 use Rattle.dsr_values.proofs.amount.fill_units.Goals as goal
 
@@ -9,3 +10,6 @@ pub returns-clause-start : goal.returns-clause-start
 returns-clause-start c =
     let short = length-decimal-le 20 (c.args.units / 10000000000) (omega arith) (omega arith) (omega arith) in
     (omega arith, omega arith)
+
+pub returns-clause-written : goal.returns-clause-written
+returns-clause-written c = grind (arith, common_steps)

@@ -1,4 +1,5 @@
 use Rattle.std.proofs.Common.{arith, ◌%◌, ◌^◌, length, length-append, ap, ◌∙◌}
+use Rattle.std.proofs.lemmas.Grind.{common_steps}
 use Rattle.dsr_values.specs.meaning.Written.{padded_number}
 use Rattle.dsr_values.proofs.Spelled.{padded_length}
 use Rattle.dsr_values.proofs.amount.wide_text.Goals as goal
@@ -13,3 +14,6 @@ returns-clause-short c =
     let third = ap length c.push_str-3.ensures.bytes ∙ length-append c.push_str-2.new.self.bytes _ in
     let all = ap length c.push_decimals.ensures ∙ length-append c.push_str-3.new.self.bytes decimals in
     omega (arith, none, first, second, third, all, ten)
+
+pub returns-clause-text : goal.returns-clause-text
+returns-clause-text c = grind (arith, common_steps)

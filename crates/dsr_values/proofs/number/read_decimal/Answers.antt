@@ -1,4 +1,5 @@
 use Rattle.std.proofs.Common.{arith, ap, sym, ◌∙◌, ◌≡◌, ◌+◌, ◌*◌, ◌-◌, ◌^◌, length, length-drop, take, drop, true, take_all, lit<, ℕ, Some}
+use Rattle.std.proofs.lemmas.Grind.{common_steps}
 use Rattle.std.proofs.Math.Nat.{one-le-pow}
 use Rattle.std.specs.Char.{is_ascii_digit}
 use Rattle.std.specs.List.{list_all}
@@ -51,3 +52,6 @@ returns-clause-value c =
 
 pub returns-clause-whole : goal.returns-clause-whole
 returns-clause-whole c = below_more _ _ _ c.front_digits-front.ensures.bound c.front_digits-front.ensures.few
+
+pub returns-then-count-eq0-clause-value : goal.returns-then-count-eq0-clause-value
+returns-then-count-eq0-clause-value c = grind (arith, common_steps)

@@ -1,4 +1,5 @@
 use Rattle.std.proofs.Common.{arith, ◌∙◌, ◌<◌, ◌^◌, sym}
+use Rattle.std.proofs.lemmas.Grind.{common_steps}
 use Rattle.std.specs.Simd.Lanes.{chunk}
 use Rattle.std.proofs.lemmas.Simd.{length-chunk}
 use Rattle.dsr_values.proofs.Fours.{all_small}
@@ -26,3 +27,9 @@ overflow_add-first c =
           (omega arith),
     )) c.in_ok-second.second (sym c.read_four-2.ensures ∙ c.in_ok-second.was) in
     omega arith
+
+pub returns-in_err-second : goal.returns-in_err-second
+returns-in_err-second c = grind (arith, common_steps)
+
+pub read_rest-requires-2-clause-front : goal.read_rest-requires-2-clause-front
+read_rest-requires-2-clause-front c = grind (arith, common_steps)

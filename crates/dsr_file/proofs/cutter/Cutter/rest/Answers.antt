@@ -1,4 +1,5 @@
 use Rattle.std.proofs.Common.{◌≡◌, ◌++◌, ◌∷◌, [], false, ◌+◌, ◌∙◌, sym, subst, arith, take, take_all, length-append, length-take}
+use Rattle.std.proofs.lemmas.Grind.{common_steps}
 use Rattle.dsr_file.specs.inner.Cutting.{CutsTo}
 use Rattle.dsr_file.proofs.CutLemmas.{more_bytes, fed_line, here_line, within, empty_is}
 use Rattle.dsr_file.proofs.cutter.Cutter.rest.Goals as goal
@@ -34,3 +35,6 @@ returns-clause-cut c = λ b ps k.
     let short = within _ _ c.line_end-end.ensures.bound c.if-end-piece.false in
     rw c.append-2.ensures.bytes (fed_line c.args.self.now.bytes.items b c.args.piece.now ps c.line_end-end.result k c.line_end-end.ensures.before short
     (c.line_end-end.ensures.found short))
+
+pub returns-then-is_empty-clause-fits : goal.returns-then-is_empty-clause-fits
+returns-then-is_empty-clause-fits c = grind (arith, common_steps)

@@ -1,4 +1,5 @@
-use Rattle.std.proofs.Common.{rules}
+use Rattle.std.proofs.Common.{rules, arith}
+use Rattle.std.proofs.lemmas.Grind.{common_steps}
 use Rattle.dsr_file.proofs.reader.FileReader.finish.Goals as goal
 
 pub returns-in-Waiting-clause-all : goal.returns-in-Waiting-clause-all
@@ -15,3 +16,6 @@ returns-in-Done-clause-after c = search rules
 
 pub returns-in-Done-clause-progress : goal.returns-in-Done-clause-progress
 returns-in-Done-clause-progress c = search rules
+
+pub returns-in-Waiting-clause-stands : goal.returns-in-Waiting-clause-stands
+returns-in-Waiting-clause-stands c = grind (arith, common_steps)

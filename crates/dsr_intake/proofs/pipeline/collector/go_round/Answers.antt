@@ -3,7 +3,7 @@ use Rattle.std.proofs.lemmas.List.{length-set}
 use Rattle.std.proofs.lemmas.Result.{err_from_is_err_and}
 use Rattle.std.proofs.lemmas.List.Elements.{All-set}
 use Rattle.dsr_intake.specs.inner.Collecting.{IsTapped}
-use Rattle.dsr_intake.proofs.Rounds.{round_more, names_set, stopped_at, lent}
+use Rattle.dsr_intake.proofs.Rounds.{known_here, round_more, names_set, stopped_at, lent}
 use Rattle.dsr_intake.proofs.pipeline.collector.go_round.Goals as goal
 
 pub returns-in_err-go_on-clause-names : goal.returns-in_err-go_on-clause-names
@@ -29,3 +29,8 @@ loop-k-preserved g c =
       tapped = All-set IsTapped c.loop-k.taps.items c.loop-k.k c.go_on.new.tap e.tapped was.tapped;
       stands = round_more c.loop-k.taps.items c.loop-k.k c.loop-k.books c.go_on.new.books c.index_mut-tap.result.now c.go_on.new.tap at was.stands e.booked;
     }
+
+pub go_on-requires-clause-file : goal.go_on-requires-clause-file
+go_on-requires-clause-file g c =
+    let at = lent c.loop-k.taps.items c.loop-k.k c.index_mut-tap.result.now (omega arith) c.index_mut-tap.ensures.value in
+    known_here c.loop-k.taps.items c.loop-k.k c.loop-k.books c.index_mut-tap.result.now at c.loop-k.invariant.stands

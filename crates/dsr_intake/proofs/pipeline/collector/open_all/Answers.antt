@@ -1,4 +1,5 @@
 use Rattle.std.proofs.Common.{◌∙◌, arith}
+use Rattle.std.proofs.lemmas.Grind.{common_steps}
 use Rattle.std.proofs.lemmas.List.{length-set}
 use Rattle.std.proofs.lemmas.Result.{err_from_is_err_and}
 use Rattle.dsr_intake.proofs.Rounds.{opening_more, opening_done, names_set, stopped_at, lent}
@@ -32,3 +33,6 @@ returns-clause-tapped g c = (opening_done c.args.taps.now.items c.loop-k.taps.it
 
 pub returns-clause-stands : goal.returns-clause-stands
 returns-clause-stands g c = (opening_done c.args.taps.now.items c.loop-k.taps.items c.loop-k.k c.loop-k.books c.loop-k.invariant.opening (omega arith)).1
+
+pub open_one-requires-clause-next : goal.open_one-requires-clause-next
+open_one-requires-clause-next g c = grind (arith, common_steps)

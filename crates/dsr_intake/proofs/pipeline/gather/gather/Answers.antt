@@ -1,4 +1,5 @@
-use Rattle.std.proofs.Common.{ap, ◌∙◌, subst}
+use Rattle.std.proofs.Common.{ap, ◌∙◌, subst, arith}
+use Rattle.std.proofs.lemmas.Grind.{common_steps}
 use Rattle.dsr_ledger.specs.inner.Closed.{AreClosed}
 use Rattle.dsr_intake.specs.meaning.Texts.{GaveEach}
 use Rattle.dsr_intake.proofs.Joining.{files_of}
@@ -13,3 +14,15 @@ returns-in-Ok-clause-books g c =
       subst (λ rs. GaveEach g.R.Source.told options rs c.settle_all.new.readers.items s.0) given s.1,
       subst (AreClosed c.in-Ok.books) (files_of options.layout _ s.0 s.2) c.in-Ok.ensures.books,
     )
+
+pub returns-in_err-with_room-clause-late : goal.returns-in_err-with_room-clause-late
+returns-in_err-with_room-clause-late g c = grind (arith, common_steps)
+
+pub start_and_collect-requires : goal.start_and_collect-requires
+start_and_collect-requires g c = grind (arith, common_steps)
+
+pub settle_all-requires : goal.settle_all-requires
+settle_all-requires g c = grind (arith, common_steps)
+
+pub returns-else-join_all-clause-late : goal.returns-else-join_all-clause-late
+returns-else-join_all-clause-late g c = grind (arith, common_steps)

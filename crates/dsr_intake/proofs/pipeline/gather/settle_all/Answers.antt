@@ -34,3 +34,15 @@ returns g c =
     let none : into_iter_items c.loop-thread.thread-iterator ≡ [] = grind (arith, common_steps) in
     joining_done g.R.Source.told c.args.options.now _ _ _ _ _ (into_iter_items c.loop-thread.taps) c.loop-thread.readers.items
     (rw none at c.loop-thread.invariant.joined)
+
+pub unreachable-requires : goal.unreachable-requires
+unreachable-requires g c = grind (arith, common_steps)
+
+pub settle-reader-requires : goal.settle-reader-requires
+settle-reader-requires g c = grind (arith, common_steps)
+
+pub loop-thread-smaller : goal.loop-thread-smaller
+loop-thread-smaller g c = grind (arith, common_steps)
+
+pub unreachable-requires-in_default-push : goal.unreachable-requires-in_default-push
+unreachable-requires-in_default-push g c = grind (arith, common_steps)

@@ -13,3 +13,18 @@ loop-reader-preserved g c =
           (ap (λ f. f.name) c.in_ok-thread.ensures.promise.1 ∙ c.in_ok-feed.ensures.ends.0) c.in_ok-thread.ensures.promise.2 c.in_ok-feed.ensures.ends.2);
       room = grind (arith, common_steps);
     }
+
+pub loop-reader-init : goal.loop-reader-init
+loop-reader-init g c = grind (arith, common_steps)
+
+pub returns-in_err-feed-clause-terms : goal.returns-in_err-feed-clause-terms
+returns-in_err-feed-clause-terms g c = grind (arith, common_steps)
+
+pub returns-in_err-feed-clause-fresh : goal.returns-in_err-feed-clause-fresh
+returns-in_err-feed-clause-fresh g c = grind (arith, common_steps)
+
+pub returns-in_err-thread-clause-fresh : goal.returns-in_err-thread-clause-fresh
+returns-in_err-thread-clause-fresh g c = grind (arith, common_steps)
+
+pub returns-clause-readers : goal.returns-clause-readers
+returns-clause-readers g c = grind (arith, common_steps)

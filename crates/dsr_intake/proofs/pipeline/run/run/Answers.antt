@@ -1,4 +1,5 @@
-use Rattle.std.proofs.Common.{◌≡◌, ◌∙◌, ap, false, true≢false, List, Result, Ok, Err}
+use Rattle.std.proofs.Common.{◌≡◌, ◌∙◌, ap, false, true≢false, List, Result, Ok, Err, arith}
+use Rattle.std.proofs.lemmas.Grind.{common_steps}
 use Rattle.std.specs.Prelude.{Option, Some, None, OnOk, IfOk, IfErr, MatchOption, is_ok, vec_len}
 use Rattle.dsr_file.specs.meaning.Runs.{FileText}
 use Rattle.dsr_io.specs.meaning.Told.{Told}
@@ -55,3 +56,6 @@ pub returns-in-Ok-clause-refused : goal.returns-in-Ok-clause-refused
 returns-in-Ok-clause-refused g c =
     not_refused (refusal_of (vec_len c.args.readers.now) c.args.options) _ _ _ _ c.in-Ok.ensures.refused (λ e r. true≢false (ap is_ok r.0))
     c.write_books-answer.ensures.late
+
+pub returns-in-Err-clause-refused : goal.returns-in-Err-clause-refused
+returns-in-Err-clause-refused g c = grind (arith, common_steps)

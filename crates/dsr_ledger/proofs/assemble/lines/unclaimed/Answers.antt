@@ -1,3 +1,4 @@
+use Rattle.std.proofs.lemmas.Grind.{common_steps}
 use Rattle.dsr_ledger.proofs.Common.{◌≡◌, suc, ◌+◌, take, sym, ap, ◌∙◌, subst, to_z, of_z, arith, ℤ, ◌-ℤ◌, ◌+ℤ◌, w128, FitsSigned, ints, to_z-of_z, int_sum_by}
 use Rattle.dsr_ledger.proofs.PartyLemmas.{left_fits, amount_fits, taken_more}
 use Rattle.dsr_ledger.proofs.assemble.lines.unclaimed.Goals as goal
@@ -24,3 +25,6 @@ loop-line-preserved c =
     let next : i + 1 ≡ suc i = omega arith in
     let more = ap (λ n. int_sum_by (λ x. x.amount) (take n ps)) next ∙ taken_more ps i p c.loop-line-test.true c.line-item.is in
     to_z-of_z w128 _ (overflow_sub-left c) ∙ ap (λ z. to_z w128 c.loop-line.left-bits -ℤ z) item ∙ take_off _ _ _ _ p.amount c.loop-line.invariant more
+
+pub returns : goal.returns
+returns c = grind (arith, common_steps)

@@ -1,3 +1,5 @@
+use Rattle.std.proofs.Common.{arith}
+use Rattle.std.proofs.lemmas.Grind.{common_steps}
 use Rattle.dsr_ledger.proofs.Common.{◌≡◌, ◌++◌, append-nil, sym, ap, ◌∙◌, subst, List, ℕ, Bor, is_some, option_map, slice_get, Contains, IsDistinct, keys_of, is_lt, bytes_eq, nat_list_cmp_total, nat_list_eq_equiv, ranks_by, answers_always, lookup_from_place, Contains-keys_from_lookup, slice_get-get_or, slice_get-map, map-map, bytes_eq-Decides, get, Recording, lent, is_eq-slice_cmp}
 use Rattle.dsr_ledger.proofs.TextLemmas.{same_text}
 use Rattle.dsr_ledger.proofs.ListedLemmas.{put_in_order}
@@ -17,3 +19,9 @@ returns c =
     (ap (λ l. slice_get l i) (sym all) ∙ slice_get-map pair was i ∙ ap (option_map pair) (slice_get-get_or was i d below)))
     (λ q v e. subst (λ ks. Contains ks q) names (Contains-keys_from_lookup same_text q m.entries (ap is_some e))) c.sort_unstable_by.ensures.permutation
     (c.sort_unstable_by.ensures.sorted _ (ranks_by nat_list_cmp_total (λ (e : Named). e.0.now)) (answers_always _ _ _ (λ f a r f' k. ap is_lt k.met)))
+
+pub loop-isrc-init : goal.loop-isrc-init
+loop-isrc-init c = grind (arith, common_steps)
+
+pub loop-isrc-preserved : goal.loop-isrc-preserved
+loop-isrc-preserved c = grind (arith, common_steps)

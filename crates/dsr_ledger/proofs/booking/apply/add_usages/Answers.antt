@@ -1,3 +1,4 @@
+use Rattle.std.proofs.lemmas.Grind.{common_steps}
 use Rattle.dsr_ledger.proofs.Common.{◌≡◌, ◌+◌, [], ◌∷◌, ◌++◌, take, length, refl, sym, ap, ◌∙◌, subst, arith, option_map, Some, slice_get, AllByRecursion, take_more, length-take, slice_get_read, usage_bookings, IsSmall, IsInRange, tally_at, state_at, state_with, tally_plus, key_tally, TallyFits}
 use Rattle.dsr_ledger.proofs.EachLemmas.{each_append}
 use Rattle.dsr_ledger.proofs.KeepsLemmas.{numbers_stay, numbers_twice, planned_stays}
@@ -60,3 +61,12 @@ loop-i-preserved c =
           (before.tallies isrc works place h q) (step.tallies isrc works all place planned at q)
           ∙ ap (λ l. tally_plus s (key_tally (usage_bookings place isrc works l) q)) (sym more);
     }
+
+pub returns-clause-range : goal.returns-clause-range
+returns-clause-range c = grind (arith, common_steps)
+
+pub returns-clause-states : goal.returns-clause-states
+returns-clause-states c = grind (arith, common_steps)
+
+pub returns-clause-tallies : goal.returns-clause-tallies
+returns-clause-tallies c = grind (arith, common_steps)

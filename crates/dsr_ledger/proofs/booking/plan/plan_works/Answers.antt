@@ -1,3 +1,5 @@
+use Rattle.std.proofs.Common.{arith}
+use Rattle.std.proofs.lemmas.Grind.{common_steps}
 use Rattle.dsr_ledger.proofs.Common.{[], ◌∷◌, ◌++◌, take, sym, ap, ◌∙◌, append-nil, zip, take_more, flat_map-append, WorkParts, seat_at, shares_of}
 use Rattle.dsr_ledger.proofs.KeepsLemmas.{seats_twice}
 use Rattle.dsr_ledger.proofs.SeatedLemmas.{seated_more}
@@ -17,3 +19,6 @@ loop-work-preserved c =
           c.loop-work.plan.items c.plan_work.new.plan.items (shares_of ws) (f w) (c.plan_work.ensures.keeps.seats isrc) (before.seated isrc is)
           (c.in_ok-plan_work.ensures.seated isrc (before.keeps.recordings isrc ∙ is)));
     }
+
+pub returns-clause-seated : goal.returns-clause-seated
+returns-clause-seated c = grind (arith, common_steps)

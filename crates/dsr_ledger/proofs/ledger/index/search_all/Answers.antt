@@ -1,3 +1,5 @@
+use Rattle.std.proofs.Common.{arith}
+use Rattle.std.proofs.lemmas.Grind.{common_steps}
 use Rattle.dsr_ledger.proofs.Common.{rules, ◌≡◌, None, Some, map, sym, ap, ◌∙◌, subst, drop-map, Rise, place_in}
 use Rattle.dsr_ledger.proofs.IndexLemmas.{found_first, found_later}
 use Rattle.dsr_ledger.proofs.ledger.index.search_all.Goals as goal
@@ -22,3 +24,6 @@ returns g c =
     let number = g.T.Numbered.number_of in let behind = ap (λ xs. place_in (map number xs) c.args.number) c.behind.ensures in
     let there : Some c.in_ok-place.place ≡ place_in (map number c.behind.result.now) c.args.number = search rules in
     found_later number c.args.number 16 c.args.items.now (Some c.in_ok-place.place) (search rules) (there ∙ behind)
+
+pub overflow_add-result : goal.overflow_add-result
+overflow_add-result g c = grind (arith, common_steps)

@@ -1,3 +1,4 @@
+use Rattle.std.proofs.lemmas.Grind.{common_steps}
 use Rattle.dsr_ledger.proofs.Common.{◌≡◌, suc, ◌+◌, [], ◌∷◌, take, get_or, cond, sym, ap, ◌∙◌, subst, arith, ◌^◌, Some, map, ◌+ℤ◌, slice_get, w128, FitsSigned, bytes_eq, take_all, map-append, slice_get-get_or, AllZip-long, SeatShare, owed_in, owed_plus, owed_for, owed_with, part_of, rounded, IsSeated}
 use Rattle.dsr_ledger.proofs.TallyLemmas.{part_fits, owed_more}
 use Rattle.dsr_ledger.proofs.PartLemmas.{prefix_size}
@@ -39,3 +40,6 @@ returns-clause-owed c = λ n seat es have q.
     let long = AllZip-long (IsSeated seat) c.args.shares.now es have.seated in let done = c.loop-share-test.false in
     c.loop-share.invariant.owed n seat es have q ∙ ap (λ l. owed_plus (owed_in c.args.parts.now (seat q)) (owed_for q (map (part_of c.args.amount) l)))
     (take_all c.loop-share.share-index es (omega arith))
+
+pub add_share-next-requires-clause-has_part : goal.add_share-next-requires-clause-has_part
+add_share-next-requires-clause-has_part c = grind (arith, common_steps)

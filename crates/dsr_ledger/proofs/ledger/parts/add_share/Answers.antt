@@ -1,3 +1,5 @@
+use Rattle.std.proofs.Common.{arith}
+use Rattle.std.proofs.lemmas.Grind.{common_steps}
 use Rattle.dsr_ledger.proofs.Common.{rules, ◌≡◌, ℕ, List, cond, ap, ◌∙◌, to_z, of_z, Option, Some, pos, ◌*ℤ◌, option_and_then, w128, int_div, bytes_eq, to_z-of_z, place_in, place_by, owed_at_place, owed_in, owed_with, part_in, part_seats}
 use Rattle.dsr_ledger.proofs.PartLemmas.{places_are_numbered_by}
 use Rattle.dsr_ledger.proofs.ledger.parts.add_share.Goals as goal
@@ -12,3 +14,6 @@ returns-clause-part c = λ n seat party numbered at q.
     ap (λ ns. owed_at_place c.add_part.new.parts (option_and_then (place_in ns) (seat q))) c.add_part.ensures.seats
     ∙ c.add_part.ensures.part place party (places_are_numbered_by seat n ps numbered) (ap (option_and_then (part_in ps)) at ∙ found) q
     ∙ ap (λ z. cond (bytes_eq party q) (owed_with z old) old) share
+
+pub add_part-requires-clause-below : goal.add_part-requires-clause-below
+add_part-requires-clause-below c = grind (arith, common_steps)

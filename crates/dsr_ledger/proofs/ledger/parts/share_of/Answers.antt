@@ -6,3 +6,9 @@ returns-in-Ok c = grind (arith, common_steps)
 
 pub returns-in-Err : goal.returns-in-Err
 returns-in-Err c = grind (arith, common_steps)
+
+pub overflow_mul-product : goal.overflow_mul-product
+overflow_mul-product c = grind (arith, common_steps)
+
+pub nonzero_div-result : goal.nonzero_div-result
+nonzero_div-result c = grind (arith, common_steps)

@@ -1,3 +1,5 @@
+use Rattle.std.proofs.Common.{arith}
+use Rattle.std.proofs.lemmas.Grind.{common_steps}
 use Rattle.dsr_ledger.proofs.Common.{◌≡◌, ◌<◌, [], ◌∷◌, take, get_or, sym, subst, Some, slice_get, take_more, slice_get-get_or, SeatShare, HasPart, HaveParts}
 use Rattle.dsr_ledger.proofs.NumberedLemmas.{each_at}
 use Rattle.dsr_ledger.proofs.PartLemmas.{parts_kept, parts_twice}
@@ -25,3 +27,9 @@ loop-share-preserved c =
       wide = subst (λ xs. HaveParts xs is) (sym (take_more ss i none c.loop-share-test.true)) (
           each_append (HasPart is) (take i ss) (s ∷ []) (parts_kept (take i ss) was is grows.places before.wide) (one, tt));
     }
+
+pub invariant_of-parts : goal.invariant_of-parts
+invariant_of-parts c = grind (arith, common_steps)
+
+pub returns-clause-wide : goal.returns-clause-wide
+returns-clause-wide c = grind (arith, common_steps)

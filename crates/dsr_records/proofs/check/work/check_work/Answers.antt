@@ -10,3 +10,6 @@ returns-in_err-count c = search rules
 
 pub returns : goal.returns
 returns c = grind (arith, common_steps)
+
+pub returns-then-count_values-count : goal.returns-then-count_values-count
+returns-then-count_values-count c = grind (arith, common_steps)

@@ -1,4 +1,5 @@
 use Rattle.std.proofs.Common.{sym, ap, ◌∙◌, slice_index_or, arith}
+use Rattle.std.proofs.lemmas.Grind.{common_steps}
 use Rattle.dsr_relay.proofs.Batches.{first_taken}
 use Rattle.dsr_relay.proofs.batch.Batch.take_first.Goals as goal
 
@@ -10,3 +11,6 @@ returns c =
     sym c.self.view_is
     ∙ first_taken b.slots.items b.out b.count c.take-event.new.dest c.take-event.result
     (omega (arith, c.if-self.false, c.self.invariant.0)) c.self.invariant.1 is
+
+pub returns-then-self : goal.returns-then-self
+returns-then-self c = grind (arith, common_steps)

@@ -79,3 +79,15 @@ invariant_of-self-2 g c = grind (arith, common_steps)
 
 pub returns-clause-refused : goal.returns-clause-refused
 returns-clause-refused g c = grind (arith, common_steps)
+
+pub returns-then-not-goes_out-clause-sent : goal.returns-then-not-goes_out-clause-sent
+returns-then-not-goes_out-clause-sent g c = grind (arith, common_steps)
+
+pub send_out-requires-clause-size : goal.send_out-requires-clause-size
+send_out-requires-clause-size g c = grind (arith, common_steps)
+
+pub send_out-requires-clause-orderly : goal.send_out-requires-clause-orderly
+send_out-requires-clause-orderly g c = grind (arith, common_steps)
+
+pub unreachable-requires : goal.unreachable-requires
+unreachable-requires g c = grind (arith, common_steps)

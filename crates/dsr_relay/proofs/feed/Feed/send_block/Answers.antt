@@ -1,4 +1,5 @@
 use Rattle.std.proofs.Common.{◌≡◌, ◌+◌, ◌≤◌, [], ◌∷◌, ◌++◌, length, sym, ap, ◌∙◌, subst, arith, append_assoc, length-append, rules}
+use Rattle.std.proofs.lemmas.Grind.{common_steps}
 use Rattle.crossbeam_channel.specs.Claims.{view}
 use Rattle.dsr_events.specs.meaning.Placed.{block_event}
 use Rattle.dsr_events.specs.meaning.Orderly.{IsOrderly}
@@ -76,3 +77,9 @@ returns-then-not-put_block-clause-kept g c = search rules
 
 pub returns-clause-kept : goal.returns-clause-kept
 returns-clause-kept g c = search rules
+
+pub send_out-requires-clause-size : goal.send_out-requires-clause-size
+send_out-requires-clause-size g c = grind (arith, common_steps)
+
+pub send_out-requires-clause-orderly : goal.send_out-requires-clause-orderly
+send_out-requires-clause-orderly g c = grind (arith, common_steps)

@@ -1,4 +1,5 @@
 use Rattle.std.proofs.Common.{◌≡◌, ◌+◌, [], ◌∷◌, ◌++◌, length, take, refl, sym, ap, ◌∙◌, arith}
+use Rattle.std.proofs.lemmas.Grind.{common_steps}
 use Rattle.crossbeam_channel.specs.Claims.{view}
 use Rattle.dsr_events.specs.meaning.Orderly.{has_ended}
 use Rattle.dsr_relay.specs.meaning.Views.{TapView}
@@ -72,3 +73,6 @@ returns-clause-orderly g c =
     first_next (view t.pass) (view c.take_next.new.pass) c.in-Some.batch t.count t.held c.in-Some.batch c.in-Some-take_first.event _ c.take_first.new.self
     c.event.view_is c.in-Some.ensures.taken c.self.invariant.whole none refl c.in-Some-take_first.ensures c.in-Some.ensures.orderly.0 in
     next.orderly
+
+pub invariant_of-self : goal.invariant_of-self
+invariant_of-self g c = grind (arith, common_steps)

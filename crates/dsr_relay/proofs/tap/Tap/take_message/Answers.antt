@@ -1,4 +1,5 @@
 use Rattle.std.proofs.Common.{◌≡◌, ◌+◌, [], ◌++◌, length, take, sym, ap, ◌∙◌, arith}
+use Rattle.std.proofs.lemmas.Grind.{common_steps}
 use Rattle.crossbeam_channel.specs.Claims.{view}
 use Rattle.dsr_relay.specs.meaning.Views.{TapView}
 use Rattle.dsr_relay.specs.inner.Taps.{tap_view, arrived}
@@ -61,3 +62,6 @@ returns-clause-orderly g c =
     let last = sym c.events.ensures ∙ c.in-Some.ensures.cases.0 in
     (lot_next (view t.pass) (view c.take_next.new.pass) c.in_ok-batch.batch t.count t.held _ _ _ c.last.view_is c.in_ok-batch.ensures.taken
     c.self.invariant.whole none last c.in_ok-batch.ensures.orderly.0).orderly
+
+pub invariant_of-self : goal.invariant_of-self
+invariant_of-self g c = grind (arith, common_steps)

@@ -4,3 +4,6 @@ use Rattle.dsr_texts.proofs.inline_items.InlineItems.shorten.Goals as goal
 
 pub returns : goal.returns
 returns g c = grind (arith, common_steps)
+
+pub overflow_sub-self : goal.overflow_sub-self
+overflow_sub-self g c = grind (arith, common_steps)

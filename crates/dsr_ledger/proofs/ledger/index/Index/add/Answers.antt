@@ -1,3 +1,4 @@
+use Rattle.std.proofs.lemmas.Grind.{common_steps}
 use Rattle.dsr_ledger.proofs.Common.{rules, ◌≡◌, ◌≤◌, ◌<◌, ◌++◌, ◌∷◌, [], drop, length, map, nat_eq, sym, ap, ◌∙◌, subst, arith, None, drop-map, length-map, insert_key, Rise, AreIndexed}
 use Rattle.dsr_ledger.proofs.IndexLemmas.{goes_last, few_more, more_rise}
 use Rattle.dsr_ledger.proofs.ledger.index.Index.add.Goals.{then-items-lt-FEW-via-then-items-lt-FEW, then-items-lt-FEW-via-else-items-lt-FEW+then-is_above}
@@ -25,3 +26,6 @@ returns-then-items-lt-FEW-clause-ok g c =
           more_rise ns n (omega (arith, long, many))
           (subst (λ ms. Rise (ms ++ n ∷ [])) behind (w.is_above.ensures w.if-is_above.true (subst Rise (sym behind) rise)))
     ])
+
+pub returns-in_err-insert-clause-err : goal.returns-in_err-insert-clause-err
+returns-in_err-insert-clause-err g c = grind (arith, common_steps)

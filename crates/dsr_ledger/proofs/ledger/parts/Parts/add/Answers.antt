@@ -1,3 +1,5 @@
+use Rattle.std.proofs.Common.{arith}
+use Rattle.std.proofs.lemmas.Grind.{common_steps}
 use Rattle.dsr_ledger.proofs.Common.{◌≡◌, List, ◌++◌, length, take, drop, sym, ap, subst, ◌∙◌, refill, length-map, take-append_seam, SeatPart, AreIndexed, AreApart, part_seats}
 use Rattle.dsr_ledger.proofs.PartLemmas.{seat_of_part}
 use Rattle.dsr_ledger.proofs.ledger.parts.Parts.add.Goals as goal
@@ -16,3 +18,12 @@ invariant_of-self c =
     let s = c.args.self.now in let seats = c.add_parts.ensures.seats ∙ ap part_seats c.as_mut_slice.ensures.value in
     let same = sym (ap part_seats (given_back s.items.items c.add_parts.new.parts seats) ∙ seats) in
     record { apart = subst AreApart same s.apart; indexed = subst (λ ns. AreIndexed ns s.index) same s.indexed }
+
+pub add_parts-requires-clause-fits : goal.add_parts-requires-clause-fits
+add_parts-requires-clause-fits c = grind (arith, common_steps)
+
+pub returns-clause-seats : goal.returns-clause-seats
+returns-clause-seats c = grind (arith, common_steps)
+
+pub returns-clause-owed : goal.returns-clause-owed
+returns-clause-owed c = grind (arith, common_steps)

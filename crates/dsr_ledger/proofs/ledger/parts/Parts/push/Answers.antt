@@ -1,3 +1,5 @@
+use Rattle.std.proofs.Common.{arith}
+use Rattle.std.proofs.lemmas.Grind.{common_steps}
 use Rattle.dsr_ledger.proofs.Common.{rules, ◌≡◌, ◌++◌, ◌∷◌, [], sym, ap, ◌∙◌, subst, nat_eq, map_push, AreIndexed, AreApart, part_in, part_seats, PartsGrow}
 use Rattle.dsr_ledger.proofs.NumberedLemmas.{apart_more, same_number}
 use Rattle.dsr_ledger.proofs.PartLemmas.{seat_of_part, parts_more}
@@ -29,3 +31,6 @@ returns-clause-ok c =
     let ps = c.args.self.now.items.items in let p = c.new.result in let items : c.push.new.self.items ≡ ps ++ p ∷ [] = search rules in
     let none = ap (part_in ps) c.new.ensures.seat ∙ c.requires in
     subst (PartsGrow ps) (sym items) (parts_more ps p none c.new.ensures.owed)
+
+pub returns-clause-seats : goal.returns-clause-seats
+returns-clause-seats c = grind (arith, common_steps)

@@ -1,3 +1,5 @@
+use Rattle.std.proofs.Common.{arith}
+use Rattle.std.proofs.lemmas.Grind.{common_steps}
 use Rattle.dsr_ledger.proofs.Common.{refl, sym, ap, ◌∙◌, subst, length, map, slice_get_read, AreIndexed, AreApart, AreBelow, place_in, part_of, seat_numbers, tally_with}
 use Rattle.dsr_ledger.proofs.NumberedLemmas.{numbers_kept}
 use Rattle.dsr_ledger.proofs.PartLemmas.{parts_kept}
@@ -29,3 +31,6 @@ pub returns-clause-tally : goal.returns-clause-tally
 returns-clause-tally c = λ n seat es key have at k. let u = c.args.usage.now in let v = c.index_mut.result.now in
     tally_changed seat (tally_with u (map (part_of u.amount) es)) c.args.self.now.lines.items c.args.number v c.add.new.self key c.index_mut.ensures.value
     c.add.ensures.key (c.add.ensures.tally n seat es have) at k
+
+pub index_mut-requires : goal.index_mut-requires
+index_mut-requires c = grind (arith, common_steps)

@@ -1,3 +1,5 @@
+use Rattle.std.proofs.Common.{arith}
+use Rattle.std.proofs.lemmas.Grind.{common_steps}
 use Rattle.dsr_ledger.proofs.Common.{rules, ◌≡◌, ◌++◌, ◌∷◌, [], ap, sym, subst, ◌∙◌, length, nat_eq, None, Some, map_push, AreIndexed, AreApart, AreBelow, part_seats, seat_numbers, line_in, line_keys, AreWithin, LinesGrow}
 use Rattle.dsr_ledger.proofs.NumberedLemmas.{item_there, apart_more, same_number}
 use Rattle.dsr_ledger.proofs.RecordingLemmas.{key_of, grow_pushed, within_pushed}
@@ -40,3 +42,12 @@ returns-clause-there c =
     let ls = c.args.self.now.lines.items in let l = c.new.result in let none : line_in ls l.key ≡ None = ap (line_in ls) c.new.ensures.key ∙ c.requires in
     let items : c.push.new.self.items ≡ ls ++ l ∷ [] = search rules in let long : length ls ≡ c.len-number.result = search rules in
     ap (line_in c.push.new.self.items) (sym c.new.ensures.key) ∙ ap (λ xs. line_in xs l.key) items ∙ item_there key_of ls l none ∙ ap Some long
+
+pub returns-in_err-reserve_line-clause-grows : goal.returns-in_err-reserve_line-clause-grows
+returns-in_err-reserve_line-clause-grows c = grind (arith, common_steps)
+
+pub returns-in_err-push-clause-grows : goal.returns-in_err-push-clause-grows
+returns-in_err-push-clause-grows c = grind (arith, common_steps)
+
+pub returns-clause-keys : goal.returns-clause-keys
+returns-clause-keys c = grind (arith, common_steps)

@@ -1,3 +1,5 @@
+use Rattle.std.proofs.Common.{arith}
+use Rattle.std.proofs.lemmas.Grind.{common_steps}
 use Rattle.dsr_ledger.proofs.Common.{◌≡◌, ℕ, List, refl, ap, sym, subst, ◌∙◌, rules, true, Some, slice_get, option_and_then, bytes_eq, nat_list_eq_equiv, bytes_eq-Decides, slice_get_read, IsUnique, place_in, seat_numbers, party_number, seat_of}
 use Rattle.indexmap.specs.IndexSet.{IsUnique as IsUniqueSet}
 use Rattle.dsr_ledger.proofs.TextLemmas.{same_text}
@@ -19,3 +21,6 @@ returns-then-eq c = λ isrc is.
     ap (option_and_then (λ r. seat_of (party_number l) r c.args.name.now))
     (value_here bytes_eq bytes_eq-Decides nat_list_eq_equiv m c.args.recording k v unique at isrc is)
     ∙ ap (option_and_then (place_in (seat_numbers v.seats))) number ∙ v.seats.apart c.args.hint n seat
+
+pub returns-in_err-party : goal.returns-in_err-party
+returns-in_err-party c = grind (arith, common_steps)

@@ -1,3 +1,5 @@
+use Rattle.std.proofs.Common.{arith}
+use Rattle.std.proofs.lemmas.Grind.{common_steps}
 use Rattle.dsr_ledger.proofs.Common.{rules, ◌≡◌, ◌++◌, ◌∷◌, [], ap, ◌∙◌, cond, length, None, Some, position, bytes_eq, bytes_eq-Decides, summary_key_in, party_number, key_number}
 use Rattle.dsr_ledger.proofs.NumberedLemmas.{place_more}
 use Rattle.dsr_ledger.proofs.TextLemmas.{text_itself}
@@ -17,3 +19,6 @@ returns-clause-there c =
     let all : c.insert.new.self.keys ≡ ks ++ name ∷ [] = search rules in let long : length ks ≡ c.in_ok-number.number = search rules in
     ap (position (bytes_eq name)) all ∙ place_more bytes_eq bytes_eq-Decides ks name name none
     ∙ ap (λ b. cond b (Some (length ks)) (party_number l name)) (text_itself name) ∙ ap Some long
+
+pub returns-clause-seats : goal.returns-clause-seats
+returns-clause-seats c = grind (arith, common_steps)

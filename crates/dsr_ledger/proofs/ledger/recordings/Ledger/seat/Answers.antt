@@ -1,3 +1,5 @@
+use Rattle.std.proofs.Common.{arith}
+use Rattle.std.proofs.lemmas.Grind.{common_steps}
 use Rattle.dsr_ledger.proofs.Common.{◌≡◌, ℕ, List, refl, ap, ◌∙◌, length, Option, Some, option_and_then, position, bytes_eq, IfOk-weaker, index_of, keys-with_value_at, Recording, AreBelow, place_in, seat_numbers, summary_key_in, line_keys, party_number, key_number, seat_of, recording_tally, KeepsSeats}
 use Rattle.dsr_ledger.proofs.KeepsLemmas.{seats_twice}
 use Rattle.dsr_ledger.proofs.RecordingLemmas.{below_with}
@@ -47,3 +49,6 @@ returns-clause-there c = λ isrc is.
     IfOk-weaker c.seat.result _ _ (λ s h. ap (option_and_then (λ r. seat_of (party_number l) r c.args.name.now))
     (put_here l.recordings c.args.recording _ c.pair_mut-found.result.1.now w e.unique e.value isrc at)
     ∙ ap (option_and_then (place_in (seat_numbers w.seats))) c.in_ok-party.ensures.there ∙ h) c.seat.ensures.there
+
+pub pair_mut-found-requires : goal.pair_mut-found-requires
+pair_mut-found-requires c = grind (arith, common_steps)

@@ -1,3 +1,5 @@
+use Rattle.std.proofs.Common.{arith}
+use Rattle.std.proofs.lemmas.Grind.{common_steps}
 use Rattle.dsr_ledger.proofs.Common.{rules, ◌≡◌, ◌++◌, ◌∷◌, [], sym, ap, ◌∙◌, subst, nat_eq, map-id, AreIndexed, AreApart}
 use Rattle.dsr_ledger.proofs.NumberedLemmas.{apart_more, same_number}
 use Rattle.dsr_ledger.proofs.ledger.seats.Seats.add.Goals as goal
@@ -21,3 +23,9 @@ invariant_of-self-2 c =
       apart = subst AreApart (sym items) (apart_more nat_eq same_number ns n c.requires s.apart);
       indexed = subst (λ l. AreIndexed l c.add.new.self) (ap (λ l. l ++ n ∷ []) (map-id c.as_slice.result.now ∙ same) ∙ sym items) c.in_ok-add.ensures.ok;
     }
+
+pub add-requires-clause-apart : goal.add-requires-clause-apart
+add-requires-clause-apart c = grind (arith, common_steps)
+
+pub add-requires-clause-absent : goal.add-requires-clause-absent
+add-requires-clause-absent c = grind (arith, common_steps)
