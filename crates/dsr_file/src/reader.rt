@@ -17,17 +17,8 @@ use crate::grammar::Grammar;
 use crate::reader::phase::Phase;
 use dsr_cells::NoMemory;
 use dsr_events::{Ending, Event, Outcome};
-use dsr_records::{Block, BoxedBlock, Layout};
+use dsr_records::{BoxedBlock, Layout};
 use std::alloc::Global;
-use std::mem;
-
-/// Exchanges the boxed block, if there is one, for this block, and drops the one that is left.
-fn write_over(spare: &mut Option<BoxedBlock>, mut block: Block) {
-    if let Some(boxed) = spare {
-        mem::swap(boxed.get_mut(), &mut block);
-    }
-    drop(block);
-}
 
 /// Reads a file by a layout: takes its bytes in pieces, and gives its events one by one.
 pub struct FileReader {
@@ -91,20 +82,6 @@ impl FileReader {
             ending: None,
             spare: None,
         })
-    }
-
-    /// Gives the reader a block whose memory it may reuse; the value of the block is lost.
-    pub fn reuse(&mut self, block: Block)
-        // The reader represents what it represented before.
-        ensures stands { (layout : LayoutTable) (b : List ℕ) (es : List Placed)
-            → Stands layout self.old b es → Stands layout self.new b es }
-        ensures stood { (layout : LayoutTable) (b : List ℕ) (es : List Placed)
-            → Stands layout self.new b es → Stands layout self.old b es }
-        ensures used { bytes_used self.new ≡ bytes_used self.old }
-        ensures left { events_left self.new ≡ events_left self.old }
-        ensures ending { ending_told self.new ≡ ending_told self.old }
-    {
-        write_over(&mut self.spare, block);
     }
 
     /// Keeps a block, if there is one, whose memory is used for the next one.
