@@ -2,8 +2,8 @@
 //!
 //! 1. `kinds`: the kinds of record ([`Kind`]), and their columns with the names of these ([`Column`]).
 //! 2. `record`: the records ([`Record`]). A new [`Resource`], [`Work`] or [`Usage`] is empty and takes no memory.
-//! 3. `block`: a [`Block`] is a resource with its works and usages, in the order of their lines. Works and usages are
-//!    appended one by one; the fields are public, so that dsr_records can overwrite them where they lie.
+//! 3. `block`: a [`Block`] is a resource with its works and usages, in the order of their lines. The fields are public, so
+//!    that dsr_records can write records where they lie.
 //! 4. `boxed`: a [`BoxedBlock`] is a block on the heap, moved by its address.
 //!
 //! dsr_records reads lines as records and writes them over blocks; it passes on what this crate has. The events
@@ -12,30 +12,19 @@
 //! **Example**, compiled and proved in `crates/dsr_reader_tests/src/memory.rt`:
 //!
 //! ```
-//! /// Pushes a work and a usage into a new block.
-//! fn push_both(alloc: Global, block: &mut Block) -> Option<bool> {
-//!     if block.len() > 62 {
-//!         return Some(false);
-//!     }
-//!     block.push_work(Work::made_with(alloc)).ok()?;
-//!     block.push_usage(Usage::made_with(alloc)).ok()?;
-//!     Some(block.len() == 3)
-//! }
-//!
-//! fn opened(alloc: Global) -> Option<bool> {
-//!     match Block::open(alloc, Resource::made_with(alloc)) {
-//!         Ok(mut block) => {
-//!             let is_right = push_both(alloc, &mut block);
-//!             drop(block);
-//!             is_right
-//!         }
-//!         Err(_) => None,
-//!     }
+//! /// Exchanges the block of a box.
+//! fn exchanged(alloc: Global) -> Option<bool> {
+//!     let mut boxed = BoxedBlock::empty(alloc).ok()?;
+//!     let old = boxed.replace(Block::empty(alloc));
+//!     let is_right = old.len() == 1 && boxed.get().len() == 1;
+//!     drop(old);
+//!     drop(boxed);
+//!     Some(is_right)
 //! }
 //! ```
 //!
 //! **The promise.** A block has at most 64 records and keeps their order, on the heap too. A work has one share for
-//! each party. If memory is refused for a work or a usage, it is returned and the block is unchanged.
+//! each party.
 //!
 //! **Where to begin.** `specs/meaning/Blocks.antt` has what contracts see of a block, `specs/meaning/Works.antt` what
 //! they see of a work, and `src/block.rt` the block.

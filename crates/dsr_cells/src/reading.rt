@@ -55,16 +55,3 @@ pub fn read_texts_into(alloc: Global, cell: &str, texts: &mut Texts) -> Result<(
     }
     Ok(())
 }
-
-/// The values of a list cell, as `read_texts_into` writes them.
-///
-/// # Errors
-///
-/// `NoMemory`: out of memory.
-pub fn read_texts(alloc: Global, cell: &str) -> Result<Texts, NoMemory>
-    ensures { IfOk result (λ t. t ≡ map value_of (raw_parts cell.now)) }
-{
-    let mut texts = Texts::new(alloc);
-    read_texts_into(alloc, cell, &mut texts)?;
-    Ok(texts)
-}

@@ -1,11 +1,8 @@
 //! Calls that take memory, each once: None if it is refused, else whether the value is right.
-use dsr_cells::{
-    Day, Share, Shares, Text, Texts, read_texts, read_texts_into, unescape, write_amount, write_day,
-};
+use dsr_cells::{Day, Share, Shares, Text, Texts, read_texts_into, unescape, write_amount, write_day};
 use dsr_file::{Ending, Event, EventList, whole_events};
-use dsr_records::{Block, Layout, ReadRecordError, Resource, Usage, Work, read_record};
+use dsr_records::{Block, BoxedBlock, Layout, ReadRecordError, read_record};
 use std::alloc::Global;
-use std::default::MadeWith;
 
 /// A text that is too long to be kept in place.
 const LONG: &str = "a title of more than thirty bytes";
@@ -30,12 +27,13 @@ fn pushed(alloc: Global) -> Option<bool> {
 
 /// Writes texts over others.
 fn write_over(alloc: Global, texts: &mut Texts) -> Option<bool> {
+    read_texts_into(alloc, "a|b", texts).ok()?;
     read_texts_into(alloc, "c|a title of more than thirty bytes|d|e", texts).ok()?;
     Some(texts.len() == 4 && texts.get(1)?.as_str() == LONG)
 }
 
 fn written_over(alloc: Global) -> Option<bool> {
-    let mut texts = read_texts(alloc, "a|b").ok()?;
+    let mut texts = Texts::new(alloc);
     let is_right = write_over(alloc, &mut texts);
     drop(texts);
     is_right
@@ -78,25 +76,14 @@ fn recorded(alloc: Global) -> Option<bool> {
     Some(true)
 }
 
-/// Pushes a work and a usage into a new block.
-fn push_both(alloc: Global, block: &mut Block) -> Option<bool> {
-    if block.len() > 62 {
-        return Some(false);
-    }
-    block.push_work(Work::made_with(alloc)).ok()?;
-    block.push_usage(Usage::made_with(alloc)).ok()?;
-    Some(block.len() == 3)
-}
-
-fn opened(alloc: Global) -> Option<bool> {
-    match Block::open(alloc, Resource::made_with(alloc)) {
-        Ok(mut block) => {
-            let is_right = push_both(alloc, &mut block);
-            drop(block);
-            is_right
-        }
-        Err(_) => None,
-    }
+/// Exchanges the block of a box.
+fn exchanged(alloc: Global) -> Option<bool> {
+    let mut boxed = BoxedBlock::empty(alloc).ok()?;
+    let old = boxed.replace(Block::empty(alloc));
+    let is_right = old.len() == 1 && boxed.get().len() == 1;
+    drop(old);
+    drop(boxed);
+    Some(is_right)
 }
 
 fn listed(alloc: Global) -> Option<bool> {
@@ -132,7 +119,7 @@ fn answers(alloc: Global) -> [Option<bool>; 9] {
         written_over(alloc),
         written(alloc),
         recorded(alloc),
-        opened(alloc),
+        exchanged(alloc),
         listed(alloc),
         read(alloc),
     ]

@@ -1,5 +1,5 @@
 //! The example of dsr_cells.
-use dsr_cells::{Amount, cell, count_cells, read_texts, read_usages};
+use dsr_cells::{Amount, Texts, cell, count_cells, read_texts_into, read_usages};
 use std::test::Fail;
 
 /// The cells of a usage and of a list of parties, and what they spell.
@@ -13,7 +13,8 @@ fn cells_and_what_they_spell(rt: HostRuntime) -> Result<(), Fail> {
     let amount = Amount::read("2.4").map(|amount| amount.units());
     assert_eq!(rt; amount, Some(24_000_000_000));
     // In a list a pipe separates two values, and a pipe of a value has a backslash before it.
-    let parties = read_texts(rt.alloc(), "Ada|Ben\\|Cole")?;
+    let mut parties = Texts::new(rt.alloc());
+    read_texts_into(rt.alloc(), "Ada|Ben\\|Cole", &mut parties)?;
     let second = parties.get(1).map(|party| party.as_str());
     assert_eq!(rt; second, Some("Ben|Cole"));
     Ok(())
