@@ -3,6 +3,7 @@
 //! 1. [`Event`] (`event`) is an [`EventPart`] with its place in the file's list of events. The first is the [`Opening`],
 //!    the head with the [`Summaries`]. After that each closed block is one event. The last is the [`Outcome`].
 //! 2. [`Outcome`] (`fault`) is Whole, or the first [`FileFault`] with its line. [`Ending`] says how the bytes ended.
+//! 3. [`EventList`] (`event_list`) is a list of events.
 //!
 //! The reader makes events (dsr_file), the relays pass them on (dsr_relay), and the books take what is in them
 //! (dsr_ledger), so none of these three needs another.
@@ -31,7 +32,9 @@
 #![tactic(auto)]
 
 mod event;
+mod event_list;
 mod fault;
 
 pub use event::{Event, EventPart, Opening, Summaries};
+pub use event_list::EventList;
 pub use fault::{Ending, FileFault, Outcome};

@@ -17,8 +17,7 @@
 //!    the limit on reads, and puts the events into a [`Sink`] (`sink`), by the loop in `feeding`. A closed
 //!    block is exchanged for an old one of the sink ([`Sink::put_block`]), so that it is not moved and
 //!    the next one seldom needs new memory.
-//! 6. [`whole_events`] (`whole`) gives all events of a text at once, in an [`EventList`]
-//!    (`event_list`).
+//! 6. [`whole_events`] (`whole`) gives all events of a text at once, in an [`EventList`] of dsr_events.
 //!
 //! **Example**, compiled and proved in `crates/dsr_reader_tests/src/examples/file.rt`;
 //! `crates/example_reader` is a small program that does the same with a real file:
@@ -69,7 +68,6 @@
 
 mod closed;
 mod cutter;
-mod event_list;
 mod feeding;
 mod grammar;
 pub mod laws;
@@ -81,9 +79,8 @@ mod sink;
 mod stage;
 mod whole;
 
-pub use dsr_events::{Ending, Event, EventPart, FileFault, Opening, Outcome, Summaries};
+pub use dsr_events::{Ending, Event, EventList, EventPart, FileFault, Opening, Outcome, Summaries};
 pub use dsr_io::{Failed, FromRead, ReadCount, Source};
-pub use event_list::EventList;
 pub use reader::FileReader;
 pub use reading::{ReadFileError, read_file};
 pub use sink::Sink;

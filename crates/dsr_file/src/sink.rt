@@ -3,7 +3,7 @@ ghost use Rattle.std.specs.Prelude.{◌≡◌, ◌<◌, ◌^◌, List, [], ◌�
 ghost use Rattle.dsr_events.specs.meaning.Placed.{Placed, block_event};
 ghost use Rattle.dsr_file.specs.meaning.Runs.{IsSomeRun};
 
-use dsr_events::Event;
+use dsr_events::{Event, EventList};
 use dsr_records::Block;
 
 /// Takes the events of a file, one after another.
@@ -49,4 +49,16 @@ pub trait Sink {
         ensures list { list self.new ≡ list self.old }
         ensures name { name self.new ≡ name self.old }
     {}
+}
+
+impl Sink for EventList {
+    type Name = ();
+
+    ghost list = { λ l. l };
+
+    ghost name = { λ _. tt };
+
+    fn put(&mut self, event: Event) -> Result<(), Event> {
+        self.push(event)
+    }
 }

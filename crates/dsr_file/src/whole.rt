@@ -7,12 +7,11 @@ ghost use Rattle.dsr_file.specs.inner.Standing.{Stands, bytes_used, ending_told}
 ghost use Rattle.dsr_file.specs.inner.Feeding.{IsKnown};
 
 use crate::closed::Closed;
-use crate::event_list::EventList;
 use crate::feeding::{feed, finish_all};
 use crate::reader::FileReader;
 use crate::sink::Sink;
 use dsr_cells::NoMemory;
-use dsr_events::{Ending, Event, Outcome};
+use dsr_events::{Ending, Event, EventList, Outcome};
 use dsr_records::Layout;
 use std::alloc::Global;
 

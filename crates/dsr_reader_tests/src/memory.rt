@@ -1,5 +1,7 @@
 //! Calls that take memory, each once: None if it is refused, else whether the value is right.
-use dsr_cells::{Day, Share, Shares, Text, Texts, read_texts_into, unescape, write_amount, write_day};
+use dsr_cells::{
+    Day, Share, Shares, Text, Texts, read_texts_into, unescape, write_amount, write_day,
+};
 use dsr_file::{Ending, Event, EventList, whole_events};
 use dsr_records::{Block, BoxedBlock, Layout, ReadRecordError, read_record};
 use std::alloc::Global;

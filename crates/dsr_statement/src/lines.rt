@@ -163,8 +163,8 @@ fn put_party<P: Put>(out: &mut P, key: Option<&[u8]>, line: &LentLine<'_>, party
 {
     out.put(b"PARTY");
     put_key(out, key, line);
-    put_text(out, party.party().as_bytes());
-    put_last_amount(out, party.amount());
+    put_text(out, party.party.as_str().as_bytes());
+    put_last_amount(out, party.amount);
 }
 
 /// Puts the line of a key's unclaimed amount. `key` has the key's cells, if they fit.

@@ -23,7 +23,6 @@ use crate::ledger::summary_key::SummaryKey;
 use crate::lent::line::LentLine;
 use crate::lent::party::LentParty;
 use crate::taking::TakeLines;
-use crate::wide::Wide;
 use dsr_cells::{Isrc, Text};
 
 /// Fills a list with the parties that have a part, in the byte order of their names. This allocates nothing.
@@ -41,7 +40,7 @@ fn party_lines<'a>(names: &[(&'a Text, &SeatPart)], parties: &mut Vec<LentParty<
         if part.has_part {
             parties.push_reserved(LentParty {
                 party,
-                part: Wide::of(part.amount.get()),
+                amount: part.amount.get(),
             });
         }
     }
@@ -54,7 +53,7 @@ fn unclaimed(amount: i128, parties: &[LentParty<'_>]) -> i128
 {
     let mut left = amount;
     for line in parties {
-        left -= line.amount();
+        left -= line.amount;
     }
     left
 }

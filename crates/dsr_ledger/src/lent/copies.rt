@@ -16,8 +16,8 @@ fn copy_parties(alloc: Global, lent: &[LentParty<'_>]) -> Result<Parties, NoMemo
     let mut parties = Parties::new(alloc);
     for party in lent {
         let line = PartyLine {
-            party: Text::copy_of(alloc, party.party())?,
-            amount: party.amount(),
+            party: party.party.copy(alloc)?,
+            amount: party.amount,
         };
         if let Err(refused) = parties.push(line) {
             drop(refused);

@@ -6,7 +6,6 @@ use crate::lent::line::LentLine;
 use crate::lent::party::LentParty;
 use crate::report::{LedgerLine, PartyLine};
 use crate::taking::TakeLines;
-use crate::wide::Wide;
 use dsr_cells::NoMemory;
 use std::alloc::Global;
 
@@ -48,7 +47,7 @@ fn lend_parties<'a>(parties: &'a [PartyLine], lent: &mut Vec<LentParty<'a>>)
     for party in parties {
         lent.push_reserved(LentParty {
             party: &party.party,
-            part: Wide::of(party.amount),
+            amount: party.amount,
         });
     }
 }

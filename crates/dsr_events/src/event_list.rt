@@ -2,8 +2,7 @@
 ghost use Rattle.std.specs.Prelude.{◌≡◌, ◌++◌, ◌∷◌, [], length, slice_get, MatchOption, MatchResult};
 ghost use Rattle.std.specs.Option.{option_map};
 
-use crate::sink::Sink;
-use dsr_events::Event;
+use crate::event::Event;
 use std::alloc::Global;
 use std::collections::VecDeque;
 use std::marker::Model;
@@ -73,17 +72,5 @@ impl EventList {
             (λ event. self.old ≡ event ∷ self.new) }
     {
         self.events.pop_front()
-    }
-}
-
-impl Sink for EventList {
-    type Name = ();
-
-    ghost list = { λ l. l };
-
-    ghost name = { λ _. tt };
-
-    fn put(&mut self, event: Event) -> Result<(), Event> {
-        self.push(event)
     }
 }
