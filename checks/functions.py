@@ -3,7 +3,7 @@ import glob
 import os
 import re
 
-FUNCTION = re.compile(r'( *)(?:pub(?:\([^)]*\))? )?(?:const )?fn (\w+)')
+FUNCTION = re.compile(r'( *)(?:pub(?:\([^)]*\))? )?fn (\w+)')
 OWNER = re.compile(r'(?:pub(?:\([^)]*\))? )?(?:impl|trait)\b')
 CALL = re.compile(r'(\.|\b(?=\w+::))?(?:(\w+)::)?\b(\w+)(?:::<[^()]*?>)?\(')
 
@@ -12,7 +12,8 @@ class Function:
     """A function of a source file that `rt fmt` laid out: its body begins and ends at its own indentation.
 
     `body` and `end` are the rows of the body's braces, `printed` is a pattern of the name that a check prints for the
-    function or a closure in it, and `reaches` has all functions of the crate that a call of this one may lead to.
+    function or a closure in it, and `reaches` has all functions of the crate that a call of this one may lead to. A
+    `const fn` is left out, since other functions may know its values.
     """
 
     def __init__(self, crate, file, lines, start):
