@@ -1,45 +1,45 @@
-"""Finds the functions of a crate's sources: where their bodies are, what a check prints for them, and what they call."""
+"""Finds the functions of a crate's sources: where their bodies are, and what a check prints for them."""
 import glob
 import os
 import re
 
 FUNCTION = re.compile(r'( *)(?:pub(?:\([^)]*\))? )?fn (\w+)')
 OWNER = re.compile(r'(?:pub(?:\([^)]*\))? )?(?:impl|trait)\b')
-CALL = re.compile(r'(\.|\b(?=\w+::))?(?:(\w+)::)?\b(\w+)(?:::<[^()]*?>)?\(')
 
 
 class Function:
     """A function of a source file that `rt fmt` laid out: its body begins and ends at its own indentation.
 
-    `body` and `end` are the rows of the body's braces, `printed` is a pattern of the name that a check prints for the
-    function or a closure in it, and `reaches` has all functions of the crate that a call of this one may lead to. A
-    `const fn` is left out, since other functions may know its values.
+    `body` and `end` are the rows of the body's braces, if it has one, and `printed` is a pattern of the name that a check
+    prints for the function or a closure in it. A `const fn` is left out, since other functions may know its values.
     """
 
     def __init__(self, crate, file, lines, start):
         room, self.name = FUNCTION.match(lines[start]).groups()
-        outer = [row for row in range(start, len(lines)) if lines[row].startswith(room) and lines[row][len(room):][:1] not in ('', ' ')]
+        outer = rows_of(room, lines, start)
         self.file = file
         self.body = next((row for row in outer if lines[row].endswith('{')), len(lines))
         self.end = next((row for row in outer if lines[row] == room + '}'), 0)
-        self.owner = owner_of(lines, start) if room else ''
-        self.calls = set(CALL.findall('\n'.join(lines[self.body:self.end])))
-        self.printed = re.compile(self.pattern(crate))
-        self.reaches = set()
+        self.printed = re.compile(self.pattern(crate, owner_of(lines, start) if room else ''))
 
-    def pattern(self, crate):
+    def pattern(self, crate, owner):
         path = [it for it in self.file[len('src/'):-len('.rt')].split('/') if it not in ('lib', 'main', 'mod')]
-        # A type's functions have the path of the type, which may be in a module above.
-        modules = '|'.join('::'.join([crate, *path[:count]]) for count in range(0 if self.owner else len(path), len(path) + 1))
-        return f"(?:{modules})::(?:fn::)?{self.owner + '::' if self.owner else ''}{self.name}(?:::.+)?"
+        # A type's functions have the path of the type, which may be in another module. A closure has one more word.
+        before = fr'(?:\w+::)*{owner}::' if owner else '::'.join([*path, '(?:fn::)?'])
+        return f'{crate}::{before}{self.name}(?:::.+)?'
 
-    def may_be_called_by(self, call):
-        dot, kind, name = call
-        if name != self.name:
-            return False
-        if dot and not kind:
-            return bool(self.owner)
-        return not kind[:1].isupper() or kind == 'Self' or self.owner.startswith(kind)
+
+def rows_of(room, lines, start):
+    """The rows at a function's own indentation, up to the next function there or the end of what is around it."""
+    found = []
+    for row in range(start, len(lines)):
+        indented = len(lines[row]) - len(lines[row].lstrip(' '))
+        is_next = row > start and indented == len(room) and FUNCTION.match(lines[row])
+        if lines[row] and (indented < len(room) or is_next):
+            break
+        if lines[row] and indented == len(room):
+            found.append(row)
+    return found
 
 
 def owner_of(lines, start):
@@ -57,18 +57,10 @@ def owner_of(lines, start):
 
 
 def functions_of(crate, folder):
-    """The functions of a crate. By their names a call may lead to more than it does; what an operator calls is left out."""
+    """The functions of a crate that have a body."""
     found = []
     for path in sorted(glob.glob(os.path.join(folder, 'src', '**', '*.rt'), recursive=True)):
         with open(path, encoding='utf-8') as opened:
             lines = opened.read().split('\n')
         found += [Function(crate, os.path.relpath(path, folder), lines, row) for row, line in enumerate(lines) if FUNCTION.match(line)]
-    called = {it: [other for other in found if any(other.may_be_called_by(call) for call in it.calls)] for it in found}
-    for function in found:
-        left = list(called[function])
-        while left:
-            at = left.pop()
-            if at not in function.reaches:
-                function.reaches.add(at)
-                left += called[at]
-    return found
+    return [it for it in found if it.body < it.end]
