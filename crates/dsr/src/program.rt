@@ -221,7 +221,7 @@ fn status_of<F: Outlet>(answer: &Result<Status, RunError>, fault: &mut F) -> u8
 /// Reads these sources and writes their statement.
 fn run_sources<
     R: Source + Send + Drop + 'static,
-    H: Threads + Wait + RandomSource + Copy + Send + 'static,
+    H: Threads + Wait + RandomSource + Clock + Copy + Send + 'static,
     W: Outlet,
 >(
     rt: &H,

@@ -7,7 +7,7 @@
 //! 3. `pipeline/threads`: each thread reads its file, and `pipeline/feed_sink` sends its events into the relay.
 //! 4. `pipeline/collector`: takes the events of all relays, in rounds a message of each that has one,
 //!    books them, and closes the books. `pipeline/patience`: how long it looks for messages before it
-//!    waits. `pipeline/seed`: the seed of the hashes in the books.
+//!    naps, and when it waits. `pipeline/seed`: the seed of the hashes in the books.
 //! 5. `pipeline/gather` again: joins the threads, and returns the readers and the closed books. `intake`
 //!    makes their report; the statement of a run is put from lines that borrow their texts from them.
 //! 6. dsr_statement allocates all memory that writing the statement needs, writes it to an outlet in pieces, and says
@@ -19,7 +19,7 @@
 //!
 //! ```
 //! /// Whether a run on these readers has this status and writes this statement, flushed once.
-//! pub fn gives<H: Threads + Wait + RandomSource + Copy + Send + 'static>(
+//! pub fn gives<H: Threads + Wait + RandomSource + Clock + Copy + Send + 'static>(
 //!     rt: &H,
 //!     alloc: Global,
 //!     readers: Vec<Script>,

@@ -12,6 +12,7 @@ use std::random::RandomSource;
 use std::sync::Wait;
 use std::thread;
 use std::thread::{JoinHandle, Threads};
+use std::time::Clock;
 
 /// A sink that sends a number of events, and then refuses the next ones.
 #[derive(Drop)]
@@ -94,7 +95,7 @@ fn start<H: Threads + Wait + Copy + Send + 'static>(
 
 /// What is collected of two files, where the second thread sends a number of events, and whether
 /// both taps have ended.
-fn collected<H: Threads + Wait + RandomSource + Copy + Send + 'static>(
+fn collected<H: Threads + Wait + RandomSource + Clock + Copy + Send + 'static>(
     rt: &H,
     alloc: Global,
     most: u32,

@@ -11,6 +11,7 @@ use std::alloc::{AllocError, Global};
 use std::random::RandomSource;
 use std::sync::Wait;
 use std::thread::Threads;
+use std::time::Clock;
 
 /// An outlet that allocates nothing: it compares what is written with what is expected.
 #[derive(Drop)]
@@ -63,7 +64,7 @@ fn stands_at(text: &[u8], at: usize, piece: &[u8]) -> bool {
 
 /// Whether a run on these readers writes this statement, or is refused memory or a thread and
 /// writes nothing.
-fn ends_well<H: Threads + Wait + RandomSource + Copy + Send + 'static>(
+fn ends_well<H: Threads + Wait + RandomSource + Clock + Copy + Send + 'static>(
     rt: &H,
     alloc: Global,
     readers: Vec<Script>,

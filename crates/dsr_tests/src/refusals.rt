@@ -12,6 +12,7 @@ use std::io::Write;
 use std::random::RandomSource;
 use std::sync::Wait;
 use std::thread::Threads;
+use std::time::Clock;
 
 /// A reader of the clean report.
 fn clean_reader(alloc: Global) -> Result<Vec<Script>, AllocError>
@@ -21,7 +22,7 @@ fn clean_reader(alloc: Global) -> Result<Vec<Script>, AllocError>
 }
 
 /// Whether a run on these readers fails after exactly these bytes are written to the page.
-fn fails_after<H: Threads + Wait + RandomSource + Copy + Send + 'static>(
+fn fails_after<H: Threads + Wait + RandomSource + Clock + Copy + Send + 'static>(
     rt: &H,
     alloc: Global,
     readers: Vec<Script>,
@@ -120,7 +121,7 @@ fn failed_statement(alloc: Global, given: &[u8]) -> Result<String, AllocError> {
 }
 
 /// Whether the statement is right if a read fails after these bytes of the clean report.
-fn is_right_after<H: Threads + Wait + RandomSource + Copy + Send + 'static>(
+fn is_right_after<H: Threads + Wait + RandomSource + Clock + Copy + Send + 'static>(
     rt: &H,
     alloc: Global,
     given: &[u8],
@@ -158,7 +159,7 @@ fn line_reader(alloc: Global, first: u8, len: usize) -> Result<Vec<Script>, Allo
 }
 
 /// Whether the statement of the file of such a line shows this fault.
-fn ends_by<H: Threads + Wait + RandomSource + Copy + Send + 'static>(
+fn ends_by<H: Threads + Wait + RandomSource + Clock + Copy + Send + 'static>(
     rt: &H,
     alloc: Global,
     first: u8,

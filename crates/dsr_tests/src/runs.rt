@@ -9,6 +9,7 @@ use std::alloc::Global;
 use std::random::RandomSource;
 use std::sync::Wait;
 use std::thread::Threads;
+use std::time::Clock;
 
 /// Options with the standard layout.
 pub fn options(capacity: u32, max_reads: u32) -> Options {
@@ -20,7 +21,7 @@ pub fn options(capacity: u32, max_reads: u32) -> Options {
 }
 
 /// Whether a run on these readers has this status and writes this statement, flushed once.
-pub fn gives<H: Threads + Wait + RandomSource + Copy + Send + 'static>(
+pub fn gives<H: Threads + Wait + RandomSource + Clock + Copy + Send + 'static>(
     rt: &H,
     alloc: Global,
     readers: Vec<Script>,

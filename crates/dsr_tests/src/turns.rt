@@ -8,6 +8,7 @@ use std::alloc::{AllocError, Global};
 use std::random::RandomSource;
 use std::sync;
 use std::thread::Threads;
+use std::time::Clock;
 
 /// Each reader's first read waits until the other's has begun.
 #[test]
@@ -47,7 +48,7 @@ pub fn hundred_blocks(alloc: Global) -> Result<Vec<u8>, AllocError> {
 
 /// Runs on two files. Until the first reader gives its end, nothing is taken of the second file, of a hundred blocks, which
 /// comes line by line. Returns whether its reader begins fewer than `reads` reads until then, and the statement is right.
-fn holds_back<H: Threads + sync::Wait + RandomSource + Copy + Send + 'static>(
+fn holds_back<H: Threads + sync::Wait + RandomSource + Clock + Copy + Send + 'static>(
     rt: &H,
     alloc: Global,
     capacity: u32,

@@ -22,9 +22,9 @@ use dsr_file::{Event, EventPart};
 use dsr_ledger::{Books, ClosedBooks, Report};
 use dsr_relay::{Batch, Closed, Tap};
 use std::alloc::Global;
-use std::hint::spin_loop;
 use std::random::RandomSource;
 use std::sync::Wait;
+use std::time::Clock;
 
 /// The error that the relay of file k, counted from 0, closed early.
 fn closed(k: u32) -> CollectError
@@ -250,8 +250,13 @@ fn have_ended(taps: &Vec<Tap>) -> bool
     true
 }
 
-/// Takes messages round by round until every file has ended. After some rounds without a message the next one waits for one.
-fn take_all<H: Wait>(rt: &H, books: &mut Books, taps: &mut Vec<Tap>) -> Result<(), CollectError>
+/// Takes messages round by round until every file has ended. After rounds without a message it pauses before the next one,
+/// and after some of them the next one waits for a message.
+fn take_all<H: Wait + Clock>(
+    rt: &H,
+    books: &mut Books,
+    taps: &mut Vec<Tap>,
+) -> Result<(), CollectError>
     requires most { vec_len taps.old ≤ MOST_FILES }
     requires tapped { All IsTapped taps.old.items }
     requires stands { Stands books.old (map (λ t. file_of t.taken) taps.old.items) }
@@ -267,19 +272,22 @@ fn take_all<H: Wait>(rt: &H, books: &mut Books, taps: &mut Vec<Tap>) -> Result<(
         if have_ended(taps) {
             return Ok(());
         }
-        let waits = patience.has_ended();
-        if go_round(rt, books, taps, waits)? {
-            patience.note_message(waits);
+        patience.pause(rt);
+        if go_round(rt, books, taps, patience.has_ended())? {
+            patience.note_message();
         } else {
             patience.note_none();
-            spin_loop();
         }
     }
     unreachable!()
 }
 
 /// Takes all events of the taps into empty books.
-fn book_all<H: Wait>(rt: &H, books: &mut Books, taps: &mut Vec<Tap>) -> Result<(), CollectError>
+fn book_all<H: Wait + Clock>(
+    rt: &H,
+    books: &mut Books,
+    taps: &mut Vec<Tap>,
+) -> Result<(), CollectError>
     requires most { vec_len taps.old ≤ MOST_FILES }
     requires fresh { All (λ t. t.taken ≡ []) taps.old.items }
     requires empty { Stands books.old [] }
@@ -301,7 +309,7 @@ fn book_all<H: Wait>(rt: &H, books: &mut Books, taps: &mut Vec<Tap>) -> Result<(
 ///
 /// - `CollectError::Memory`: out of memory for the books, or in the sender of an event.
 /// - `CollectError::Closed`: the relay of this tap closed before the file had ended.
-pub(crate) fn collect_books<H: Wait + RandomSource>(
+pub(crate) fn collect_books<H: Wait + RandomSource + Clock>(
     rt: &H,
     alloc: Global,
     taps: &mut Vec<Tap>,
@@ -334,7 +342,7 @@ pub(crate) fn collect_books<H: Wait + RandomSource>(
 ///
 /// - `CollectError::Memory`: out of memory for the books or the report, or in the sender of an event.
 /// - `CollectError::Closed`: the relay of this tap closed before the file had ended.
-pub fn collect<H: Wait + RandomSource>(
+pub fn collect<H: Wait + RandomSource + Clock>(
     rt: &H,
     alloc: Global,
     taps: &mut Vec<Tap>,

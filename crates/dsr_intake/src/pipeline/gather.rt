@@ -22,6 +22,7 @@ use std::alloc::Global;
 use std::random::RandomSource;
 use std::sync::Wait;
 use std::thread::Threads;
+use std::time::Clock;
 
 /// Opens a relay for each reader, and starts its thread.
 fn start_all<R: Source + Send + Drop + 'static, H: Threads + Wait + Copy + Send + 'static>(
@@ -124,7 +125,7 @@ fn join_all<R: Source + Send + Drop + 'static, H: Threads>(
 /// Starts the threads, and collects what they send.
 fn start_and_collect<
     R: Source + Send + Drop + 'static,
-    H: Threads + Wait + RandomSource + Copy + Send + 'static,
+    H: Threads + Wait + RandomSource + Clock + Copy + Send + 'static,
 >(
     rt: &H,
     alloc: Global,
@@ -158,7 +159,7 @@ fn start_and_collect<
 /// Reads the files by threads, joins these, and returns closed books. The options and the number of readers are in range.
 fn gather<
     R: Source + Send + Drop + 'static,
-    H: Threads + Wait + RandomSource + Copy + Send + 'static,
+    H: Threads + Wait + RandomSource + Clock + Copy + Send + 'static,
 >(
     rt: &H,
     alloc: Global,
@@ -221,7 +222,7 @@ fn collect_error(error: CollectError) -> IntakeError
 /// `Memory`, `Thread` and `Broken`: found later; the readers may be dropped.
 pub(crate) fn read_books<
     R: Source + Send + Drop + 'static,
-    H: Threads + Wait + RandomSource + Copy + Send + 'static,
+    H: Threads + Wait + RandomSource + Clock + Copy + Send + 'static,
 >(
     rt: &H,
     alloc: Global,
@@ -248,7 +249,7 @@ pub(crate) fn read_books<
 /// `Memory`, `Thread` and `Broken`: found later; the readers may be dropped.
 pub fn intake<
     R: Source + Send + Drop + 'static,
-    H: Threads + Wait + RandomSource + Copy + Send + 'static,
+    H: Threads + Wait + RandomSource + Clock + Copy + Send + 'static,
 >(rt: &H, alloc: Global, readers: &mut Vec<R>, options: Options) -> Result<Report, IntakeError>
     requires { All (λ r. (R.told r).failed ≡ false) readers.old.items }
     ensures report { IfOk result (IsReportOf R.told options readers.old.items readers.new.items) }

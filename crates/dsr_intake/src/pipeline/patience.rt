@@ -1,39 +1,53 @@
-//! How long the collector looks for messages before it waits for one.
+//! How long the collector looks for messages before it naps, and when it waits for one.
 //!
-//! The next message mostly comes within microseconds, and to put a thread to sleep and to wake it takes longer. So the
-//! collector looks for one again and again before it waits. Where that is in vain several times in a row, the reader is slow
-//! or has no processor of its own; then the collector mostly waits after one round.
+//! The next message mostly comes within microseconds, so the collector looks for one again and again first. A collector that
+//! then waited would be woken by the thread of a reader, which has to call the system for that; with one file, whose reader is
+//! slower than the collector, it would be so for most messages and take a tenth of the reader's time. So the collector naps
+//! instead: several messages come during a nap, and nobody has to wake it. Only where several naps are in vain, since a reader
+//! is slow or its pipe gives nothing, it waits.
+//!
+//! Where looking was in vain several times in a row, the collector mostly naps after one round: it is faster than the readers,
+//! or they have no processor of their own.
+use std::hint::spin_loop;
+use std::thread::sleep;
+use std::time::{Clock, Duration};
 
-/// The rounds without a message before the collector waits: about 15 microseconds with one file, and 35 with eight.
+/// The rounds without a message before the first nap: about 15 microseconds with one file, and 35 with eight.
 const MOST_ROUNDS: u32 = 200;
 
-/// After this many waits in a row, the collector mostly waits after one round.
-const MOST_WAITS: u32 = 4;
+/// The naps without a message before the collector waits.
+const MOST_NAPS: u32 = 8;
 
-/// One in this many waits is then still preceded by all rounds, so that faster readers are noticed.
-const WAITS_PER_TRIAL: u32 = 16;
+/// The length of a nap in microseconds. The system mostly makes it about twice as long.
+const NAP: u64 = 50;
 
-/// Counts the rounds and the waits of the collector.
+/// After messages came only after a nap this many times in a row, the collector mostly naps after one round.
+const MOST_IN_VAIN: u32 = 4;
+
+/// One in this many naps is then still preceded by all rounds, so that faster readers are noticed.
+const NAPS_PER_TRIAL: u32 = 16;
+
+/// Counts the rounds and the naps of the collector.
 #[derive(Clone, Copy)]
 pub(crate) struct Patience {
     /// The rounds since the last message.
     rounds: u32,
-    /// The waits since a message last came after one or more rounds without one, and without a wait.
-    waits: u32,
+    /// How many times in a row a message came only after a nap.
+    in_vain: u32,
 }
 
 impl Patience {
-    /// No rounds and no waits.
+    /// No rounds and no naps.
     pub(crate) fn new() -> Patience {
         Patience {
             rounds: 0,
-            waits: 0,
+            in_vain: 0,
         }
     }
 
-    /// The number of rounds without a message before the next wait, at least 1.
+    /// The number of rounds without a message before the first nap, at least 1.
     fn most_rounds(&self) -> u32 {
-        if self.waits < MOST_WAITS || self.waits % WAITS_PER_TRIAL == 0 {
+        if self.in_vain < MOST_IN_VAIN || self.in_vain % NAPS_PER_TRIAL == 0 {
             MOST_ROUNDS
         } else {
             1
@@ -42,7 +56,20 @@ impl Patience {
 
     /// Whether the next round waits for a message.
     pub(crate) fn has_ended(&self) -> bool {
-        self.rounds >= self.most_rounds()
+        self.rounds >= self.most_rounds() + MOST_NAPS
+    }
+
+    /// Pauses before the next round: an instant after each of the first rounds without a message, and then a nap. There is no
+    /// pause after a message, and none before a round that waits.
+    pub(crate) fn pause<H: Clock>(&self, rt: &H) {
+        if self.rounds == 0 || self.has_ended() {
+            return;
+        }
+        if self.rounds < self.most_rounds() {
+            spin_loop();
+        } else {
+            sleep(rt, Duration::from_micros(NAP));
+        }
     }
 
     /// Notes a round without a message.
@@ -50,13 +77,12 @@ impl Patience {
         self.rounds = self.rounds.saturating_add(1);
     }
 
-    /// Notes a round with a message, for which the collector may have waited. One that came in the first round leaves the
-    /// count of waits as it is.
-    pub(crate) fn note_message(&mut self, has_waited: bool) {
-        if has_waited {
-            self.waits = self.waits.wrapping_add(1);
+    /// Notes a round with a message. One that came in the first round leaves the count of naps in vain as it is.
+    pub(crate) fn note_message(&mut self) {
+        if self.rounds >= self.most_rounds() {
+            self.in_vain = self.in_vain.wrapping_add(1);
         } else if self.rounds > 0 {
-            self.waits = 0;
+            self.in_vain = 0;
         }
         self.rounds = 0;
     }

@@ -24,6 +24,7 @@ use std::alloc::Global;
 use std::random::RandomSource;
 use std::sync::Wait;
 use std::thread::Threads;
+use std::time::Clock;
 
 /// Reads the files, and writes their statement in pieces. All memory that writing needs is allocated before the first byte
 /// is written.
@@ -35,7 +36,7 @@ use std::thread::Threads;
 pub fn run<
     R: Source + Send + Drop + 'static,
     W: Outlet,
-    H: Threads + Wait + RandomSource + Copy + Send + 'static,
+    H: Threads + Wait + RandomSource + Clock + Copy + Send + 'static,
 >(
     rt: &H,
     alloc: Global,
