@@ -8,6 +8,8 @@
 //!
 //! Where looking was in vain several times in a row, the collector mostly naps after one round: it is faster than the readers,
 //! or they have no processor of their own.
+ghost use Rattle.std.specs.Prelude.{◌≤◌};
+
 use std::hint::spin_loop;
 use std::thread::sleep;
 use std::time::{Clock, Duration};
@@ -46,7 +48,9 @@ impl Patience {
     }
 
     /// The number of rounds without a message before the first nap, at least 1.
-    fn most_rounds(&self) -> u32 {
+    fn most_rounds(&self) -> u32
+        ensures { result ≤ MOST_ROUNDS }
+    {
         if self.in_vain < MOST_IN_VAIN || self.in_vain % NAPS_PER_TRIAL == 0 {
             MOST_ROUNDS
         } else {
