@@ -11,7 +11,8 @@ class Function:
     """A function of a source file that `rt fmt` laid out: its body begins and ends at its own indentation.
 
     `body` and `end` are the rows of the body's braces, if it has one, and `printed` is a pattern of the name that a check
-    prints for the function or a closure in it. A `const fn` is left out, since other functions may know its values.
+    prints for the function or a closure in it. `path` is the end of that name, unless the trait has parameters. A `const fn` is
+    left out, since other functions may know its values.
     """
 
     def __init__(self, crate, file, lines, start):
@@ -20,13 +21,13 @@ class Function:
         self.file = file
         self.body = next((row for row in outer if lines[row].endswith('{')), len(lines))
         self.end = next((row for row in outer if lines[row] == room + '}'), 0)
-        self.printed = re.compile(self.pattern(crate, owner_of(lines, start) if room else ''))
-
-    def pattern(self, crate, owner):
-        path = [it for it in self.file[len('src/'):-len('.rt')].split('/') if it not in ('lib', 'main', 'mod')]
+        owner, trait = owner_of(lines, start) if room else ('', '')
+        modules = [it for it in file[len('src/'):-len('.rt')].split('/') if it not in ('lib', 'main', 'mod')]
+        self.path = '::'.join([owner + trait, self.name] if owner else [*modules, self.name])
         # A type's functions have the path of the type, which may be in another module. A closure has one more word.
-        before = fr'(?:\w+::)*{owner}::' if owner else '::'.join([*path, '(?:fn::)?'])
-        return f'{crate}::{before}{self.name}(?:::.+)?'
+        any_end = r'\w*' if trait else ''
+        before = fr'(?:\w+::)*{owner}{trait}{any_end}::' if owner else '::'.join([*modules, '(?:fn::)?'])
+        self.printed = re.compile(f'{crate}::{before}{self.name}(?:::.+)?')
 
 
 def rows_of(room, lines, start):
@@ -43,17 +44,17 @@ def rows_of(room, lines, start):
 
 
 def owner_of(lines, start):
-    """A pattern of what a check prints for the type and the trait of the `impl`, or for the trait, around a function."""
+    """The type and the trait of the `impl` around a function, or the trait around it."""
     first = next((row for row in range(start, -1, -1) if OWNER.match(lines[row])), None)
     if first is None:
-        return ''
+        return '', ''
     header = ' '.join(lines[first:start]).split('{')[0]
     while re.search(r'<[^<>]*>', header):
         header = re.sub(r'<[^<>]*>', '', header)
     header = re.sub(r'^.*?\b(impl|trait)\b', '', header).split(' where ')[0]
     trait, _, kind = header.rpartition(' for ')
     kind, trait = ((re.findall(r'\w+', it) or [''])[-1] for it in (kind, trait))
-    return kind + (trait + r'\w*' if trait else '')
+    return kind, trait
 
 
 def functions_of(crate, folder):

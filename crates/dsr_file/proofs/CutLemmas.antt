@@ -3,9 +3,11 @@ use Rattle.std.proofs.Common.{◌≡◌, ℕ, suc, ◌+◌, ◌<◌, ◌≤◌, 
 use Rattle.std.proofs.Common.{take, drop, ◌-◌, append_assoc, arith, length-append, length-take}
 use Rattle.std.specs.Prelude.{nat_eq, zero, ◌==◌, slice_index, if◌then◌else◌}
 use Rattle.std.proofs.lemmas.List.{append-nil, take_more}
+use Rattle.std.proofs.lemmas.List.Sums.{fails_before_first, passes_at_first}
+use Rattle.std.proofs.lemmas.Bool.{eqb-true}
 use Rattle.std.proofs.lemmas.Grind.{common_steps}
 use Rattle.std.proofs.lemmas.Bool.Decides.{nat_tests}
-use Rattle.std.specs.List.{slice_split, onto_first, list_any, starts_with}
+use Rattle.std.specs.List.{slice_split, onto_first, list_any, position_or_len, starts_with}
 use Rattle.dsr_cells.specs.meaning.Lines.{is_line_feed, byte_order_mark, without_mark}
 use Rattle.dsr_file.specs.inner.Cutting.{IsSettled, CutsTo}
 use Rattle.dsr_file.proofs.PartLemmas.{onto_last, onto_first-last, onto_last-cons, onto_last_push}
@@ -115,7 +117,7 @@ line_feed kept b ps k = record {
     not_both e = cc
 
 -- the first k bytes have no line feed if none of them is one
-pub none_among : (xs : List ℕ) (k : ℕ) → ((i : ℕ) → i < k → eqb (slice_index xs i) 10 ≡ true → ⊥) → list_any is_line_feed (take k xs) ≡ false
+none_among : (xs : List ℕ) (k : ℕ) → ((i : ℕ) → i < k → eqb (slice_index xs i) 10 ≡ true → ⊥) → list_any is_line_feed (take k xs) ≡ false
 none_among xs zero h = refl
 none_among [] (suc k) h = refl
 none_among (x ∷ xs) (suc k) h = by_first (eqb x 10) refl (none_among xs k (λ i l e. h (suc i) (omega (arith, l)) e))
@@ -123,6 +125,14 @@ none_among (x ∷ xs) (suc k) h = by_first (eqb x 10) refl (none_among xs k (λ 
     by_first : (b : Bool) → eqb x 10 ≡ b → list_any is_line_feed (take k xs) ≡ false → (b || list_any is_line_feed (take k xs)) ≡ false
     by_first true e n = absurd (h 0 (omega arith) e)
     by_first false e n = n
+
+-- the bytes before the first line feed, and that byte
+pub none_before : (xs : List ℕ) (n : ℕ) → n ≡ position_or_len is_line_feed xs → list_any is_line_feed (take n xs) ≡ false
+none_before xs n is = none_among xs n
+    (λ i l e. let clash : true ≡ false = sym e ∙ fails_before_first is_line_feed xs i 0 (omega (arith, is, l)) in cc)
+
+pub feed_there : (xs : List ℕ) (n : ℕ) → n ≡ position_or_len is_line_feed xs → n < length xs → slice_index xs n ≡ 10
+feed_there xs n is short = rw is (eqb-true _ 10 (passes_at_first is_line_feed xs 0 (omega (arith, is, short))))
 
 -- the bytes up to a line feed, and the line feed
 pub fed_line : (kept b piece : List ℕ) (ps : List (List ℕ)) (n : ℕ) → CutsTo kept false b ps → list_any is_line_feed (take n piece) ≡ false → n < length piece

@@ -6,7 +6,6 @@ pub mod AddLemmas
 pub mod TestLemmas
 pub mod OpeningLemmas
 pub mod CutLemmas
-pub mod FeedPlaces
 pub mod ReaderLemmas
 pub mod LawLemmas
 pub mod RunLemmas

@@ -5,6 +5,7 @@ pub mod Grammars
 pub mod Cutting
 pub mod Allowance
 pub mod Standing
+pub mod Advances
 pub mod ReaderSteps
 pub mod Closing
 pub mod Feeding

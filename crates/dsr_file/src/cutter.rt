@@ -1,9 +1,9 @@
 //! Cutting the bytes of a text into lines.
 ghost use Rattle.std.specs.Prelude.{◌≡◌, ◌++◌, ◌∷◌, [], ◌+◌, ◌<◌, ◌≤◌, length, List, ℕ, false, take, IfOk, IsTrue, vec_capacity};
-ghost use Rattle.dsr_cells.specs.meaning.Lines.{without_mark};
+ghost use Rattle.dsr_cells.specs.meaning.Lines.{line_limit, without_mark};
 
-use crate::line_feed::line_end;
 use dsr_cells::NoMemory;
+use dsr_scan::line_end;
 use std::alloc::Global;
 
 /// The maximum length of a line in bytes, without its line feed.
@@ -28,8 +28,8 @@ pub(crate) struct Cutter {
     pub(crate) bytes: Vec<u8>,
     /// The bytes may still become a byte order mark: they are all the bytes so far.
     pub(crate) fresh: bool,
-    ghost room: { 8192 ≤ vec_capacity bytes },
-    ghost short: { length bytes.items ≤ 8192 },
+    ghost room: { line_limit ≤ vec_capacity bytes },
+    ghost short: { length bytes.items ≤ line_limit },
     ghost few: { IsTrue fresh → length bytes.items < 3 },
 }
 
@@ -125,7 +125,7 @@ impl Cutter {
 
     /// Appends bytes to the line. The room was allocated by `new`, so this cannot fail.
     fn append(&mut self, front: &[u8])
-        requires short { length self.old.bytes.items + length front.now ≤ 8192 }
+        requires short { length self.old.bytes.items + length front.now ≤ line_limit }
         requires fresh { self.old.fresh ≡ false }
         ensures bytes { self.new.bytes.items ≡ self.old.bytes.items ++ front.now }
         ensures fresh { self.new.fresh ≡ false }
@@ -136,7 +136,7 @@ impl Cutter {
     /// The bytes of the line so far.
     pub(crate) fn line(&self) -> &[u8]
         ensures value { result.now ≡ self.now.bytes.items }
-        ensures short { length result.now ≤ 8192 }
+        ensures short { length result.now ≤ line_limit }
     {
         self.bytes.as_slice()
     }

@@ -1,10 +1,8 @@
 //! Feeding bytes to a reader, and its events to a sink.
-ghost use Rattle.std.specs.Prelude.{◌≡◌, ◌++◌, ◌∷◌, [], ◌+◌, ◌≤◌, ◌^◌, length, List, ℕ, Some, None, OnOk, IfOk, IfErr, IfSome};
+ghost use Rattle.std.specs.Prelude.{◌≡◌, ◌++◌, ◌∷◌, [], ◌+◌, ◌≤◌, ◌^◌, length, None, OnOk, IfOk, IfErr, IfSome};
 ghost use mathlib.Core.List.{IsPrefix};
-ghost use Rattle.dsr_records.specs.meaning.Records.{LayoutTable};
-ghost use Rattle.dsr_file.specs.meaning.Runs.{BeginsEvents, HasEvents, EndsWith};
-ghost use Rattle.dsr_file.specs.inner.Standing.{Stands, bytes_used, ending_told};
-ghost use Rattle.dsr_file.specs.inner.Feeding.{IsKnown, Fed, FedSome};
+ghost use Rattle.dsr_file.specs.inner.Standing.{bytes_used, ending_told};
+ghost use Rattle.dsr_file.specs.inner.Feeding.{IsKnown, Feeds, FeedsSome, Finishes, FinishesSome};
 
 use crate::closed::Closed;
 use crate::reader::FileReader;
@@ -31,12 +29,10 @@ fn feed_up_to<S: Sink>(
         → bytes_used file.new ≤ bytes_used file.old + length piece.now }
     ensures name { S.name sink.new ≡ S.name sink.old }
     ensures grows { IsPrefix (S.list sink.old) (S.list sink.new) }
-    ensures fed { refused.new ≡ None → (layout : LayoutTable) (b : List ℕ)
-        → Stands layout file.old b (S.list sink.old)
-        → Fed layout file.new b piece.now (S.list sink.new) }
-    ensures refused { IfSome refused.new (λ e. (layout : LayoutTable) (b : List ℕ)
-        → Stands layout file.old b (S.list sink.old)
-        → FedSome layout b piece.now (S.list sink.new ++ e ∷ [])) }
+    ensures fed { refused.new ≡ None
+        → Feeds file.old file.new piece.now (S.list sink.old) (S.list sink.new) }
+    ensures refused { IfSome refused.new (λ e.
+        FeedsSome file.old piece.now (S.list sink.old) (S.list sink.new ++ e ∷ [])) }
 {
     let mut used = 0;
     loop {
@@ -72,12 +68,10 @@ pub(crate) fn feed<S: Sink>(
     ensures used { OnOk result (bytes_used file.new ≤ bytes_used file.old + length piece.now) }
     ensures name { S.name sink.new ≡ S.name sink.old }
     ensures grows { IsPrefix (S.list sink.old) (S.list sink.new) }
-    ensures fed { OnOk result ((layout : LayoutTable) (b : List ℕ)
-        → Stands layout file.old b (S.list sink.old)
-        → Fed layout file.new b piece.now (S.list sink.new)) }
-    ensures refused { IfErr result (λ e. (layout : LayoutTable) (b : List ℕ)
-        → Stands layout file.old b (S.list sink.old)
-        → FedSome layout b piece.now (S.list sink.new ++ e ∷ [])) }
+    ensures fed { OnOk result
+        (Feeds file.old file.new piece.now (S.list sink.old) (S.list sink.new)) }
+    ensures refused { IfErr result (λ e.
+        FeedsSome file.old piece.now (S.list sink.old) (S.list sink.new ++ e ∷ [])) }
 {
     let mut refused = None;
     feed_up_to(file, part, piece, sink, &mut refused);
@@ -97,12 +91,9 @@ pub(crate) fn finish_all<S: Sink>(
     requires known { IsKnown file.old (S.list sink.old) }
     ensures name { S.name sink.new ≡ S.name sink.old }
     ensures grows { IsPrefix (S.list sink.old) (S.list sink.new) }
-    ensures all { IfOk result (λ o. (layout : LayoutTable) (b : List ℕ)
-        → Stands layout file.old b (S.list sink.old)
-        → HasEvents layout b (Some ending) (S.list sink.new) × EndsWith (S.list sink.new) o) }
-    ensures refused { IfErr result (λ e. (layout : LayoutTable) (b : List ℕ)
-        → Stands layout file.old b (S.list sink.old)
-        → BeginsEvents layout b (Some ending) (S.list sink.new ++ e ∷ [])) }
+    ensures all { IfOk result (Finishes file.old ending (S.list sink.old) (S.list sink.new)) }
+    ensures refused { IfErr result (λ e.
+        FinishesSome file.old ending (S.list sink.old) (S.list sink.new ++ e ∷ [])) }
 {
     loop {
         match file.finish(ending) {

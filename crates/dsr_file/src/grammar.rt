@@ -1,6 +1,6 @@
 //! Taking the lines of a file one after another, each with the event that it closes or the fault that ends the file.
 ghost use Rattle.std.specs.Prelude.{◌≡◌, ◌+◌, ◌-◌, ◌<◌, ◌≤◌, ◌^◌, [], length, List, None, true, option_and_then};
-ghost use Rattle.dsr_cells.specs.meaning.Lines.{without_return};
+ghost use Rattle.dsr_cells.specs.meaning.Lines.{line_limit, without_return};
 ghost use Rattle.dsr_file.specs.meaning.Readings.{is_skipped_text, file_fault};
 ghost use Rattle.dsr_file.specs.inner.Counting.{foot_in, summary_count};
 
@@ -302,7 +302,7 @@ impl Grammar {
     fn any_line(&mut self, alloc: Global, layout: &Layout, line: &[u8], closed: &mut Closed) -> Step
         requires lines { self.old.lines < 2 ^ 40 - 1 }
         requires none { closed.old ≡ None }
-        requires short { length line.now ≤ 8192 }
+        requires short { length line.now ≤ line_limit }
         ensures steps { (ls : List Reading) → Keeps self.old ls
             → LineSteps ls (reading layout.now line.now) result closed.new self.new }
         ensures counts { self.new.lines ≤ self.old.lines + 1 }
@@ -327,7 +327,7 @@ impl Grammar {
         requires lines { self.old.lines < 2 ^ 40 - 1 }
         requires none { closed.old ≡ None }
         requires good { step.old ≡ Step.Good }
-        requires short { length line.now ≤ 8192 }
+        requires short { length line.now ≤ line_limit }
         ensures steps { (ls : List Reading) → Keeps self.old ls
             → LineSteps ls (reading layout.now line.now) step.new closed.new self.new }
         ensures good { result ≡ true → step.new ≡ Step.Good }
@@ -350,7 +350,7 @@ impl Grammar {
         line: &[u8],
     ) -> (Step, Option<EventPart>)
         requires lines { self.old.lines < 2 ^ 40 - 1 }
-        requires short { length line.now ≤ 8192 }
+        requires short { length line.now ≤ line_limit }
         ensures steps { (ls : List Reading) → Keeps self.old ls
             → LineSteps ls (reading layout.now line.now) result.0 result.1 self.new }
         ensures counts { self.new.lines ≤ self.old.lines + 1 }

@@ -57,8 +57,8 @@ impl Drop for FileReader {
 
 impl FileReader {
     ghost use Rattle.dsr_file.specs.inner.Standing.{Stands, IsDone, bytes_used, events_left, ending_told, first_ending};
+    ghost use Rattle.dsr_file.specs.inner.Advances.{Advances, Gives, HasBegun, HasGivenAll, GivesBeforeItUses};
     ghost use Rattle.dsr_file.specs.inner.ReaderSteps.{StandsAs};
-    ghost use Rattle.dsr_file.specs.meaning.Runs.{BeginsEvents, HasEvents};
     ghost use Rattle.dsr_file.specs.declared.reader.phase.Phase.TheVariants as phases;
 
     /// A reader that has used no bytes. It keeps the allocator and a copy of the layout.
@@ -162,17 +162,13 @@ impl FileReader {
         requires room { bytes_used self.old + length piece.now ≤ 2 ^ 36 }
 
         // The reader represents the bytes used and the events given.
-        ensures stands { (layout : LayoutTable) (b : List ℕ) (es : List Placed)
-            → Stands layout self.old b es
-            → Stands layout self.new (b ++ take result.0 piece.now) (es ++ option_to_list result.1) }
+        ensures stands { Advances self.old self.new (take result.0 piece.now)
+            (option_to_list result.1) }
         // These are the first events of the bytes; if no event is returned, they are all.
-        ensures begins { (layout : LayoutTable) (b : List ℕ) (es : List Placed)
-            → Stands layout self.new b es → BeginsEvents layout b None es }
-        ensures all { IfNone result.1 ((layout : LayoutTable) (b : List ℕ) (es : List Placed)
-            → Stands layout self.new b es → HasEvents layout b None es) }
+        ensures begins { HasBegun self.new None }
+        ensures all { IfNone result.1 (HasGivenAll self.new None) }
         // If an event of the bytes used so far is waiting, no further byte is used.
-        ensures waiting { (layout : LayoutTable) (b : List ℕ) (es : List Placed)
-            → Stands layout self.old b es → HasEvents layout b None es ⊎ (result.0 ≡ 0) }
+        ensures waiting { GivesBeforeItUses self.old result.0 }
         // If no event is returned, the whole piece was used, unless Ended was given.
         ensures bound { result.0 ≤ length piece.now }
         ensures whole { IfNone result.1 ((result.0 ≡ length piece.now) ⊎ IsDone self.new) }
@@ -198,15 +194,11 @@ impl FileReader {
     pub fn finish(&mut self, ending: Ending) -> Option<Event>
         ensures ending { ending_told self.new ≡ Some (first_ending self.old ending) }
         ensures used { bytes_used self.new ≡ bytes_used self.old }
-        ensures stands { (layout : LayoutTable) (b : List ℕ) (es : List Placed)
-            → Stands layout self.old b es → Stands layout self.new b (es ++ option_to_list result) }
+        ensures stands { Gives self.old self.new (option_to_list result) }
         // The events given are the first of the text; if no event is returned, they are all.
-        ensures begins { (layout : LayoutTable) (b : List ℕ) (es : List Placed)
-            → Stands layout self.new b es
-            → BeginsEvents layout b (Some (first_ending self.old ending)) es }
-        ensures all { IfNone result ((layout : LayoutTable) (b : List ℕ) (es : List Placed)
-            → Stands layout self.new b es
-            → HasEvents layout b (Some (first_ending self.old ending)) es) }
+        ensures begins { HasBegun self.new (Some (first_ending self.old ending)) }
+        ensures all { IfNone result
+            (HasGivenAll self.new (Some (first_ending self.old ending))) }
         ensures done { IfNone result (IsDone self.new) }
         ensures after { IsDone self.old → result ≡ None }
         ensures progress { OnSome result (events_left self.new < events_left self.old) }

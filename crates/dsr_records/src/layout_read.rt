@@ -1,21 +1,24 @@
 //! Reading a layout from its text.
-ghost use Rattle.std.specs.Prelude.{◌≡◌, ◌<◌, ◌≤◌, length, Ok, Err, MatchResult, Some, None, if◌then◌else◌};
+ghost use Rattle.std.specs.Prelude.{◌≡◌, ◌<◌, ◌≤◌, length, Ok, Err, MatchResult, Some, None, slice_get, if◌then◌else◌};
 ghost use Rattle.std.specs.List.{list_all};
 ghost use Rattle.std.specs.Option.{option_map};
 ghost use Rattle.std.specs.Str.{is_utf8};
+ghost use Rattle.dsr_cells.specs.meaning.Cells.{cells};
 ghost use Rattle.dsr_cells.specs.meaning.Lines.{without_return};
 ghost use Rattle.dsr_records.specs.meaning.Layouts.{empty_layout, is_type_text, is_type_byte, kind_named, position_of, positions_from, with_line, with_text, with_piece, with_lines, layout_of, cell_at, is_left_out};
 
 use crate::column::{MOST_COLUMNS, column_may_be_empty, columns};
+use crate::cursor::Cursor;
 use crate::layout::{Layout, place};
 use crate::layout_fault::{LayoutError, LayoutFault};
 use crate::layout_line::{RoleLine, TypeName};
 use crate::pieces::{Pieces, lines};
 use crate::positions::Positions;
+use crate::rest::Rest;
 use arrayvec::ArrayVec;
 use dsr_blocks::{Column, Kind};
-use dsr_cells::{cell, read_number};
-use std::str;
+use dsr_cells::read_number;
+use dsr_scan::text_of;
 
 /// The maximum number of bytes of a layout.
 const MOST_BYTES: usize = 65536;
@@ -25,6 +28,13 @@ const LINE_LIMIT: usize = 8192;
 
 /// The greatest position of a column.
 const LAST_POSITION: u64 = 63;
+
+/// The cell of a line at an index, from 0, if the line has it.
+fn cell(line: &str, i: u8) -> Option<&str>
+    ensures { option_map (λ c. c.now) result ≡ slice_get (cells line.now) i }
+{
+    Cursor::at(line, Rest::of(line)).cell(i)
+}
 
 /// The kind that a role's name stands for.
 fn read_kind_name(name: &str) -> Option<Kind>
@@ -82,7 +92,7 @@ fn read_positions(line: &str, columns: &[Column]) -> Option<ArrayVec<Option<u8>,
 {
     let mut positions = ArrayVec::new();
     for (i, column) in columns.iter().enumerate() {
-        positions.push(read_position(*column, cell(line, i + 2)?)?);
+        positions.push(read_position(*column, cell(line, i as u8 + 2)?)?);
     }
     Some(positions)
 }
@@ -189,9 +199,9 @@ fn read_text(piece: &[u8]) -> Option<&str>
     ensures { option_map (λ t. t.now) result
         ≡ (if is_utf8 piece.now then Some (without_return piece.now) else None) }
 {
-    match str::from_utf8(piece) {
-        Ok(text) => Some(strip_return(text)),
-        Err(_) => None,
+    match text_of(piece) {
+        Some(text) => Some(strip_return(text)),
+        None => None,
     }
 }
 

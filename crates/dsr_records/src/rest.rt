@@ -1,12 +1,18 @@
 //! The rest of a line, and its first cell.
 ghost use Rattle.std.specs.Prelude.{◌≡◌, ◌≢◌, ◌+◌, ◌-◌, ◌<◌, ◌≤◌, ◌==◌, ◌∷◌, length, take, drop};
 ghost use Rattle.std.specs.Prelude.{[], slice_index, not, false, IfSome};
-ghost use Rattle.std.specs.List.{position_or_len};
+ghost use Rattle.std.specs.List.{position, position_or_len};
 ghost use Rattle.dsr_cells.specs.meaning.Cells.{cells};
 ghost use Rattle.dsr_scan.specs.Tabs.{tab_bits};
 
-use crate::find::find_byte;
 use dsr_scan::tabs_of;
+
+/// The index of the first TAB, if there is one.
+fn find_tab(bytes: &[u8]) -> Option<usize>
+    ensures { result ≡ position (λ b. b == 9) bytes.now }
+{
+    bytes.iter().position(|byte| *byte == b'\t')
+}
 
 /// The index of the first TAB, or the length if there is none; not inlined, since it is rarely called.
 #[cold]
@@ -14,7 +20,7 @@ use dsr_scan::tabs_of;
 fn first_tab(bytes: &[u8]) -> usize
     ensures { result ≡ position_or_len (λ b. b == 9) bytes.now }
 {
-    match find_byte(bytes, b'\t') {
+    match find_tab(bytes) {
         Some(place) => place,
         None => bytes.len(),
     }

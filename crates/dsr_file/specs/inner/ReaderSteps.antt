@@ -9,6 +9,7 @@ use Rattle.dsr_file.specs.declared.grammar.Step.{Step}
 use Rattle.dsr_file.specs.declared.reader.FileReader.{FileReader}
 use Rattle.dsr_events.specs.meaning.Placed.{Placed}
 use Rattle.dsr_file.specs.meaning.Texts.{placed}
+use Rattle.dsr_file.specs.inner.Advances.{Advances}
 use Rattle.dsr_file.specs.inner.Standing.{Stands, AtLine, AtAnswer, AtCut, AtEnd}
 
 -- the new reader represents what the old one did
@@ -17,8 +18,7 @@ StandsAs old new = (layout : LayoutTable) (b : List ℕ) (es : List Placed) → 
 
 -- these bytes are used, and what they closed, if anything, is given
 abbrev pub UsesBytes : FileReader → FileReader → List ℕ → Option EventPart → Type 0
-UsesBytes old new used part = (layout : LayoutTable) (b : List ℕ) (es : List Placed) → Stands layout old b es
-    → Stands layout new (b ++ used) (es ++ placed old.place (option_to_list part))
+UsesBytes old new used part = Advances old new used (placed old.place (option_to_list part))
 
 -- what the cutter returned for these bytes is applied, and what they closed, if anything, is given
 abbrev pub AppliesCut : FileReader → FileReader → Cut → List ℕ → Option EventPart → Type 0

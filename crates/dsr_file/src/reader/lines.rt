@@ -1,8 +1,7 @@
 //! Taking the lines of a piece, up to the next event.
-ghost use Rattle.std.specs.Prelude.{◌≡◌, ◌++◌, [], ◌+◌, ◌<◌, ◌≤◌, ◌^◌, ◌⊎◌, length, List, ℕ, false, take, None, IfNone, OnSome};
+ghost use Rattle.std.specs.Prelude.{◌≡◌, [], ◌+◌, ◌<◌, ◌≤◌, ◌^◌, ◌⊎◌, length, false, take, None, IfNone, OnSome};
 ghost use Rattle.std.specs.Option.{option_to_list};
-ghost use Rattle.dsr_records.specs.meaning.Records.{LayoutTable};
-ghost use Rattle.dsr_events.specs.meaning.Placed.{Placed};
+ghost use Rattle.dsr_cells.specs.meaning.Lines.{line_limit};
 ghost use Rattle.dsr_file.specs.inner.Closing.{event_at};
 
 use crate::closed::Closed;
@@ -13,10 +12,10 @@ use crate::reader::phase::Phase;
 use dsr_events::{FileFault, Outcome};
 
 impl FileReader {
-    ghost use Rattle.dsr_file.specs.inner.Standing.{Stands, IsDone, SameText, bytes_used, events_left, ending_told};
+    ghost use Rattle.dsr_file.specs.inner.Advances.{Advances, HasBegun, HasGivenAll, GivesBeforeItUses};
+    ghost use Rattle.dsr_file.specs.inner.Standing.{IsDone, SameText, bytes_used, events_left, ending_told};
     ghost use Rattle.dsr_file.specs.inner.ReaderSteps.{UsesBytes, AppliesCut, TakesLine};
     ghost use Rattle.dsr_file.specs.inner.Cutting.{FitsCut};
-    ghost use Rattle.dsr_file.specs.meaning.Runs.{BeginsEvents, HasEvents};
     ghost use Rattle.dsr_file.specs.declared.reader.phase.Phase.TheVariants as phases;
 
     /// Uses bytes of a piece, up to the next event, which `part` becomes: its place is that of the reader before. Returns
@@ -26,16 +25,11 @@ impl FileReader {
         requires open { ending_told self.old ≡ None }
         requires none { part.old ≡ None }
         requires room { bytes_used self.old + length piece.now ≤ 2 ^ 36 }
-        ensures stands { (layout : LayoutTable) (b : List ℕ) (es : List Placed)
-            → Stands layout self.old b es
-            → Stands layout self.new (b ++ take result piece.now)
-            (es ++ option_to_list (event_at self.old.place part.new)) }
-        ensures begins { (layout : LayoutTable) (b : List ℕ) (es : List Placed)
-            → Stands layout self.new b es → BeginsEvents layout b None es }
-        ensures all { IfNone part.new ((layout : LayoutTable) (b : List ℕ) (es : List Placed)
-            → Stands layout self.new b es → HasEvents layout b None es) }
-        ensures waiting { (layout : LayoutTable) (b : List ℕ) (es : List Placed)
-            → Stands layout self.old b es → HasEvents layout b None es ⊎ (result ≡ 0) }
+        ensures stands { Advances self.old self.new (take result piece.now)
+            (option_to_list (event_at self.old.place part.new)) }
+        ensures begins { HasBegun self.new None }
+        ensures all { IfNone part.new (HasGivenAll self.new None) }
+        ensures waiting { GivesBeforeItUses self.old result }
         ensures bound { result ≤ length piece.now }
         ensures whole { IfNone part.new ((result ≡ length piece.now) ⊎ IsDone self.new) }
         ensures used { bytes_used self.new ≡ bytes_used self.old + result }
@@ -125,7 +119,7 @@ impl FileReader {
         requires none { part.old ≡ None }
         requires room { self.old.place + 1 ≤ self.old.given }
         requires lines { self.old.grammar.lines + 1 ≤ self.old.given }
-        requires short { length line.now ≤ 8192 }
+        requires short { length line.now ≤ line_limit }
         requires cleared { self.old.cutter.bytes.items ≡ [] }
         requires settled { self.old.cutter.fresh ≡ false }
         ensures stands { TakesLine self.old self.new line.now part.new }
