@@ -3,7 +3,7 @@ ghost use Rattle.std.specs.Prelude.{◌≡◌, ◌∷◌, [], ◌<◌, true};
 ghost use Rattle.dsr_values.specs.meaning.Days.{day_of, day_of_parts, day_number, if_civil, is_civil_day};
 
 use crate::number::read_digits;
-use jiff_core::civil::Date;
+use jiff::civil::{Date, date};
 use std::marker::Model;
 
 /// A day of the proleptic Gregorian calendar, in the years 0 to 9999.
@@ -81,11 +81,7 @@ impl Day {
     pub fn number(&self) -> i64
         ensures { result ≡ day_number self.now }
     {
-        let date = Date {
-            year: self.year as i16,
-            month: self.month,
-            day: self.day,
-        };
-        i64::from(date.to_unix_epoch_day())
+        let date = date(self.year as i16, self.month as i8, self.day as i8);
+        i64::from(date.to_plain().to_unix_epoch_day())
     }
 }
