@@ -1,0 +1,104 @@
+"""A headless Chromium, driven over a pipe by the DevTools protocol."""
+import json
+import os
+import shutil
+import signal
+import subprocess
+import tempfile
+import time
+
+NAMES = ('chromium', 'chromium-browser', 'google-chrome', 'chrome')
+SECONDS = 60
+
+
+def installed():
+    """The browser's program, or None."""
+    return next((found for found in map(shutil.which, NAMES) if found), None)
+
+
+class Browser:
+    """A browser with one page. Every request of the page to a network fails, since it has no host to ask."""
+
+    def __init__(self, width=1200, height=900):
+        self.home = tempfile.mkdtemp()
+        asked, self.asking = os.pipe()
+        self.answers, answering = os.pipe()
+        words = [installed(), '--headless=new', '--remote-debugging-pipe', '--no-first-run', '--disable-gpu', '--hide-scrollbars',
+                 '--disable-extensions', '--disable-background-networking', '--host-resolver-rules=MAP * ~NOTFOUND',
+                 f'--user-data-dir={self.home}', f'--window-size={width},{height}', 'about:blank']
+        if os.getuid() == 0:
+            words.insert(1, '--no-sandbox')
+        self.process = subprocess.Popen(
+            ['sh', '-c', f'exec "$@" 3<&{asked} 4>&{answering}', 'sh', *words], pass_fds=(asked, answering),
+            stdout=subprocess.DEVNULL, stderr=subprocess.DEVNULL, start_new_session=True)
+        os.close(asked)
+        os.close(answering)
+        self.waiting = b''
+        self.number = 0
+        self.events = []
+        self.session = None
+        target = next(it for it in self.ask('Target.getTargets')['targetInfos'] if it['type'] == 'page')
+        self.session = self.ask('Target.attachToTarget', targetId=target['targetId'], flatten=True)['sessionId']
+        for domain in ('Page', 'Runtime', 'Network', 'Log'):
+            self.ask(f'{domain}.enable')
+
+    def message(self):
+        """The next message of the browser."""
+        while b'\0' not in self.waiting:
+            piece = os.read(self.answers, 1 << 20)
+            if not piece:
+                raise RuntimeError('the browser ended')
+            self.waiting += piece
+        text, self.waiting = self.waiting.split(b'\0', 1)
+        return json.loads(text)
+
+    def ask(self, method, **parameters):
+        """The answer to a command; events that come before it are kept."""
+        self.number += 1
+        message = {'id': self.number, 'method': method, 'params': parameters}
+        if self.session:
+            message['sessionId'] = self.session
+        data = json.dumps(message).encode() + b'\0'
+        while data:
+            data = data[os.write(self.asking, data):]
+        while True:
+            told = self.message()
+            if told.get('id') == self.number:
+                if 'error' in told:
+                    raise RuntimeError(f'{method}: {told["error"]["message"]}')
+                return told['result']
+            self.events.append(told)
+
+    def run(self, script):
+        """The value of an expression of the page; a promise is waited for."""
+        told = self.ask('Runtime.evaluate', expression=script, returnByValue=True, awaitPromise=True)
+        if 'exceptionDetails' in told:
+            raise RuntimeError(told['exceptionDetails'].get('exception', {}).get('description', script))
+        return told['result'].get('value')
+
+    def wait(self, script, seconds=SECONDS):
+        """Waits until an expression is true; answers the seconds that it took."""
+        began = time.monotonic()
+        while not self.run(script):
+            if time.monotonic() - began > seconds:
+                raise RuntimeError(f'not true in time: {script}')
+            time.sleep(0.01)
+        return time.monotonic() - began
+
+    def open(self, path, seconds=SECONDS):
+        """Opens a page from disk, and waits until it is ready; answers the seconds that it took."""
+        began = time.monotonic()
+        self.events.clear()
+        self.ask('Page.navigate', url='file://' + os.path.abspath(path))
+        self.wait('document.documentElement?.dataset.ready === "yes"', seconds)
+        return time.monotonic() - began
+
+    def end(self):
+        os.close(self.asking)
+        try:
+            self.process.wait(10)
+        except subprocess.TimeoutExpired:
+            os.killpg(self.process.pid, signal.SIGKILL)
+            self.process.wait()
+        os.close(self.answers)
+        shutil.rmtree(self.home, ignore_errors=True)

@@ -1,0 +1,56 @@
+"""The entries of docs/GUIDE.md: what a fault, a standing, a reason or a line means, and what to ask the sender."""
+import os
+import re
+
+from lines import Refused
+
+GUIDE = os.path.join(os.path.dirname(os.path.realpath(__file__)), '..', '..', 'docs', 'GUIDE.md')
+
+
+class Entry:
+    """The meaning of a name, and its points: pairs of a label, such as `Ask the sender`, and a text."""
+
+    def __init__(self, meaning, points):
+        self.meaning = meaning
+        self.points = points
+
+
+class Guide(dict):
+    """The entries by their names."""
+
+    def __missing__(self, name):
+        raise Refused(f'docs/GUIDE.md has no entry {name}')
+
+
+def plain(markdown):
+    """A paragraph without its marks."""
+    text = re.sub(r'\[([^]]*)\]\([^)]*\)', r'\1', markdown)
+    return re.sub(r'`([^`]*)`', r'\1', text.replace('**', '')).strip()
+
+
+def entry_of(text):
+    """The entry below a heading: its first paragraph and its points."""
+    meaning = plain(text.strip().split('\n\n')[0])
+    points = re.findall(r'^- \*\*([^*]+):\*\* (.*)$', text, re.M)
+    return Entry(meaning, [(label, plain(point)) for label, point in points])
+
+
+def answered(entries, entry):
+    """The points of an entry; one that only says `See NAME.` has the answer of that entry."""
+    found = []
+    for label, text in entry.points:
+        other = re.fullmatch(r'See (\w+)\.', text)
+        known = dict(entries[other[1]].points) if other and other[1] in entries else {}
+        found.append((label, known.get(label, text)))
+    return found
+
+
+def read_guide(path=GUIDE):
+    """The entries by their names."""
+    with open(path, encoding='utf-8') as file:
+        parts = re.split(r'^### (.*)$', file.read(), flags=re.M)
+    entries = Guide((title.strip('`'), entry_of(re.split(r'^## ', text, flags=re.M)[0]))
+                    for title, text in zip(parts[1::2], parts[2::2]))
+    for entry in entries.values():
+        entry.points = answered(entries, entry)
+    return entries
