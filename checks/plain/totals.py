@@ -106,6 +106,13 @@ SPELLINGS = {
 }
 
 
+def has_cells(kind, cells):
+    """Whether a line has the cells of its kind; that of a file has five if it ended Whole, and seven or eight by a Fault."""
+    if kind != 'FILE':
+        return len(cells) == len(SPELLINGS[kind])
+    return len(cells) in (5, 7, 8) and cells[4] != (b'Fault' if len(cells) == 5 else b'Whole')
+
+
 def outcome(cells):
     """How a file ended, by the cells after its blocks: true for Whole."""
     if len(cells) == 1:
@@ -161,7 +168,7 @@ class Reader:
         kind = first.decode()
         if kind not in SPELLINGS:
             raise Refused(self.lines, 'UnknownLine')
-        if len(cells) not in ((5, 7, 8) if kind == 'FILE' else (len(SPELLINGS[kind]),)):
+        if not has_cells(kind, cells):
             raise Refused(self.lines, 'Cells')
         try:
             values = spelled(kind, cells)
