@@ -12,12 +12,13 @@ SPELLINGS = {
     'amount': r'(-?(?:0|[1-9][0-9]*)\.[0-9]{10})',
     'day': '([0-9]{4}-[0-9]{2}-[0-9]{2})',
     'place': '(-|[1-9][0-9]*)',
+    'standing': '(Ours|Foreign|Doubled|Headless)',
     'outcome': 'Whole|Fault\t(0|[1-9][0-9]*)\t([A-Za-z0-9]+)(?:\t([A-Za-z]+))?',
 }
 KINDS = {  # in the order in which they stand in a statement
     'REPORT': 'text number day day number',
     'NOREPORT': '',
-    'FILE': 'number place name number outcome',
+    'FILE': 'number place standing number outcome',
     'MISSING': 'number',
     'SUMMARY': 'number text whole whole amount amount',
     'LEDGER': 'text text text text whole amount',
@@ -181,4 +182,8 @@ def read_statement(lines, on_booked):
     files = reader.statement.files
     if not files or reader.booked or [file.place for file in files] != list(range(1, len(files) + 1)):
         raise Refused(f'line {number + 1}: the statement is cut off here')
+    if not reader.statement.report and any(it.standing != 'Headless' for it in files):
+        raise Refused('it has no report, but a file that is not Headless')
+    if any(not 1 <= it.file <= len(files) for it in (*reader.statement.differences, *reader.statement.rejects)):
+        raise Refused(f'a line names a file that is not one of the {len(files)}')
     return reader.statement

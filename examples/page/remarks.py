@@ -19,6 +19,7 @@ MARKED = {
 FAULTY_ROLE = {'NoIsrc': 'AS', 'BadIsrc': 'AS', 'DoubledBlock': 'AS', 'ShareOver': 'MW', 'UnknownSummary': 'SU'}
 KEY = ['MessageId', 'NumberOfFiles', 'UsageStartDate', 'UsageEndDate']
 MOST_CELLS = 64
+AT_THE_END = ('NoHead', 'NoFoot', 'Read', 'Reads')
 CUT = ('MissingCell', 'BadCell', 'Uneven', 'UnknownRecord')
 
 
@@ -81,12 +82,15 @@ class Report:
     def compare(self, file):
         """Refuses a file that is not the one of the statement."""
         head = file.scan.head
-        number = self.layout.cell(head, 'FileNumber').lstrip('0') if head else 'no number'
-        if file.line.number not in ('-', number):
-            raise Refused(f'{file.called()} has {number}, but {file.line.number} in the statement: name the files '
-                          'that dsr was given, in their order, and the layout')
-        if file.scan.position < file.scan.wanted.last:
-            raise Refused(f'{file.called()} has fewer blocks than in the statement: was it changed?')
+        number, message = (self.layout.cell(head, it) if head else '' for it in ('FileNumber', 'MessageId'))
+        has_key = file.line.standing in ('Ours', 'Doubled')
+        if file.line.number not in ('-', number.lstrip('0')) or has_key and message != self.statement.report[0]:
+            raise Refused(f'{file.called()} is number {number or "-"} of {message or "no report"}, not the file of the '
+                          'statement: name the files that dsr was given, in their order, and the layout')
+        fault = file.line.fault
+        ends_early = fault and fault.name not in AT_THE_END and file.scan.fault_lines[-1].number is None
+        if file.scan.position < file.scan.wanted.last or ends_early:
+            raise Refused(f'{file.called()} has less than in the statement: was it changed, or read with a layout?')
 
     def file_remarks(self, file):
         """The remarks on a file that was read."""
@@ -101,7 +105,6 @@ class Report:
             yield Remark(f'Number {ranges(self.statement.missing)} of {self.statement.report[1]} files', 'MISSING')
         for place, differences in itertools.groupby(self.statement.differences, lambda it: it.file):
             yield difference_remark(self.layout, self.files[place - 1], list(differences))
-
 
 
 def first_of_each(rejects, most):
@@ -205,7 +208,9 @@ def standing_remark(layout, file, files):
     if file.line.standing == 'Headless' or not file.scan:
         return remark
     foreign = file.line.standing == 'Foreign'
-    other = next(it for it in files if it.line.standing == 'Ours' and (foreign or it.line.number == file.line.number))
+    other = next((it for it in files if it.line.standing == 'Ours' and (foreign or it.line.number == file.line.number)), None)
+    if other is None:
+        raise Refused(f'{file.called()} is {file.line.standing}, but no file is that of the report')
     heads = [Line(it.scan.head.number, it.scan.head.raw, 'HEAD') for it in (other, file)]
     columns = [it for it in KEY if layout.cell(heads[0], it) != layout.cell(heads[1], it)] if foreign else ['FileNumber']
     for each, head in zip((other, file), heads):

@@ -2,7 +2,7 @@
 // A table of any number of rows, to search and sort. Amounts and usages are BigInt; every text is put in as text, never as
 // markup.
 
-const ROW = 32, NAMES = 36;      // heights of a row and of the names above the rows, as in page.css
+const ROW = 32;                  // the height of a row, as in page.css
 const MOST_HEIGHT = 8000000;     // a browser does not lay out much higher elements
 const SLICE = 12;                // milliseconds of work before the browser gets its turn
 const RUN = 2048;                // rows that are sorted at once
