@@ -21,11 +21,11 @@ is_made() {
 }
 if is_made; then cat "$kept.log"; exit "$(cut -f 5 "$kept.log")"; fi
 
-room=$(mktemp -d "$2/.making.XXXXXX")
+began=${EPOCHREALTIME/./} status=0 bytes=0 currencies='' inputs=() pipes=() unpacking=()
+room=$2/.making.$HOSTNAME.$$.$began
 trap 'rm -rf "$room"' EXIT
 trap 'echo "one_report.sh: $name: ended by a signal, without a statement" >&2; kill $(jobs -p); exit 143' INT TERM HUP
-began=${EPOCHREALTIME/./} status=0 bytes=0 currencies='' inputs=() pipes=() unpacking=()
-touch "$room/began" "$room/errors"
+mkdir "$room"; touch "$room/began" "$room/errors"
 if [ -e "$kept.tsv" ]; then mv "$kept.tsv" "$kept.tsv.$(date -u -r "$kept.tsv" +%Y%m%dT%H%M%S.%N)"; fi
 rm -f "$kept.log" "$kept.errors"
 
