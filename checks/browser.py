@@ -24,7 +24,7 @@ class Browser:
         asked, self.asking = os.pipe()
         self.answers, answering = os.pipe()
         words = [installed(), '--headless=new', '--remote-debugging-pipe', '--no-first-run', '--disable-gpu', '--hide-scrollbars',
-                 '--disable-extensions', '--disable-background-networking', '--host-resolver-rules=MAP * ~NOTFOUND',
+                 '--disable-extensions', '--disable-background-networking', '--disable-dev-shm-usage', '--host-resolver-rules=MAP * ~NOTFOUND',
                  f'--user-data-dir={self.home}', f'--window-size={width},{height}', 'about:blank']
         if os.getuid() == 0:
             words.insert(1, '--no-sandbox')
