@@ -31,7 +31,7 @@ def run(words, given):
     source = os.open(given or os.devnull, os.O_RDONLY)
     sink = os.open(os.devnull, os.O_WRONLY)
     began = time.perf_counter()
-    child = os.posix_spawn(words[0], words, os.environ,
+    child = os.posix_spawnp(words[0], words, os.environ,
                            file_actions=[(os.POSIX_SPAWN_DUP2, source, 0), (os.POSIX_SPAWN_DUP2, sink, 1)])
     _, _, used = os.wait4(child, 0)
     seconds = time.perf_counter() - began

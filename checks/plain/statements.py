@@ -188,6 +188,37 @@ def wrapped_sum(rng, lines):
                     [b'UNCLAIMED', *key, b'0.0000000000']]
 
 
+def other_outcome(rng, lines):
+    """A file that ended by any fault, with or without a column."""
+    at = of_kind(rng, lines, 'FILE')
+    if at is not None:
+        column = [rng.choice(totals.NAMED['column']).encode()] if rng.random() < 0.7 else []
+        lines[at][5:] = [b'Fault', b'7', rng.choice(FAULTS).encode(), *column]
+
+
+def other_period(rng, lines):
+    """A last day that is before the first, with the number of days that this gives."""
+    at = of_kind(rng, lines, 'REPORT')
+    if at is not None:
+        lines[at][3:] = rng.choice(([b'2024-01-02', b'2024-01-01', b'0'], [b'2024-03-01', b'2024-02-28', b'-1'], [b'2024-03-01', b'2024-02-29', b'0']))
+
+
+def other_key(rng, lines):
+    """A line under a LEDGER line with one other cell of the key, which is spelled well."""
+    at = of_kind(rng, lines, rng.choice(('PARTY', 'UNCLAIMED')))
+    if at is not None:
+        column = rng.choice((1, 2, 3, 4))
+        lines[at][column] = (b'GBABC2400009', b'FR', b'PermanentDownload', b'USD')[column - 1]
+
+
+def ledger_again(rng, lines):
+    """A LEDGER line once more, with all that stands under it."""
+    at = of_kind(rng, lines, 'LEDGER')
+    if at is not None:
+        end = next((other for other in range(at + 1, len(lines)) if lines[other][0] == b'UNCLAIMED'), at) + 1
+        lines[end:end] = [list(cells) for cells in lines[at:end]]
+
+
 def no_report(rng, lines):
     lines[0] = [b'NOREPORT']
 
@@ -225,7 +256,8 @@ LINE_SPOILS = [
     *(other_count(kind, change) for kind in CELLS for change in (1, -1)), other_count('FILE', 2),
     *(drop_line(kind) for kind in CELLS), *(again(kind) for kind in CELLS), *(other_sum(kind) for kind in ('LEDGER', 'PARTY', 'UNCLAIMED')),
     unknown_line, line_end, swap, swap, wrapped_sum, no_report,
-    no_report_with_a_cell, no_report_below, first_lines, header_alone, no_lines, long_party, long_party,
+    no_report_with_a_cell, no_report_below, other_outcome, other_outcome, other_period, other_key, other_key,
+    ledger_again, first_lines, header_alone, no_lines, long_party, long_party,
 ]
 
 
