@@ -1,7 +1,7 @@
 #!/usr/bin/env bash
 # summary.sh STATEMENTS: what became of the reports of STATEMENTS/reports.list. Writes their log lines to night.log, in the
 # order of the list; prints the lines of those that failed, and last how many reports are clean, have remarks, failed, and
-# were not made, as after a kill. Exit status: 0 if each report has a statement, else 1.
+# were not made: after a kill, or since a file came. Exit status: 0 if each report has a statement, else 1.
 set -euo pipefail
 export LC_ALL=C
 [ $# -eq 1 ] || { sed -n '2,/^set/s/^# //p' "$0" >&2; exit 2; }
@@ -11,7 +11,7 @@ log=.log.$$
 clean=0 remarks=0 failed=0 missing=0
 while IFS= read -r -d '' report; do
     name=./${report##*/}
-    if ! line=$(cat "$name.log" 2>/dev/null); then
+    if ! line=$(cat "$name.log" 2>/dev/null) || [ "$(find -L "$report" -maxdepth 1 -newer "$name.tsv" -print -quit 2>/dev/null)" ]; then
         missing=$((missing + 1))
         echo "not made: ${report##*/}"
         continue
