@@ -11,17 +11,17 @@ here=$(dirname "$(realpath "$0")")
 command -v parallel >/dev/null || { echo "night.sh: GNU parallel is not there" >&2; exit 2; }
 "$here/prepare.sh" "$1" "$2"
 
-# A first signal to parallel lets no report begin, and a second ends those that run.
+# parallel ends the reports that run, and begins no other.
 stop() {
     trap '' INT TERM HUP
-    kill "$running" && sleep 0.1 && kill "$running" || true
+    kill "$running" || true
     wait "$running" || true
     echo "night.sh: ended by a signal; run it again for the rest" >&2
     "$here/summary.sh" "$2" >&2 || true
     exit 143
 }
 trap 'stop "$@"' INT TERM HUP
-parallel --null --arg-file "$2/reports.list" --jobs "${3:-100%}" --termseq TERM,10000,KILL \
+parallel --null --arg-file "$2/reports.list" --jobs "${3:-100%}" --termseq TERM,10000,KILL,100 \
     "$here/one_report.sh" {} "$2" &
 running=$!
 wait "$running" || true

@@ -18,8 +18,8 @@ if $made && [ -e "$kept.log" ]; then cat "$kept.log"; exit "$(cut -f 5 "$kept.lo
 
 began=${EPOCHREALTIME/./} status=0 bytes=0 currencies='' running='' inputs=() pipes=() unpacking=()
 room=$2/.making.$HOSTNAME.$$.$began
-trap 'rm -rf "$room"' EXIT
-trap 'echo "one_report.sh: $name: ended by a signal, without a statement" >&2
+trap 'trap "" INT TERM HUP; rm -rf "$room"' EXIT
+trap 'trap "" INT TERM HUP; echo "one_report.sh: $name: ended by a signal, without a statement" >&2
     { [ -z "$running" ] || kill "$running" && wait "$running"; } 2>/dev/null || true
     exit 143' INT TERM HUP
 mkdir "$room"; touch "$room/began" "$room/errors"
