@@ -1,6 +1,7 @@
 //! Runs that have to end well also if an allocation is refused. checks/refusals runs them with each one refused in turn.
 ghost use Rattle.std.specs.Prelude.{◌≡◌, None, false, All, IfOk};
 
+use crate::intakes::reports_clean;
 use crate::runs::options;
 use crate::script::{After, Script, Step, one_reader};
 use crate::texts::{CLEAN, CLEAN_STATEMENT, HUNDRED_STATEMENT};
@@ -114,5 +115,14 @@ fn a_hundred_blocks_or_no_memory(rt: HostRuntime) {
     let alloc = rt.alloc();
     if let Ok(readers) = hundred_reader(alloc) {
         assert!(rt; ends_well(&rt, alloc, readers, Status::Remarks, HUNDRED_STATEMENT));
+    }
+}
+
+/// The report without a statement.
+#[test]
+fn intake_of_a_clean_report_or_no_memory(rt: HostRuntime) {
+    let alloc = rt.alloc();
+    if let Ok(readers) = one_reader(alloc, CLEAN, Step::Full, After::End) {
+        assert!(rt; reports_clean(&rt, alloc, readers, options(1, 1000)) != Some(false));
     }
 }

@@ -1,11 +1,12 @@
 //! Refusals and failures, and what was written before them.
 ghost use Rattle.std.specs.Prelude.{◌≡◌, false, All, IfOk};
 
+use crate::capacities::{CAPACITIES, readers_of};
 use crate::page::Page;
 use crate::runs::{gives, options};
 use crate::script::{After, Script, Step, one_reader};
 use crate::texts::{CLEAN, CLEAN_STATEMENT};
-use dsr_intake::{RunError, Status, ToWrite, run};
+use dsr_intake::{IntakeError, Options, RunError, Status, ToWrite, run};
 use std::alloc::{AllocError, Global};
 use std::io;
 use std::io::Write;
@@ -27,6 +28,7 @@ fn fails_after<H: Threads + Wait + RandomSource + Clock + Copy + Send + 'static>
     alloc: Global,
     readers: Vec<Script>,
     page: Page,
+    capacity: u32,
     expected: &[u8],
 ) -> bool
     requires readers { All (λ r. r.failed ≡ false) readers.items }
@@ -35,16 +37,18 @@ fn fails_after<H: Threads + Wait + RandomSource + Clock + Copy + Send + 'static>
     let mut readers = readers;
     let mut page = page;
     let written = expected.len() as u64;
-    let answer = run(rt, alloc, &mut readers, options(16, 100), &mut page);
+    let answer = run(rt, alloc, &mut readers, options(capacity, 100), &mut page);
     answer == Err(RunError::Write { written }) && page.bytes() == expected
 }
 
 #[test]
 fn a_writer_that_fails_after_five_bytes(rt: HostRuntime) -> Result<(), AllocError> {
     let alloc = rt.alloc();
-    let readers = clean_reader(alloc)?;
-    let page = Page::narrow(alloc, 100, 5, true);
-    assert!(rt; fails_after(&rt, alloc, readers, page, b"REPOR"));
+    for capacity in CAPACITIES {
+        let readers = clean_reader(alloc)?;
+        let page = Page::narrow(alloc, 100, 5, true);
+        assert!(rt; fails_after(&rt, alloc, readers, page, capacity, b"REPOR"));
+    }
     Ok(())
 }
 
@@ -56,7 +60,7 @@ fn a_writer_that_fails_after_every_byte(rt: HostRuntime) -> Result<(), AllocErro
     for room in 0..CLEAN_STATEMENT.len() {
         let readers = clean_reader(alloc)?;
         let page = Page::narrow(alloc, 1, room, true);
-        assert!(rt; fails_after(&rt, alloc, readers, page, &CLEAN_STATEMENT[..room]));
+        assert!(rt; fails_after(&rt, alloc, readers, page, 16, &CLEAN_STATEMENT[..room]));
     }
     Ok(())
 }
@@ -66,7 +70,7 @@ fn a_flush_that_fails(rt: HostRuntime) -> Result<(), AllocError> {
     let alloc = rt.alloc();
     let readers = clean_reader(alloc)?;
     let page = Page::narrow(alloc, 7, 100_000, false);
-    assert!(rt; fails_after(&rt, alloc, readers, page, CLEAN_STATEMENT));
+    assert!(rt; fails_after(&rt, alloc, readers, page, 16, CLEAN_STATEMENT));
     Ok(())
 }
 
@@ -187,5 +191,53 @@ fn a_long_line_and_then_a_read_that_fails(rt: HostRuntime) -> Result<(), AllocEr
     assert!(rt; ends_by(&rt, alloc, b'x', 8193, "LongLine")?);
     assert!(rt; ends_by(&rt, alloc, b'#', 8193, "LongLine")?);
     assert!(rt; ends_by(&rt, alloc, b'#', 8192, "Read")?);
+    Ok(())
+}
+
+/// Whether a run on these readers is refused for this reason, with nothing written.
+fn is_refused<H: Threads + Wait + RandomSource + Clock + Copy + Send + 'static>(
+    rt: &H,
+    alloc: Global,
+    readers: Vec<Script>,
+    options: Options,
+    reason: IntakeError,
+) -> bool
+    requires { All (λ r. r.failed ≡ false) readers.items }
+{
+    let mut readers = readers;
+    let mut page = Page::new(alloc);
+    let answer = run(rt, alloc, &mut readers, options, &mut page);
+    answer == Err(RunError::Intake(reason)) && page.bytes().is_empty()
+}
+
+#[test]
+fn no_files_and_too_many(rt: HostRuntime) -> Result<(), AllocError> {
+    let alloc = rt.alloc();
+    let reason = IntakeError::NoFiles;
+    for capacity in CAPACITIES {
+        let readers = readers_of(alloc, &[])?;
+        assert!(rt; is_refused(&rt, alloc, readers, options(capacity, 100), reason));
+    }
+    let readers = readers_of(alloc, &[CLEAN; 65])?;
+    let reason = IntakeError::TooManyFiles;
+    assert!(rt; is_refused(&rt, alloc, readers, options(1, 100), reason));
+    Ok(())
+}
+
+#[test]
+fn options_out_of_range(rt: HostRuntime) -> Result<(), AllocError> {
+    let alloc = rt.alloc();
+    for max_reads in [0, 16_777_217] {
+        for capacity in CAPACITIES {
+            let readers = clean_reader(alloc)?;
+            let options = options(capacity, max_reads);
+            assert!(rt; is_refused(&rt, alloc, readers, options, IntakeError::Reads));
+        }
+        for capacity in [0, 1025] {
+            let readers = clean_reader(alloc)?;
+            let options = options(capacity, max_reads);
+            assert!(rt; is_refused(&rt, alloc, readers, options, IntakeError::Capacity));
+        }
+    }
     Ok(())
 }

@@ -1,6 +1,7 @@
 //! Reports in one file and in several, with several capacities and sizes of reads.
 ghost use Rattle.std.specs.Prelude.{◌≡◌, false, All, IfOk};
 
+use crate::capacities::CAPACITIES;
 use crate::runs::{gives, options};
 use crate::script::{After, Script, Step, one_reader};
 use crate::texts::{
@@ -34,7 +35,7 @@ fn three_readers(alloc: Global) -> Result<Vec<Script>, AllocError>
 #[test]
 fn a_failed_read_in_the_second_of_three(rt: HostRuntime) -> Result<(), AllocError> {
     let alloc = rt.alloc();
-    for capacity in [1, 16, 1024] {
+    for capacity in CAPACITIES {
         let readers = three_readers(alloc)?;
         let options = options(capacity, 1000);
         assert!(rt;
@@ -54,18 +55,20 @@ fn a_failed_read_in_the_second_of_three(rt: HostRuntime) -> Result<(), AllocErro
 #[test]
 fn comments_for_ever(rt: HostRuntime) -> Result<(), AllocError> {
     let alloc = rt.alloc();
-    let readers = one_reader(alloc, b"#\n", Step::Full, After::Again)?;
-    let options = options(1, 5);
-    assert!(rt;
-        gives(
-            &rt,
-            alloc,
-            readers,
-            options,
-            Status::Remarks,
-            NO_REPORT_READS
-        )
-    );
+    for capacity in CAPACITIES {
+        let readers = one_reader(alloc, b"#\n", Step::Full, After::Again)?;
+        let options = options(capacity, 5);
+        assert!(rt;
+            gives(
+                &rt,
+                alloc,
+                readers,
+                options,
+                Status::Remarks,
+                NO_REPORT_READS
+            )
+        );
+    }
     Ok(())
 }
 

@@ -131,8 +131,8 @@ impl Script {
         let other = self.begun.of(!self.is_first);
         match self.wait {
             Wait::Never => true,
-            Wait::First => own > 1 || reaches(other, 1, 10_000_000),
-            Wait::Unless(reads) => self.at < self.text.len() || !reaches(other, reads, 1_000_000),
+            Wait::First => own > 1 || reaches(other, 1),
+            Wait::Unless(reads) => self.at < self.text.len() || !reaches(other, reads),
         }
     }
 }
@@ -189,9 +189,12 @@ pub fn one_reader(
     Ok(vec![in alloc; Script::alone(alloc, text, step, after)?]?)
 }
 
-/// Waits, for at most `turns` turns, until the count is `wanted`. Returns whether it got there.
-fn reaches(count: &AtomicU64, wanted: u64, turns: u32) -> bool {
-    for _ in 0..turns {
+/// The number of turns that a reader waits.
+const TURNS: u32 = 10_000_000;
+
+/// Waits, for a limited number of turns, until the count is `wanted`. Returns whether it got there.
+fn reaches(count: &AtomicU64, wanted: u64) -> bool {
+    for _ in 0..TURNS {
         if count.load(Ordering::SeqCst) >= wanted {
             return true;
         }

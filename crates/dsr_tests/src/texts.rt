@@ -113,3 +113,72 @@ FILE\t1\t2\tOurs\t100\tWhole\n\
 MISSING\t1\n\
 LEDGER\tGBABC2400001\tGB\tOnDemandStream\tGBP\t100\t1.0000000000\n\
 UNCLAIMED\tGBABC2400001\tGB\tOnDemandStream\tGBP\t1.0000000000\n";
+
+/// The statement of a report in two files that are given in the other order.
+pub const SWAPPED_STATEMENT: &[u8] = b"\
+REPORT\tR1\t2\t2024-01-01\t2024-01-31\t31\n\
+FILE\t1\t2\tOurs\t1\tWhole\n\
+FILE\t2\t1\tOurs\t1\tWhole\n\
+LEDGER\tGBABC2400001\tGB\tOnDemandStream\tGBP\t17\t0.7500000000\n\
+UNCLAIMED\tGBABC2400001\tGB\tOnDemandStream\tGBP\t0.7500000000\n";
+
+/// The statement of a report in three files whose second file is missing and whose first is given again.
+pub const DOUBLED_STATEMENT: &[u8] = b"\
+REPORT\tR1\t3\t2024-01-01\t2024-01-31\t31\n\
+FILE\t1\t1\tOurs\t1\tWhole\n\
+FILE\t2\t3\tOurs\t1\tWhole\n\
+FILE\t3\t1\tDoubled\t1\tWhole\n\
+MISSING\t2\n\
+LEDGER\tGBABC2400001\tGB\tOnDemandStream\tGBP\t17\t0.7500000000\n\
+UNCLAIMED\tGBABC2400001\tGB\tOnDemandStream\tGBP\t0.7500000000\n\
+REJECT\t3\t1\t1\tDoubledFile\n";
+
+/// The only file of another report.
+pub const OTHER_REPORT: &[u8] = b"\
+HEAD\tQ9\t1\t1\t2024-01-01\t2024-01-31\tS\tL\n\
+SY01\tS1\tGB\tOnDemandStream\tGBP\t5\t0.1\n\
+AS01\t1\tGBABC2400001\tSong\tBand\n\
+SU01\t1\tS1\t5\t0.1\n\
+FOOT\t5\t1\t1\n";
+
+/// The statement of that file and of the clean report after it, which is foreign to it.
+pub const FOREIGN_STATEMENT: &[u8] = b"\
+REPORT\tQ9\t1\t2024-01-01\t2024-01-31\t31\n\
+FILE\t1\t1\tOurs\t1\tWhole\n\
+FILE\t2\t1\tForeign\t2\tWhole\n\
+LEDGER\tGBABC2400001\tGB\tOnDemandStream\tGBP\t5\t0.1000000000\n\
+UNCLAIMED\tGBABC2400001\tGB\tOnDemandStream\tGBP\t0.1000000000\n\
+REJECT\t2\t1\t1\tForeignFile\n\
+REJECT\t2\t2\t2\tForeignFile\n";
+
+/// A file whose blocks are booked or rejected for each reason that a block alone can have, and whose summary does not agree.
+pub const VERDICTS: &[u8] = b"\
+HEAD\tR1\t1\t1\t2024-01-01\t2024-01-31\tS\tL\n\
+SY01\tS1\tGB\tOnDemandStream\tGBP\t60\t6\n\
+AS01\t1\tGBABC2400001\tSong\tBand\n\
+SU01\t1\tS1\t10\t1\n\
+AS01\t1\tGBABC2400002\tOther\tBand\n\
+SU01\t1\tS1\t10\t1\n\
+AS01\t3\t\tSong\tBand\n\
+SU01\t3\tS1\t10\t1\n\
+AS01\t4\tgbabc2400001\tSong\tBand\n\
+SU01\t4\tS1\t10\t1\n\
+AS01\t5\tGBABC2400003\tSong\tBand\n\
+SU01\t5\tS9\t10\t1\n\
+AS01\t6\tGBABC2400004\tSong\tBand\n\
+MW01\t6\tW1\tSong\tP1|P2\t60|60\n\
+SU01\t6\tS1\t10\t1\n\
+FOOT\t16\t1\t6\n";
+
+/// The statement of that file.
+pub const VERDICTS_STATEMENT: &[u8] = b"\
+REPORT\tR1\t1\t2024-01-01\t2024-01-31\t31\n\
+FILE\t1\t1\tOurs\t6\tWhole\n\
+SUMMARY\t1\tS1\t60\t50\t6.0000000000\t5.0000000000\n\
+LEDGER\tGBABC2400001\tGB\tOnDemandStream\tGBP\t10\t1.0000000000\n\
+UNCLAIMED\tGBABC2400001\tGB\tOnDemandStream\tGBP\t1.0000000000\n\
+REJECT\t1\t2\t1\tDoubledBlock\n\
+REJECT\t1\t3\t3\tNoIsrc\n\
+REJECT\t1\t4\t4\tBadIsrc\n\
+REJECT\t1\t5\t5\tUnknownSummary\n\
+REJECT\t1\t6\t6\tShareOver\n";

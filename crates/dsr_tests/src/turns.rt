@@ -1,5 +1,6 @@
 //! Readers that wait for one another: the files are read concurrently, and a full relay blocks its
 //! reader.
+use crate::capacities::CAPACITIES;
 use crate::runs::{gives, options};
 use crate::script::{Part, Step, Wait, two_readers};
 use crate::texts::{FIRST_OF_TWO, HUNDRED_AND_ONE_STATEMENT, SECOND_OF_TWO, TWO_STATEMENT};
@@ -24,9 +25,11 @@ fn the_files_are_read_at_once(rt: HostRuntime) -> Result<(), AllocError> {
         step: Step::Full,
         wait: Wait::First,
     };
-    let readers = two_readers(alloc, first, second)?;
-    let options = options(16, 100);
-    assert!(rt; gives(&rt, alloc, readers, options, Status::Clean, TWO_STATEMENT));
+    for capacity in CAPACITIES {
+        let readers = two_readers(alloc, first, second)?;
+        let options = options(capacity, 100);
+        assert!(rt; gives(&rt, alloc, readers, options, Status::Clean, TWO_STATEMENT));
+    }
     Ok(())
 }
 
