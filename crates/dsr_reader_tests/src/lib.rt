@@ -5,8 +5,9 @@
 //!    not. One of these calls is the example of dsr_blocks.
 //! 3. `reads`: how far a file is read, which contracts do not say of one that ends for want of memory. The source of this
 //!    test is the example of dsr_io.
+//! 4. `whole`: all events of a file at once, asked for again if memory is refused.
 //!
-//! `checks/refusals` refuses each allocation of `reads`, and of the second test of `memory`, in turn.
+//! `checks/refusals` refuses each allocation of `reads`, of `whole`, and of the second test of `memory`, in turn.
 //!
 //! That cells, records, layouts and files have the values of docs/PROFILE.md is not tested here: `checks/rows` tries it on
 //! the program. The tests are a separate crate, since a crate with tests is proved a second time with them.
@@ -18,3 +19,5 @@ mod examples;
 mod memory;
 #[cfg(test)]
 mod reads;
+#[cfg(test)]
+mod whole;
