@@ -16,3 +16,4 @@ pub mod FeedLemmas
 pub mod ReadLemmas
 pub mod ResultLemmas
 pub mod WordLemmas
+pub mod UsualLemmas

@@ -34,7 +34,7 @@ pub(crate) struct Cutter {
 }
 
 impl Cutter {
-    ghost use Rattle.dsr_file.specs.inner.Cutting.{CutsTo, CutSteps, FitsCut};
+    ghost use Rattle.dsr_file.specs.inner.Cutting.{CutsTo, CutSteps, FitsCut, IsBetweenLines};
 
     /// An empty cutter, with room for the longest line.
     pub(crate) fn new(alloc: Global) -> Result<Cutter, NoMemory>
@@ -139,6 +139,14 @@ impl Cutter {
         ensures short { length result.now ≤ line_limit }
     {
         self.bytes.as_slice()
+    }
+
+    /// Whether no byte of the next line is kept, and the place of the byte order mark is behind.
+    #[inline(always)]
+    pub(crate) fn is_between_lines(&self) -> bool
+        ensures { IsTrue result → IsBetweenLines self.now }
+    {
+        !self.fresh && self.bytes.is_empty()
     }
 
     /// Begins the next line.

@@ -342,6 +342,33 @@ impl Grammar {
         }
     }
 
+    /// Takes the next line, whose cells have no fault; `closed` becomes what the line closes. Returns whether the line is
+    /// good; otherwise `step` becomes the result.
+    #[inline(always)]
+    pub(crate) fn usual(
+        &mut self,
+        alloc: Global,
+        line: &CheckedLine<'_>,
+        closed: &mut Closed,
+        step: &mut Step,
+    ) -> bool
+        requires lines { self.old.lines < 2 ^ 40 - 1 }
+        requires none { closed.old ≡ None }
+        requires good { step.old ≡ Step.Good }
+        ensures steps { (ls : List Reading) → Keeps self.old ls
+            → LineSteps ls (Holds line.now) step.new closed.new self.new }
+        ensures good { result ≡ true → step.new ≡ Step.Good }
+        ensures counts { self.new.lines ≤ self.old.lines + 1 }
+    {
+        match self.checked(alloc, line, closed) {
+            Step::Good => true,
+            bad => {
+                *step = bad;
+                false
+            }
+        }
+    }
+
     /// Takes the last line, which is not too long. Returns also what it closes.
     pub(crate) fn last_line(
         &mut self,

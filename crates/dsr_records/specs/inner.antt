@@ -3,3 +3,4 @@ pub mod Rows
 pub mod Checked
 pub mod Taken
 pub mod Names
+pub mod Usual

@@ -1,12 +1,14 @@
 //! Checking lines, and copying the records of lines without a fault.
 ghost use Rattle.std.specs.Prelude.{◌≡◌, ◌+◌, ◌<◌, true, length, map};
-ghost use Rattle.std.specs.Prelude.{Ok, Err, IfOk, OnOk, OnErr, MatchResult, nat_lt, drop};
+ghost use Rattle.std.specs.Prelude.{Ok, Err, IfOk, IfSome, OnOk, OnErr, MatchResult, nat_lt, drop, take};
 ghost use Rattle.std.specs.Option.{option_map};
 ghost use Rattle.dsr_cells.specs.meaning.Cells.{cells};
 ghost use Rattle.dsr_blocks.specs.meaning.Blocks.{OpensBlock, with_member};
 ghost use Rattle.dsr_blocks.specs.declared.kinds.Kind.TheVariants as kinds;
 ghost use Rattle.dsr_blocks.specs.declared.record.Record.TheVariants as records;
 ghost use Rattle.dsr_records.specs.inner.Checked.{record_seen};
+ghost use Rattle.dsr_records.specs.inner.Usual.{BeginsWithLine};
+ghost use Rattle.dsr_records.specs.meaning.Layouts.{standard_layout};
 ghost use Rattle.dsr_records.specs.meaning.Records.{cell_in};
 ghost use Rattle.dsr_records.specs.inner.Rows.{cells_left};
 ghost use Rattle.dsr_records.specs.meaning.Reads.{AnswersRecord, kind_of_record, id_of_record, has_texts};
@@ -20,6 +22,7 @@ use crate::layout::Layout;
 use crate::layout_line::RoleLine;
 use crate::rest::Rest;
 use crate::row::Row;
+use crate::usual::usual_usage;
 use crate::write::{write_resource, write_usage, write_work};
 use dsr_blocks::{Block, Kind, Record};
 use dsr_cells::{NoMemory, count_cells};
@@ -42,6 +45,18 @@ impl<'l> Model for CheckedLine<'l> {
 }
 
 impl<'l> CheckedLine<'l> {
+    /// The line that a page begins with, by the standard layout, and its length, if it is a usage of the usual form. None
+    /// says nothing. The bytes behind the line are read too. Nothing is allocated.
+    #[inline(always)]
+    pub fn usual(page: &'l [u8]) -> Option<(CheckedLine<'l>, usize)>
+        ensures line { IfSome result (λ u. BeginsWithLine page.now u.1) }
+        ensures record { IfSome result (λ u. record_of standard_layout (take u.1 page.now) ≡ Ok u.0) }
+    {
+        let (usage, size) = usual_usage(page)?;
+        let found = RecordLine::Usage(usage);
+        Some((CheckedLine { found }, size))
+    }
+
     /// The kind of the line's record.
     #[inline(always)]
     pub fn kind(&self) -> Kind

@@ -20,13 +20,13 @@ use Rattle.dsr_values.proofs.Numbers.{digits_sum-lt}
 use Rattle.dsr_values.proofs.Lanes.{part_fails}
 
 -- an operation by bits on each byte of a word
-xor_byte : (a k more mask : ℕ) → a < 256 → k < 256 → bit_xor (a + 256 * more) (k + 256 * mask) ≡ bit_xor a k + 256 * bit_xor more mask
+pub xor_byte : (a k more mask : ℕ) → a < 256 → k < 256 → bit_xor (a + 256 * more) (k + 256 * mask) ≡ bit_xor a k + 256 * bit_xor more mask
 xor_byte a k more mask h l =
     let x : a + 256 * more ≡ more * 2 ^ 8 + a = omega arith in
     let y : k + 256 * mask ≡ mask * 2 ^ 8 + k = omega arith in
     rw (x, y, xor_block 8 more mask a k h l) (omega arith)
 
-and_byte : (a k more mask : ℕ) → a < 256 → k < 256 → bit_and (a + 256 * more) (k + 256 * mask) ≡ bit_and a k + 256 * bit_and more mask
+pub and_byte : (a k more mask : ℕ) → a < 256 → k < 256 → bit_and (a + 256 * more) (k + 256 * mask) ≡ bit_and a k + 256 * bit_and more mask
 and_byte a k more mask h l =
     let x : a + 256 * more ≡ more * 2 ^ 8 + a = omega arith in
     let y : k + 256 * mask ≡ mask * 2 ^ 8 + k = omega arith in
@@ -50,7 +50,7 @@ low a h e =
     let same : eqb (bit_and a 128) 0 ≡ ltb a 128 = agree_below_at (λ b. eqb (bit_and b 128) 0) (λ b. ltb b 128) 256 a refl h in
     grind (arith, nat_tests, same, e)
 
-low_four : (a b c d : ℕ) → a < 256 → b < 256 → c < 256 → d < 256 → bit_and (word_of_four a b c d) 0x8080_8080 ≡ 0
+pub low_four : (a b c d : ℕ) → a < 256 → b < 256 → c < 256 → d < 256 → bit_and (word_of_four a b c d) 0x8080_8080 ≡ 0
     → (a < 128) × (b < 128) × (c < 128) × (d < 128)
 low_four a b c d A B C D e =
     let parts : word_of_four (bit_and a 128) (bit_and b 128) (bit_and c 128) (bit_and d 128) ≡ 0 =
@@ -87,7 +87,7 @@ four_is a b c d word A B C D e =
     rw (masked, product, and_mask (100 * (10 * a + b) + 6553601 * (10 * c + d)) 16) (omega arith)
 
 -- a byte that differs from '0' in a number below ten is that digit
-digit : (a : ℕ) → a < 256 → bit_xor a 48 < 10 → (is_ascii_digit a ≡ true) × (bit_xor a 48 ≡ a - 48)
+pub digit : (a : ℕ) → a < 256 → bit_xor a 48 < 10 → (is_ascii_digit a ≡ true) × (bit_xor a 48 ≡ a - 48)
 digit a h less =
     let is : ltb (bit_xor a 48) 10 ≡ is_ascii_digit a = agree_below_at (λ b. ltb (bit_xor b 48) 10) is_ascii_digit 256 a refl h in
     let worth : (not (is_ascii_digit a) || eqb (bit_xor a 48) (a - 48)) ≡ true =
@@ -160,7 +160,7 @@ of_none text e = elim (cases_Bool (list_all is_ascii_digit text)) [
 pub part_none : (bs : List ℕ) (at n : ℕ) → if_digits (chunk at n bs) ≡ None → None ≡ if_digits bs
 part_none bs at n e = to_none bs (part_fails is_ascii_digit bs at n (of_none (chunk at n bs) e))
 
-digits_sum-append : (xs ys : List ℕ) → digits_sum (xs ++ ys) ≡ digits_sum xs * 10 ^ length ys + digits_sum ys
+pub digits_sum-append : (xs ys : List ℕ) → digits_sum (xs ++ ys) ≡ digits_sum xs * 10 ^ length ys + digits_sum ys
 digits_sum-append [] ys = omega arith
 digits_sum-append (d ∷ ds) ys =
     let more : 10 ^ length (ds ++ ys) ≡ 10 ^ length ds * 10 ^ length ys = ap (λ k. 10 ^ k) (length-append ds ys) ∙ pow-add 10 (length ds) (length ys) in

@@ -1,5 +1,5 @@
 //! Amounts of money.
-ghost use Rattle.std.specs.Prelude.{◌≡◌, ◌≤◌, ◌<◌, ◌^◌, ◌+◌, ◌/◌, ◌%◌, ◌++◌, ◌∷◌, length, drop, decimal, unsigned_abs, Some, None, pos, IfSome};
+ghost use Rattle.std.specs.Prelude.{◌≡◌, ◌≤◌, ◌<◌, ◌^◌, ◌+◌, ◌*◌, ◌/◌, ◌%◌, ◌++◌, ◌∷◌, length, drop, decimal, unsigned_abs, Some, None, pos, IfSome};
 ghost use Rattle.std.specs.Option.{option_map};
 ghost use Rattle.dsr_values.specs.meaning.Numbers.{amount_of, decimal_of};
 ghost use Rattle.dsr_values.specs.meaning.Written.{padded_number, written};
@@ -72,6 +72,19 @@ impl Amount {
                 Some(Amount { units: -units })
             }
             _ => None,
+        }
+    }
+
+    /// The amount with this whole part and these decimals, in units of 10^-10.
+    #[inline(always)]
+    pub fn of_parts(whole: u64, decimals: u64) -> Amount
+        requires whole { whole < 10 ^ 12 }
+        requires decimals { decimals < 10 ^ 10 }
+        ensures { result ≡ pos (whole * 10 ^ 10 + decimals) }
+    {
+        let units = u128::from(whole) * UNITS as u128 + u128::from(decimals);
+        Amount {
+            units: units as i128,
         }
     }
 

@@ -15,6 +15,10 @@ pub record CutsTo (kept : List ℕ) (fresh : Bool) (bytes : List ℕ) (whole : L
   pub settled : fresh ≡ false → IsSettled bytes
   pub start : fresh ≡ true → (bytes ≡ kept) × (length kept < 3) × (whole ≡ [])
 
+-- no byte is kept, and the place of the byte order mark is behind
+abbrev pub IsBetweenLines : Cutter → Type 0
+IsBetweenLines c = (c.bytes.items ≡ []) × (c.fresh ≡ false)
+
 -- a line in the bytes used is not too long, and no byte is kept
 abbrev pub FitsCut : Cut → List ℕ → Cutter → Type 0
 FitsCut Here used c = (length used ≤ line_limit + 1) × (c.bytes.items ≡ []) × (c.fresh ≡ false)

@@ -1,7 +1,9 @@
 //! Taking the lines of a piece, up to the next event.
-ghost use Rattle.std.specs.Prelude.{◌≡◌, [], ◌+◌, ◌<◌, ◌≤◌, ◌^◌, ◌⊎◌, length, false, take, None, IfNone, OnSome};
+ghost use Rattle.std.specs.Prelude.{◌≡◌, [], ◌+◌, ◌<◌, ◌≤◌, ◌^◌, ◌⊎◌, length, false, take, None, Ok, IfNone, IfSome, OnSome};
 ghost use Rattle.std.specs.Option.{option_to_list};
 ghost use Rattle.dsr_cells.specs.meaning.Lines.{line_limit};
+ghost use Rattle.dsr_records.specs.inner.Usual.{BeginsWithLine};
+ghost use Rattle.dsr_records.specs.meaning.Values.{record_of};
 ghost use Rattle.dsr_file.specs.inner.Closing.{event_at};
 
 use crate::closed::Closed;
@@ -10,12 +12,13 @@ use crate::grammar::Step;
 use crate::reader::FileReader;
 use crate::reader::phase::Phase;
 use dsr_events::{FileFault, Outcome};
+use dsr_records::CheckedLine;
 
 impl FileReader {
     ghost use Rattle.dsr_file.specs.inner.Advances.{Advances, HasBegun, HasGivenAll, GivesBeforeItUses};
     ghost use Rattle.dsr_file.specs.inner.Standing.{IsDone, SameText, bytes_used, events_left, ending_told};
     ghost use Rattle.dsr_file.specs.inner.ReaderSteps.{UsesBytes, AppliesCut, TakesLine};
-    ghost use Rattle.dsr_file.specs.inner.Cutting.{FitsCut};
+    ghost use Rattle.dsr_file.specs.inner.Cutting.{FitsCut, IsBetweenLines};
     ghost use Rattle.dsr_file.specs.declared.reader.phase.Phase.TheVariants as phases;
 
     /// Uses bytes of a piece, up to the next event, which `part` becomes: its place is that of the reader before. Returns
@@ -72,8 +75,73 @@ impl FileReader {
         used
     }
 
-    /// Uses bytes of a piece, up to the end of a line. Returns how many.
+    /// Uses bytes of a piece, up to the end of a line. Returns how many. A line of the usual form is read quickly.
     fn step(&mut self, piece: &[u8], part: &mut Closed) -> usize
+        requires reading { self.old.phase ≡ phases.Reading }
+        requires some { 0 < length piece.now }
+        requires room { self.old.given + length piece.now ≤ 2 ^ 36 }
+        requires none { part.old ≡ None }
+        ensures some { 0 < result }
+        ensures bound { result ≤ length piece.now }
+        ensures stands { UsesBytes self.old self.new (take result piece.now) part.new }
+        ensures given { self.new.given ≡ self.old.given + result }
+        ensures ending { self.new.ending ≡ self.old.ending }
+        ensures reading { IfNone part.new (self.new.phase ≡ phases.Reading) }
+        ensures place { IfNone part.new (self.new.place ≡ self.old.place) }
+    {
+        match self.usual(piece) {
+            Some((line, size)) => self.take_usual(piece, &line, size, part),
+            None => self.take_any(piece, part),
+        }
+    }
+
+    /// The line that a piece begins with, and its length, if it has the usual form. None says nothing.
+    #[inline(always)]
+    fn usual<'p>(&self, piece: &'p [u8]) -> Option<(CheckedLine<'p>, usize)>
+        ensures between { OnSome result (IsBetweenLines self.now.cutter) }
+        ensures line { IfSome result (λ u. BeginsWithLine piece.now u.1) }
+        ensures record { IfSome result (λ u.
+            record_of self.now.layout (take u.1 piece.now) ≡ Ok u.0) }
+    {
+        if !self.cutter.is_between_lines() || !self.layout.is_standard() {
+            return None;
+        }
+        CheckedLine::usual(piece)
+    }
+
+    /// Uses a line of the usual form and its line feed. Returns how many bytes these are.
+    #[inline(always)]
+    fn take_usual(
+        &mut self,
+        piece: &[u8],
+        line: &CheckedLine<'_>,
+        size: usize,
+        part: &mut Closed,
+    ) -> usize
+        requires between { IsBetweenLines self.old.cutter }
+        requires line { BeginsWithLine piece.now size }
+        requires record { record_of self.old.layout (take size piece.now) ≡ Ok line.now }
+        requires reading { self.old.phase ≡ phases.Reading }
+        requires room { self.old.given + length piece.now ≤ 2 ^ 36 }
+        requires none { part.old ≡ None }
+        ensures used { result ≡ size + 1 }
+        ensures stands { UsesBytes self.old self.new (take (size + 1) piece.now) part.new }
+        ensures given { self.new.given ≡ self.old.given + (size + 1) }
+        ensures ending { self.new.ending ≡ self.old.ending }
+        ensures reading { IfNone part.new (self.new.phase ≡ phases.Reading) }
+        ensures place { IfNone part.new (self.new.place ≡ self.old.place) }
+    {
+        self.given += size as u64 + 1;
+        let number = self.grammar.lines + 1;
+        let mut step = Step::Good;
+        let is_good = self.grammar.usual(self.alloc, line, part, &mut step);
+        self.answer(is_good, number, step, part);
+        size + 1
+    }
+
+    /// Uses bytes of a piece, up to the end of a line of any form. Returns how many.
+    #[inline(always)]
+    fn take_any(&mut self, piece: &[u8], part: &mut Closed) -> usize
         requires reading { self.old.phase ≡ phases.Reading }
         requires some { 0 < length piece.now }
         requires room { self.old.given + length piece.now ≤ 2 ^ 36 }

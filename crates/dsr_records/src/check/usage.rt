@@ -17,9 +17,9 @@ use std::marker::Model;
 #[derive(Drop)]
 pub(crate) struct UsageLine<'l> {
     pub(crate) block_id: &'l str,
-    summary_id: &'l str,
-    usages: i64,
-    amount: Amount,
+    pub(crate) summary_id: &'l str,
+    pub(crate) usages: i64,
+    pub(crate) amount: Amount,
 }
 
 impl<'l> Model for UsageLine<'l> {

@@ -1,6 +1,6 @@
 use Rattle.std.proofs.Common.{refl}
 use Rattle.dsr_file.proofs.StandLemmas.{at_cut}
-use Rattle.dsr_file.proofs.reader.FileReader.step.Goals as goal
+use Rattle.dsr_file.proofs.reader.FileReader.take_any.Goals as goal
 
 pub returns-clause-stands : goal.returns-clause-stands
 returns-clause-stands c = λ layout b es s.

@@ -1,0 +1,103 @@
+-- What a reader represents after a line of the usual form.
+use Rattle.std.proofs.Common.{◌≡◌, ℕ, ◌+◌, ◌-◌, ◌<◌, ◌∙◌, sym, ap, refl, subst, Bool, true, false, List, [], ◌∷◌, ◌++◌, length, Option, length-append}
+use Rattle.std.proofs.Common.{length-take, take, get_or, map, arith, eqb, inl, inr, suc, Ok}
+use Rattle.std.specs.List.{list_any}
+use Rattle.std.specs.Str.{is_utf8, IsAscii}
+use Rattle.std.proofs.lemmas.Bool.{cases_lt, ne_eqb, lt-ltb, false≢true}
+use Rattle.std.proofs.lemmas.Bool.Decides.{nat_tests}
+use Rattle.std.proofs.lemmas.List.{get_or-take, get_or_past}
+use Rattle.std.proofs.lemmas.List.Elements.{All-get_or}
+use Rattle.std.proofs.lemmas.List.Sums.{AllPass-from_list_all}
+use Rattle.std.proofs.lemmas.Str.{IsUtf8-from_ascii, is_utf8-from_IsUtf8}
+use Rattle.dsr_cells.specs.meaning.Lines.{is_line_feed, without_return}
+use Rattle.dsr_blocks.specs.declared.record.Record.{Record}
+use Rattle.dsr_records.specs.inner.Usual.{BeginsWithLine, is_plain}
+use Rattle.dsr_records.specs.meaning.Records.{LayoutTable}
+use Rattle.dsr_records.specs.meaning.Values.{record_of}
+use Rattle.dsr_events.specs.declared.event.EventPart.{EventPart}
+use Rattle.dsr_events.specs.meaning.Placed.{Placed}
+use Rattle.dsr_file.specs.declared.grammar.Step.{Step}
+use Rattle.dsr_file.specs.declared.reader.FileReader.{FileReader}
+use Rattle.dsr_file.specs.declared.reader.phase.Phase.TheVariants as phases
+use Rattle.dsr_file.specs.meaning.Readings.{Reading, Holds, reading, of_utf8, is_skipped_text}
+use Rattle.dsr_file.specs.inner.Cutting.{CutsTo, IsBetweenLines}
+use Rattle.dsr_file.specs.inner.Grammars.{Keeps, LineSteps}
+use Rattle.dsr_file.specs.inner.Standing.{Stands, StandsAt, AtAnswer}
+use Rattle.dsr_file.proofs.CutLemmas.{fed_line}
+use Rattle.dsr_file.proofs.TestLemmas.{of_utf8_record, reading_text}
+
+plain_low : (b : ℕ) → is_plain b ≡ true → b < 128
+plain_low b e = grind (arith, nat_tests)
+
+plain_inside : (b n : ℕ) → is_plain b ≡ true → is_plain n ≡ false → eqb b n ≡ false
+plain_inside b n yes_ no_ = ne_eqb b n (λ same. absurd (false≢true (sym no_ ∙ ap is_plain (sym same) ∙ yes_)))
+
+module _ (page : List ℕ) (size : ℕ) (line : BeginsWithLine page size) where
+  abbrev text : List ℕ
+  text = take size page
+
+  text_length : length text ≡ size
+  text_length = length-take size page ∙ omega (arith, line.within)
+
+  plain_at : (i : ℕ) → i < size → is_plain (get_or text i 0) ≡ true
+  plain_at i inside = All-get_or (λ b. is_plain b ≡ true) text i 0 (omega (arith, text_length, inside)) (AllPass-from_list_all is_plain text line.plain)
+
+  ascii : IsAscii text
+  ascii i = elim (cases_lt i (length text)) [
+    | inl inside ↦ plain_low _ (plain_at i (omega (arith, inside, text_length)))
+    | inr past ↦ omega (arith, get_or_past text i 0 past)
+  ]
+
+  -- no byte of it is a line feed, and no carriage return ends it
+  none : list_any is_line_feed text ≡ false
+  none = list_any-none is_line_feed text (λ i inside. plain_inside _ 10 (plain_at i (omega (arith, inside, text_length))) refl)
+    where
+      list_any-none : (p : ℕ → Bool) (xs : List ℕ) → ((i : ℕ) → i < length xs → p (get_or xs i 0) ≡ false) → list_any p xs ≡ false
+      list_any-none p [] fails = refl
+      list_any-none p (x ∷ xs) fails = rw (fails 0 (omega arith), list_any-none p xs (λ i inside. fails (suc i) (omega (arith, inside)))) refl
+
+  no_return : without_return text ≡ text
+  no_return =
+      let last : eqb (get_or text (length text - 1) 0) 13 ≡ false =
+      plain_inside _ 13 (plain_at (length text - 1) (omega (arith, text_length, line.some))) refl in
+      rw (last, lt-ltb 0 (length text) (omega (arith, text_length, line.some))) refl
+
+  not_skipped : is_skipped_text text ≡ false
+  not_skipped =
+      let some : eqb (length text) 0 ≡ false = ne_eqb (length text) 0 (λ e. omega (arith, e, text_length, line.some)) in
+      let begins : eqb (get_or text 0 0) 35 ≡ false = ne_eqb (get_or text 0 0) 35 (λ e. line.begins (sym (get_or-take size page 0 0 line.some) ∙ e)) in
+      rw (some, begins) refl
+
+  pub reading_usual : (layout : LayoutTable) (item : Record) → record_of layout text ≡ Ok item → reading layout text ≡ Holds item
+  reading_usual layout item is =
+      let utf8 : is_utf8 (without_return text) ≡ true = ap is_utf8 no_return ∙ is_utf8-from_IsUtf8 text (IsUtf8-from_ascii text ascii) in
+      reading_text layout text (omega (arith, text_length, line.few)) utf8
+      ∙ ap (of_utf8 layout) no_return ∙ of_utf8_record layout text (Ok item) not_skipped (sym is)
+
+  -- the line, after the grammar has taken it
+  pub usual_taken : (layout : LayoutTable) (old new : FileReader) (b : List ℕ) (es : List Placed) (item : Record) (step : Step) (closed : Option EventPart)
+      → Stands layout old b es → old.phase ≡ phases.Reading → IsBetweenLines old.cutter → record_of old.layout text ≡ Ok item
+      → ((ls : List Reading) → Keeps old.grammar ls → LineSteps ls (Holds item) step closed new.grammar) → IsBetweenLines new.cutter
+      → new.layout ≡ old.layout → new.given ≡ old.given + (size + 1) → new.place ≡ old.place → new.ending ≡ old.ending
+      → AtAnswer layout new (old.grammar.lines + 1) step closed (b ++ take (size + 1) page) es
+  usual_taken layout old new b es item step closed s r between is steps after la g p n =
+      let at : StandsAt layout phases.Reading old b es = subst (λ x. StandsAt layout x old b es) r s.phase_is in
+      let cuts : CutsTo [] false b at.0 = subst (λ x. CutsTo [] x b at.0) between.1 (subst (λ x. CutsTo x old.cutter.fresh b at.0) between.0 at.1) in
+      let used : length (take (size + 1) page) ≡ size + 1 = length-take (size + 1) page ∙ omega (arith, line.within) in
+      record {
+        whole = at.0;
+        line = text;
+        cuts = fed_line [] b page at.0 size cuts none line.within line.ends;
+        good = at.2.good;
+        steps =
+            subst (λ x. LineSteps (map (reading layout) at.0) x step closed new.grammar)
+            (sym (reading_usual layout item (ap (λ x. record_of x text) (sym s.layout_is) ∙ is))) (steps (map (reading layout) at.0) at.2);
+        cleared = after.0;
+        settled = after.1;
+        number_is = ap (λ x. x + 1) at.2.lines_are;
+        events_are = at.3;
+        layout_is = la ∙ s.layout_is;
+        given_is = g ∙ omega (arith, s.given_is, used, length-append b (take (size + 1) page));
+        place_is = p ∙ s.place_is;
+        open_is = n ∙ at.4;
+      }

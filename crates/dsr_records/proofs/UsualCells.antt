@@ -1,0 +1,94 @@
+-- Lemmas on the printable bytes of a page, whose other bytes are known as a bit mask.
+use Rattle.std.proofs.Common.{arith, ◌≡◌, ◌<◌, ◌≤◌, ◌+◌, ◌-◌, ◌/◌, ◌^◌, ◌∙◌, ℕ, Bool, List, length, map, take, drop, get_or, true, false, not, cond, inl, inr, sym}
+use Rattle.std.proofs.Common.{ap, w64, pow_mono, length-take, length-drop, refl}
+use Rattle.std.specs.Int.{bit_at}
+use Rattle.std.specs.Int.Count.{count_trailing_zeros}
+use Rattle.std.specs.List.{list_all, prefix_len}
+use Rattle.std.specs.Simd.Lanes.{chunk}
+use Rattle.std.specs.Str.{IsAscii}
+use Rattle.std.proofs.lemmas.Bool.{cases_lt}
+use Rattle.std.proofs.lemmas.List.{get_or_past, get_or-take, length-map, drop-drop, drop-take, take-take}
+use Rattle.std.proofs.lemmas.List.Elements.{All-from_get_or, All-get_or}
+use Rattle.std.proofs.lemmas.List.Sums.{fails_before_first, list_all-from_AllPass, AllPass-from_list_all}
+use Rattle.std.proofs.lemmas.Bool.Decides.{nat_tests}
+use Rattle.std.proofs.lemmas.Nat.Bits.{bit_at-trailing_zeros}
+use Rattle.std.proofs.lemmas.Simd.{trailing_mask_l, bit_mask_l, mask_l-lt}
+use Rattle.dsr_scan.proofs.TabBits.{mask-drop}
+use Rattle.dsr_records.specs.inner.Usual.{is_printable, odd_bits}
+
+abbrev is_odd : ℕ → Bool
+is_odd b = not (is_printable b)
+
+not_odd : (b : Bool) → not b ≡ false → b ≡ true
+not_odd true e = refl
+not_odd false e = cc
+
+-- the lowest bit is that of the first byte that is not printable
+module _ (xs : List ℕ) (odd : ℕ) (few : length xs ≤ 64) (are : odd ≡ odd_bits xs) (some : 0 < odd) where
+  abbrev first : ℕ
+  first = count_trailing_zeros 64 odd
+
+  counted : first ≡ prefix_len (λ b. not (is_odd b)) xs
+  counted = ap (count_trailing_zeros 64) are ∙ trailing_mask_l is_odd 64 xs few (omega (arith, are, some))
+
+  run_within : first < length xs
+  run_within =
+      let small : odd < 2 ^ 64 = omega (arith, are, mask_l-lt (map is_odd xs), pow_mono {i = length (map is_odd xs)} {j = 64} (omega (arith, length-map xs is_odd, few))) in
+      let set : bit_at (odd_bits xs) first ≡ 1 = ap (λ n. bit_at n first) (sym are) ∙ (bit_at-trailing_zeros w64 odd some small).1 in
+      elim (cases_lt first (length xs)) [
+        | inl inside ↦ inside
+        | inr past ↦
+            let clear : bit_at (odd_bits xs) first ≡ 0 = bit_mask_l (map is_odd xs) first
+            ∙ ap (λ b. cond b 1 0) (get_or_past (map is_odd xs) first false (omega (arith, length-map xs is_odd, past))) in
+            absurd (omega (arith, set, clear))
+      ]
+
+  run_printable : list_all is_printable (take first xs) ≡ true
+  run_printable =
+      list_all-from_AllPass is_printable (take first xs)
+      (All-from_get_or (λ b. is_printable b ≡ true) (take first xs) 0 (λ k less.
+      let low : k < first = omega (arith, less, length-take first xs) in
+      let fails : is_odd (get_or xs k 0) ≡ false = fails_before_first is_odd xs k 0 (omega (arith, low, counted)) in
+      ap is_printable (get_or-take first xs k 0 low) ∙ not_odd _ fails))
+
+module _ (page : List ℕ) (at odd : ℕ) (long : 64 ≤ length page) (near : at ≤ 64) (known : odd ≡ odd_bits (drop at (take 64 page))) where
+  left_is : drop at (take 64 page) ≡ take (64 - at) (drop at page)
+  left_is =
+      let whole : at + (64 - at) ≡ 64 = omega (arith, near) in
+      ap (λ n. drop at (take n page)) (sym whole) ∙ drop-take at (64 - at) page
+
+  left_length : length (drop at (take 64 page)) ≡ 64 - at
+  left_length = length-drop at (take 64 page) ∙ (let l = length-take 64 page in omega (arith, l, long))
+
+  module _ (some : 0 < odd) where
+    pub cell_within : at + count_trailing_zeros 64 odd < 64
+    cell_within = omega (arith, near, left_length, run_within (drop at (take 64 page)) odd (omega (arith, left_length)) known some)
+
+    pub cell_printable : list_all is_printable (chunk at (count_trailing_zeros 64 odd) page) ≡ true
+    cell_printable =
+        let n = count_trailing_zeros 64 odd in
+        let same : take n (drop at (take 64 page)) ≡ chunk at n page = ap (take n) left_is ∙ take-take n (64 - at) (drop at page) (omega (arith, cell_within)) in
+        ap (list_all is_printable) (sym same) ∙ run_printable (drop at (take 64 page)) odd (omega (arith, left_length)) known some
+
+  pub left_behind : (n : ℕ) → odd / 2 ^ n / 2 ≡ odd_bits (drop (at + n + 1) (take 64 page))
+  left_behind n =
+      ap (λ m. m / 2 ^ n / 2) known
+      ∙ ap (λ m. m / 2) (mask-drop is_odd (drop at (take 64 page)) n)
+      ∙ mask-drop is_odd (drop n (drop at (take 64 page))) 1
+      ∙ ap odd_bits (drop-drop 1 n (drop at (take 64 page)) ∙ drop-drop (n + 1) at (take 64 page) ∙ ap (λ k. drop k (take 64 page)) same)
+    where
+      same : at + (n + 1) ≡ at + n + 1
+      same = omega arith
+
+pub behind_type : (page : List ℕ) (odd : ℕ) → odd ≡ odd_bits (take 64 page) → odd / 32 ≡ odd_bits (drop 5 (take 64 page))
+behind_type page odd are = ap (λ n. n / 32) are ∙ mask-drop is_odd (take 64 page) 5
+
+low : (b : ℕ) → is_printable b ≡ true → b < 128
+low b e = grind (arith, nat_tests)
+
+-- printable bytes are ASCII
+pub printable_ascii : (bytes : List ℕ) → list_all is_printable bytes ≡ true → IsAscii bytes
+printable_ascii bytes all i = elim (cases_lt i (length bytes)) [
+  | inl inside ↦ low (get_or bytes i 0) (All-get_or (λ b. is_printable b ≡ true) bytes i 0 inside (AllPass-from_list_all is_printable bytes all))
+  | inr past ↦ omega (arith, get_or_past bytes i 0 past)
+]

@@ -1,0 +1,8 @@
+use Rattle.std.proofs.Common.{arith, eqb, w8}
+use Rattle.std.specs.Simd.Lanes.{chunk}
+use Rattle.std.proofs.lemmas.Simd.{bitmask_splat, length-chunk}
+use Rattle.dsr_records.proofs.usual.digits.points_in_16.Goals as goal
+
+pub returns : goal.returns
+returns c =
+    bitmask_splat w8 eqb (chunk c.args.at 16 c.args.page.now) 16 46 (length-chunk c.args.at 16 c.args.page.now c.requires) (omega arith)

@@ -1,0 +1,56 @@
+-- Lines of the usual form, which are read quickly.
+use Rattle.std.specs.Prelude.{◌≡◌, ◌≢◌, ◌<◌, ◌+◌, ◌-◌, ◌*◌, ◌^◌, ◌||◌, ◌==◌, not, ℕ, Bool, true, List, length, map, take, slice_index}
+use Rattle.std.specs.Char.{is_ascii_digit}
+use Rattle.std.specs.Int.Bits.{bit_xor}
+use Rattle.std.specs.Int.{is_in_range}
+use Rattle.std.specs.List.{list_all}
+use Rattle.std.specs.Simd.Lanes.{Each1, chunk, mask_l, number_l}
+use Rattle.dsr_values.specs.inner.Fours.{word_of_four}
+use Rattle.dsr_values.specs.meaning.Numbers.{digits_sum, is_digits}
+
+-- the word that eight bytes make, the first of them the lowest
+abbrev pub word_of_eight : ℕ → ℕ → ℕ → ℕ → ℕ → ℕ → ℕ → ℕ → ℕ
+word_of_eight a b c d e f g h = word_of_four a b c d + 2 ^ 32 * word_of_four e f g h
+
+-- the number of eight digits
+abbrev pub number_of_eight : ℕ → ℕ → ℕ → ℕ → ℕ → ℕ → ℕ → ℕ → ℕ
+number_of_eight a b c d e f g h = 10000 * (1000 * a + 100 * b + 10 * c + d) + (1000 * e + 100 * f + 10 * g + h)
+
+-- the word that these eight bytes make, each of them taken with '0' by an exclusive or
+abbrev pub IsWordOf : List ℕ → ℕ → Type 0
+IsWordOf bytes word = (length bytes ≡ 8) × Each1 (λ b. b < 256) bytes × (word ≡ number_l 256 (map (λ b. bit_xor b 48) bytes))
+
+-- the number that these bytes spell, all of which are digits
+abbrev pub SpellsNumber : List ℕ → ℕ → Type 0
+SpellsNumber bytes n = (list_all is_ascii_digit bytes ≡ true) × (n ≡ digits_sum bytes)
+
+-- 1 to `places` digits, which as decimals make n in units of 10 ^ -places
+abbrev pub IsFilledUp : ℕ → List ℕ → ℕ → Type 0
+IsFilledUp places digits n = (is_digits places digits ≡ true) × (n ≡ digits_sum digits * 10 ^ (places - length digits))
+
+-- printable ASCII
+abbrev pub is_printable : ℕ → Bool
+is_printable b = is_in_range 32 126 b
+
+-- printable ASCII or a TAB
+abbrev pub is_plain : ℕ → Bool
+is_plain b = is_printable b || (b == 9)
+
+-- bit k is set if byte k is not printable ASCII
+abbrev pub odd_bits : List ℕ → ℕ
+odd_bits bytes = mask_l (map (λ b. not (is_printable b)) bytes)
+
+-- these bytes of a page, within its first 64, are printable, and this byte stands behind them
+pub record IsCell (page : List ℕ) (at size end : ℕ) : Type 0 where
+  pub within : at + size < 64
+  pub printable : list_all is_printable (chunk at size page) ≡ true
+  pub ends : slice_index page (at + size) ≡ end
+
+-- a page begins with a line of this length, fewer than 64 bytes of printable ASCII and TABs, which is not a comment
+pub record BeginsWithLine (page : List ℕ) (size : ℕ) : Type 0 where
+  pub some : 0 < size
+  pub few : size < 64
+  pub within : size < length page
+  pub plain : list_all is_plain (take size page) ≡ true
+  pub begins : slice_index page 0 ≢ 35
+  pub ends : slice_index page size ≡ 10
