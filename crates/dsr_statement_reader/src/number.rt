@@ -1,0 +1,132 @@
+//! The numbers that cells spell.
+ghost use Rattle.std.specs.Prelude.{◌≡◌, ◌<◌, ◌≤◌, ◌^◌, ◌+◌, length, IfSome, unsigned_abs};
+ghost use Rattle.dsr_values.specs.meaning.Numbers.{digits_of};
+ghost use Rattle.dsr_statement_reader.specs.meaning.Spellings.{below, has_leading_zero, number_in, usages_in, units_in, units_of_parts, amount_in};
+
+use dsr_cells::read_number;
+
+/// The number of the units of an amount of one.
+const UNITS: u128 = 10_000_000_000;
+
+/// Amounts have fewer units than this.
+const MOST_UNITS: u128 = 1 << 123;
+
+/// Whether more digits follow a zero.
+fn leads_with_zero(text: &str) -> bool
+    ensures { result ≡ has_leading_zero text.now }
+{
+    matches!(text.as_bytes(), [b'0', _, ..])
+}
+
+/// The number below the limit that digits spell, read one by one.
+fn read_ones(bytes: &[u8], limit: u128) -> Option<u128>
+    requires { limit ≤ 2 ^ 127 + 1 }
+    ensures value { result ≡ below limit (digits_of (length bytes.now) bytes.now) }
+    ensures bound { IfSome result (λ n. n < limit) }
+{
+    if bytes.is_empty() {
+        return None;
+    }
+    // Above 2^64 the first twenty digits leave no more than 2^123.
+    let mut sum: u128 = 0;
+    for byte in bytes {
+        if !byte.is_ascii_digit() {
+            return None;
+        }
+        sum = sum.checked_mul(10)?.checked_add(u128::from(*byte - b'0'))?;
+    }
+    if sum < limit { Some(sum) } else { None }
+}
+
+/// The number below the limit that digits spell.
+fn read_digits(text: &str, limit: u128) -> Option<u128>
+    requires { limit ≤ 2 ^ 127 + 1 }
+    ensures value { result ≡ below limit (digits_of (length text.now) text.now) }
+    ensures bound { IfSome result (λ n. n < limit) }
+{
+    if text.len() > 12 {
+        return read_ones(text.as_bytes(), limit);
+    }
+    let number = u128::from(read_number(text)?);
+    if number < limit { Some(number) } else { None }
+}
+
+/// The number below the limit that a text spells.
+fn read_below(text: &str, limit: u128) -> Option<u128>
+    requires { limit ≤ 2 ^ 127 + 1 }
+    ensures value { result ≡ number_in limit text.now }
+    ensures bound { IfSome result (λ n. n < limit) }
+{
+    if leads_with_zero(text) {
+        return None;
+    }
+    read_digits(text, limit)
+}
+
+/// The number of 64 bits that a text spells.
+pub(crate) fn read_u64(text: &str) -> Option<u64>
+    ensures { result ≡ number_in (2 ^ 64) text.now }
+{
+    Some(read_below(text, 1 << 64)? as u64)
+}
+
+/// The number of 32 bits that a text spells.
+pub(crate) fn read_u32(text: &str) -> Option<u32>
+    ensures { result ≡ number_in (2 ^ 32) text.now }
+{
+    Some(read_below(text, 1 << 32)? as u32)
+}
+
+/// The usages that a text spells.
+pub(crate) fn read_usages(text: &str) -> Option<i128>
+    ensures { result ≡ usages_in text.now }
+{
+    match text.strip_prefix('-') {
+        Some(rest) => {
+            let number = read_below(rest, (1 << 127) + 1)?;
+            negative(number)
+        }
+        None => Some(read_below(text, 1 << 127)? as i128),
+    }
+}
+
+/// The units that a whole part and ten decimals spell.
+fn read_parts(whole: &str, decimals: &str) -> Option<u128> {
+    if decimals.len() != 10 {
+        return None;
+    }
+    let units = u128::from(read_number(decimals)?);
+    let whole = read_below(whole, MOST_UNITS)?;
+    let sum = whole.checked_mul(UNITS)?.checked_add(units)?;
+    if sum < MOST_UNITS { Some(sum) } else { None }
+}
+
+/// The units that a text without a sign spells.
+fn read_units(text: &str) -> Option<u128>
+    ensures value { result ≡ units_in (2 ^ 123) text.now }
+    ensures bound { IfSome result (λ n. n < 2 ^ 123) }
+{
+    let (whole, decimals) = text.split_once('.')?;
+    read_parts(whole, decimals)
+}
+
+/// This many below zero; None for zero.
+fn negative(number: u128) -> Option<i128>
+    requires { number ≤ 2 ^ 127 }
+{
+    if number == 0 {
+        return None;
+    }
+    Some(-((number - 1) as i128) - 1)
+}
+
+/// The amount that a text spells, in units of 10^-10.
+pub(crate) fn read_amount(text: &str) -> Option<i128>
+    ensures value { result ≡ amount_in text.now }
+    ensures bound { IfSome result (λ n. unsigned_abs n < 2 ^ 123) }
+{
+    match text.strip_prefix('-') {
+        Some(rest) => negative(read_units(rest)?),
+        None => Some(read_units(text)? as i128),
+    }
+}
