@@ -1,7 +1,7 @@
 //! The lines that cells spell.
 ghost use Rattle.std.specs.Prelude.{◌≡◌};
 ghost use Rattle.std.specs.Option.{option_map};
-ghost use Rattle.dsr_values.specs.meaning.Texts.{is_identifier_text};
+ghost use Rattle.dsr_values.specs.meaning.Texts.{is_identifier_text, is_isrc_text};
 ghost use Rattle.dsr_statement_reader.specs.meaning.Spellings.{text_if, file_number_in, key_in, is_period};
 ghost use Rattle.dsr_statement_reader.specs.meaning.Readings.{report_in, missing_in, difference_in, ledger_in, party_in, unclaimed_in, reject_in};
 
@@ -30,6 +30,7 @@ fn is_period(first: Day, last: Day, days: u64) -> bool
 }
 
 /// The line of the report.
+#[tactic(auto, unfolding(crate::specs::meaning::Readings::report_in))]
 pub(crate) fn read_report<'l>(
     id: &'l str,
     files: &str,
@@ -56,6 +57,7 @@ pub(crate) fn read_report<'l>(
 }
 
 /// The line of a missing file.
+#[tactic(auto, unfolding(crate::specs::meaning::Readings::missing_in))]
 pub(crate) fn read_missing<'l>(number: &str) -> Option<StatementLine<'l>>
     ensures { result ≡ missing_in number.now }
 {
@@ -63,6 +65,7 @@ pub(crate) fn read_missing<'l>(number: &str) -> Option<StatementLine<'l>>
 }
 
 /// The line of a difference.
+#[tactic(auto, unfolding(crate::specs::meaning::Readings::difference_in))]
 pub(crate) fn read_difference<'l>(
     file: &str,
     id: &'l str,
@@ -89,7 +92,15 @@ pub(crate) fn read_difference<'l>(
     }))
 }
 
+/// Whether a text is an ISRC.
+fn is_isrc(text: &str) -> bool
+    ensures { result ≡ is_isrc_text text.now }
+{
+    Isrc::read(text).is_some()
+}
+
 /// The key that four cells spell.
+#[tactic(auto, unfolding(crate::specs::meaning::Spellings::key_in))]
 fn read_key<'l>(
     isrc: &'l str,
     territory: &'l str,
@@ -98,7 +109,7 @@ fn read_key<'l>(
 ) -> Option<ReadKey<'l>>
     ensures { result ≡ key_in isrc.now territory.now use_type.now currency.now }
 {
-    if Isrc::read(isrc).is_some()
+    if is_isrc(isrc)
         && is_territory(territory)
         && is_use_type(use_type)
         && is_currency(currency)
@@ -115,6 +126,7 @@ fn read_key<'l>(
 }
 
 /// The line of a ledger line's sums.
+#[tactic(auto, unfolding(crate::specs::meaning::Readings::ledger_in))]
 pub(crate) fn read_ledger<'l>(
     isrc: &'l str,
     territory: &'l str,
@@ -132,6 +144,7 @@ pub(crate) fn read_ledger<'l>(
 }
 
 /// The line of a party.
+#[tactic(auto, unfolding(crate::specs::meaning::Readings::party_in))]
 pub(crate) fn read_party<'l>(
     isrc: &'l str,
     territory: &'l str,
@@ -148,6 +161,7 @@ pub(crate) fn read_party<'l>(
 }
 
 /// The line of an unclaimed amount.
+#[tactic(auto, unfolding(crate::specs::meaning::Readings::unclaimed_in))]
 pub(crate) fn read_unclaimed<'l>(
     isrc: &'l str,
     territory: &'l str,
@@ -163,6 +177,7 @@ pub(crate) fn read_unclaimed<'l>(
 }
 
 /// The line of a rejected block.
+#[tactic(auto, unfolding(crate::specs::meaning::Readings::reject_in))]
 pub(crate) fn read_reject<'l>(
     file: &str,
     position: &str,

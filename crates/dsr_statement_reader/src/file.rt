@@ -23,6 +23,7 @@ pub(crate) fn has_file_cells(row: &Row<'_>) -> bool
 }
 
 /// The number of a file, or None for a hyphen.
+#[tactic(auto, unfolding(crate::specs::meaning::Spellings::file_number_in))]
 fn read_file_number(text: &str) -> Option<Option<u32>>
     ensures { result ≡ file_number_in text.now }
 {
@@ -41,6 +42,7 @@ fn read_column(row: &Row<'_>) -> Option<Option<Column>> {
 }
 
 /// How a file ended by a fault.
+#[tactic(auto, unfolding(crate::specs::meaning::Spellings::outcome_in))]
 fn read_fault(row: &Row<'_>) -> Option<Outcome>
     requires { 8 ≤ length row.now }
     ensures { result ≡ outcome_in (drop 5 row.now) }
@@ -55,6 +57,7 @@ fn read_fault(row: &Row<'_>) -> Option<Outcome>
 }
 
 /// How a file ended.
+#[tactic(auto, unfolding(crate::specs::meaning::Spellings::outcome_in))]
 fn read_outcome(row: &Row<'_>) -> Option<Outcome>
     requires { 6 ≤ length row.now }
     ensures { result ≡ outcome_in (drop 5 row.now) }

@@ -1,6 +1,7 @@
 //! The names that cells spell.
 ghost use Rattle.std.specs.Prelude.{◌≡◌};
-ghost use Rattle.dsr_statement_reader.specs.meaning.Spellings.{standing_in, reason_in, column_in, fault_in};
+ghost use Rattle.dsr_statement_reader.specs.meaning.Spellings.{standing_in, reason_in, column_in, fault_in, named};
+ghost use Rattle.dsr_events.specs.meaning.Names.{name_of};
 ghost use Rattle.dsr_statement_reader.specs.meaning.Readings.{kind_in};
 
 use crate::kind::LineKind;
@@ -9,6 +10,7 @@ use dsr_events::FileFault;
 use dsr_ledger::{Reason, Standing};
 
 /// The kind of line with this name.
+#[tactic(auto, unfolding(crate::specs::meaning::Readings::kind_in))]
 pub(crate) fn kind_named(name: &str) -> Option<LineKind>
     ensures { result ≡ kind_in name.now }
 {
@@ -27,6 +29,7 @@ pub(crate) fn kind_named(name: &str) -> Option<LineKind>
 }
 
 /// The standing with this name.
+#[tactic(auto, unfolding(crate::specs::meaning::Spellings::standing_in, dsr_statement::specs::meaning::Names::standing_name))]
 pub(crate) fn standing_named(name: &str) -> Option<Standing>
     ensures { result ≡ standing_in name.now }
 {
@@ -40,6 +43,7 @@ pub(crate) fn standing_named(name: &str) -> Option<Standing>
 }
 
 /// The reason with this name.
+#[tactic(auto, unfolding(crate::specs::meaning::Spellings::reason_in, dsr_statement::specs::meaning::Names::reason_name))]
 pub(crate) fn reason_named(name: &str) -> Option<Reason>
     ensures { result ≡ reason_in name.now }
 {
@@ -110,6 +114,7 @@ const PLAIN_FAULTS: [FileFault; 22] = [
 ];
 
 /// The column with this name.
+#[tactic(auto, unfolding(crate::specs::meaning::Spellings::column_in))]
 pub(crate) fn column_named(name: &str) -> Option<Column>
     ensures { result ≡ column_in name.now }
 {
@@ -117,11 +122,14 @@ pub(crate) fn column_named(name: &str) -> Option<Column>
 }
 
 /// The first of these faults with this name.
-fn fault_among(faults: &[FileFault], name: &str) -> Option<FileFault> {
+fn fault_among(faults: &[FileFault], name: &str) -> Option<FileFault>
+    ensures { result ≡ named name_of faults.now name.now }
+{
     faults.iter().copied().find(|fault| name == fault.name())
 }
 
 /// The fault with this name and this column, or without a column.
+#[tactic(auto, unfolding(crate::specs::meaning::Spellings::fault_in))]
 pub(crate) fn fault_named(name: &str, column: Option<Column>) -> Option<FileFault>
     ensures { result ≡ fault_in name.now column }
 {

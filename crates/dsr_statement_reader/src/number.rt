@@ -1,7 +1,8 @@
 //! The numbers that cells spell.
-ghost use Rattle.std.specs.Prelude.{◌≡◌, ◌<◌, ◌≤◌, ◌^◌, ◌+◌, length, IfSome, unsigned_abs};
+ghost use Rattle.std.specs.Prelude.{◌≡◌, ◌<◌, ◌≤◌, ◌^◌, ◌+◌, length, IfSome, unsigned_abs, [], ◌∷◌, Some, pos, neg_ℤ};
+ghost use Rattle.std.specs.Option.{option_map};
 ghost use Rattle.dsr_values.specs.meaning.Numbers.{digits_of};
-ghost use Rattle.dsr_statement_reader.specs.meaning.Spellings.{below, has_leading_zero, number_in, usages_in, units_in, units_of_parts, amount_in};
+ghost use Rattle.dsr_statement_reader.specs.meaning.Spellings.{below, has_leading_zero, number_in, usages_in, units_in, units_of_parts, amount_in, not_zero};
 
 use dsr_cells::read_number;
 
@@ -27,13 +28,13 @@ fn read_ones(bytes: &[u8], limit: u128) -> Option<u128>
     if bytes.is_empty() {
         return None;
     }
-    // Above 2^64 the first twenty digits leave no more than 2^123.
     let mut sum: u128 = 0;
     for byte in bytes {
         if !byte.is_ascii_digit() {
             return None;
         }
-        sum = sum.checked_mul(10)?.checked_add(u128::from(*byte - b'0'))?;
+        let digit = u128::from(*byte - b'0');
+        sum = sum.saturating_mul(10).saturating_add(digit);
     }
     if sum < limit { Some(sum) } else { None }
 }
@@ -52,6 +53,7 @@ fn read_digits(text: &str, limit: u128) -> Option<u128>
 }
 
 /// The number below the limit that a text spells.
+#[tactic(auto, unfolding(crate::specs::meaning::Spellings::number_in))]
 fn read_below(text: &str, limit: u128) -> Option<u128>
     requires { limit ≤ 2 ^ 127 + 1 }
     ensures value { result ≡ number_in limit text.now }
@@ -78,6 +80,7 @@ pub(crate) fn read_u32(text: &str) -> Option<u32>
 }
 
 /// The usages that a text spells.
+#[tactic(auto, unfolding(crate::specs::meaning::Spellings::usages_in))]
 pub(crate) fn read_usages(text: &str) -> Option<i128>
     ensures { result ≡ usages_in text.now }
 {
@@ -91,7 +94,10 @@ pub(crate) fn read_usages(text: &str) -> Option<i128>
 }
 
 /// The units that a whole part and ten decimals spell.
-fn read_parts(whole: &str, decimals: &str) -> Option<u128> {
+fn read_parts(whole: &str, decimals: &str) -> Option<u128>
+    ensures value { result ≡ units_of_parts (2 ^ 123) (whole.now ∷ decimals.now ∷ []) }
+    ensures bound { IfSome result (λ n. n < 2 ^ 123) }
+{
     if decimals.len() != 10 {
         return None;
     }
@@ -102,6 +108,7 @@ fn read_parts(whole: &str, decimals: &str) -> Option<u128> {
 }
 
 /// The units that a text without a sign spells.
+#[tactic(auto, unfolding(crate::specs::meaning::Spellings::units_in))]
 fn read_units(text: &str) -> Option<u128>
     ensures value { result ≡ units_in (2 ^ 123) text.now }
     ensures bound { IfSome result (λ n. n < 2 ^ 123) }
@@ -113,6 +120,7 @@ fn read_units(text: &str) -> Option<u128>
 /// This many below zero; None for zero.
 fn negative(number: u128) -> Option<i128>
     requires { number ≤ 2 ^ 127 }
+    ensures { result ≡ option_map (λ n. neg_ℤ (pos n)) (not_zero (Some number)) }
 {
     if number == 0 {
         return None;
@@ -121,6 +129,7 @@ fn negative(number: u128) -> Option<i128>
 }
 
 /// The amount that a text spells, in units of 10^-10.
+#[tactic(auto, unfolding(crate::specs::meaning::Spellings::amount_in))]
 pub(crate) fn read_amount(text: &str) -> Option<i128>
     ensures value { result ≡ amount_in text.now }
     ensures bound { IfSome result (λ n. unsigned_abs n < 2 ^ 123) }

@@ -1,7 +1,12 @@
 //! Reading the lines of a statement one after another.
+ghost use Rattle.std.specs.Prelude.{◌≡◌, true, [], ◌∷◌, List, Some, None, IfOk, IfErr, OnOk, MatchResult};
+ghost use Rattle.dsr_statement_reader.specs.declared.line.StatementLine.{StatementLine as Line};
+ghost use Rattle.dsr_statement_reader.specs.meaning.Readings.{is_placed, adds_up, next_line, end_fault, is_complete};
+ghost use Rattle.dsr_statement_reader.specs.inner.After.{IsAfter, IsErrorOf, fits};
+
 use crate::fault::{ReadError, StatementFault};
 use crate::last::{Last, LastKey};
-use crate::line::{ReadKey, ReadParty, StatementLine};
+use crate::line::{ReadParty, StatementLine};
 use crate::reading::{LINE_LIMIT, read_line};
 use dsr_cells::{NoMemory, Text};
 use std::alloc::Global;
@@ -18,16 +23,13 @@ pub struct StatementReader {
 
 impl StatementReader {
     /// No line was read yet.
-    pub fn new(alloc: Global) -> StatementReader {
+    pub fn new(alloc: Global) -> StatementReader
+        ensures { IsAfter result [] }
+    {
         StatementReader {
             alloc,
             last: Last::Start,
-            key: LastKey {
-                isrc: Text::default(),
-                territory: Text::default(),
-                use_type: Text::default(),
-                currency: Text::default(),
-            },
+            key: LastKey::new(),
             party: Text::default(),
             left: 0,
         }
@@ -38,12 +40,19 @@ impl StatementReader {
     /// # Errors
     ///
     /// `Fault`: the fault of the line. `Memory`: out of memory.
-    pub fn line<'l>(&mut self, bytes: &'l [u8]) -> Result<StatementLine<'l>, ReadError> {
+    pub fn line<'l>(&mut self, bytes: &'l [u8]) -> Result<StatementLine<'l>, ReadError>
+        ensures found { (before : List Line) → IsAfter self.old before
+            → IfOk result (λ l. next_line before bytes.now ≡ Ok l) }
+        ensures after { (before : List Line) → IsAfter self.old before
+            → IfOk result (λ l. IsAfter self.new (l ∷ before)) }
+        ensures refused { (before : List Line) → IsAfter self.old before
+            → IfErr result (λ e. IsErrorOf e (next_line before bytes.now)) }
+    {
         let line = match read_line(bytes) {
             Ok(line) => line,
             Err(fault) => return Err(ReadError::Fault(fault)),
         };
-        if !self.is_placed(&line) {
+        if !self.fits(&line) {
             return Err(ReadError::Fault(StatementFault::Place));
         }
         if !self.adds_up(&line) {
@@ -63,7 +72,11 @@ impl StatementReader {
     /// # Errors
     ///
     /// The fault of the end.
-    pub fn finish(&self, rest: &[u8], failed: bool) -> Result<(), StatementFault> {
+    pub fn finish(&self, rest: &[u8], failed: bool) -> Result<(), StatementFault>
+        ensures { (before : List Line) → IsAfter self.now before → MatchResult result
+            (λ _. end_fault before rest.now failed ≡ None)
+            (λ f. end_fault before rest.now failed ≡ Some f) }
+    {
         if rest.len() > LINE_LIMIT {
             return Err(StatementFault::LongLine);
         }
@@ -77,88 +90,55 @@ impl StatementReader {
     }
 
     /// Whether a statement may end here.
-    fn is_complete(&self) -> bool {
-        !matches!(
-            self.last,
-            Last::Start | Last::Report | Last::Ledger | Last::Party
-        )
+    fn is_complete(&self) -> bool
+        ensures { (before : List Line) → IsAfter self.now before → result ≡ is_complete before }
+    {
+        self.last.may_end()
     }
 
-    /// Whether the line may stand here.
-    fn is_placed(&self, line: &StatementLine<'_>) -> bool {
+    /// Whether the name of the last party is below this one's.
+    fn is_below(&self, party: &ReadParty<'_>) -> bool {
+        self.party.as_str() < party.party
+    }
+
+    /// Whether the line may stand next.
+    fn fits(&self, line: &StatementLine<'_>) -> bool
+        ensures { result ≡ fits self.now line.now }
+    {
         match line {
-            StatementLine::Report(_) | StatementLine::NoReport => self.last == Last::Start,
-            StatementLine::File(place, _) => self.file_follows(*place),
-            StatementLine::Missing(number) => match self.last {
-                Last::Missing(before) => before < *number,
-                _ => self.follows_file(),
-            },
-            StatementLine::Summary(difference) => match self.last {
-                Last::Summary(before) => before <= difference.file,
-                _ => self.follows_missing(),
-            },
-            StatementLine::Ledger(key, _, _) => match self.last {
-                Last::Unclaimed => self.key.is_below(key),
-                _ => self.follows_summary(),
-            },
-            StatementLine::Party(key, party) => self.party_follows(key, party),
-            StatementLine::Unclaimed(key, _) => match self.last {
-                Last::Ledger | Last::Party => self.key.is(key),
-                _ => false,
-            },
-            StatementLine::Reject(reject) => match self.last {
-                Last::Reject(file, position) => {
-                    file < reject.file || file == reject.file && position < reject.position
-                }
-                Last::Unclaimed => true,
-                _ => self.follows_summary(),
-            },
+            StatementLine::Report(_) | StatementLine::NoReport => self.last.is_start(),
+            StatementLine::File(place, _) => self.last.precedes_file(*place),
+            StatementLine::Missing(number) => self.last.precedes_missing(*number),
+            StatementLine::Summary(difference) => self.last.precedes_summary(difference.file),
+            StatementLine::Ledger(key, _, _) => {
+                self.last.precedes_ledger(self.key.is_below(key))
+            }
+            StatementLine::Party(key, party) => self
+                .last
+                .precedes_party(self.key.is(key), self.is_below(party)),
+            StatementLine::Unclaimed(key, _) => self.last.precedes_unclaimed(self.key.is(key)),
+            StatementLine::Reject(reject) => {
+                self.last.precedes_reject(reject.file, reject.position)
+            }
         }
     }
 
-    /// Whether the line of the file at this place may stand here.
-    fn file_follows(&self, place: u64) -> bool {
-        match self.last {
-            Last::Report => place == 1,
-            Last::File(before) => before < place && place - before == 1,
-            _ => false,
-        }
-    }
-
-    /// Whether the line of this party may stand here.
-    fn party_follows(&self, key: &ReadKey<'_>, party: &ReadParty<'_>) -> bool {
-        match self.last {
-            Last::Ledger => self.key.is(key),
-            Last::Party => self.key.is(key) && self.party.as_str() < party.party,
-            _ => false,
-        }
-    }
-
-    /// Whether the last line is that of a file.
-    fn follows_file(&self) -> bool {
-        matches!(self.last, Last::File(_))
-    }
-
-    /// Whether the last line is that of a file or a missing one.
-    fn follows_missing(&self) -> bool {
-        matches!(self.last, Last::Missing(_)) || self.follows_file()
-    }
-
-    /// Whether the last line is that of a file, a missing one or a difference.
-    fn follows_summary(&self) -> bool {
-        matches!(self.last, Last::Summary(_)) || self.follows_missing()
-    }
-
-    /// Whether an unclaimed amount is what the parties leave.
-    fn adds_up(&self, line: &StatementLine<'_>) -> bool {
+    /// Whether an unclaimed amount is what the parties leave, where it may stand next.
+    fn adds_up(&self, line: &StatementLine<'_>) -> bool
+        ensures { (before : List Line) → IsAfter self.now before → is_placed before line.now ≡ true
+            → result ≡ adds_up before line.now }
+    {
         match line {
             StatementLine::Unclaimed(_, amount) => *amount == self.left,
             _ => true,
         }
     }
 
-    /// Keeps what the next line depends on.
-    fn keep(&mut self, line: &StatementLine<'_>) -> Result<(), NoMemory> {
+    /// Keeps what the next line depends on of a line that may stand here.
+    fn keep(&mut self, line: &StatementLine<'_>) -> Result<(), NoMemory>
+        ensures { (before : List Line) → IsAfter self.old before → is_placed before line.now ≡ true
+            → OnOk result (IsAfter self.new (line.now ∷ before)) }
+    {
         match line {
             StatementLine::Ledger(key, _, amount) => {
                 self.key.assign(self.alloc, key)?;

@@ -29,7 +29,7 @@ impl<'l> Row<'l> {
     {
         let mut cells = ArrayVec::new();
         let mut rest = line;
-        for _ in 0..ROOM {
+        for _index in 0..ROOM {
             match rest.split_once('\t') {
                 Some((cell, after)) => {
                     cells.push(cell);
@@ -37,7 +37,7 @@ impl<'l> Row<'l> {
                 }
                 None => {
                     cells.push(rest);
-                    break;
+                    return Row { cells };
                 }
             }
         }

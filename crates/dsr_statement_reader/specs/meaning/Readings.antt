@@ -8,6 +8,7 @@ use Rattle.dsr_cells.specs.meaning.Cells.{cells}
 use Rattle.dsr_values.specs.meaning.Days.{day_of}
 use Rattle.dsr_values.specs.meaning.Texts.{is_identifier_text}
 use Rattle.dsr_ledger.specs.meaning.Keys.{Key, key_eq, key_cmp, text_cmp}
+use Rattle.dsr_ledger.specs.declared.report.ReportKey.{ReportKey}
 use Rattle.dsr_statement_reader.specs.declared.line.StatementLine.{StatementLine}
 use Rattle.dsr_statement_reader.specs.declared.line.StatementLine.TheVariants as lines
 use Rattle.dsr_statement_reader.specs.declared.kind.LineKind.{LineKind}
@@ -59,6 +60,9 @@ has_cells kinds.Party cs = length cs == 6
 has_cells kinds.Unclaimed cs = length cs == 5
 has_cells kinds.Reject cs = length cs == 4
 
+abbrev pub report_if : Bool → ReportKey → Option StatementLine
+report_if fits key = if fits then Some (lines.Report key) else None
+
 unfoldable pub report_in : List ℕ → List ℕ → List ℕ → List ℕ → List ℕ → Option StatementLine
 report_in id files first last days = do
   message_id ← text_if (is_identifier_text 64) id
@@ -66,9 +70,8 @@ report_in id files first last days = do
   first_day ← day_of first
   last_day ← day_of last
   many ← number_in (2 ^ 64) days
-  if is_period first_day last_day many
-  then Some (lines.Report (record { message_id = message_id; number_of_files = number_of_files; first_day = first_day; last_day = last_day }))
-  else None
+  report_if (is_period first_day last_day many)
+    (record { message_id = message_id; number_of_files = number_of_files; first_day = first_day; last_day = last_day })
 
 unfoldable pub file_in : List ℕ → List ℕ → List ℕ → List ℕ → List (List ℕ) → Option StatementLine
 file_in place number standing blocks outcome = do
@@ -218,15 +221,15 @@ reject_follows file position last = follows_ledger last
 
 -- a line may stand right after another
 abbrev pub follows : StatementLine → StatementLine → Bool
-follows last (lines.Report key) = false
-follows last lines.NoReport = false
-follows last (lines.File place f) = file_follows place last
-follows last (lines.Missing number) = missing_follows number last
-follows last (lines.Summary d) = summary_follows d.file last
-follows last (lines.Ledger key usages amount) = ledger_follows key last
-follows last (lines.Party key p) = party_follows key p.party last
-follows last (lines.Unclaimed key amount) = unclaimed_follows key last
-follows last (lines.Reject r) = reject_follows r.file r.position last
+follows (lines.Report key) last = false
+follows lines.NoReport last = false
+follows (lines.File place f) last = file_follows place last
+follows (lines.Missing number) last = missing_follows number last
+follows (lines.Summary d) last = summary_follows d.file last
+follows (lines.Ledger key usages amount) last = ledger_follows key last
+follows (lines.Party key p) last = party_follows key p.party last
+follows (lines.Unclaimed key amount) last = unclaimed_follows key last
+follows (lines.Reject r) last = reject_follows r.file r.position last
 
 -- the first line is REPORT or NOREPORT
 abbrev pub is_first : StatementLine → Bool
@@ -234,19 +237,23 @@ is_first (lines.Report key) = true
 is_first lines.NoReport = true
 is_first _ = false
 
+-- a test of the latest of these lines, which come latest first; without one, this answer
+abbrev pub of_latest : Bool → (StatementLine → Bool) → List StatementLine → Bool
+of_latest none test [] = none
+of_latest none test (last ∷ before) = test last
+
 -- a line may stand after these lines, the latest first
-unfoldable pub is_placed : List StatementLine → StatementLine → Bool
-is_placed [] l = is_first l
-is_placed (last ∷ before) l = follows last l
+abbrev pub is_placed : List StatementLine → StatementLine → Bool
+is_placed before l = of_latest (is_first l) (follows l) before
 
 -- what the lines, the latest first, leave of the amount of their latest ledger line
-unfoldable pub left_of : List StatementLine → ℤ
+abbrev pub left_of : List StatementLine → ℤ
 left_of (lines.Ledger key usages amount ∷ before) = amount
 left_of (lines.Party key p ∷ before) = left_of before -ℤ p.amount
 left_of _ = pos 0
 
 -- an unclaimed amount is what the parties leave of the ledger line's
-unfoldable pub adds_up : List StatementLine → StatementLine → Bool
+abbrev pub adds_up : List StatementLine → StatementLine → Bool
 adds_up before (lines.Unclaimed key amount) = int_eq amount (left_of before)
 adds_up before _ = true
 
@@ -255,7 +262,7 @@ is_no_report lines.NoReport = true
 is_no_report _ = false
 
 -- a line after these lines, the latest first, or its fault
-unfoldable pub placed : List StatementLine → StatementLine → Result StatementLine StatementFault
+abbrev pub placed : List StatementLine → StatementLine → Result StatementLine StatementFault
 placed before l =
     if not (is_placed before l) then Err faults.Place
     else if not (adds_up before l) then Err faults.Sum
@@ -268,7 +275,7 @@ abbrev pub ◌>>>◌ : {A B E : Type 0} → Result A E → (A → Result B E) �
 (Err e) >>> f = Err e
 
 -- the line of a text after these lines, the latest first, or its fault
-unfoldable pub next_line : List StatementLine → List ℕ → Result StatementLine StatementFault
+abbrev pub next_line : List StatementLine → List ℕ → Result StatementLine StatementFault
 next_line before text = line_of text >>> placed before
 
 -- a statement may end after this line: it has a FILE line, and each LEDGER line its UNCLAIMED line
@@ -279,12 +286,11 @@ may_end (lines.Ledger key usages amount) = false
 may_end (lines.Party key p) = false
 may_end _ = true
 
-unfoldable pub is_complete : List StatementLine → Bool
-is_complete [] = false
-is_complete (last ∷ before) = may_end last
+abbrev pub is_complete : List StatementLine → Bool
+is_complete before = of_latest false may_end before
 
 -- the fault of the end of a text after these lines, the latest first: what follows the last line feed, and whether a read failed
-unfoldable pub end_fault : List StatementLine → List ℕ → Bool → Option StatementFault
+abbrev pub end_fault : List StatementLine → List ℕ → Bool → Option StatementFault
 end_fault before rest failed =
     if nat_lt most_bytes (length rest) then Some faults.LongLine
     else if failed then Some faults.Read
@@ -318,7 +324,7 @@ unfoldable pub reading_after : List StatementLine → List (List ℕ) → Bool �
 reading_after before [] failed = ended before (end_fault before [] failed)
 reading_after before (rest ∷ []) failed = ended before (end_fault before rest failed)
 reading_after before (text ∷ next ∷ more) failed =
-    at_line before (next_line before text) >>> λ l. with_line l (reading_after (l ∷ before) (next ∷ more) failed)
+    at_line before (next_line before text) >>> (λ l. with_line l (reading_after (l ∷ before) (next ∷ more) failed))
 
 -- the lines of what was read before a read failed or the end was reached, or the first fault
 abbrev pub reading_of : List ℕ → Bool → Result (List StatementLine) Refusal

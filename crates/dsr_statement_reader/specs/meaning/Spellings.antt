@@ -61,7 +61,7 @@ usages_in text = signed_in number_in (2 ^ 127 + 1) (2 ^ 127) text
 abbrev pub units_of_parts : ℕ → List (List ℕ) → Option ℕ
 units_of_parts limit (whole ∷ decimals ∷ []) =
     if is_run_of is_ascii_digit 10 decimals
-    then number_in limit whole >>= λ n. below limit (Some (n * 10 ^ 10 + digits_sum decimals)) else None
+    then (number_in limit whole >>= (λ n. below limit (Some (n * 10 ^ 10 + digits_sum decimals)))) else None
 units_of_parts limit _ = None
 
 unfoldable pub units_in : ℕ → List ℕ → Option ℕ
@@ -125,10 +125,10 @@ unfoldable pub outcome_in : List (List ℕ) → Option Outcome
 outcome_in (word ∷ []) = if bytes_eq word (codes "Whole") then Some outcomes.Whole else None
 outcome_in (word ∷ line ∷ fault ∷ []) =
     if bytes_eq word (codes "Fault")
-    then number_in (2 ^ 64) line >>= λ at. option_map (λ f. outcomes.Fault at f) (fault_in fault None) else None
+    then (number_in (2 ^ 64) line >>= (λ at. option_map (λ f. outcomes.Fault at f) (fault_in fault None))) else None
 outcome_in (word ∷ line ∷ fault ∷ column ∷ []) =
     if bytes_eq word (codes "Fault")
-    then number_in (2 ^ 64) line >>= λ at. column_in column >>= λ c. option_map (λ f. outcomes.Fault at f) (fault_in fault (Some c)) else None
+    then (number_in (2 ^ 64) line >>= (λ at. column_in column >>= (λ c. option_map (λ f. outcomes.Fault at f) (fault_in fault (Some c))))) else None
 outcome_in _ = None
 
 -- a key

@@ -1,0 +1,3 @@
+-- The definitions that relate the code to those of `meaning`.
+pub mod Lasts
+pub mod After
