@@ -1,12 +1,12 @@
 //! Reading the lines of a statement one after another.
-ghost use Rattle.std.specs.Prelude.{◌≡◌, true, [], ◌∷◌, List, Some, None, IfOk, IfErr, OnOk, MatchResult};
+ghost use Rattle.std.specs.Prelude.{◌≡◌, ◌-ℤ◌, true, [], ◌∷◌, List, Some, None, IfOk, IfErr, OnOk, MatchResult};
 ghost use Rattle.dsr_statement_reader.specs.declared.line.StatementLine.{StatementLine as Line};
-ghost use Rattle.dsr_statement_reader.specs.meaning.Readings.{is_placed, adds_up, next_line, end_fault, is_complete};
-ghost use Rattle.dsr_statement_reader.specs.inner.After.{IsAfter, IsErrorOf, fits};
+ghost use Rattle.dsr_statement_reader.specs.meaning.Readings.{is_placed, adds_up, next_line, end_fault, is_complete, is_text_below};
+ghost use Rattle.dsr_statement_reader.specs.inner.After.{IsAfter, IsErrorOf, fits, kept};
 
 use crate::fault::{ReadError, StatementFault};
 use crate::last::{Last, LastKey};
-use crate::line::{ReadParty, StatementLine};
+use crate::line::{ReadKey, ReadParty, StatementLine};
 use crate::reading::{LINE_LIMIT, read_line};
 use dsr_cells::{NoMemory, Text};
 use std::alloc::Global;
@@ -97,7 +97,9 @@ impl StatementReader {
     }
 
     /// Whether the name of the last party is below this one's.
-    fn is_below(&self, party: &ReadParty<'_>) -> bool {
+    fn is_below(&self, party: &ReadParty<'_>) -> bool
+        ensures { result ≡ is_text_below self.now.party party.now.party }
+    {
         self.party.as_str() < party.party
     }
 
@@ -134,23 +136,34 @@ impl StatementReader {
         }
     }
 
-    /// Keeps what the next line depends on of a line that may stand here.
-    fn keep(&mut self, line: &StatementLine<'_>) -> Result<(), NoMemory>
-        ensures { (before : List Line) → IsAfter self.old before → is_placed before line.now ≡ true
-            → OnOk result (IsAfter self.new (line.now ∷ before)) }
+    /// Keeps the key and the amount of a ledger line.
+    fn keep_ledger(&mut self, key: &ReadKey<'_>, amount: i128) -> Result<(), NoMemory>
+        ensures { OnOk result (self.new ≡ record self.old { key = key.now; left = amount }) }
     {
-        match line {
-            StatementLine::Ledger(key, _, amount) => {
-                self.key.assign(self.alloc, key)?;
-                self.left = *amount;
-            }
-            StatementLine::Party(_, party) => {
-                self.party.assign(self.alloc, party.party)?;
-                self.left = self.left.checked_sub(party.amount).ok_or(NoMemory)?;
-            }
-            _ => {}
-        }
-        self.last = Last::of(line);
+        self.key.assign(self.alloc, key)?;
+        self.left = amount;
         Ok(())
+    }
+
+    /// Keeps the name of a party, and what it leaves.
+    fn keep_party(&mut self, party: &ReadParty<'_>) -> Result<(), NoMemory>
+        ensures { OnOk result (self.new ≡ record self.old
+            { party = party.now.party; left = self.old.left -ℤ party.now.amount }) }
+    {
+        self.left = self.left.checked_sub(party.amount).ok_or(NoMemory)?;
+        self.party.assign(self.alloc, party.party)?;
+        Ok(())
+    }
+
+    /// Keeps what the next line depends on of a line.
+    fn keep(&mut self, line: &StatementLine<'_>) -> Result<(), NoMemory>
+        ensures { OnOk result (self.new ≡ kept self.old line.now) }
+    {
+        self.last = Last::of(line);
+        match line {
+            StatementLine::Ledger(key, _, amount) => self.keep_ledger(key, *amount),
+            StatementLine::Party(_, party) => self.keep_party(party),
+            _ => Ok(()),
+        }
     }
 }

@@ -29,7 +29,7 @@ impl<'l> Row<'l> {
     {
         let mut cells = ArrayVec::new();
         let mut rest = line;
-        for _index in 0..ROOM {
+        for index in 0..ROOM {
             match rest.split_once('\t') {
                 Some((cell, after)) => {
                     cells.push(cell);

@@ -1,5 +1,5 @@
 -- What a reader keeps of the lines that it has read, and the tests by it.
-use Rattle.std.specs.Prelude.{◌≡◌, ℕ, Bool, List, [], ◌∷◌, ℤ, Result, Err}
+use Rattle.std.specs.Prelude.{◌≡◌, ℕ, Bool, List, [], ◌∷◌, ℤ, ◌-ℤ◌, Result, Err}
 use Rattle.dsr_ledger.specs.meaning.Keys.{Key, key_eq}
 use Rattle.dsr_statement_reader.specs.declared.line.StatementLine.{StatementLine}
 use Rattle.dsr_statement_reader.specs.declared.line.StatementLine.TheVariants as lines
@@ -58,3 +58,9 @@ fits r (lines.Ledger key usages amount) = ledger_fits (is_key_below r.key key) r
 fits r (lines.Party key p) = party_fits (key_eq r.key key) (is_text_below r.party p.party) r.last
 fits r (lines.Unclaimed key amount) = unclaimed_fits (key_eq r.key key) r.last
 fits r (lines.Reject x) = reject_fits x.file x.position r.last
+
+-- the reader once it has kept what the next line depends on of a line
+abbrev pub kept : StatementReader → StatementLine → StatementReader
+kept r (lines.Ledger key usages amount) = record r { last = lasts.Ledger; key = key; left = amount }
+kept r (lines.Party key p) = record r { last = lasts.Party; party = p.party; left = r.left -ℤ p.amount }
+kept r l = record r { last = last_line l }

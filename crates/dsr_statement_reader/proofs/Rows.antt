@@ -1,0 +1,34 @@
+-- The cells of a line, one after another.
+use Rattle.std.proofs.Common.{◌≡◌, ◌<◌, ℕ, List, [], ◌∷◌, ◌++◌, length, get_or, ◌≢◌, ap, refl, ◌∙◌, sym, map, append_assoc, take, ◌≤◌, arith}
+use Rattle.std.proofs.lemmas.List.{map-append, length-map, take_all}
+use Rattle.std.proofs.Math.Seq.{take-append_seam}
+use Rattle.dsr_cells.specs.meaning.Cells.{cells}
+use Rattle.dsr_values.proofs.Splits.{pieces_first, pieces_plain}
+
+-- one more cell, and those after it
+pub one_more : {X : Type 0} (f : X → List ℕ) (taken : List X) (x : X) (line rest after : List ℕ) → map f taken ++ cells rest ≡ cells line
+    → rest ≡ f x ++ (9 ∷ after) → ((i : ℕ) → i < length (f x) → get_or (f x) i 0 ≢ 9) → map f (taken ++ x ∷ []) ++ cells after ≡ cells line
+one_more f taken x line rest after so_far cut none =
+    let first : cells rest ≡ f x ∷ cells after = pieces_first 9 rest (f x) after cut none in
+    let all : map f (taken ++ x ∷ []) ≡ map f taken ++ f x ∷ [] = map-append f taken (x ∷ []) in
+    ap (λ l. l ++ cells after) all ∙ append_assoc (map f taken) (f x ∷ []) (cells after) ∙ ap (λ l. map f taken ++ l) (sym first) ∙ so_far
+
+-- the last cell
+pub last_one : {X : Type 0} (f : X → List ℕ) (taken : List X) (x : X) (line rest : List ℕ) → map f taken ++ cells rest ≡ cells line
+    → rest ≡ f x → ((i : ℕ) → i < length rest → get_or rest i 0 ≢ 9) → map f (taken ++ x ∷ []) ≡ cells line
+last_one f taken x line rest so_far is none =
+    let only : cells rest ≡ rest ∷ [] = pieces_plain 9 rest none in
+    map-append f taken (x ∷ []) ∙ ap (λ l. map f taken ++ l ∷ []) (sym is) ∙ ap (λ l. map f taken ++ l) (sym only) ∙ so_far
+
+-- a list of at most ten cells is its first ten
+pub all_of_ten : {X : Type 0} (f : X → List ℕ) (taken : List X) (all : List (List ℕ)) → map f taken ≡ all → length taken ≤ 10 → map f taken ≡ take 10 all
+all_of_ten f taken all same few =
+    let short : length (map f taken) ≤ 10 = omega (arith, length-map taken f, few) in
+    sym (take_all 10 (map f taken) short) ∙ ap (take 10) same
+
+-- ten cells are the first ten
+pub first_ten : {X : Type 0} (f : X → List ℕ) (taken : List X) (more all : List (List ℕ)) → map f taken ++ more ≡ all → length taken ≡ 10
+    → map f taken ≡ take 10 all
+first_ten f taken more all cut ten =
+    let long : length (map f taken) ≡ 10 = length-map taken f ∙ ten in
+    sym (ap (λ n. take n (map f taken ++ more)) (sym long) ∙ take-append_seam (map f taken) more) ∙ ap (take 10) cut
