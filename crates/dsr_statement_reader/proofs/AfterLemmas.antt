@@ -85,7 +85,7 @@ key_same a b h =
     let territory : a.territory ≡ b.territory = search (rules, bytes_eq-Decides) in
     let use_type : a.use_type ≡ b.use_type = search (rules, bytes_eq-Decides) in
     let currency : a.currency ≡ b.currency = search (rules, bytes_eq-Decides) in
-    cc
+    λ i. record { isrc = isrc i; territory = territory i; use_type = use_type i; currency = currency i }
 
 party_key : (k key : Key) (party : List ℕ) (before : List StatementLine) → IsKeyOf k before
     → of_latest false (party_follows key party) before ≡ true → k ≡ key

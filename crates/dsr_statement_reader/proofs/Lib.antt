@@ -1,2 +1,4 @@
 pub mod Rows
+pub mod KindLemmas
+pub mod Signs
 pub mod AfterLemmas

@@ -1,6 +1,7 @@
 //! The lines that cells spell.
 ghost use Rattle.std.specs.Prelude.{◌≡◌};
 ghost use Rattle.std.specs.Option.{option_map};
+ghost use Rattle.std.specs.Ordering.{int_eq};
 ghost use Rattle.dsr_values.specs.meaning.Texts.{is_identifier_text, is_isrc_text};
 ghost use Rattle.dsr_statement_reader.specs.meaning.Spellings.{text_if, file_number_in, key_in, is_period};
 ghost use Rattle.dsr_statement_reader.specs.meaning.Readings.{report_in, missing_in, difference_in, ledger_in, party_in, unclaimed_in, reject_in};
@@ -21,12 +22,19 @@ fn read_identifier(text: &str, most: usize) -> Option<&str>
     }
 }
 
+/// Whether two numbers are the same.
+fn is_same(a: i128, b: i128) -> bool
+    ensures { result ≡ int_eq a b }
+{
+    a == b
+}
+
 /// Whether the last day is not before the first, and there are this many days from the first to the last.
 fn is_period(first: Day, last: Day, days: u64) -> bool
     ensures { result ≡ is_period first last days }
 {
     let (first, last) = (i128::from(first.number()), i128::from(last.number()));
-    days > 0 && last == first + i128::from(days - 1)
+    days > 0 && is_same(last, first + i128::from(days - 1))
 }
 
 /// The line of the report.

@@ -1,5 +1,5 @@
 //! The numbers that cells spell.
-ghost use Rattle.std.specs.Prelude.{◌≡◌, ◌<◌, ◌≤◌, ◌^◌, ◌+◌, length, IfSome, unsigned_abs, [], ◌∷◌, Some, pos, neg_ℤ};
+ghost use Rattle.std.specs.Prelude.{◌≡◌, ◌<◌, ◌≤◌, ◌^◌, ◌+◌, length, IfSome, [], ◌∷◌, Some, pos, neg_ℤ};
 ghost use Rattle.std.specs.Option.{option_map};
 ghost use Rattle.dsr_values.specs.meaning.Numbers.{digits_of};
 ghost use Rattle.dsr_statement_reader.specs.meaning.Spellings.{below, has_leading_zero, number_in, usages_in, units_in, units_of_parts, amount_in, not_zero};
@@ -79,17 +79,33 @@ pub(crate) fn read_u32(text: &str) -> Option<u32>
     Some(read_below(text, 1 << 32)? as u32)
 }
 
+/// So many units; None for None.
+fn positive(number: Option<u128>) -> Option<i128>
+    requires { IfSome number (λ n. n < 2 ^ 127) }
+    ensures { result ≡ option_map pos number }
+{
+    Some(number? as i128)
+}
+
+/// So many units below zero; None for None and for zero.
+fn negative(number: Option<u128>) -> Option<i128>
+    requires { IfSome number (λ n. n ≤ 2 ^ 127) }
+    ensures { result ≡ option_map (λ n. neg_ℤ (pos n)) (not_zero number) }
+{
+    let number = number?;
+    if number == 0 {
+        return None;
+    }
+    Some(-((number - 1) as i128) - 1)
+}
+
 /// The usages that a text spells.
-#[tactic(auto, unfolding(crate::specs::meaning::Spellings::usages_in))]
 pub(crate) fn read_usages(text: &str) -> Option<i128>
     ensures { result ≡ usages_in text.now }
 {
     match text.strip_prefix('-') {
-        Some(rest) => {
-            let number = read_below(rest, (1 << 127) + 1)?;
-            negative(number)
-        }
-        None => Some(read_below(text, 1 << 127)? as i128),
+        Some(rest) => negative(read_below(rest, (1 << 127) + 1)),
+        None => positive(read_below(text, 1 << 127)),
     }
 }
 
@@ -108,34 +124,22 @@ fn read_parts(whole: &str, decimals: &str) -> Option<u128>
 }
 
 /// The units that a text without a sign spells.
-#[tactic(auto, unfolding(crate::specs::meaning::Spellings::units_in))]
 fn read_units(text: &str) -> Option<u128>
     ensures value { result ≡ units_in (2 ^ 123) text.now }
     ensures bound { IfSome result (λ n. n < 2 ^ 123) }
 {
-    let (whole, decimals) = text.split_once('.')?;
-    read_parts(whole, decimals)
-}
-
-/// This many below zero; None for zero.
-fn negative(number: u128) -> Option<i128>
-    requires { number ≤ 2 ^ 127 }
-    ensures { result ≡ option_map (λ n. neg_ℤ (pos n)) (not_zero (Some number)) }
-{
-    if number == 0 {
-        return None;
+    match text.split_once('.') {
+        Some((whole, decimals)) => read_parts(whole, decimals),
+        None => None,
     }
-    Some(-((number - 1) as i128) - 1)
 }
 
 /// The amount that a text spells, in units of 10^-10.
-#[tactic(auto, unfolding(crate::specs::meaning::Spellings::amount_in))]
 pub(crate) fn read_amount(text: &str) -> Option<i128>
-    ensures value { result ≡ amount_in text.now }
-    ensures bound { IfSome result (λ n. unsigned_abs n < 2 ^ 123) }
+    ensures { result ≡ amount_in text.now }
 {
     match text.strip_prefix('-') {
-        Some(rest) => negative(read_units(rest)?),
-        None => Some(read_units(text)? as i128),
+        Some(rest) => negative(read_units(rest)),
+        None => positive(read_units(text)),
     }
 }

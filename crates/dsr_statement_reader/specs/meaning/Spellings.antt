@@ -49,7 +49,7 @@ number_in limit text = if has_leading_zero text then None else below limit (digi
 
 -- the number that a text spells, with a minus sign only below zero: before and behind the sign, by `spelled`
 abbrev pub signed_in : (ℕ → List ℕ → Option ℕ) → ℕ → ℕ → List ℕ → Option ℤ
-signed_in spelled most_below most [] = None
+signed_in spelled most_below most [] = option_map pos (spelled most [])
 signed_in spelled most_below most (c ∷ cs) =
     if c == 45 then option_map (λ n. neg_ℤ (pos n)) (not_zero (spelled most_below cs)) else option_map pos (spelled most (c ∷ cs))
 

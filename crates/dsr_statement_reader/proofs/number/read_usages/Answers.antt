@@ -1,0 +1,12 @@
+use Rattle.std.proofs.Common.{lit<, ◌∙◌, sym, ◌^◌, ◌+◌, None}
+use Rattle.std.proofs.lemmas.Str.Pattern.{strip_prefix_char}
+use Rattle.dsr_statement_reader.specs.meaning.Spellings.{usages_in, number_in}
+use Rattle.dsr_statement_reader.proofs.Signs.{signed_plain}
+use Rattle.dsr_statement_reader.proofs.number.read_usages.Goals as goal
+
+pub returns-in-None : goal.returns-in-None
+unfolding usages_in
+returns-in-None c =
+    let no_sign = strip_prefix_char 45 c.args.text.now None c.in-None.ensures.cases (lit< tt) in
+    let plain = signed_plain number_in (2 ^ 127 + 1) (2 ^ 127) c.args.text.now no_sign in
+    rw plain (?)
