@@ -1,6 +1,6 @@
 -- What a reader keeps is enough for the tests of the next line.
-use Rattle.std.proofs.Common.{rules, ◌≡◌, ℕ, List, [], ◌∷◌, Bool, true, false, refl, sym, ◌∙◌, ap}
-use Rattle.std.specs.Prelude.{ℤ, ◌-ℤ◌}
+use Rattle.std.proofs.Common.{rules, ◌≡◌, ℕ, List, [], ◌∷◌, Bool, true, false, refl, sym, ◌∙◌, ap, Result, Ok, Err}
+use Rattle.std.specs.Prelude.{ℤ, ◌-ℤ◌, ◌&&◌}
 use Rattle.std.proofs.lemmas.Bool.{and_parts}
 use Rattle.std.specs.Str.{bytes_eq}
 use Rattle.std.proofs.lemmas.Slice.Eq.{bytes_eq-Decides}
@@ -10,7 +10,9 @@ use Rattle.dsr_statement_reader.specs.declared.line.StatementLine.TheVariants as
 use Rattle.dsr_statement_reader.specs.declared.last.Last.{Last}
 use Rattle.dsr_statement_reader.specs.declared.last.Last.TheVariants as lasts
 use Rattle.dsr_statement_reader.specs.declared.reader.StatementReader.{StatementReader}
-use Rattle.dsr_statement_reader.specs.meaning.Readings.{left_of, is_key_below, is_text_below, is_placed, is_complete, of_latest, may_end, adds_up}
+use Rattle.dsr_statement_reader.specs.meaning.Readings.{left_of, is_key_below, is_text_below, is_placed, is_complete, of_latest, may_end, adds_up, placed, is_no_report}
+use Rattle.dsr_statement_reader.specs.declared.fault.StatementFault.{StatementFault}
+use Rattle.dsr_statement_reader.specs.declared.fault.StatementFault.TheVariants as faults
 use Rattle.dsr_statement_reader.specs.meaning.Readings.{file_follows, missing_follows, summary_follows, ledger_follows, party_follows, unclaimed_follows, reject_follows}
 use Rattle.dsr_statement_reader.specs.inner.Lasts.{last_line, file_fits, missing_fits, summary_fits, ledger_fits, party_fits, unclaimed_fits, reject_fits, fits_start, ends}
 use Rattle.dsr_statement_reader.specs.inner.After.{IsAfter, IsKeyOf, IsPartyOf, IsLeftOf, last_of, fits, kept}
@@ -78,20 +80,21 @@ fits_is_placed r before (lines.Reject x) h = ap (reject_fits x.file x.position) 
 -- equal keys
 key_same : (a b : Key) → key_eq a b ≡ true → a ≡ b
 key_same a b h =
-    let one = and_parts _ _ h in
-    let two = and_parts _ _ one.1 in
-    let three = and_parts _ _ two.1 in
-    let isrc : a.isrc ≡ b.isrc = search (rules, bytes_eq-Decides) in
-    let territory : a.territory ≡ b.territory = search (rules, bytes_eq-Decides) in
-    let use_type : a.use_type ≡ b.use_type = search (rules, bytes_eq-Decides) in
-    let currency : a.currency ≡ b.currency = search (rules, bytes_eq-Decides) in
+    let one = and_parts (bytes_eq a.isrc b.isrc)
+        (bytes_eq a.territory b.territory && (bytes_eq a.use_type b.use_type && bytes_eq a.currency b.currency)) h in
+    let two = and_parts (bytes_eq a.territory b.territory) (bytes_eq a.use_type b.use_type && bytes_eq a.currency b.currency) one.1 in
+    let three = and_parts (bytes_eq a.use_type b.use_type) (bytes_eq a.currency b.currency) two.1 in
+    let isrc : a.isrc ≡ b.isrc = (bytes_eq-Decides a.isrc b.isrc).0 one.0 in
+    let territory : a.territory ≡ b.territory = (bytes_eq-Decides a.territory b.territory).0 two.0 in
+    let use_type : a.use_type ≡ b.use_type = (bytes_eq-Decides a.use_type b.use_type).0 three.0 in
+    let currency : a.currency ≡ b.currency = (bytes_eq-Decides a.currency b.currency).0 three.1 in
     λ i. record { isrc = isrc i; territory = territory i; use_type = use_type i; currency = currency i }
 
 party_key : (k key : Key) (party : List ℕ) (before : List StatementLine) → IsKeyOf k before
     → of_latest false (party_follows key party) before ≡ true → k ≡ key
 party_key k key party [] h e = cc
 party_key k key party (lines.Ledger last usages amount ∷ before) h e = h ∙ key_same last key e
-party_key k key party (lines.Party last p ∷ before) h e = h ∙ key_same last key (and_parts _ _ e).0
+party_key k key party (lines.Party last p ∷ before) h e = h ∙ key_same last key (and_parts (key_eq last key) (is_text_below p.party party) e).0
 party_key k key party (_ ∷ before) h e = cc
 
 party_left : (left : ℤ) (key : Key) (party : List ℕ) (before : List StatementLine) → IsLeftOf left before
@@ -124,3 +127,20 @@ after_kept r before (lines.Party key p) h e = record {
 }
 after_kept r before (lines.Unclaimed key amount) h e = record { last = refl; key = unclaimed_key r.key key before h.key e; party = tt; left = tt }
 after_kept r before (lines.Reject x) h e = record { last = refl; key = tt; party = tt; left = tt }
+
+-- the faults of a line by what is kept
+pub not_placed : (r : StatementReader) (before : List StatementLine) (l : StatementLine) → IsAfter r before → fits r l ≡ false
+    → placed before l ≡ Err faults.Place
+not_placed r before l h e = let no : is_placed before l ≡ false = sym (fits_is_placed r before l h) ∙ e in rw no refl
+
+pub not_summed : (r : StatementReader) (before : List StatementLine) (l : StatementLine) → IsAfter r before → fits r l ≡ true
+    → adds_up before l ≡ false → placed before l ≡ Err faults.Sum
+not_summed r before l h e s = let yes : is_placed before l ≡ true = sym (fits_is_placed r before l h) ∙ e in rw (yes, s) refl
+
+pub of_no_report : (r : StatementReader) (before : List StatementLine) (l : StatementLine) → IsAfter r before → fits r l ≡ true
+    → adds_up before l ≡ true → is_no_report l ≡ true → placed before l ≡ Err faults.NoReport
+of_no_report r before l h e s n = let yes : is_placed before l ≡ true = sym (fits_is_placed r before l h) ∙ e in rw (yes, s, n) refl
+
+pub is_good : (r : StatementReader) (before : List StatementLine) (l : StatementLine) → IsAfter r before → fits r l ≡ true
+    → adds_up before l ≡ true → is_no_report l ≡ false → (is_placed before l ≡ true) × (placed before l ≡ Ok l)
+is_good r before l h e s n = let yes : is_placed before l ≡ true = sym (fits_is_placed r before l h) ∙ e in (yes, rw (yes, s, n) refl)

@@ -1,8 +1,12 @@
 -- The lines of a kind by their cells.
-use Rattle.std.proofs.Common.{arith, ◌≡◌, ◌≢◌, ◌<◌, ◌≤◌, ◌-◌, ℕ, List, [], ◌∷◌, length, get_or, drop, refl, false, ap, sym, ◌∙◌, Result, Ok, Err, Option, Some, None, cond, take, true}
+use Rattle.std.proofs.Common.{arith, ◌≡◌, ◌≢◌, ◌<◌, ◌≤◌, ◌-◌, ℕ, List, [], ◌∷◌, length, get_or, drop, refl, false, ap, sym, ◌∙◌, Result, Ok, Err, Option, Some, None, cond, take, true, nat_eq, inl, inr}
 use Rattle.std.specs.Prelude.{slice_index_or}
-use Rattle.std.proofs.lemmas.Bool.{ne_eqb}
-use Rattle.std.proofs.lemmas.List.{length-drop}
+use Rattle.std.proofs.lemmas.Bool.{ne_eqb, le-ltb, cases_Bool}
+use Rattle.std.proofs.lemmas.Str.{IsUtf8-from_is_utf8, is_utf8-from_IsUtf8}
+use Rattle.std.specs.Str.{IsUtf8, is_utf8}
+use Rattle.std.proofs.lemmas.List.Splits.{length-slice_split}
+use Rattle.dsr_cells.specs.meaning.Cells.{cells}
+use Rattle.std.proofs.lemmas.List.{length-drop, length-take}
 use Rattle.dsr_statement_reader.specs.declared.line.StatementLine.{StatementLine}
 use Rattle.dsr_statement_reader.specs.declared.line.StatementLine.TheVariants as lines
 use Rattle.dsr_statement_reader.specs.declared.kind.LineKind.{LineKind}
@@ -10,7 +14,7 @@ use Rattle.dsr_statement_reader.specs.declared.kind.LineKind.TheVariants as kind
 use Rattle.dsr_statement_reader.specs.declared.fault.StatementFault.{StatementFault}
 use Rattle.dsr_statement_reader.specs.declared.fault.StatementFault.TheVariants as faults
 use Rattle.dsr_statement_reader.specs.meaning.Spellings.{outcome_in}
-use Rattle.dsr_statement_reader.specs.meaning.Readings.{line_of_kind, line_of_cells, kind_in, or_fault, has_file_cells, report_in, missing_in, difference_in, ledger_in, party_in, unclaimed_in, reject_in, file_in}
+use Rattle.dsr_statement_reader.specs.meaning.Readings.{line_of, line_of_kind, line_of_cells, kind_in, or_fault, has_file_cells, report_in, missing_in, difference_in, ledger_in, party_in, unclaimed_in, reject_in, file_in}
 
 other : (row : List (List ℕ)) (n : ℕ) → 0 < length row → length row ≢ n → 0 < n → length (drop 1 row) ≢ n - 1
 other row n some ne pos e = ne (omega (arith, e, length-drop 1 row))
@@ -87,14 +91,37 @@ by_name (name ∷ cs) h = refl
 pub first_ten_cells : (row : List (List ℕ)) → line_of_cells (take 10 row) ≡ line_of_cells row
 first_ten_cells (a ∷ b ∷ c ∷ d ∷ e ∷ f ∷ g ∷ h ∷ i ∷ j ∷ k ∷ more) = many (kind_in a)
   where
+    long : (n : ℕ) → n < 9 → nat_eq (length (b ∷ c ∷ d ∷ e ∷ f ∷ g ∷ h ∷ i ∷ j ∷ k ∷ more)) n ≡ false
+    long n small = ne_eqb _ _ (λ q. absurd (omega arith))
     many : (kind : Option LineKind) → line_of_kind (b ∷ c ∷ d ∷ e ∷ f ∷ g ∷ h ∷ i ∷ j ∷ []) kind
         ≡ line_of_kind (b ∷ c ∷ d ∷ e ∷ f ∷ g ∷ h ∷ i ∷ j ∷ k ∷ more) kind
     many None = refl
-    many (Some kinds.Report) = refl
-    many (Some kinds.NoReport) = refl
     many (Some kinds.File) = refl
-    many (Some _) = refl
+    many (Some kinds.Report) = rw (long 5 (omega arith)) refl
+    many (Some kinds.NoReport) = rw (long 0 (omega arith)) refl
+    many (Some kinds.Missing) = rw (long 1 (omega arith)) refl
+    many (Some kinds.Summary) = rw (long 6 (omega arith)) refl
+    many (Some kinds.Ledger) = rw (long 6 (omega arith)) refl
+    many (Some kinds.Party) = rw (long 6 (omega arith)) refl
+    many (Some kinds.Unclaimed) = rw (long 5 (omega arith)) refl
+    many (Some kinds.Reject) = rw (long 4 (omega arith)) refl
 first_ten_cells _ = refl
+
+-- a line has a cell
+pub some_cells : (text : List ℕ) → 0 < length (take 10 (cells text))
+some_cells text = omega (arith, length-take 10 (cells text), length-slice_split (λ b. nat_eq b 9) text)
+
+-- a line of UTF-8, and another
+pub line_of_text : (bytes : List ℕ) → length bytes ≤ 16384 → IsUtf8 bytes → line_of bytes ≡ line_of_cells (cells bytes)
+unfolding line_of
+line_of_text bytes short utf8 = rw (le-ltb _ _ short, is_utf8-from_IsUtf8 bytes utf8) refl
+
+pub line_of_bytes : (bytes : List ℕ) → length bytes ≤ 16384 → (IsUtf8 bytes → ⊥) → line_of bytes ≡ Err faults.NotUtf8
+unfolding line_of
+line_of_bytes bytes short broken = elim (cases_Bool (is_utf8 bytes)) [
+  | inl good ↦ absurd (broken (IsUtf8-from_is_utf8 bytes good))
+  | inr f ↦ rw (le-ltb _ _ short, f) refl
+]
 
 -- the cells of a line of a file
 pub file_cells : (row : List (List ℕ)) → 6 ≤ length row → has_file_cells (drop 1 row) ≡ true → line_of_kind (drop 1 row) (Some kinds.File)

@@ -1,19 +1,24 @@
 -- Signs and points.
-use Rattle.std.proofs.Common.{arith, ◌≡◌, ◌≢◌, ◌<◌, ℕ, List, [], ◌∷◌, ◌++◌, length, get_or, false, refl, sym, ◌∙◌, inl, inr, Option, Some, None, cond}
-use Rattle.std.specs.Prelude.{pos, ℤ}
+use Rattle.std.proofs.Common.{arith, ◌≡◌, ◌≢◌, ◌<◌, ℕ, List, [], ◌∷◌, ◌++◌, length, get_or, false, refl, ap, sym, ◌∙◌, inl, inr, Option, Some, None, cond}
+use Rattle.std.specs.Prelude.{pos, ℤ, neg_ℤ}
 use Rattle.std.specs.Option.{option_map}
 use Rattle.std.specs.Char.{is_ascii_digit}
 use Rattle.std.proofs.lemmas.Bool.Decides.{nat_tests}
 use Rattle.std.proofs.lemmas.Bool.{and_left}
 use Rattle.dsr_values.specs.meaning.Texts.{is_run_of}
 use Rattle.dsr_values.proofs.Splits.{Lacks, pieces, pieces_first, pieces_plain, pieces_cases}
-use Rattle.dsr_statement_reader.specs.meaning.Spellings.{signed_in, units_of_parts}
+use Rattle.dsr_statement_reader.specs.meaning.Spellings.{signed_in, not_zero, units_of_parts}
 
 -- a text without a minus sign
 pub signed_plain : (spelled : ℕ → List ℕ → Option ℕ) (most_below most : ℕ) (text : List ℕ) → ((rest : List ℕ) → text ≢ 45 ∷ rest)
     → signed_in spelled most_below most text ≡ option_map pos (spelled most text)
 signed_plain spelled most_below most [] h = refl
 signed_plain spelled most_below most (c ∷ cs) h = grind (arith, nat_tests, h cs)
+
+-- a text with a minus sign
+pub signed_minus : (spelled : ℕ → List ℕ → Option ℕ) (most_below most : ℕ) (text rest : List ℕ) → text ≡ 45 ∷ rest
+    → signed_in spelled most_below most text ≡ option_map (λ n. neg_ℤ (pos n)) (not_zero (spelled most_below rest))
+signed_minus spelled most_below most text rest e = ap (signed_in spelled most_below most) e
 
 -- decimals that are not digits
 bad_decimals : (limit : ℕ) (whole decimals : List ℕ) → is_run_of is_ascii_digit 10 decimals ≡ false → units_of_parts limit (whole ∷ decimals ∷ []) ≡ None

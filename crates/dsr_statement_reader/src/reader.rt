@@ -1,7 +1,7 @@
 //! Reading the lines of a statement one after another.
-ghost use Rattle.std.specs.Prelude.{◌≡◌, ◌-ℤ◌, true, [], ◌∷◌, List, Some, None, IfOk, IfErr, OnOk, MatchResult};
+ghost use Rattle.std.specs.Prelude.{◌≡◌, ◌-ℤ◌, true, [], ◌∷◌, List, Some, None, IfOk, IfErr, OnOk, MatchResult, MatchOption};
 ghost use Rattle.dsr_statement_reader.specs.declared.line.StatementLine.{StatementLine as Line};
-ghost use Rattle.dsr_statement_reader.specs.meaning.Readings.{is_placed, adds_up, next_line, end_fault, is_complete, is_text_below};
+ghost use Rattle.dsr_statement_reader.specs.meaning.Readings.{is_placed, adds_up, placed, is_no_report, next_line, end_fault, is_complete, is_text_below};
 ghost use Rattle.dsr_statement_reader.specs.inner.After.{IsAfter, IsErrorOf, fits, kept};
 
 use crate::fault::{ReadError, StatementFault};
@@ -19,6 +19,13 @@ pub struct StatementReader {
     key: LastKey,
     party: Text,
     left: i128,
+}
+
+/// Whether it is the line of no report.
+fn is_no_report(line: &StatementLine<'_>) -> bool
+    ensures { result ≡ is_no_report line.now }
+{
+    matches!(line, StatementLine::NoReport)
 }
 
 impl StatementReader {
@@ -52,19 +59,31 @@ impl StatementReader {
             Ok(line) => line,
             Err(fault) => return Err(ReadError::Fault(fault)),
         };
-        if !self.fits(&line) {
-            return Err(ReadError::Fault(StatementFault::Place));
-        }
-        if !self.adds_up(&line) {
-            return Err(ReadError::Fault(StatementFault::Sum));
-        }
-        if matches!(line, StatementLine::NoReport) {
-            return Err(ReadError::Fault(StatementFault::NoReport));
+        if let Some(fault) = self.fault_of(&line) {
+            return Err(ReadError::Fault(fault));
         }
         match self.keep(&line) {
             Ok(()) => Ok(line),
             Err(NoMemory) => Err(ReadError::Memory),
         }
+    }
+
+    /// The fault of a line after those before it.
+    fn fault_of(&self, line: &StatementLine<'_>) -> Option<StatementFault>
+        ensures { (before : List Line) → IsAfter self.now before → MatchOption result
+            ((is_placed before line.now ≡ true) × (placed before line.now ≡ Ok line.now))
+            (λ f. placed before line.now ≡ Err f) }
+    {
+        if !self.fits(line) {
+            return Some(StatementFault::Place);
+        }
+        if !self.adds_up(line) {
+            return Some(StatementFault::Sum);
+        }
+        if is_no_report(line) {
+            return Some(StatementFault::NoReport);
+        }
+        None
     }
 
     /// Ends reading, given what follows the last line feed, and whether a read failed.
