@@ -81,7 +81,7 @@ fits_is_placed r before (lines.Reject x) h = ap (reject_fits x.file x.position) 
 key_same : (a b : Key) → key_eq a b ≡ true → a ≡ b
 key_same a b h =
     let one = and_parts (bytes_eq a.isrc b.isrc)
-        (bytes_eq a.territory b.territory && (bytes_eq a.use_type b.use_type && bytes_eq a.currency b.currency)) h in
+    (bytes_eq a.territory b.territory && (bytes_eq a.use_type b.use_type && bytes_eq a.currency b.currency)) h in
     let two = and_parts (bytes_eq a.territory b.territory) (bytes_eq a.use_type b.use_type && bytes_eq a.currency b.currency) one.1 in
     let three = and_parts (bytes_eq a.use_type b.use_type) (bytes_eq a.currency b.currency) two.1 in
     let isrc : a.isrc ≡ b.isrc = (bytes_eq-Decides a.isrc b.isrc).0 one.0 in

@@ -93,6 +93,7 @@ first_ten_cells (a ∷ b ∷ c ∷ d ∷ e ∷ f ∷ g ∷ h ∷ i ∷ j ∷ k �
   where
     long : (n : ℕ) → n < 9 → nat_eq (length (b ∷ c ∷ d ∷ e ∷ f ∷ g ∷ h ∷ i ∷ j ∷ k ∷ more)) n ≡ false
     long n small = ne_eqb _ _ (λ q. absurd (omega arith))
+
     many : (kind : Option LineKind) → line_of_kind (b ∷ c ∷ d ∷ e ∷ f ∷ g ∷ h ∷ i ∷ j ∷ []) kind
         ≡ line_of_kind (b ∷ c ∷ d ∷ e ∷ f ∷ g ∷ h ∷ i ∷ j ∷ k ∷ more) kind
     many None = refl

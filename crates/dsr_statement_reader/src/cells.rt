@@ -117,11 +117,7 @@ fn read_key<'l>(
 ) -> Option<ReadKey<'l>>
     ensures { result ≡ key_in isrc.now territory.now use_type.now currency.now }
 {
-    if is_isrc(isrc)
-        && is_territory(territory)
-        && is_use_type(use_type)
-        && is_currency(currency)
-    {
+    if is_isrc(isrc) && is_territory(territory) && is_use_type(use_type) && is_currency(currency) {
         Some(ReadKey {
             isrc,
             territory,

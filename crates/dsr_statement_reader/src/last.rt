@@ -159,9 +159,7 @@ impl Last {
         ensures { result ≡ reject_fits file position self }
     {
         match self {
-            Last::Reject(last, before) => {
-                last < file || (last == file && before < position)
-            }
+            Last::Reject(last, before) => { last < file || (last == file && before < position) }
             _ => self.is_unclaimed(),
         }
     }

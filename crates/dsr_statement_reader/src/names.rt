@@ -136,10 +136,7 @@ pub(crate) fn fault_named(name: &str, column: Option<Column>) -> Option<FileFaul
     match column {
         None => fault_among(&PLAIN_FAULTS, name),
         Some(column) => fault_among(
-            &[
-                FileFault::MissingCell(column),
-                FileFault::BadCell(column),
-            ],
+            &[FileFault::MissingCell(column), FileFault::BadCell(column)],
             name,
         ),
     }

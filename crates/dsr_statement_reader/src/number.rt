@@ -92,11 +92,10 @@ fn negative(number: Option<u128>) -> Option<i128>
     requires { IfSome number (λ n. n ≤ 2 ^ 127) }
     ensures { result ≡ option_map (λ n. neg_ℤ (pos n)) (not_zero number) }
 {
-    let number = number?;
-    if number == 0 {
-        return None;
+    match number? {
+        0 => None,
+        units => Some(-((units - 1) as i128) - 1),
     }
-    Some(-((number - 1) as i128) - 1)
 }
 
 /// The usages that a text spells.

@@ -39,7 +39,9 @@ fn report_row<'l>(row: &Row<'l>) -> Result<StatementLine<'l>, StatementFault>
     if row.len() != 6 {
         return Err(StatementFault::Cells);
     }
-    read_report(row.at(1), row.at(2), row.at(3), row.at(4), row.at(5)).ok_or(StatementFault::Spelling)
+    read_report(row.at(1), row.at(2), row.at(3), row.at(4), row.at(5)).ok_or(
+        StatementFault::Spelling,
+    )
 }
 
 /// The line of a missing file, if it has its cells.
@@ -63,7 +65,15 @@ fn difference_row<'l>(row: &Row<'l>) -> Result<StatementLine<'l>, StatementFault
     if row.len() != 7 {
         return Err(StatementFault::Cells);
     }
-    read_difference(row.at(1), row.at(2), row.at(3), row.at(4), row.at(5), row.at(6)).ok_or(StatementFault::Spelling)
+    read_difference(
+        row.at(1),
+        row.at(2),
+        row.at(3),
+        row.at(4),
+        row.at(5),
+        row.at(6),
+    )
+    .ok_or(StatementFault::Spelling)
 }
 
 /// The line of a ledger line's sums, if it has its cells.
@@ -75,7 +85,15 @@ fn ledger_row<'l>(row: &Row<'l>) -> Result<StatementLine<'l>, StatementFault>
     if row.len() != 7 {
         return Err(StatementFault::Cells);
     }
-    read_ledger(row.at(1), row.at(2), row.at(3), row.at(4), row.at(5), row.at(6)).ok_or(StatementFault::Spelling)
+    read_ledger(
+        row.at(1),
+        row.at(2),
+        row.at(3),
+        row.at(4),
+        row.at(5),
+        row.at(6),
+    )
+    .ok_or(StatementFault::Spelling)
 }
 
 /// The line of a party, if it has its cells.
@@ -87,7 +105,15 @@ fn party_row<'l>(row: &Row<'l>) -> Result<StatementLine<'l>, StatementFault>
     if row.len() != 7 {
         return Err(StatementFault::Cells);
     }
-    read_party(row.at(1), row.at(2), row.at(3), row.at(4), row.at(5), row.at(6)).ok_or(StatementFault::Spelling)
+    read_party(
+        row.at(1),
+        row.at(2),
+        row.at(3),
+        row.at(4),
+        row.at(5),
+        row.at(6),
+    )
+    .ok_or(StatementFault::Spelling)
 }
 
 /// The line of an unclaimed amount, if it has its cells.
@@ -99,7 +125,9 @@ fn unclaimed_row<'l>(row: &Row<'l>) -> Result<StatementLine<'l>, StatementFault>
     if row.len() != 6 {
         return Err(StatementFault::Cells);
     }
-    read_unclaimed(row.at(1), row.at(2), row.at(3), row.at(4), row.at(5)).ok_or(StatementFault::Spelling)
+    read_unclaimed(row.at(1), row.at(2), row.at(3), row.at(4), row.at(5)).ok_or(
+        StatementFault::Spelling,
+    )
 }
 
 /// The line of a rejected block, if it has its cells.

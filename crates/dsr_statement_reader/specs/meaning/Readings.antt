@@ -71,7 +71,7 @@ report_in id files first last days = do
   last_day ← day_of last
   many ← number_in (2 ^ 64) days
   report_if (is_period first_day last_day many)
-    (record { message_id = message_id; number_of_files = number_of_files; first_day = first_day; last_day = last_day })
+      (record { message_id = message_id; number_of_files = number_of_files; first_day = first_day; last_day = last_day })
 
 unfoldable pub file_in : List ℕ → List ℕ → List ℕ → List ℕ → List (List ℕ) → Option StatementLine
 file_in place number standing blocks outcome = do
