@@ -1,4 +1,32 @@
-//! Reading a statement.
+//! Reading a statement: its lines, one after another, exactly as dsr_statement writes them. Nothing is repaired.
+//!
+//! 1. `row` cuts a line at its TABs. `number` reads the numbers, usages and amounts that cells spell, and `names` the names
+//!    of lines (`kind`), standings, faults, columns and reasons. `cells` and `file` make the lines (`line`) of cells, which
+//!    borrow their texts.
+//! 2. `reading` reads the line that a text spells, whatever stands before it, or its fault (`fault`).
+//! 3. `reader` has the public functions: it keeps of the lines that were read what the next one depends on (`last`), and tests
+//!    that it may stand there and that the amounts of a ledger line add up.
+//! 4. `laws` has the laws of readings.
+//!
+//! **Example:**
+//!
+//! ```
+//! /// The kinds of a statement's first two lines.
+//! fn first_lines(alloc: Global) -> Result<(), ReadError> {
+//!     let mut reader = StatementReader::new(alloc);
+//!     let first = reader.line(b"REPORT\tR1\t1\t2024-01-01\t2024-01-31\t31")?;
+//!     let second = reader.line(b"FILE\t1\t1\tOurs\t1\tWhole")?;
+//!     drop((first, second));
+//!     Ok(())
+//! }
+//! ```
+//!
+//! **The promise.** Each line is read as the definition of a reading says, given the lines before it, or refused with the fault
+//! that the definition gives it; so is the end of a text. What is read was written so ([`laws`]). The reader keeps the memory
+//! of one line.
+//!
+//! **Where to begin.** `specs/meaning/Lines.antt` has the lines and their bytes, `Spellings.antt` what cells spell, and
+//! `Readings.antt` what a text means; `src/reader.rt` has the public functions.
 #![tactic(auto)]
 
 mod cells;
@@ -6,6 +34,7 @@ mod fault;
 mod file;
 mod kind;
 mod last;
+pub mod laws;
 mod line;
 mod names;
 mod number;

@@ -1,0 +1,12 @@
+//! Laws of statements: functions that do nothing, whose contracts are the laws.
+ghost use Rattle.std.specs.Prelude.{◌≡◌, ℕ, Bool, List, Ok};
+ghost use Rattle.dsr_statement_reader.specs.meaning.Lines.{text_of};
+ghost use Rattle.dsr_statement_reader.specs.meaning.Readings.{reading_of};
+ghost use Rattle.dsr_statement_reader.specs.declared.line.StatementLine.{StatementLine};
+
+/// What is read was written so: if a text is read, it is the text of the lines that were read.
+#[tactic(auto, using(crate::proofs::LineTexts::was_written_so))]
+pub fn was_written_so()
+    ensures { (text : List ℕ) (failed : Bool) (lines : List StatementLine)
+        → reading_of text failed ≡ Ok lines → text ≡ text_of lines }
+{}
