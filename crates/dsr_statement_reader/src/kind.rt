@@ -2,7 +2,7 @@
 
 /// The kind of a line.
 #[derive(Clone, Copy, PartialEq, Eq)]
-pub enum LineKind {
+pub(crate) enum LineKind {
     /// The report.
     Report,
     /// No report.

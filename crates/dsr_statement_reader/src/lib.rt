@@ -8,15 +8,17 @@
 //!    that it may stand there and that the amounts of a ledger line add up.
 //! 4. `laws` has the laws of readings.
 //!
-//! **Example:**
+//! **Example**, compiled and proved in `crates/dsr_tests/src/statements.rt`:
 //!
 //! ```
-//! /// The kinds of a statement's first two lines.
-//! fn first_lines(alloc: Global) -> Result<(), ReadError> {
-//!     let mut reader = StatementReader::new(alloc);
-//!     let first = reader.line(b"REPORT\tR1\t1\t2024-01-01\t2024-01-31\t31")?;
-//!     let second = reader.line(b"FILE\t1\t1\tOurs\t1\tWhole")?;
-//!     drop((first, second));
+//! /// The lines of a statement, up to one that may not stand where it does.
+//! fn lines_and_their_places(rt: HostRuntime) -> Result<(), Fail> {
+//!     let mut reader = StatementReader::new(rt.alloc());
+//!     let first = reader.line(b"REPORT\tR1\t2\t2024-01-01\t2024-01-31\t31");
+//!     assert!(rt; matches!(&first, Ok(StatementLine::Report(_))));
+//!     // The line of the first file comes before that of the second.
+//!     let second = reader.line(b"FILE\t2\t2\tOurs\t1\tWhole");
+//!     assert!(rt; matches!(&second, Err(ReadError::Fault(StatementFault::Place))));
 //!     Ok(())
 //! }
 //! ```
@@ -43,7 +45,6 @@ mod reading;
 mod row;
 
 pub use fault::{ReadError, StatementFault};
-pub use kind::LineKind;
 pub use line::{ReadDifference, ReadKey, ReadParty, ReadReject, ReadReport, StatementLine};
 pub use reader::StatementReader;
 pub use reading::LINE_LIMIT;
