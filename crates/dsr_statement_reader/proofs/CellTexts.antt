@@ -72,7 +72,7 @@ signed_from spelled print most_below most (c ∷ cs) z minus plain e = elim (cas
       plain (c ∷ cs) n is ∙ ap (signed_text print) same
 ]
 
-as_signed_decimal : (z : ℤ) → signed_text decimal z ≡ signed_decimal z
+pub as_signed_decimal : (z : ℤ) → signed_text decimal z ≡ signed_decimal z
 as_signed_decimal (pos n) = refl
 as_signed_decimal (negsuc n) = refl
 

@@ -5,3 +5,6 @@ pub mod AfterLemmas
 pub mod Digits
 pub mod CellTexts
 pub mod LineTexts
+pub mod AgainCells
+pub mod AgainLines
+pub mod AgainTexts

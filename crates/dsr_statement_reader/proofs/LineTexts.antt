@@ -309,7 +309,7 @@ row_text name [] = sym (append-nil name)
 row_text name (c ∷ cs) =
     ap (λ t. name ++ (9 ∷ t)) (row_text c cs) ∙ ap (λ t. name ++ t) (sym (flat_map-cons (λ x. 9 ∷ x) c cs))
 
-line_text : (name : List ℕ) (cs : List (List ℕ)) → line name cs ≡ join_with_byte 9 (name ∷ cs) ++ 10 ∷ []
+pub line_text : (name : List ℕ) (cs : List (List ℕ)) → line name cs ≡ join_with_byte 9 (name ∷ cs) ++ 10 ∷ []
 line_text name cs = sym (append_assoc name (tabbed cs) (10 ∷ [])) ∙ ap (λ t. t ++ 10 ∷ []) (sym (row_text name cs))
 
 or_fault_ok : {A : Type 0} (fault : StatementFault) (o : Option A) (x : A) → or_fault fault o ≡ Ok x → o ≡ Some x

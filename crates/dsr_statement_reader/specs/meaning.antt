@@ -2,3 +2,4 @@
 pub mod Lines
 pub mod Spellings
 pub mod Readings
+pub mod Statements

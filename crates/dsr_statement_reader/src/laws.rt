@@ -1,7 +1,8 @@
 //! Laws of statements: functions that do nothing, whose contracts are the laws.
 ghost use Rattle.std.specs.Prelude.{◌≡◌, ℕ, Bool, List, Ok};
 ghost use Rattle.dsr_statement_reader.specs.meaning.Lines.{text_of};
-ghost use Rattle.dsr_statement_reader.specs.meaning.Readings.{reading_of};
+ghost use Rattle.dsr_statement_reader.specs.meaning.Readings.{reading, reading_of};
+ghost use Rattle.dsr_statement_reader.specs.meaning.Statements.{IsStatement};
 ghost use Rattle.dsr_statement_reader.specs.declared.line.StatementLine.{StatementLine};
 
 /// What is read was written so: if a text is read, it is the text of the lines that were read.
@@ -9,4 +10,10 @@ ghost use Rattle.dsr_statement_reader.specs.declared.line.StatementLine.{Stateme
 pub fn was_written_so()
     ensures { (text : List ℕ) (failed : Bool) (lines : List StatementLine)
         → reading_of text failed ≡ Ok lines → text ≡ text_of lines }
+{}
+
+/// Reading inverts writing: the lines of a statement are read from their text.
+#[tactic(auto, using(crate::proofs::AgainTexts::is_read_again))]
+pub fn is_read_again()
+    ensures { (lines : List StatementLine) → IsStatement lines → reading (text_of lines) ≡ Ok lines }
 {}
