@@ -8,3 +8,4 @@ pub mod LineTexts
 pub mod AgainCells
 pub mod AgainLines
 pub mod AgainTexts
+pub mod ReportTexts

@@ -1,6 +1,8 @@
 //! Laws of statements: functions that do nothing, whose contracts are the laws.
 ghost use Rattle.std.specs.Prelude.{◌≡◌, ℕ, Bool, List, Ok};
-ghost use Rattle.dsr_statement_reader.specs.meaning.Lines.{text_of};
+ghost use Rattle.dsr_ledger.specs.declared.report.Report.{Report};
+ghost use Rattle.dsr_statement.specs.meaning.Statement.{statement_of};
+ghost use Rattle.dsr_statement_reader.specs.meaning.Lines.{text_of, statement_lines};
 ghost use Rattle.dsr_statement_reader.specs.meaning.Readings.{reading, reading_of};
 ghost use Rattle.dsr_statement_reader.specs.meaning.Statements.{IsStatement};
 ghost use Rattle.dsr_statement_reader.specs.declared.line.StatementLine.{StatementLine};
@@ -16,4 +18,10 @@ pub fn was_written_so()
 #[tactic(auto, using(crate::proofs::AgainTexts::is_read_again))]
 pub fn is_read_again()
     ensures { (lines : List StatementLine) → IsStatement lines → reading (text_of lines) ≡ Ok lines }
+{}
+
+/// The statement of a report is the text of its lines.
+#[tactic(auto, using(crate::proofs::ReportTexts::statement_text))]
+pub fn statement_has_its_lines()
+    ensures { (report : Report) → statement_of report ≡ text_of (statement_lines report) }
 {}
