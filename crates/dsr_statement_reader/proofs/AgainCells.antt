@@ -69,9 +69,9 @@ usages_again z h =
     ap (signed_in number_in (2 ^ 127 + 1) (2 ^ 127)) (sym (as_signed_decimal z))
     ∙ signed_again number_in decimal (2 ^ 127 + 1) (2 ^ 127) z
     (λ n e.
-        let low : n < 2 ^ 127 = below_limit n (2 ^ 127) (ap are_usages (sym e) ∙ h) in
-        let wide : n < 10 ^ 64 = omega arith in
-        (number_again (2 ^ 127) n low (lit≤ tt), λ rest. no_minus_alone (decimal n) rest (all_digits n wide) (some_digits n wide)))
+    let low : n < 2 ^ 127 = below_limit n (2 ^ 127) (ap are_usages (sym e) ∙ h) in
+    let wide : n < 10 ^ 64 = omega arith in
+    (number_again (2 ^ 127) n low (lit≤ tt), λ rest. no_minus_alone (decimal n) rest (all_digits n wide) (some_digits n wide)))
     (λ n e. number_again (2 ^ 127 + 1) (suc n) (below_limit (suc n) (2 ^ 127 + 1) (ap are_usages (sym e) ∙ h)) (lit≤ tt))
 
 units_again : (limit u : ℕ) → u < limit → limit ≤ 10 ^ 64 → units_in limit (units_text u) ≡ Some u
@@ -96,12 +96,11 @@ amount_again z h =
     ap (signed_in units_in (2 ^ 123) (2 ^ 123)) (sym (as_written z))
     ∙ signed_again units_in units_text (2 ^ 123) (2 ^ 123) z
     (λ n e.
-        let low : n < 2 ^ 123 = below_limit n (2 ^ 123) (ap is_amount (sym e) ∙ h) in
-        let w : n / 10 ^ 10 < 10 ^ 64 = omega arith in
-        (
-          units_again (2 ^ 123) n low (lit≤ tt),
-          λ rest. no_minus (decimal (n / 10 ^ 10)) (46 ∷ padded_number 10 (n % 10 ^ 10)) rest (all_digits (n / 10 ^ 10) w) (some_digits (n / 10 ^ 10) w),
-        ))
+    let low : n < 2 ^ 123 = below_limit n (2 ^ 123) (ap is_amount (sym e) ∙ h) in
+    let w : n / 10 ^ 10 < 10 ^ 64 = omega arith in (
+      units_again (2 ^ 123) n low (lit≤ tt),
+      λ rest. no_minus (decimal (n / 10 ^ 10)) (46 ∷ padded_number 10 (n % 10 ^ 10)) rest (all_digits (n / 10 ^ 10) w) (some_digits (n / 10 ^ 10) w),
+    ))
     (λ n e. units_again (2 ^ 123) (suc n) (below_limit (suc n) (2 ^ 123) (ap is_amount (sym e) ∙ h)) (lit≤ tt))
 
 -- what passes one test passes a weaker one

@@ -255,80 +255,98 @@ IsSpelled l = (kind : LineKind) × (cs : List (List ℕ)) × Spells kind cs l
 
 missing_line_again : (n : ℕ) → is_spelled (lines.Missing n) ≡ true → IsSpelled (lines.Missing n)
 unfolding missing_line missing_in
-missing_line_again n h =
-    (kinds.Missing, decimal n ∷ [], record {
-      text = refl;
-      fits = refl;
-      again = rw (number32 n h) refl;
-      plain = and_all (decimal n) [] (plain32 n h) refl;
-    })
+missing_line_again n h = (
+  kinds.Missing,
+  decimal n ∷ [],
+  record {
+    text = refl;
+    fits = refl;
+    again = rw (number32 n h) refl;
+    plain = and_all (decimal n) [] (plain32 n h) refl;
+  },
+)
 
 ledger_line_again : (key : Key) (u a : ℤ) → is_spelled (lines.Ledger key u a) ≡ true → IsSpelled (lines.Ledger key u a)
 unfolding sums_line amount_cell ledger_in
 ledger_line_again key u a h =
     let one = and_parts (is_key key) (are_usages u && is_amount a) h in
-    let two = and_parts (are_usages u) (is_amount a) one.1 in
-    (kinds.Ledger, key.isrc ∷ key.territory ∷ key.use_type ∷ key.currency ∷ signed_decimal u ∷ written a ∷ [], record {
-      text = refl;
-      fits = refl;
-      again = rw (key_again key one.0, usages_again u two.0, amount_again a two.1) refl;
-      plain = key_plain key (signed_decimal u ∷ written a ∷ []) one.0
-          (and_all (signed_decimal u) (written a ∷ []) (usages_plain u two.0) (and_all (written a) [] (amount_plain a two.1) refl));
-    })
+    let two = and_parts (are_usages u) (is_amount a) one.1 in (
+      kinds.Ledger,
+      key.isrc ∷ key.territory ∷ key.use_type ∷ key.currency ∷ signed_decimal u ∷ written a ∷ [],
+      record {
+        text = refl;
+        fits = refl;
+        again = rw (key_again key one.0, usages_again u two.0, amount_again a two.1) refl;
+        plain = key_plain key (signed_decimal u ∷ written a ∷ []) one.0
+            (and_all (signed_decimal u) (written a ∷ []) (usages_plain u two.0) (and_all (written a) [] (amount_plain a two.1) refl));
+      },
+    )
 
 party_line_again : (key : Key) (p : PartyLine) → is_spelled (lines.Party key p) ≡ true → IsSpelled (lines.Party key p)
 unfolding party_line amount_cell party_in
 party_line_again key p h =
     let one = and_parts (is_key key) (is_plain p.party && is_amount p.amount) h in
-    let two = and_parts (is_plain p.party) (is_amount p.amount) one.1 in
-    (kinds.Party, key.isrc ∷ key.territory ∷ key.use_type ∷ key.currency ∷ p.party ∷ written p.amount ∷ [], record {
-      text = refl;
-      fits = refl;
-      again = rw (key_again key one.0, amount_again p.amount two.1) refl;
-      plain = key_plain key (p.party ∷ written p.amount ∷ []) one.0
-          (and_all p.party (written p.amount ∷ []) two.0 (and_all (written p.amount) [] (amount_plain p.amount two.1) refl));
-    })
+    let two = and_parts (is_plain p.party) (is_amount p.amount) one.1 in (
+      kinds.Party,
+      key.isrc ∷ key.territory ∷ key.use_type ∷ key.currency ∷ p.party ∷ written p.amount ∷ [],
+      record {
+        text = refl;
+        fits = refl;
+        again = rw (key_again key one.0, amount_again p.amount two.1) refl;
+        plain = key_plain key (p.party ∷ written p.amount ∷ []) one.0
+            (and_all p.party (written p.amount ∷ []) two.0 (and_all (written p.amount) [] (amount_plain p.amount two.1) refl));
+      },
+    )
 
 unclaimed_line_again : (key : Key) (a : ℤ) → is_spelled (lines.Unclaimed key a) ≡ true → IsSpelled (lines.Unclaimed key a)
 unfolding unclaimed_line amount_cell unclaimed_in
 unclaimed_line_again key a h =
-    let one = and_parts (is_key key) (is_amount a) h in
-    (kinds.Unclaimed, key.isrc ∷ key.territory ∷ key.use_type ∷ key.currency ∷ written a ∷ [], record {
-      text = refl;
-      fits = refl;
-      again = rw (key_again key one.0, amount_again a one.1) refl;
-      plain = key_plain key (written a ∷ []) one.0 (and_all (written a) [] (amount_plain a one.1) refl);
-    })
+    let one = and_parts (is_key key) (is_amount a) h in (
+      kinds.Unclaimed,
+      key.isrc ∷ key.territory ∷ key.use_type ∷ key.currency ∷ written a ∷ [],
+      record {
+        text = refl;
+        fits = refl;
+        again = rw (key_again key one.0, amount_again a one.1) refl;
+        plain = key_plain key (written a ∷ []) one.0 (and_all (written a) [] (amount_plain a one.1) refl);
+      },
+    )
 
 reject_line_again : (r : Reject) → is_spelled (lines.Reject r) ≡ true → IsSpelled (lines.Reject r)
 unfolding reject_line reject_in
 reject_line_again r h =
     let one = and_parts (nat_lt r.file (2 ^ 64)) (nat_lt r.position (2 ^ 64) && is_identifier_text 32 r.block_id) h in
-    let two = and_parts (nat_lt r.position (2 ^ 64)) (is_identifier_text 32 r.block_id) one.1 in
-    (kinds.Reject, decimal r.file ∷ decimal r.position ∷ r.block_id ∷ reason_name r.reason ∷ [], record {
-      text = refl;
-      fits = refl;
-      again = rw (number64 r.file one.0, number64 r.position two.0, text_again (is_identifier_text 32) r.block_id two.1, reason_again r.reason) refl;
-      plain = and_all (decimal r.file) (decimal r.position ∷ r.block_id ∷ reason_name r.reason ∷ []) (plain64 r.file one.0)
-          (and_all (decimal r.position) (r.block_id ∷ reason_name r.reason ∷ []) (plain64 r.position two.0)
-          (and_all r.block_id (reason_name r.reason ∷ []) (identifier_plain 32 r.block_id two.1) (and_all (reason_name r.reason) [] (reason_plain r.reason) refl)));
-    })
+    let two = and_parts (nat_lt r.position (2 ^ 64)) (is_identifier_text 32 r.block_id) one.1 in (
+      kinds.Reject,
+      decimal r.file ∷ decimal r.position ∷ r.block_id ∷ reason_name r.reason ∷ [],
+      record {
+        text = refl;
+        fits = refl;
+        again = rw (number64 r.file one.0, number64 r.position two.0, text_again (is_identifier_text 32) r.block_id two.1, reason_again r.reason) refl;
+        plain = and_all (decimal r.file) (decimal r.position ∷ r.block_id ∷ reason_name r.reason ∷ []) (plain64 r.file one.0)
+            (and_all (decimal r.position) (r.block_id ∷ reason_name r.reason ∷ []) (plain64 r.position two.0)
+            (and_all r.block_id (reason_name r.reason ∷ []) (identifier_plain 32 r.block_id two.1) (and_all (reason_name r.reason) [] (reason_plain r.reason) refl)));
+      },
+    )
 
 file_line_again : (place : ℕ) (f : FileLine) → is_spelled (lines.File place f) ≡ true → IsSpelled (lines.File place f)
 unfolding file_line file_in
 file_line_again place f h =
     let one = and_parts (nat_lt place (2 ^ 64)) (is_file_number f.number && (nat_lt f.blocks (2 ^ 64) && is_outcome f.outcome)) h in
     let two = and_parts (is_file_number f.number) (nat_lt f.blocks (2 ^ 64) && is_outcome f.outcome) one.1 in
-    let three = and_parts (nat_lt f.blocks (2 ^ 64)) (is_outcome f.outcome) two.1 in
-    (kinds.File, decimal place ∷ number_cell f.number ∷ standing_name f.standing ∷ decimal f.blocks ∷ outcome_cells f.outcome, record {
-      text = refl;
-      fits = outcome_fits (decimal place) (number_cell f.number) (standing_name f.standing) (decimal f.blocks) f.outcome;
-      again = rw (number64 place one.0, file_number_again f.number two.0, standing_again f.standing, number64 f.blocks three.0, outcome_again f.outcome three.1) refl;
-      plain = and_all (decimal place) (number_cell f.number ∷ standing_name f.standing ∷ decimal f.blocks ∷ outcome_cells f.outcome) (plain64 place one.0)
-          (and_all (number_cell f.number) (standing_name f.standing ∷ decimal f.blocks ∷ outcome_cells f.outcome) (file_number_plain f.number two.0)
-          (and_all (standing_name f.standing) (decimal f.blocks ∷ outcome_cells f.outcome) (standing_plain f.standing)
-          (and_all (decimal f.blocks) (outcome_cells f.outcome) (plain64 f.blocks three.0) (outcome_plain f.outcome three.1))));
-    })
+    let three = and_parts (nat_lt f.blocks (2 ^ 64)) (is_outcome f.outcome) two.1 in (
+      kinds.File,
+      decimal place ∷ number_cell f.number ∷ standing_name f.standing ∷ decimal f.blocks ∷ outcome_cells f.outcome,
+      record {
+        text = refl;
+        fits = outcome_fits (decimal place) (number_cell f.number) (standing_name f.standing) (decimal f.blocks) f.outcome;
+        again = rw (number64 place one.0, file_number_again f.number two.0, standing_again f.standing, number64 f.blocks three.0, outcome_again f.outcome three.1) refl;
+        plain = and_all (decimal place) (number_cell f.number ∷ standing_name f.standing ∷ decimal f.blocks ∷ outcome_cells f.outcome) (plain64 place one.0)
+            (and_all (number_cell f.number) (standing_name f.standing ∷ decimal f.blocks ∷ outcome_cells f.outcome) (file_number_plain f.number two.0)
+            (and_all (standing_name f.standing) (decimal f.blocks ∷ outcome_cells f.outcome) (standing_plain f.standing)
+            (and_all (decimal f.blocks) (outcome_cells f.outcome) (plain64 f.blocks three.0) (outcome_plain f.outcome three.1))));
+      },
+    )
 
 difference_line_again : (d : Difference) → is_spelled (lines.Summary d) ≡ true → IsSpelled (lines.Summary d)
 unfolding difference_line amount_cell difference_in
@@ -337,18 +355,21 @@ difference_line_again d h =
     let two = and_parts (is_identifier_text 32 d.summary_id) (are_usages d.stated_usages && (are_usages d.found_usages && (is_amount d.stated_amount && is_amount d.found_amount))) one.1 in
     let three = and_parts (are_usages d.stated_usages) (are_usages d.found_usages && (is_amount d.stated_amount && is_amount d.found_amount)) two.1 in
     let four = and_parts (are_usages d.found_usages) (is_amount d.stated_amount && is_amount d.found_amount) three.1 in
-    let five = and_parts (is_amount d.stated_amount) (is_amount d.found_amount) four.1 in
-    (kinds.Summary, decimal d.file ∷ d.summary_id ∷ signed_decimal d.stated_usages ∷ signed_decimal d.found_usages ∷ written d.stated_amount ∷ written d.found_amount ∷ [], record {
-      text = refl;
-      fits = refl;
-      again = rw (number64 d.file one.0, text_again (is_identifier_text 32) d.summary_id two.0, usages_again d.stated_usages three.0, usages_again d.found_usages four.0, amount_again d.stated_amount five.0, amount_again d.found_amount five.1) refl;
-      plain = and_all (decimal d.file) (d.summary_id ∷ signed_decimal d.stated_usages ∷ signed_decimal d.found_usages ∷ written d.stated_amount ∷ written d.found_amount ∷ []) (plain64 d.file one.0)
-          (and_all d.summary_id (signed_decimal d.stated_usages ∷ signed_decimal d.found_usages ∷ written d.stated_amount ∷ written d.found_amount ∷ []) (identifier_plain 32 d.summary_id two.0)
-          (and_all (signed_decimal d.stated_usages) (signed_decimal d.found_usages ∷ written d.stated_amount ∷ written d.found_amount ∷ []) (usages_plain d.stated_usages three.0)
-          (and_all (signed_decimal d.found_usages) (written d.stated_amount ∷ written d.found_amount ∷ []) (usages_plain d.found_usages four.0)
-          (and_all (written d.stated_amount) (written d.found_amount ∷ []) (amount_plain d.stated_amount five.0)
-          (and_all (written d.found_amount) [] (amount_plain d.found_amount five.1) refl)))));
-    })
+    let five = and_parts (is_amount d.stated_amount) (is_amount d.found_amount) four.1 in (
+      kinds.Summary,
+      decimal d.file ∷ d.summary_id ∷ signed_decimal d.stated_usages ∷ signed_decimal d.found_usages ∷ written d.stated_amount ∷ written d.found_amount ∷ [],
+      record {
+        text = refl;
+        fits = refl;
+        again = rw (number64 d.file one.0, text_again (is_identifier_text 32) d.summary_id two.0, usages_again d.stated_usages three.0, usages_again d.found_usages four.0, amount_again d.stated_amount five.0, amount_again d.found_amount five.1) refl;
+        plain = and_all (decimal d.file) (d.summary_id ∷ signed_decimal d.stated_usages ∷ signed_decimal d.found_usages ∷ written d.stated_amount ∷ written d.found_amount ∷ []) (plain64 d.file one.0)
+            (and_all d.summary_id (signed_decimal d.stated_usages ∷ signed_decimal d.found_usages ∷ written d.stated_amount ∷ written d.found_amount ∷ []) (identifier_plain 32 d.summary_id two.0)
+            (and_all (signed_decimal d.stated_usages) (signed_decimal d.found_usages ∷ written d.stated_amount ∷ written d.found_amount ∷ []) (usages_plain d.stated_usages three.0)
+            (and_all (signed_decimal d.found_usages) (written d.stated_amount ∷ written d.found_amount ∷ []) (usages_plain d.found_usages four.0)
+            (and_all (written d.stated_amount) (written d.found_amount ∷ []) (amount_plain d.stated_amount five.0)
+            (and_all (written d.found_amount) [] (amount_plain d.found_amount five.1) refl)))));
+      },
+    )
 
 report_line_again : (key : ReportKey) → is_spelled (lines.Report key) ≡ true → IsSpelled (lines.Report key)
 unfolding report_line report_in
@@ -359,16 +380,19 @@ report_line_again key h =
     let three = and_parts (is_civil_day key.first_day) (is_civil_day key.last_day && (nat_lt n (2 ^ 64) && is_period key.first_day key.last_day n)) two.1 in
     let four = and_parts (is_civil_day key.last_day) (nat_lt n (2 ^ 64) && is_period key.first_day key.last_day n) three.1 in
     let five = and_parts (nat_lt n (2 ^ 64)) (is_period key.first_day key.last_day n) four.1 in
-    let days : days_in key ≡ pos n = (period_days key.first_day key.last_day n five.1).0 in
-    (kinds.Report, key.message_id ∷ decimal key.number_of_files ∷ written_day key.first_day ∷ written_day key.last_day ∷ decimal n ∷ [], record {
-      text = ap (λ z. line (codes "REPORT") (key.message_id ∷ decimal key.number_of_files ∷ written_day key.first_day ∷ written_day key.last_day ∷ signed_decimal z ∷ [])) days;
-      fits = refl;
-      again = rw (text_again (is_identifier_text 64) key.message_id one.0, number32 key.number_of_files two.0, written_day_spells key.first_day three.0, written_day_spells key.last_day four.0, number64 n five.0, five.1) refl;
-      plain = and_all key.message_id (decimal key.number_of_files ∷ written_day key.first_day ∷ written_day key.last_day ∷ decimal n ∷ []) (identifier_plain 64 key.message_id one.0)
-          (and_all (decimal key.number_of_files) (written_day key.first_day ∷ written_day key.last_day ∷ decimal n ∷ []) (plain32 key.number_of_files two.0)
-          (and_all (written_day key.first_day) (written_day key.last_day ∷ decimal n ∷ []) (day_plain key.first_day three.0)
-          (and_all (written_day key.last_day) (decimal n ∷ []) (day_plain key.last_day four.0) (and_all (decimal n) [] (plain64 n five.0) refl))));
-    })
+    let days : days_in key ≡ pos n = (period_days key.first_day key.last_day n five.1).0 in (
+      kinds.Report,
+      key.message_id ∷ decimal key.number_of_files ∷ written_day key.first_day ∷ written_day key.last_day ∷ decimal n ∷ [],
+      record {
+        text = ap (λ z. line (codes "REPORT") (key.message_id ∷ decimal key.number_of_files ∷ written_day key.first_day ∷ written_day key.last_day ∷ signed_decimal z ∷ [])) days;
+        fits = refl;
+        again = rw (text_again (is_identifier_text 64) key.message_id one.0, number32 key.number_of_files two.0, written_day_spells key.first_day three.0, written_day_spells key.last_day four.0, number64 n five.0, five.1) refl;
+        plain = and_all key.message_id (decimal key.number_of_files ∷ written_day key.first_day ∷ written_day key.last_day ∷ decimal n ∷ []) (identifier_plain 64 key.message_id one.0)
+            (and_all (decimal key.number_of_files) (written_day key.first_day ∷ written_day key.last_day ∷ decimal n ∷ []) (plain32 key.number_of_files two.0)
+            (and_all (written_day key.first_day) (written_day key.last_day ∷ decimal n ∷ []) (day_plain key.first_day three.0)
+            (and_all (written_day key.last_day) (decimal n ∷ []) (day_plain key.last_day four.0) (and_all (decimal n) [] (plain64 n five.0) refl))));
+      },
+    )
 
 -- a line that is spelled as dsr spells it is read again from its cells
 pub spells : (l : StatementLine) → is_spelled l ≡ true → IsSpelled l

@@ -9,3 +9,5 @@ pub mod AgainCells
 pub mod AgainLines
 pub mod AgainTexts
 pub mod ReportTexts
+pub mod ReportPlaces
+pub mod ReportAgain

@@ -76,9 +76,9 @@ statement_text r =
     let ledger = flat_map lines_of_ledger r.ledger in
     let rejects = map (λ x. lines.Reject x) r.rejects in
     let tail = both files (missing ++ (differences ++ (ledger ++ rejects))) _ _ (files_text 1 r.files)
-        (both missing (differences ++ (ledger ++ rejects)) _ _ (text_map (λ (n : ℕ). lines.Missing n) missing_line (λ n. refl) r.missing)
-        (both differences (ledger ++ rejects) _ _ (text_map (λ d. lines.Summary d) difference_line (λ d. refl) r.differences)
-        (both ledger rejects _ _ (ledgers_text r.ledger) (text_map (λ x. lines.Reject x) reject_line (λ x. refl) r.rejects)))) in
+    (both missing (differences ++ (ledger ++ rejects)) _ _ (text_map (λ (n : ℕ). lines.Missing n) missing_line (λ n. refl) r.missing)
+    (both differences (ledger ++ rejects) _ _ (text_map (λ d. lines.Summary d) difference_line (λ d. refl) r.differences)
+    (both ledger rejects _ _ (ledgers_text r.ledger) (text_map (λ x. lines.Reject x) reject_line (λ x. refl) r.rejects)))) in
     sym (flat_map-cons text_of_line (head_of r.key) (files ++ (missing ++ (differences ++ (ledger ++ rejects))))
     ∙ ap (λ t. t ++ text_of (files ++ (missing ++ (differences ++ (ledger ++ rejects))))) (head_text r.key)
     ∙ ap (λ t. head_line r.key ++ t) tail)

@@ -4,7 +4,8 @@ ghost use Rattle.dsr_ledger.specs.declared.report.Report.{Report};
 ghost use Rattle.dsr_statement.specs.meaning.Statement.{statement_of};
 ghost use Rattle.dsr_statement_reader.specs.meaning.Lines.{text_of, statement_lines};
 ghost use Rattle.dsr_statement_reader.specs.meaning.Readings.{reading, reading_of};
-ghost use Rattle.dsr_statement_reader.specs.meaning.Statements.{IsStatement};
+ghost use Rattle.dsr_statement_reader.specs.meaning.Statements.{IsStatement, IsReadable};
+ghost use Rattle.dsr_ledger.specs.declared.report.ReportKey.{ReportKey};
 ghost use Rattle.dsr_statement_reader.specs.declared.line.StatementLine.{StatementLine};
 
 /// What is read was written so: if a text is read, it is the text of the lines that were read.
@@ -24,4 +25,11 @@ pub fn is_read_again()
 #[tactic(auto, using(crate::proofs::ReportTexts::statement_text))]
 pub fn statement_has_its_lines()
     ensures { (report : Report) → statement_of report ≡ text_of (statement_lines report) }
+{}
+
+/// Reading inverts writing: the lines of a readable report are read from its statement.
+
+pub fn report_is_read_again()
+    ensures { (key : ReportKey) (report : Report) → IsReadable key report
+        → reading (statement_of report) ≡ Ok (statement_lines report) }
 {}

@@ -1,6 +1,6 @@
 -- Which lists of lines are statements.
-use Rattle.std.specs.Prelude.{◌≡◌, ℕ, suc, ◌+◌, ◌-◌, ◌^◌, ◌&&◌, ◌==◌, nat_lt, nat_le, not, Bool, true, false, List, [], ◌∷◌, length, take, Option, Some, None, Ok, ℤ, pos, negsuc, unsigned_abs}
-use Rattle.std.specs.List.{list_all}
+use Rattle.std.specs.Prelude.{◌≡◌, ℕ, suc, ◌+◌, ◌-◌, ◌^◌, ◌<◌, ◌&&◌, ◌||◌, ◌==◌, nat_lt, nat_le, not, Bool, true, false, List, [], ◌∷◌, length, take, Option, Some, None, Ok, ℤ, pos, negsuc, unsigned_abs}
+use Rattle.std.specs.List.{list_all, AllByRecursion}
 use Rattle.std.specs.Str.{is_utf8}
 use Rattle.dsr_values.specs.meaning.Days.{is_civil_day}
 use Rattle.dsr_values.specs.meaning.Texts.{is_identifier_text, is_territory_text, is_use_type_text, is_currency_text, is_isrc_text}
@@ -9,12 +9,17 @@ use Rattle.dsr_events.specs.declared.fault.FileFault.TheVariants as file_faults
 use Rattle.dsr_events.specs.declared.fault.Outcome.{Outcome}
 use Rattle.dsr_events.specs.declared.fault.Outcome.TheVariants as outcomes
 use Rattle.dsr_ledger.specs.meaning.Keys.{Key}
+use Rattle.dsr_ledger.specs.meaning.Laws.{key_of_line, AddsUp}
+use Rattle.dsr_ledger.specs.declared.report.ReportKey.{ReportKey}
+use Rattle.dsr_ledger.specs.declared.report.LedgerLine.{LedgerLine}
+use Rattle.dsr_ledger.specs.declared.report.Reject.{Reject}
+use Rattle.dsr_ledger.specs.declared.report.Report.{Report}
 use Rattle.dsr_statement.specs.meaning.Statement.{days_in}
 use Rattle.dsr_statement_reader.specs.declared.line.StatementLine.{StatementLine}
 use Rattle.dsr_statement_reader.specs.declared.line.StatementLine.TheVariants as lines
 use Rattle.dsr_statement_reader.specs.meaning.Spellings.{is_period}
-use Rattle.dsr_statement_reader.specs.meaning.Lines.{text_of_line}
-use Rattle.dsr_statement_reader.specs.meaning.Readings.{most_bytes, placed, is_complete}
+use Rattle.dsr_statement_reader.specs.meaning.Lines.{text_of_line, statement_lines}
+use Rattle.dsr_statement_reader.specs.meaning.Readings.{most_bytes, placed, is_complete, is_key_below, is_text_below}
 
 -- a text without a TAB and a line feed
 abbrev pub is_plain : List ℕ → Bool
@@ -78,3 +83,29 @@ pub record IsStatement (ls : List StatementLine) : Type 0 where
   pub spelled : list_all is_spelled ls ≡ true
   pub texts : list_all is_text ls ≡ true
   pub places : AreInPlace [] ls
+
+-- each item and the next one pass
+abbrev pub all_adjacent : {X : Type 0} → (X → X → Bool) → List X → Bool
+all_adjacent passes [] = true
+all_adjacent passes (x ∷ []) = true
+all_adjacent passes (x ∷ y ∷ more) = passes x y && all_adjacent passes (y ∷ more)
+
+abbrev pub are_parties_in_order : LedgerLine → Bool
+are_parties_in_order l = all_adjacent (λ p q. is_text_below p.party q.party) l.parties
+
+abbrev pub is_before : Reject → Reject → Bool
+is_before a b = nat_lt a.file b.file || ((a.file == b.file) && nat_lt a.position b.position)
+
+-- a report that is read again from its statement: it has a key and a file; its numbers are in their ranges, and its texts
+-- spelled as in a report and without TABs and line feeds; its lists are in order, and the amounts of each ledger line add up
+pub record IsReadable (k : ReportKey) (r : Report) : Type 0 where
+  pub key : r.key ≡ Some k
+  pub files : 0 < length r.files
+  pub spelled : list_all is_spelled (statement_lines r) ≡ true
+  pub texts : list_all is_text (statement_lines r) ≡ true
+  pub missing : all_adjacent nat_lt r.missing ≡ true
+  pub differences : all_adjacent (λ a b. nat_le a.file b.file) r.differences ≡ true
+  pub ledger : all_adjacent (λ a b. is_key_below (key_of_line a) (key_of_line b)) r.ledger ≡ true
+  pub parties : list_all are_parties_in_order r.ledger ≡ true
+  pub sums : AllByRecursion AddsUp r.ledger
+  pub rejects : all_adjacent is_before r.rejects ≡ true
