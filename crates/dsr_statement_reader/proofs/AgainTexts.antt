@@ -1,14 +1,19 @@
 -- A statement is read again from the text of its lines.
-use Rattle.std.proofs.Common.{arith, ◌≡◌, ◌<◌, ℕ, List, [], ◌∷◌, ◌++◌, length, Bool, true, false, refl, ap, sym, ◌∙◌, append_assoc, inl, inr, Result, Ok, Err, eqb}
+use Rattle.std.proofs.Common.{rules, arith, ◌≡◌, ◌<◌, ℕ, List, [], ◌∷◌, ◌++◌, length, Bool, true, false, refl, ap, sym, ◌∙◌, append_assoc, inl, inr, Result, Ok, Err, eqb}
 use Rattle.std.specs.List.{list_all, slice_split, onto_first}
-use Rattle.std.proofs.lemmas.Bool.{and_parts, cases_Bool}
+use Rattle.std.proofs.lemmas.Bool.{and_parts, and_from, cases_Bool}
+use Rattle.std.specs.Prelude.{codes}
+use Rattle.std.specs.Str.{IsAscii, is_utf8}
+use Rattle.std.proofs.lemmas.Str.{IsUtf8-from_ascii, is_utf8-from_IsUtf8}
 use Rattle.std.proofs.lemmas.List.Concat.{flat_map-cons}
 use Rattle.std.proofs.lemmas.List.Splits.{slice_split-cons_yes, slice_split-cons_no}
 use Rattle.dsr_values.proofs.Splits.{Lacks, pieces, pieces_first}
 use Rattle.dsr_statement_reader.specs.declared.line.StatementLine.{StatementLine}
+use Rattle.dsr_statement_reader.specs.declared.line.StatementLine.TheVariants as lines
 use Rattle.dsr_statement_reader.specs.declared.fault.StatementFault.{StatementFault}
+use Rattle.dsr_statement_reader.specs.declared.fault.StatementFault.TheVariants as faults
 use Rattle.dsr_statement_reader.specs.meaning.Lines.{text_of_line, text_of}
-use Rattle.dsr_statement_reader.specs.meaning.Readings.{next_line, line_of, placed, ◌>>>◌, reading_after, reading, with_line, at_line, ended, end_fault, Refusal, is_complete}
+use Rattle.dsr_statement_reader.specs.meaning.Readings.{next_line, line_of, placed, ◌>>>◌, reading_after, reading, with_line, at_line, ended, end_fault, refused_after, Refusal, is_complete}
 use Rattle.dsr_statement_reader.specs.meaning.Statements.{is_spelled, is_text, without_feed, AreInPlace, IsStatement}
 use Rattle.dsr_statement_reader.proofs.AgainLines.{line_again, body_lacks}
 
@@ -55,3 +60,30 @@ again_from before (l ∷ ls) h t p =
 -- a statement is read again
 pub is_read_again : (ls : List StatementLine) → IsStatement ls → reading (text_of ls) ≡ Ok ls
 is_read_again ls s = again_from [] ls s.spelled s.texts s.places
+
+-- a text that begins with another line than the first of a statement
+refused_first : (text : List ℕ) (pieces_ : List (List ℕ)) (p : List ℕ) (ps : List (List ℕ)) (fault : StatementFault)
+    → pieces_ ≡ p ∷ ps → next_line [] text ≡ Err fault → reading_after [] (text ∷ pieces_) false ≡ Err (refused_after [] fault)
+unfolding reading_after
+refused_first text pieces_ p ps fault cut next =
+    let here : reading_after [] (text ∷ p ∷ ps) false ≡ Err (refused_after [] fault) =
+    ap (λ r. at_line [] r >>> (λ (x : StatementLine). with_line x (reading_after (x ∷ []) (p ∷ ps) false))) next in
+    ap (λ q. reading_after [] (text ∷ q) false) cut ∙ here
+
+first_is_text : is_text lines.NoReport ≡ true
+first_is_text =
+    let ascii : IsAscii (codes "NOREPORT") = search rules in
+    and_from (is_utf8 (codes "NOREPORT")) true (is_utf8-from_IsUtf8 (codes "NOREPORT") (IsUtf8-from_ascii (codes "NOREPORT") ascii)) refl
+
+-- the statement of no report is refused at its first line
+pub no_report : (ls : List StatementLine) → reading (text_of (lines.NoReport ∷ ls)) ≡ Err (refused_after [] faults.NoReport)
+no_report ls =
+    let body = without_feed (text_of_line lines.NoReport) in
+    let (lacks, whole) = body_lacks lines.NoReport refl in
+    let text : text_of (lines.NoReport ∷ ls) ≡ body ++ (10 ∷ text_of ls) = flat_map-cons text_of_line lines.NoReport ls in
+    let cut : pieces 10 (text_of (lines.NoReport ∷ ls)) ≡ body ∷ pieces 10 (text_of ls) =
+    pieces_first 10 (text_of (lines.NoReport ∷ ls)) body (text_of ls) text lacks in
+    let (q, qs, some) = first_piece 10 (text_of ls) in
+    let read : line_of body ≡ Ok lines.NoReport = line_again lines.NoReport refl first_is_text in
+    let next : next_line [] body ≡ Err faults.NoReport = ap (λ r. r >>> placed []) read in
+    ap (λ x. reading_after [] x false) cut ∙ refused_first body (pieces 10 (text_of ls)) q qs faults.NoReport some next

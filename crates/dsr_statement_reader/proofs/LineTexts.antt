@@ -1,5 +1,5 @@
 -- A line is read only from its own text.
-use Rattle.std.proofs.Common.{arith, lit<, lit≤, rules, ◌≡◌, ◌<◌, ◌≤◌, ◌^◌, ℕ, zero, suc, List, [], ◌∷◌, ◌++◌, length, Bool, true, false, refl, ap, sym, ◌∙◌, append_assoc, inl, inr, Option, Some, None, Result, Ok, Err, cond, eqb, nat_lt}
+use Rattle.std.proofs.Common.{arith, lit<, lit≤, rules, ◌≡◌, ◌<◌, ◌≤◌, ◌^◌, ℕ, zero, suc, List, [], ◌∷◌, ◌++◌, length, Bool, true, false, refl, ap, sym, ◌∙◌, append_assoc, inl, inr, Option, Some, None, Result, Ok, Err, cond, eqb, nat_lt, subst}
 use Rattle.std.specs.Prelude.{ℤ, pos, codes, not, ◌&&◌, is_none}
 use Rattle.std.specs.Option.{option_map}
 use Rattle.std.specs.List.{list_all, slice_split, join_with_byte, flat_map}
@@ -39,7 +39,8 @@ use Rattle.dsr_statement_reader.specs.declared.fault.StatementFault.TheVariants 
 use Rattle.dsr_statement_reader.specs.meaning.Spellings.{◌>>=◌, usages_in, amount_in, number_in, named, is_period, text_if, file_number_in, standing_in, standings_in_order, reason_in, reasons_in_order, column_in, columns_in_order, fault_in, plain_faults, outcome_in, key_in}
 use Rattle.dsr_statement_reader.specs.meaning.Lines.{with_key, text_of_line, text_of}
 use Rattle.dsr_statement_reader.specs.meaning.Readings.{report_if, report_in, file_in, missing_in, difference_in, ledger_in, party_in, unclaimed_in, reject_in, spelled, kind_name, kinds_in_order, kind_in, has_cells}
-use Rattle.dsr_statement_reader.specs.meaning.Readings.{or_fault, line_of_kind, line_of_cells, line_of, placed, is_placed, adds_up, is_no_report, next_line, ◌>>>◌, reading_after, reading_of, with_line, at_line, ended, end_fault, Refusal, is_complete, most_bytes}
+use Rattle.dsr_statement_reader.specs.meaning.Readings.{or_fault, line_of_kind, line_of_cells, line_of, placed, is_placed, adds_up, is_no_report, next_line, ◌>>>◌, reading_after, reading_of, with_line, at_line, ended, end_fault, refused_after, Refusal, is_complete, most_bytes}
+use Rattle.dsr_statement_reader.specs.meaning.Statements.{AreInPlace}
 use Rattle.dsr_statement_reader.proofs.Digits.{number_spelled}
 use Rattle.dsr_statement_reader.proofs.CellTexts.{bind_some, map_some, if_some, usages_text, amount_text, day_text, name_text, text_same, period_days}
 
@@ -417,3 +418,49 @@ pieces_text before (text ∷ next ∷ more) failed ls e =
 pub was_written_so : (text : List ℕ) (failed : Bool) (ls : List StatementLine) → reading_of text failed ≡ Ok ls → text ≡ text_of ls
 was_written_so text failed ls e =
     sym (join_with_byte-slice_split 10 text) ∙ pieces_text [] (slice_split (λ b. eqb b 10) text) failed ls e
+
+-- the lines that are read are in their places
+placed_in : (before : List StatementLine) (text : List ℕ) (l : StatementLine) → next_line before text ≡ Ok l → placed before l ≡ Ok l
+placed_in before text l e =
+    let (x, is, same) = then_ok (line_of text) (placed before) l e in
+    let equal : x ≡ l = placed_same before x l same in
+    ap (placed before) (sym equal) ∙ same
+
+ended_in : (before : List StatementLine) (rest : List ℕ) (failed : Bool) (ls : List StatementLine) → ended before (end_fault before rest failed) ≡ Ok ls
+    → AreInPlace before ls
+ended_in before rest failed ls e = elim (cases_Bool (nat_lt most_bytes (length rest))) [
+  | inl t ↦ let none : end_fault before rest failed ≡ Some faults.LongLine = rw t refl in refused faults.LongLine none
+  | inr f ↦ elim (cases_Bool failed) [
+    | inl t ↦ let none : end_fault before rest failed ≡ Some faults.Read = rw (f, t) refl in refused faults.Read none
+    | inr g ↦ elim (cases_Bool (eqb (length rest) 0 && is_complete before)) [
+      | inr h ↦ let none : end_fault before rest failed ≡ Some faults.Cut = rw (f, g, h) refl in refused faults.Cut none
+      | inl t ↦
+          let none : end_fault before rest failed ≡ None = rw (f, g, t) refl in
+          let some : ended before (end_fault before rest failed) ≡ Ok [] = ap (ended before) none in
+          let same : [] ≡ ls = cc in
+          subst (λ (x : List StatementLine). AreInPlace before x) same (and_parts (eqb (length rest) 0) (is_complete before) t).1
+    ]
+  ]
+]
+  where
+    refuses : (r : Refusal) (x : List StatementLine) → Err r ≡ Ok x → ⊥
+    refuses r x q = cc
+
+    refused : (fault : StatementFault) → end_fault before rest failed ≡ Some fault → AreInPlace before ls
+    refused fault h = let none = ap (ended before) h in absurd (refuses (refused_after before fault) ls (sym none ∙ e))
+
+pieces_in : (before : List StatementLine) (pieces : List (List ℕ)) (failed : Bool) (ls : List StatementLine) → reading_after before pieces failed ≡ Ok ls
+    → AreInPlace before ls
+unfolding reading_after
+pieces_in before [] failed ls e = ended_in before [] failed ls e
+pieces_in before (rest ∷ []) failed ls e = ended_in before rest failed ls e
+pieces_in before (text ∷ next ∷ more) failed ls e =
+    let (l, is, rest) = then_ok (at_line before (next_line before text)) (λ (x : StatementLine). with_line x (reading_after (x ∷ before) (next ∷ more) failed)) ls e in
+    let (others, read, all) = with_line_ok l (reading_after (l ∷ before) (next ∷ more) failed) ls rest in
+    let here = placed_in before text l (at_line_ok before (next_line before text) l is) in
+    let there = pieces_in (l ∷ before) (next ∷ more) failed others read in
+    let both : AreInPlace before (l ∷ others) = (here, there) in
+    subst (λ (x : List StatementLine). AreInPlace before x) all both
+
+pub are_in_place : (text : List ℕ) (failed : Bool) (ls : List StatementLine) → reading_of text failed ≡ Ok ls → AreInPlace [] ls
+are_in_place text failed ls e = pieces_in [] (slice_split (λ b. eqb b 10) text) failed ls e
