@@ -1,12 +1,11 @@
 -- A cell is read again from the text of its value.
-use Rattle.std.proofs.Common.{arith, lit<, lit≤, rules, ◌≡◌, ◌≢◌, ◌<◌, ◌≤◌, ◌+◌, ◌-◌, ◌*◌, ◌/◌, ◌%◌, ◌^◌, ℕ, zero, suc, List, [], ◌∷◌, ◌++◌, length, Bool, true, false, refl, ap, sym, ◌∙◌, replicate, length-append, inl, inr, Option, Some, None, cond, eqb, nat_lt}
-use Rattle.std.specs.Prelude.{ℤ, pos, negsuc, neg_ℤ, codes, unsigned_abs, not, ◌&&◌}
+use Rattle.std.proofs.Common.{arith, lit≤, ◌≡◌, ◌≢◌, ◌<◌, ◌≤◌, ◌+◌, ◌-◌, ◌*◌, ◌/◌, ◌%◌, ◌^◌, ℕ, suc, List, [], ◌∷◌, ◌++◌, length, Bool, true, false, refl, ap, sym, ◌∙◌, Option, Some, eqb, nat_lt}
+use Rattle.std.specs.Prelude.{ℤ, pos, negsuc, neg_ℤ, not, ◌&&◌}
 use Rattle.std.specs.Option.{option_map}
-use Rattle.std.specs.List.{list_all, slice_split}
+use Rattle.std.specs.List.{list_all}
 use Rattle.std.specs.Char.{is_ascii_digit}
 use Rattle.std.specs.Fmt.{decimal, signed_decimal}
-use Rattle.std.specs.Str.{bytes_eq}
-use Rattle.std.proofs.lemmas.Bool.{and_parts, and_from, cases_lt, lt-ltb, cases_Bool, eqb-true, eq-eqb, ne_eqb}
+use Rattle.std.proofs.lemmas.Bool.{and_parts, and_from, lt-ltb, eq-eqb, ne_eqb}
 use Rattle.std.proofs.lemmas.Bool.Decides.{nat_tests}
 use Rattle.std.proofs.lemmas.Fmt.{decimal_is_IsNumeral_wide}
 use Rattle.std.proofs.lemmas.Str.Parse.{not_in_digits}
@@ -17,7 +16,7 @@ use Rattle.dsr_values.specs.meaning.Written.{padded_number, written}
 use Rattle.dsr_values.proofs.Numbers.{own}
 use Rattle.dsr_values.proofs.Splits.{Lacks}
 use Rattle.dsr_values.proofs.Spelled.{all_digits, zeros_digits, zeros_spelled, spelled, padded_length}
-use Rattle.dsr_statement_reader.specs.meaning.Spellings.{below, not_zero, signed_in, usages_in, units_of_parts, units_in, amount_in, number_in}
+use Rattle.dsr_statement_reader.specs.meaning.Spellings.{not_zero, signed_in, usages_in, units_in, amount_in, number_in}
 use Rattle.dsr_statement_reader.specs.meaning.Statements.{is_plain, are_usages, is_amount}
 use Rattle.dsr_statement_reader.proofs.Signs.{signed_plain, signed_minus, units_cut}
 use Rattle.dsr_statement_reader.proofs.Digits.{number_again}

@@ -1,23 +1,22 @@
 -- A line is read again from its own text.
-use Rattle.std.proofs.Common.{arith, lit<, lit≤, rules, ◌≡◌, ◌≢◌, ◌<◌, ◌≤◌, ◌+◌, ◌-◌, ◌^◌, ℕ, zero, suc, List, [], ◌∷◌, ◌++◌, length, take, drop, get_or, Bool, true, false, refl, ap, sym, ◌∙◌, append_assoc, take-append-drop, inl, inr, Option, Some, None, Result, Ok, Err, cond, eqb, nat_lt, nat_le, ◌⊎◌}
+use Rattle.std.proofs.Common.{arith, lit≤, ◌≡◌, ◌<◌, ◌≤◌, ◌-◌, ◌^◌, ℕ, List, [], ◌∷◌, ◌++◌, length, take, drop, get_or, Bool, true, false, refl, ap, sym, ◌∙◌, inl, inr, Option, Some, None, Ok, eqb, nat_lt, nat_le, ◌⊎◌}
 use Rattle.std.specs.Prelude.{ℤ, pos, codes, not, ◌&&◌, ◌||◌, unsigned_abs}
-use Rattle.std.specs.Option.{option_map}
-use Rattle.std.specs.List.{list_all, slice_split, join_with_byte}
+use Rattle.std.specs.List.{list_all, join_with_byte}
 use Rattle.std.specs.Char.{is_ascii_digit, is_ascii_uppercase, is_ascii_alphanumeric}
 use Rattle.std.specs.Int.{is_in_range}
 use Rattle.std.specs.Fmt.{decimal, signed_decimal}
 use Rattle.std.specs.Str.{bytes_eq, is_utf8}
 use Rattle.std.proofs.lemmas.List.{length_push}
 use Rattle.std.proofs.lemmas.List.Folds.{list_all-append, list_all_at}
-use Rattle.std.proofs.lemmas.Bool.{and_parts, and_from, cases_Bool, eqb-true, eq-eqb, le-ltb, leb-true, and_right}
+use Rattle.std.proofs.lemmas.Bool.{and_parts, and_from, cases_Bool, eq-eqb, le-ltb, leb-true, and_right}
 use Rattle.std.proofs.lemmas.Bool.Decides.{nat_tests}
 use Rattle.std.proofs.Math.Seq.{take-append_seam}
-use Rattle.dsr_values.specs.meaning.Days.{CivilDay, day_of, day_number, is_civil_day}
-use Rattle.dsr_values.specs.meaning.Texts.{is_run_of, is_text_of, is_capital_or_digit, is_identifier_text, is_territory_text, is_use_type_text, is_currency_text, is_isrc_text}
+use Rattle.dsr_values.specs.meaning.Days.{CivilDay, is_civil_day}
+use Rattle.dsr_values.specs.meaning.Texts.{is_run_of, is_capital_or_digit, is_identifier_text, is_territory_text, is_use_type_text, is_currency_text, is_isrc_text}
 use Rattle.dsr_values.specs.meaning.Written.{padded_number, written, written_day}
 use Rattle.dsr_values.proofs.SpelledDays.{written_day_spells}
 use Rattle.dsr_values.proofs.Days.{civil_bounds}
-use Rattle.dsr_values.proofs.Splits.{Lacks, pieces, pieces_first, pieces_plain}
+use Rattle.dsr_values.proofs.Splits.{Lacks, pieces_first, pieces_plain}
 use Rattle.dsr_cells.specs.meaning.Cells.{cells}
 use Rattle.dsr_blocks.specs.meaning.Columns.{column_name}
 use Rattle.dsr_blocks.specs.declared.kinds.Column.{Column}
@@ -45,11 +44,9 @@ use Rattle.dsr_statement_reader.specs.declared.line.StatementLine.{StatementLine
 use Rattle.dsr_statement_reader.specs.declared.line.StatementLine.TheVariants as lines
 use Rattle.dsr_statement_reader.specs.declared.kind.LineKind.{LineKind}
 use Rattle.dsr_statement_reader.specs.declared.kind.LineKind.TheVariants as kinds
-use Rattle.dsr_statement_reader.specs.declared.fault.StatementFault.{StatementFault}
-use Rattle.dsr_statement_reader.specs.declared.fault.StatementFault.TheVariants as faults
-use Rattle.dsr_statement_reader.specs.meaning.Spellings.{usages_in, amount_in, number_in, is_period, text_if, file_number_in, standing_in, reason_in, column_in, fault_in, outcome_in, key_in}
+use Rattle.dsr_statement_reader.specs.meaning.Spellings.{number_in, is_period, text_if, file_number_in, standing_in, reason_in, column_in, fault_in, outcome_in, key_in}
 use Rattle.dsr_statement_reader.specs.meaning.Lines.{text_of_line}
-use Rattle.dsr_statement_reader.specs.meaning.Readings.{report_if, report_in, file_in, missing_in, difference_in, ledger_in, party_in, unclaimed_in, reject_in, spelled, kind_name, kind_in, has_cells, has_file_cells, line_of_kind, line_of_cells, line_of, most_bytes}
+use Rattle.dsr_statement_reader.specs.meaning.Readings.{report_in, file_in, missing_in, difference_in, ledger_in, party_in, unclaimed_in, reject_in, spelled, kind_name, kind_in, has_cells, has_file_cells, line_of_cells, line_of, most_bytes}
 use Rattle.dsr_statement_reader.specs.meaning.Statements.{is_plain, are_usages, is_amount, is_key, is_file_number, is_printed_fault, is_outcome, is_spelled, without_feed, is_text}
 use Rattle.dsr_statement_reader.proofs.Digits.{number_again}
 use Rattle.dsr_statement_reader.proofs.CellTexts.{period_days}

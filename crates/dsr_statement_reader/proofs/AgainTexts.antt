@@ -1,19 +1,19 @@
 -- A statement is read again from the text of its lines.
-use Rattle.std.proofs.Common.{rules, arith, ◌≡◌, ◌<◌, ℕ, List, [], ◌∷◌, ◌++◌, length, Bool, true, false, refl, ap, sym, ◌∙◌, append_assoc, inl, inr, Result, Ok, Err, eqb}
-use Rattle.std.specs.List.{list_all, slice_split, onto_first}
+use Rattle.std.proofs.Common.{rules, ◌≡◌, ℕ, List, [], ◌∷◌, ◌++◌, true, false, refl, ap, sym, ◌∙◌, append_assoc, inl, inr, Ok, Err, eqb}
+use Rattle.std.specs.List.{list_all, onto_first}
 use Rattle.std.proofs.lemmas.Bool.{and_parts, and_from, cases_Bool}
 use Rattle.std.specs.Prelude.{codes}
 use Rattle.std.specs.Str.{IsAscii, is_utf8}
 use Rattle.std.proofs.lemmas.Str.{IsUtf8-from_ascii, is_utf8-from_IsUtf8}
 use Rattle.std.proofs.lemmas.List.Concat.{flat_map-cons}
 use Rattle.std.proofs.lemmas.List.Splits.{slice_split-cons_yes, slice_split-cons_no}
-use Rattle.dsr_values.proofs.Splits.{Lacks, pieces, pieces_first}
+use Rattle.dsr_values.proofs.Splits.{pieces, pieces_first}
 use Rattle.dsr_statement_reader.specs.declared.line.StatementLine.{StatementLine}
 use Rattle.dsr_statement_reader.specs.declared.line.StatementLine.TheVariants as lines
 use Rattle.dsr_statement_reader.specs.declared.fault.StatementFault.{StatementFault}
 use Rattle.dsr_statement_reader.specs.declared.fault.StatementFault.TheVariants as faults
 use Rattle.dsr_statement_reader.specs.meaning.Lines.{text_of_line, text_of}
-use Rattle.dsr_statement_reader.specs.meaning.Readings.{next_line, line_of, placed, ◌>>>◌, reading_after, reading, with_line, at_line, ended, end_fault, refused_after, Refusal, is_complete}
+use Rattle.dsr_statement_reader.specs.meaning.Readings.{next_line, line_of, placed, ◌>>>◌, reading_after, reading, with_line, at_line, refused_after}
 use Rattle.dsr_statement_reader.specs.meaning.Statements.{is_spelled, is_text, without_feed, AreInPlace, IsStatement}
 use Rattle.dsr_statement_reader.proofs.AgainLines.{line_again, body_lacks}
 

@@ -1,5 +1,5 @@
 -- Texts of digits are those of their numbers.
-use Rattle.std.proofs.Common.{arith, lit<, ◌≡◌, ◌≢◌, ◌<◌, ◌≤◌, ◌+◌, ◌-◌, ◌*◌, ◌/◌, ◌%◌, ◌^◌, ℕ, zero, suc, List, [], ◌∷◌, ◌++◌, length, get_or, Bool, true, false, refl, ap, sym, ◌∙◌, replicate, length-append, inl, inr, Option, Some, None, cond, eqb, nat_lt, nat_le, ◌&&◌}
+use Rattle.std.proofs.Common.{arith, lit<, ◌≡◌, ◌≢◌, ◌<◌, ◌≤◌, ◌+◌, ◌-◌, ◌*◌, ◌/◌, ◌%◌, ◌^◌, ℕ, zero, suc, List, [], ◌∷◌, ◌++◌, length, get_or, true, false, refl, ap, sym, ◌∙◌, replicate, length-append, inl, inr, Some, None, cond, eqb, nat_lt, nat_le, ◌&&◌}
 use Rattle.std.specs.Char.{is_ascii_digit}
 use Rattle.std.specs.List.{list_all}
 use Rattle.std.specs.Fmt.{decimal}
@@ -9,11 +9,11 @@ use Rattle.std.proofs.lemmas.Bool.Decides.{nat_tests}
 use Rattle.std.proofs.lemmas.Fmt.{length-decimal-le_wide, decimal_is_IsNumeral_wide, decimal_by_steps_wide, decimal_digit}
 use Rattle.std.proofs.lemmas.List.{length-replicate, get_or_append_left}
 use Rattle.std.proofs.Math.Nat.{pow-le-pow_right}
-use Rattle.dsr_values.specs.meaning.Numbers.{digits_sum, digits_of, is_digits}
+use Rattle.dsr_values.specs.meaning.Numbers.{digits_sum, is_digits}
 use Rattle.dsr_values.specs.meaning.Written.{padded_number}
 use Rattle.dsr_values.proofs.Numbers.{digits_sum-lt, is_digits_yes}
 use Rattle.dsr_values.proofs.Spelled.{all_digits, zeros_digits, zeros_spelled, spelled}
-use Rattle.dsr_statement_reader.specs.meaning.Spellings.{below, has_leading_zero, number_in}
+use Rattle.dsr_statement_reader.specs.meaning.Spellings.{has_leading_zero, number_in}
 
 -- a digit and a rest below the power are one number in one way
 digit_same : (a b r s w : ℕ) → r < w → s < w → a * w + r ≡ b * w + s → a ≡ b

@@ -1,5 +1,5 @@
 -- The lines of a kind by their cells.
-use Rattle.std.proofs.Common.{arith, ◌≡◌, ◌≢◌, ◌<◌, ◌≤◌, ◌-◌, ℕ, List, [], ◌∷◌, length, get_or, drop, refl, false, ap, sym, ◌∙◌, Result, Ok, Err, Option, Some, None, cond, take, true, nat_eq, inl, inr}
+use Rattle.std.proofs.Common.{arith, ◌≡◌, ◌≢◌, ◌<◌, ◌≤◌, ◌-◌, ℕ, List, [], ◌∷◌, length, drop, refl, false, Ok, Err, Option, Some, None, take, true, nat_eq, inl, inr}
 use Rattle.std.specs.Prelude.{slice_index_or}
 use Rattle.std.proofs.lemmas.Bool.{ne_eqb, le-ltb, cases_Bool}
 use Rattle.std.proofs.lemmas.Str.{IsUtf8-from_is_utf8, is_utf8-from_IsUtf8}
@@ -7,11 +7,9 @@ use Rattle.std.specs.Str.{IsUtf8, is_utf8}
 use Rattle.std.proofs.lemmas.List.Splits.{length-slice_split}
 use Rattle.dsr_cells.specs.meaning.Cells.{cells}
 use Rattle.std.proofs.lemmas.List.{length-drop, length-take}
-use Rattle.dsr_statement_reader.specs.declared.line.StatementLine.{StatementLine}
 use Rattle.dsr_statement_reader.specs.declared.line.StatementLine.TheVariants as lines
 use Rattle.dsr_statement_reader.specs.declared.kind.LineKind.{LineKind}
 use Rattle.dsr_statement_reader.specs.declared.kind.LineKind.TheVariants as kinds
-use Rattle.dsr_statement_reader.specs.declared.fault.StatementFault.{StatementFault}
 use Rattle.dsr_statement_reader.specs.declared.fault.StatementFault.TheVariants as faults
 use Rattle.dsr_statement_reader.specs.meaning.Spellings.{outcome_in}
 use Rattle.dsr_statement_reader.specs.meaning.Readings.{line_of, line_of_kind, line_of_cells, kind_in, or_fault, has_file_cells, report_in, missing_in, difference_in, ledger_in, party_in, unclaimed_in, reject_in, file_in}

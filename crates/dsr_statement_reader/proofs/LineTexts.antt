@@ -1,8 +1,8 @@
 -- A line is read only from its own text.
-use Rattle.std.proofs.Common.{arith, lit<, lit≤, rules, ◌≡◌, ◌<◌, ◌≤◌, ◌^◌, ℕ, zero, suc, List, [], ◌∷◌, ◌++◌, length, Bool, true, false, refl, ap, sym, ◌∙◌, append_assoc, inl, inr, Option, Some, None, Result, Ok, Err, cond, eqb, nat_lt, subst}
-use Rattle.std.specs.Prelude.{ℤ, pos, codes, not, ◌&&◌, is_none}
+use Rattle.std.proofs.Common.{arith, lit≤, ◌≡◌, ◌≤◌, ◌^◌, ℕ, List, [], ◌∷◌, ◌++◌, length, Bool, true, refl, ap, sym, ◌∙◌, append_assoc, inl, inr, Option, Some, None, Result, Ok, Err, eqb, nat_lt, subst}
+use Rattle.std.specs.Prelude.{ℤ, pos, codes, ◌&&◌, is_none}
 use Rattle.std.specs.Option.{option_map}
-use Rattle.std.specs.List.{list_all, slice_split, join_with_byte, flat_map}
+use Rattle.std.specs.List.{list_all, slice_split, join_with_byte}
 use Rattle.std.specs.Fmt.{decimal, signed_decimal}
 use Rattle.std.specs.Str.{bytes_eq, is_utf8}
 use Rattle.std.proofs.lemmas.List.{append-nil}
@@ -10,7 +10,7 @@ use Rattle.std.proofs.lemmas.List.Concat.{flat_map-cons}
 use Rattle.std.proofs.lemmas.Bool.{and_parts, cases_Bool, eqb-true}
 use Rattle.std.proofs.lemmas.Slice.Eq.{bytes_eq-Decides}
 use Rattle.std.proofs.lemmas.List.Splits.{join_with_byte-slice_split}
-use Rattle.dsr_values.specs.meaning.Days.{CivilDay, day_of, day_number}
+use Rattle.dsr_values.specs.meaning.Days.{CivilDay, day_of}
 use Rattle.dsr_values.specs.meaning.Texts.{is_identifier_text, is_territory_text, is_use_type_text, is_currency_text, is_isrc_text}
 use Rattle.dsr_values.specs.meaning.Written.{written, written_day}
 use Rattle.dsr_cells.specs.meaning.Cells.{cells}
@@ -37,7 +37,7 @@ use Rattle.dsr_statement_reader.specs.declared.kind.LineKind.TheVariants as kind
 use Rattle.dsr_statement_reader.specs.declared.fault.StatementFault.{StatementFault}
 use Rattle.dsr_statement_reader.specs.declared.fault.StatementFault.TheVariants as faults
 use Rattle.dsr_statement_reader.specs.meaning.Spellings.{◌>>=◌, usages_in, amount_in, number_in, named, is_period, text_if, file_number_in, standing_in, standings_in_order, reason_in, reasons_in_order, column_in, columns_in_order, fault_in, plain_faults, outcome_in, key_in}
-use Rattle.dsr_statement_reader.specs.meaning.Lines.{with_key, text_of_line, text_of}
+use Rattle.dsr_statement_reader.specs.meaning.Lines.{text_of_line, text_of}
 use Rattle.dsr_statement_reader.specs.meaning.Readings.{report_if, report_in, file_in, missing_in, difference_in, ledger_in, party_in, unclaimed_in, reject_in, spelled, kind_name, kinds_in_order, kind_in, has_cells}
 use Rattle.dsr_statement_reader.specs.meaning.Readings.{or_fault, line_of_kind, line_of_cells, line_of, placed, is_placed, adds_up, is_no_report, next_line, ◌>>>◌, reading_after, reading_of, with_line, at_line, ended, end_fault, refused_after, Refusal, is_complete, most_bytes}
 use Rattle.dsr_statement_reader.specs.meaning.Statements.{AreInPlace}

@@ -1,15 +1,13 @@
 -- The lines of a readable report are in their places.
-use Rattle.std.proofs.Common.{arith, ◌≡◌, ◌<◌, ◌+◌, ℕ, zero, suc, List, [], ◌∷◌, ◌++◌, length, map, Bool, true, false, refl, ap, sym, subst, ◌∙◌, append_assoc, Option, Some, None, Result, Ok, Err, eqb, nat_lt, nat_le}
-use Rattle.std.specs.Prelude.{ℤ, pos, ◌+ℤ◌, ◌-ℤ◌, ◌&&◌, ◌||◌}
+use Rattle.std.proofs.Common.{arith, ◌≡◌, ◌<◌, ℕ, suc, List, [], ◌∷◌, ◌++◌, length, map, Bool, true, false, refl, ap, sym, subst, ◌∙◌, append_assoc, Option, Ok, nat_lt, nat_le}
+use Rattle.std.specs.Prelude.{ℤ, ◌+ℤ◌, ◌-ℤ◌}
 use Rattle.std.specs.List.{flat_map, list_all, AllByRecursion}
-use Rattle.std.specs.Ordering.{int_eq}
 use Rattle.std.proofs.lemmas.Int.{ints}
 use Rattle.std.proofs.lemmas.Bool.{and_parts, and_from, eq-eqb}
 use Rattle.std.proofs.lemmas.Bool.Decides.{Decides-int_eq}
 use Rattle.std.proofs.lemmas.Slice.Eq.{bytes_eq-Decides}
 use Rattle.std.proofs.lemmas.List.Concat.{flat_map-cons}
 use Rattle.std.proofs.lemmas.List.{append-nil}
-use Rattle.std.specs.Str.{bytes_eq}
 use Rattle.dsr_ledger.specs.meaning.Keys.{Key, key_eq}
 use Rattle.dsr_ledger.specs.meaning.Laws.{key_of_line, AddsUp}
 use Rattle.dsr_ledger.specs.meaning.Sums.{int_sum_by}
@@ -22,10 +20,9 @@ use Rattle.dsr_ledger.specs.declared.report.Reject.{Reject}
 use Rattle.dsr_ledger.specs.declared.report.Report.{Report}
 use Rattle.dsr_statement_reader.specs.declared.line.StatementLine.{StatementLine}
 use Rattle.dsr_statement_reader.specs.declared.line.StatementLine.TheVariants as lines
-use Rattle.dsr_statement_reader.specs.declared.fault.StatementFault.{StatementFault}
-use Rattle.dsr_statement_reader.specs.meaning.Lines.{text_of, head_of, files_from, lines_of_ledger, statement_lines}
-use Rattle.dsr_statement_reader.specs.meaning.Readings.{placed, is_placed, adds_up, is_no_report, is_complete, of_latest, follows, is_first, left_of, may_end, is_key_below, is_text_below}
-use Rattle.dsr_statement_reader.specs.meaning.Readings.{follows_file, follows_missing, follows_summary, follows_ledger, missing_follows, summary_follows, ledger_follows, party_follows, unclaimed_follows, reject_follows}
+use Rattle.dsr_statement_reader.specs.meaning.Lines.{head_of, files_from, lines_of_ledger, statement_lines}
+use Rattle.dsr_statement_reader.specs.meaning.Readings.{placed, is_placed, adds_up, is_no_report, of_latest, left_of, may_end, is_key_below, is_text_below}
+use Rattle.dsr_statement_reader.specs.meaning.Readings.{follows_file, follows_missing, follows_summary, follows_ledger, unclaimed_follows}
 use Rattle.dsr_statement_reader.specs.meaning.Statements.{AreInPlace, IsStatement, all_adjacent, are_parties_in_order, is_before, IsReadable}
 
 -- a line that passes the tests stands where it may

@@ -1,5 +1,5 @@
 -- The statement of a report is the text of its lines.
-use Rattle.std.proofs.Common.{◌≡◌, ℕ, suc, List, [], ◌∷◌, ◌++◌, map, refl, ap, sym, ◌∙◌, append_assoc, Option, Some, None}
+use Rattle.std.proofs.Common.{◌≡◌, ℕ, suc, List, [], ◌∷◌, ◌++◌, map, refl, ap, sym, ◌∙◌, Option, Some, None}
 use Rattle.std.specs.List.{flat_map}
 use Rattle.std.proofs.lemmas.List.{append-nil}
 use Rattle.std.proofs.lemmas.List.Concat.{flat_map-cons}
@@ -10,7 +10,7 @@ use Rattle.dsr_ledger.specs.declared.report.FileLine.{FileLine}
 use Rattle.dsr_ledger.specs.declared.report.PartyLine.{PartyLine}
 use Rattle.dsr_ledger.specs.declared.report.LedgerLine.{LedgerLine}
 use Rattle.dsr_ledger.specs.declared.report.Report.{Report}
-use Rattle.dsr_statement.specs.meaning.Statement.{head_line, report_line, file_line, file_lines, missing_line, difference_line, sums_line, party_line, unclaimed_line, ledger_lines, reject_line, statement_of}
+use Rattle.dsr_statement.specs.meaning.Statement.{head_line, file_line, file_lines, missing_line, difference_line, sums_line, party_line, unclaimed_line, ledger_lines, reject_line, statement_of}
 use Rattle.dsr_statement_reader.specs.declared.line.StatementLine.{StatementLine}
 use Rattle.dsr_statement_reader.specs.declared.line.StatementLine.TheVariants as lines
 use Rattle.dsr_statement_reader.specs.meaning.Lines.{text_of_line, text_of, head_of, files_from, lines_of_ledger, statement_lines}

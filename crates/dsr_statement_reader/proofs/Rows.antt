@@ -1,5 +1,5 @@
 -- The cells of a line, one after another.
-use Rattle.std.proofs.Common.{◌≡◌, ◌<◌, ℕ, List, [], ◌∷◌, ◌++◌, length, get_or, ◌≢◌, ap, refl, ◌∙◌, sym, map, append_assoc, take, ◌≤◌, arith}
+use Rattle.std.proofs.Common.{◌≡◌, ◌<◌, ℕ, List, [], ◌∷◌, ◌++◌, length, get_or, ◌≢◌, ap, ◌∙◌, sym, map, append_assoc, take, ◌≤◌, arith}
 use Rattle.std.proofs.lemmas.List.{map-append, length-map, take_all}
 use Rattle.std.proofs.Math.Seq.{take-append_seam}
 use Rattle.dsr_cells.specs.meaning.Cells.{cells}

@@ -82,7 +82,8 @@ pub(crate) fn read_difference<'l>(
     stated_sum: &str,
     found_sum: &str,
 ) -> Option<StatementLine<'l>>
-    ensures { result ≡ difference_in file.now id.now stated.now found.now stated_sum.now found_sum.now }
+    ensures { result ≡ difference_in file.now id.now stated.now found.now
+        stated_sum.now found_sum.now }
 {
     let file = read_u64(file)?;
     let summary_id = read_identifier(id, 32)?;
@@ -139,7 +140,8 @@ pub(crate) fn read_ledger<'l>(
     usages: &str,
     sum: &str,
 ) -> Option<StatementLine<'l>>
-    ensures { result ≡ ledger_in isrc.now territory.now use_type.now currency.now usages.now sum.now }
+    ensures { result ≡ ledger_in isrc.now territory.now use_type.now currency.now
+        usages.now sum.now }
 {
     let key = read_key(isrc, territory, use_type, currency)?;
     let usages = read_usages(usages)?;

@@ -26,7 +26,8 @@ pub fn are_in_place()
 /// Reading inverts writing: the lines of a statement are read from their text.
 #[tactic(auto, using(crate::proofs::AgainTexts::is_read_again))]
 pub fn is_read_again()
-    ensures { (lines : List StatementLine) → IsStatement lines → reading (text_of lines) ≡ Ok lines }
+    ensures { (lines : List StatementLine) → IsStatement lines
+        → reading (text_of lines) ≡ Ok lines }
 {}
 
 /// The statement of a report is the text of its lines.

@@ -24,11 +24,11 @@
 //! ```
 //!
 //! **The promise.** Each line is read as the definition of a reading says, given the lines before it, or refused with the fault
-//! that the definition gives it; so is the end of a text. What is read was written so ([`laws`]). The reader keeps the memory
-//! of one line.
+//! that the definition gives it; so is the end of a text. What is read was written so, and what was written is read again as it
+//! was ([`laws`]). The reader keeps the memory of one line.
 //!
-//! **Where to begin.** `specs/meaning/Lines.antt` has the lines and their bytes, `Spellings.antt` what cells spell, and
-//! `Readings.antt` what a text means; `src/reader.rt` has the public functions.
+//! **Where to begin.** `specs/meaning/Lines.antt` has the lines and their bytes, `Spellings.antt` what cells spell,
+//! `Readings.antt` what a text means, and `Statements.antt` which lines and reports are read again; `src/reader.rt` has the public functions.
 #![tactic(auto)]
 
 mod cells;

@@ -1,5 +1,5 @@
 -- The lines of a statement, and their bytes.
-use Rattle.std.specs.Prelude.{ℕ, suc, ℤ, pos, Option, None, Some, List, [], ◌∷◌, ◌++◌, map, codes}
+use Rattle.std.specs.Prelude.{ℕ, suc, ℤ, pos, Option, None, Some, List, [], ◌∷◌, ◌++◌, map}
 use Rattle.std.specs.List.{flat_map}
 use Rattle.dsr_ledger.specs.meaning.Keys.{Key}
 use Rattle.dsr_ledger.specs.meaning.Laws.{key_of_line}
@@ -10,8 +10,6 @@ use Rattle.dsr_ledger.specs.declared.report.Report.{Report}
 use Rattle.dsr_statement.specs.meaning.Statement.{head_line, report_line, file_line, missing_line, difference_line, sums_line, party_line, unclaimed_line, reject_line}
 use Rattle.dsr_statement_reader.specs.declared.line.StatementLine.{StatementLine}
 use Rattle.dsr_statement_reader.specs.declared.line.StatementLine.TheVariants as lines
-use Rattle.dsr_statement_reader.specs.declared.kind.LineKind.{LineKind}
-use Rattle.dsr_statement_reader.specs.declared.kind.LineKind.TheVariants as kinds
 
 -- a ledger line with this key
 abbrev pub with_key : Key → ℤ → ℤ → ℤ → LedgerLine

@@ -1,14 +1,13 @@
 -- What the cells of a statement spell.
-use Rattle.std.specs.Prelude.{ℕ, ◌+◌, ◌-◌, ◌*◌, ◌^◌, ◌&&◌, ◌==◌, nat_lt, nat_le, not, Bool, true, false, if◌then◌else◌, List, [], ◌∷◌, length, Option, Some, None, ℤ, pos, neg_ℤ, ◌+ℤ◌, ◌-ℤ◌}
-use Rattle.std.specs.Prelude.{option_map, option_and_then, codes, find}
+use Rattle.std.specs.Prelude.{ℕ, ◌+◌, ◌-◌, ◌*◌, ◌^◌, ◌&&◌, ◌==◌, nat_lt, Bool, false, if◌then◌else◌, List, [], ◌∷◌, length, Option, Some, None, ℤ, pos, neg_ℤ, ◌+ℤ◌}
+use Rattle.std.specs.Prelude.{option_map, codes, find}
 use Rattle.std.specs.List.{slice_split}
 use Rattle.std.specs.Char.{is_ascii_digit}
 use Rattle.std.specs.Ordering.{int_eq}
-use Rattle.std.specs.Int.{is_negative}
 use Rattle.std.specs.Str.{bytes_eq}
-use Rattle.dsr_values.specs.meaning.Days.{CivilDay, day_of, day_number}
+use Rattle.dsr_values.specs.meaning.Days.{CivilDay, day_number}
 use Rattle.dsr_values.specs.meaning.Numbers.{digits_sum, digits_of}
-use Rattle.dsr_values.specs.meaning.Texts.{is_run_of, is_identifier_text, is_territory_text, is_use_type_text, is_currency_text, is_isrc_text}
+use Rattle.dsr_values.specs.meaning.Texts.{is_run_of, is_territory_text, is_use_type_text, is_currency_text, is_isrc_text}
 use Rattle.dsr_blocks.specs.meaning.Columns.{column_name}
 use Rattle.dsr_blocks.specs.declared.kinds.Column.{Column}
 use Rattle.dsr_blocks.specs.declared.kinds.Column.TheVariants as columns

@@ -1,4 +1,4 @@
-use Rattle.std.proofs.Common.{rules, arith, ◌≡◌, true}
+use Rattle.std.proofs.Common.{rules, ◌≡◌, true}
 use Rattle.std.specs.Prelude.{nat_lt}
 use Rattle.dsr_values.specs.meaning.Days.{day_number}
 use Rattle.std.proofs.lemmas.Bool.{lt-ltb}

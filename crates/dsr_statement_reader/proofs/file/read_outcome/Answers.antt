@@ -1,4 +1,4 @@
-use Rattle.std.proofs.Common.{arith, ◌≡◌, ◌≢◌, ◌∙◌, ◌∷◌, [], sym, ap, drop, length, slice_index_or}
+use Rattle.std.proofs.Common.{arith, ◌∙◌, sym, ap, drop}
 use Rattle.std.proofs.lemmas.List.{length-drop}
 use Rattle.dsr_statement_reader.specs.meaning.Spellings.{outcome_in}
 use Rattle.dsr_statement_reader.proofs.KindLemmas.{four_left, no_outcome}

@@ -1,4 +1,4 @@
-use Rattle.std.proofs.Common.{lit<, ◌∙◌, sym, ap, ◌^◌, ◌+◌, Some, None}
+use Rattle.std.proofs.Common.{lit<, ◌∙◌, sym, ap, ◌^◌, Some, None}
 use Rattle.std.specs.Prelude.{pos, neg_ℤ}
 use Rattle.std.specs.Option.{option_map}
 use Rattle.std.proofs.lemmas.Str.Pattern.{strip_prefix_char}

@@ -1,4 +1,4 @@
-use Rattle.std.proofs.Common.{arith, rules, lit<, ◌≡◌, ◌∙◌, ◌++◌, ◌∷◌, [], ◌≤◌, Some, None, ap, map, take, length, refl, sym, ℕ, List, Bor}
+use Rattle.std.proofs.Common.{arith, rules, lit<, ◌++◌, ◌∷◌, [], ◌≤◌, Some, None, length, refl, ℕ, List, Bor}
 use Rattle.std.proofs.lemmas.List.{length_push}
 use Rattle.std.proofs.lemmas.Str.Pattern.{split_parts}
 use Rattle.dsr_cells.specs.meaning.Cells.{cells}
