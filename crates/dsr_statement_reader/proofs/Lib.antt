@@ -10,3 +10,4 @@ pub mod AgainTexts
 pub mod ReportTexts
 pub mod ReportPlaces
 pub mod ReportAgain
+pub mod OneLedger

@@ -48,3 +48,10 @@ pub fn no_report_is_refused()
     ensures { (report : Report) → report.key ≡ None
         → reading (statement_of report) ≡ Err (refused_after [] faults.NoReport) }
 {}
+
+/// Two readable reports with one statement have one ledger.
+pub fn one_ledger()
+    ensures { (first_key last_key : ReportKey) (first last : Report)
+        → IsReadable first_key first → IsReadable last_key last
+        → statement_of first ≡ statement_of last → first.ledger ≡ last.ledger }
+{}
