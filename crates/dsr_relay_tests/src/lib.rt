@@ -6,6 +6,7 @@
 //!    blocks that are exchanged for stale ones.
 //! 4. `passing`: a file that goes from one thread to another. `memory`, where allocations are refused, `threads` and
 //!    `slow_start` let it go through relays of their own.
+//! 5. `opening`: relays that are made again if memory is refused.
 //!
 //! The tests are a separate crate, since a crate with tests is proved a second time with them.
 #![tactic(auto)]
@@ -20,6 +21,8 @@ mod events;
 mod example;
 #[cfg(test)]
 mod memory;
+#[cfg(test)]
+mod opening;
 #[cfg(test)]
 mod passing;
 #[cfg(test)]
