@@ -1,23 +1,21 @@
 -- What the steps of a relay's memory preserve.
 use Rattle.std.proofs.Common.{◌≡◌, ℕ, ◌+◌, ◌-◌, ◌<◌, ◌≤◌, List, [], ◌∷◌, refl, sym, subst, zero, suc, arith}
-use Rattle.dsr_relay.specs.meaning.Pool.{Pool, Turn, reuse, begin, allow, send, keep, give, Turns, Passes, IsUntouched, NeverLacksMemory}
+use Rattle.dsr_relay.specs.meaning.Pool.{Pool, Turn, reuse, begin, send, keep, give, Turns, Passes, IsUntouched, NeverLacksMemory}
 
--- what holds after each step: fewer are kept than are given back together, and as many as that were or may be filled
+-- what holds after each step: fewer are kept than are given back together, and there are at least as many as that
 record IsWell (p : Pool) : Type 0 where
   few : p.kept < p.together
   enough : p.together ≤ p.unused + p.filling + p.queued + p.kept + p.back
-  allowed : p.together ≤ p.more + p.filling + p.queued + p.kept + p.back
 
 untouched_well : (p : Pool) → IsUntouched p → IsWell p
-untouched_well p h = record { few = omega arith; enough = omega arith; allowed = omega arith }
+untouched_well p h = record { few = omega arith; enough = omega arith }
 
 turns_well : (turn : Turn) (p q : Pool) → Turns turn p q → IsWell p → IsWell q
-turns_well reuse p q t h = subst IsWell (sym t.2) record { few = h.few; enough = omega arith; allowed = omega arith }
-turns_well begin p q t h = subst IsWell (sym t.4) record { few = h.few; enough = omega arith; allowed = omega arith }
-turns_well allow p q t h = subst IsWell (sym t) record { few = h.few; enough = h.enough; allowed = omega arith }
-turns_well send p q t h = subst IsWell (sym t.1) record { few = h.few; enough = omega arith; allowed = omega arith }
-turns_well keep p q t h = subst IsWell (sym t.2) record { few = t.1; enough = omega arith; allowed = omega arith }
-turns_well give p q t h = subst IsWell (sym t.2) record { few = omega arith; enough = omega arith; allowed = omega arith }
+turns_well reuse p q t h = subst IsWell (sym t.2) record { few = h.few; enough = omega arith }
+turns_well begin p q t h = subst IsWell (sym t.3) record { few = h.few; enough = omega arith }
+turns_well send p q t h = subst IsWell (sym t.1) record { few = h.few; enough = omega arith }
+turns_well keep p q t h = subst IsWell (sym t.2) record { few = t.1; enough = omega arith }
+turns_well give p q t h = subst IsWell (sym t.2) record { few = omega arith; enough = omega arith }
 
 passes_well : (p q : Pool) (turns : List Turn) → Passes p turns q → IsWell p → IsWell q
 passes_well p q [] h well = subst IsWell h well
@@ -27,8 +25,8 @@ takes_one : (p : Pool) (back : ℕ) → p.back ≡ back → IsWell p → p.queue
     → (turn : Turn) × (next : Pool) × Turns turn p next × (next.filling ≡ 1)
 takes_one p zero none well queued filling = (
   begin,
-  record p { filling = 1; unused = p.unused - 1; more = p.more - 1 },
-  (filling, none, (let e = well.enough in let f = well.few in omega arith), (let a = well.allowed in let f = well.few in omega arith), refl),
+  record p { filling = 1; unused = p.unused - 1 },
+  (filling, none, (let e = well.enough in let f = well.few in omega arith), refl),
   refl,
 )
 takes_one p (suc n) some well queued filling = (reuse, record p { filling = 1; back = p.back - 1 }, (filling, omega arith, refl), refl)

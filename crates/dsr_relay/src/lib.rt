@@ -7,8 +7,7 @@
 //! 3. The [`Tap`] takes the events one by one, or those of a message at once; if there is none, it waits (`tap`).
 //! 4. A batch whose events are no longer needed is given back ([`Tap::give_back`]). The feed writes later events over
 //!    it. A block is exchanged for an old one ([`Feed::send_block`]), so that it is not moved and the reader reuses the
-//!    memory of the old one. A feed may start slowly ([`Feed::start_slowly`]): it uses half of the memory at first, so that
-//!    its thread does not run far ahead of the tap's (`pace`).
+//!    memory of the old one.
 //! 5. [`Tap::take_in`] joins the two ends and returns what was taken and what is left ([`Settled`], in `settled`).
 //!
 //! **Example**, compiled and proved in `crates/dsr_relay_tests/src/example.rt`:
@@ -43,7 +42,6 @@ pub mod laws;
 mod memory;
 mod name;
 mod open;
-mod pace;
 mod rule;
 mod settled;
 mod tap;

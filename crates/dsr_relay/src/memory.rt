@@ -2,10 +2,9 @@
 //! longer needed. All of it is allocated when a relay is made: for the batches in the channel, the one being filled
 //! and the one being emptied. So a send allocates nothing, and the feed's thread frees the events of returned batches.
 //! After Ended it also frees the memory that it has left, so that the one thread of all taps need not.
-ghost use Rattle.std.specs.Prelude.{◌≡◌, [], ◌<◌, ◌≤◌, ◌*◌, length, IfOk};
+ghost use Rattle.std.specs.Prelude.{◌≡◌, [], ◌+◌, ◌<◌, ◌≤◌, length, IfOk};
 
 use crate::batch::Batch;
-use crate::pace::Pace;
 use crossbeam_channel::{Receiver, Sender, bounded};
 use dsr_cells::NoMemory;
 use std::alloc::Global;
@@ -20,7 +19,6 @@ pub(crate) struct Supply {
     /// The memory that was never filled.
     unused: Vec<Batch>,
     receiver: Receiver<Batch>,
-    pace: Pace,
 }
 
 /// Written out, so that dropping one is a call: a derived drop is proved anew wherever it happens.
@@ -30,7 +28,6 @@ impl Drop for Supply {
             alloc: _,
             unused: _,
             receiver: _,
-            pace: _,
         } = self;
     }
 }
@@ -42,8 +39,8 @@ pub(crate) struct Returns {
     sender: Sender<Batch>,
     /// Batches that are not given back yet.
     kept: Vec<Batch>,
-    /// This many are given back together: 1 to 4, and at most as many as a feed that starts slowly uses at first. So the
-    /// feed never waits for memory while the tap waits for a message (`laws::never_lacks_memory`).
+    /// This many are given back together: 1 to 4, and at most as many as there are. So the feed never waits for memory while
+    /// the tap waits for a message (`laws::never_lacks_memory`).
     together: usize,
 }
 
@@ -78,9 +75,9 @@ fn rooms(alloc: Global, batches: usize) -> Result<Vec<Batch>, NoMemory>
 /// `NoMemory`: out of memory.
 pub(crate) fn memory(alloc: Global, capacity: u32) -> Result<(Supply, Returns), NoMemory>
     requires { capacity ≤ 1024 }
-    ensures unlimited { IfOk result (λ r. length r.0.unused.items ≤ r.0.pace.more) }
+    ensures unused { IfOk result (λ r. length r.0.unused.items ≡ capacity + 2) }
     ensures together { IfOk result (λ r. (0 < r.1.together)
-        × (2 * r.1.together ≤ length r.0.unused.items)) }
+        × (r.1.together ≤ length r.0.unused.items)) }
 {
     let batches = capacity as usize + 2;
     let unused = rooms(alloc, batches)?;
@@ -89,7 +86,6 @@ pub(crate) fn memory(alloc: Global, capacity: u32) -> Result<(Supply, Returns), 
         alloc,
         unused,
         receiver,
-        pace: Pace::unlimited(),
     };
     let together = (capacity as usize / 4).min(MOST_TOGETHER).max(1);
     let returns = Returns {
@@ -102,31 +98,13 @@ pub(crate) fn memory(alloc: Global, capacity: u32) -> Result<(Supply, Returns), 
 }
 
 impl Supply {
-    /// Uses half of the memory at first, and one batch more for each 32 that are filled.
-    pub(crate) fn start_slowly(&mut self)
-        ensures unused { self.new.unused ≡ self.old.unused }
-        ensures half { length self.old.unused.items ≤ 2 * self.new.pace.more }
-    {
-        let all = self.unused.len();
-        self.pace = Pace::of(all - all / 2);
-    }
-
-    /// Memory that was never filled, if more may be used.
-    fn take_unused(&mut self) -> Option<Batch> {
-        if self.pace.use_more() {
-            self.unused.pop()
-        } else {
-            None
-        }
-    }
-
     /// Memory to be filled: that of a batch that came back, or memory that was never filled. If there is none, the call
     /// waits until a batch comes back; if the tap is gone, it returns a batch without memory.
     fn find<R: Wait>(&mut self, rt: &R) -> Batch {
         if let Ok(used) = self.receiver.try_recv(rt) {
             return used;
         }
-        if let Some(unused) = self.take_unused() {
+        if let Some(unused) = self.unused.pop() {
             return unused;
         }
         match self.receiver.recv(rt) {
@@ -140,7 +118,6 @@ impl Supply {
         ensures { result ≡ [] }
     {
         let mut batch = self.find(rt);
-        self.pace.note_filled();
         batch.restart(self.alloc);
         batch
     }

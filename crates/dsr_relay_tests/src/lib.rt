@@ -4,8 +4,8 @@
 //! 2. `events` makes the events that go through a relay, `sending` sends them, and `taking` takes them.
 //! 3. `batches`: batches that are taken without waiting. `ends`: what a call returns once the other end is gone. `reuse`:
 //!    blocks that are exchanged for stale ones.
-//! 4. `passing`: a file that goes from one thread to another. `memory`, where allocations are refused, `threads` and
-//!    `slow_start` let it go through relays of their own.
+//! 4. `passing`: a file that goes from one thread to another. `memory`, where allocations are refused, and `threads` let it
+//!    go through relays of their own.
 //! 5. `opening`: relays that are made again if memory is refused.
 //!
 //! The tests are a separate crate, since a crate with tests is proved a second time with them.
@@ -29,8 +29,6 @@ mod passing;
 mod reuse;
 #[cfg(test)]
 mod sending;
-#[cfg(test)]
-mod slow_start;
 #[cfg(test)]
 mod taking;
 #[cfg(test)]

@@ -81,11 +81,3 @@ fn a_full_relay_holds_its_reader_back(rt: HostRuntime) -> Result<(), AllocError>
     assert!(rt; holds_back(&rt, rt.alloc(), 1, 130)?);
     Ok(())
 }
-
-/// A relay of four messages has memory for six, of which its reader uses three at first. The event after these, block 96,
-/// comes with line 195, and waits for memory. So the second reader begins no 196th read, unless it uses more at first.
-#[test]
-fn a_slow_start_holds_its_reader_back(rt: HostRuntime) -> Result<(), AllocError> {
-    assert!(rt; holds_back(&rt, rt.alloc(), 4, 196)?);
-    Ok(())
-}

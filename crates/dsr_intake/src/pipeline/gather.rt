@@ -59,7 +59,7 @@ fn start_all<R: Source + Send + Drop + 'static, H: Threads + Wait + Copy + Send 
     Ok(())
 }
 
-/// Opens the relay of a file. Its feed starts slowly.
+/// Opens the relay of a file.
 fn open(alloc: Global, capacity: u32) -> Result<(Feed, Tap), IntakeError>
     requires some { 0 < capacity }
     requires most { capacity ≤ MOST_MESSAGES }
@@ -67,10 +67,7 @@ fn open(alloc: Global, capacity: u32) -> Result<(Feed, Tap), IntakeError>
     ensures late { IfErr result IsLate }
 {
     match open_relay(alloc, capacity) {
-        Ok((mut feed, tap)) => {
-            feed.start_slowly();
-            Ok((feed, tap))
-        }
+        Ok(ends) => Ok(ends),
         Err(RelayError::Capacity) => Err(IntakeError::Capacity),
         Err(RelayError::Memory) => Err(IntakeError::Memory),
     }

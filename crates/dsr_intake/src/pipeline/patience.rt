@@ -5,11 +5,6 @@
 //! slower than the collector, it would be so for most messages and take a tenth of the reader's time. So the collector naps
 //! instead: several messages come during a nap, and nobody has to wake it. Only where several naps are in vain, since a reader
 //! is slow or its pipe gives nothing, it waits.
-//!
-//! Where looking was in vain several times in a row, the collector mostly naps after one round: it is faster than the readers,
-//! or they have no processor of their own.
-ghost use Rattle.std.specs.Prelude.{◌≤◌};
-
 use std::hint::spin_loop;
 use std::thread::sleep;
 use std::time::{Clock, Duration};
@@ -23,44 +18,22 @@ const MOST_NAPS: u32 = 8;
 /// The length of a nap in microseconds. The system mostly makes it about twice as long.
 const NAP: u64 = 50;
 
-/// After messages came only after a nap this many times in a row, the collector mostly naps after one round.
-const MOST_IN_VAIN: u32 = 4;
-
-/// One in this many naps is then still preceded by all rounds, so that faster readers are noticed.
-const NAPS_PER_TRIAL: u32 = 16;
-
 /// Counts the rounds and the naps of the collector.
 #[derive(Clone, Copy)]
 pub(crate) struct Patience {
     /// The rounds since the last message.
     rounds: u32,
-    /// How many times in a row a message came only after a nap.
-    in_vain: u32,
 }
 
 impl Patience {
     /// No rounds and no naps.
     pub(crate) fn new() -> Patience {
-        Patience {
-            rounds: 0,
-            in_vain: 0,
-        }
-    }
-
-    /// The number of rounds without a message before the first nap, at least 1.
-    fn most_rounds(&self) -> u32
-        ensures { result ≤ MOST_ROUNDS }
-    {
-        if self.in_vain < MOST_IN_VAIN || self.in_vain % NAPS_PER_TRIAL == 0 {
-            MOST_ROUNDS
-        } else {
-            1
-        }
+        Patience { rounds: 0 }
     }
 
     /// Whether the next round waits for a message.
     pub(crate) fn has_ended(&self) -> bool {
-        self.rounds >= self.most_rounds() + MOST_NAPS
+        self.rounds >= MOST_ROUNDS + MOST_NAPS
     }
 
     /// Pauses before the next round: an instant after each of the first rounds without a message, and then a nap. There is no
@@ -69,7 +42,7 @@ impl Patience {
         if self.rounds == 0 || self.has_ended() {
             return;
         }
-        if self.rounds < self.most_rounds() {
+        if self.rounds < MOST_ROUNDS {
             spin_loop();
         } else {
             sleep(rt, Duration::from_micros(NAP));
@@ -81,13 +54,8 @@ impl Patience {
         self.rounds = self.rounds.saturating_add(1);
     }
 
-    /// Notes a round with a message. One that came in the first round leaves the count of naps in vain as it is.
+    /// Notes a round with a message.
     pub(crate) fn note_message(&mut self) {
-        if self.rounds >= self.most_rounds() {
-            self.in_vain = self.in_vain.wrapping_add(1);
-        } else if self.rounds > 0 {
-            self.in_vain = 0;
-        }
         self.rounds = 0;
     }
 }
