@@ -1,22 +1,20 @@
 //! Batches: the events that go through a relay as one message.
 //!
-//! The memory of a batch, for 32 events, is reused: the feed fills it, and the tap gives it back. An event
+//! The memory of a batch, an array of 32 slots, is reused: the feed fills it, and the tap gives it back. An event
 //! overwrites the stale one in its slot, so that nothing is allocated for it. A block is exchanged for a stale one,
-//! and the reader writes the next one into its memory. So that there is a stale one from the beginning, all slots are
-//! filled with empty blocks before a batch is filled for the first time.
+//! and the reader writes the next one into its memory. So that there is a stale one from the beginning, each slot has
+//! the event of an empty block before a batch is filled for the first time.
 ghost use Rattle.std.specs.Prelude.{◌≡◌, ◌<◌, ◌^◌, ◌∷◌, ◌++◌, [], ℕ, List, true, false, MatchOption, MatchResult, IfOk};
 ghost use Rattle.dsr_blocks.specs.meaning.Blocks.{BlockParts};
 ghost use Rattle.dsr_events.specs.meaning.Placed.{Placed, block_event};
 
+use crate::slots::Slots;
 use dsr_blocks::Block;
 use dsr_cells::NoMemory;
 use dsr_events::{Event, EventPart};
 use std::alloc::Global;
 use std::marker::Model;
 use std::mem;
-
-/// The maximum number of events in a batch.
-pub(crate) const MOST_EVENTS: usize = 32;
 
 /// The stale events in a batch's memory are freed once more than this many bytes were counted for them.
 const MOST_STALE: usize = 256 * 1024;
@@ -27,14 +25,14 @@ const MOST_UNNOTED: usize = 4096;
 /// The events of one message of a relay, and their memory. Contracts see those that were not taken out.
 pub struct Batch {
     /// The events and, from index `count`, stale ones: of earlier rounds, or of empty blocks.
-    slots: Vec<Event>,
+    slots: Slots,
     /// The number of events, including those that were taken out.
     count: usize,
     /// The number of events that were taken out from the front. Each left a placeholder.
     out: usize,
     /// The bytes of the file that were noted while the batch was filled.
     bytes: usize,
-    /// The bytes counted for earlier rounds, since the slots were last filled with empty blocks.
+    /// The bytes counted for earlier rounds, since the slots last had the events of empty blocks.
     stale: usize,
 }
 
@@ -57,45 +55,9 @@ impl Model for Batch {
 
     ghost Value = { List Placed };
 
-    ghost view = { λ b. drop b.out (take b.count b.slots.items) };
+    ghost view = { λ b. drop b.out (take b.count b.slots) };
 
-    ghost invariant = { λ b. (b.out ≤ b.count) × (b.count ≤ length b.slots.items) };
-}
-
-/// A stale event, whose block has no memory of its own.
-fn stale_event(alloc: Global) -> Event {
-    Event {
-        place: 0,
-        part: EventPart::Block(Block::empty(alloc)),
-    }
-}
-
-/// Frees stale events, and fills all slots with empty blocks.
-#[cold]
-#[inline(never)]
-fn renew(slots: &mut Vec<Event>, alloc: Global) {
-    slots.clear();
-    for _ in 0..slots.capacity() {
-        if slots.len() < slots.capacity() {
-            slots.push_reserved(stale_event(alloc));
-        }
-    }
-}
-
-/// Overwrites a stale event with that of a block, if it is the event of a block too, and returns whether it did. The two
-/// blocks are swapped. Otherwise nothing changes.
-#[inline(always)]
-fn write_block(slot: &mut Event, place: u64, block: &mut Block) -> bool
-    requires { place < 2 ^ 37 }
-    ensures written { result ≡ true → slot.new ≡ block_event place block.old }
-    ensures kept { result ≡ false → (slot.new ≡ slot.old) × (block.new ≡ block.old) }
-{
-    match &mut slot.part {
-        EventPart::Block(stale) => mem::swap(stale, block),
-        _ => return false,
-    }
-    slot.place = place;
-    true
+    ghost invariant = { λ b. (b.out ≤ b.count) × (b.count ≤ length b.slots) };
 }
 
 impl Batch {
@@ -104,7 +66,7 @@ impl Batch {
         ensures { result ≡ [] }
     {
         Batch {
-            slots: Vec::new(alloc),
+            slots: Slots::none(alloc),
             count: 0,
             out: 0,
             bytes: 0,
@@ -121,7 +83,7 @@ impl Batch {
         ensures { IfOk result (λ b. b ≡ []) }
     {
         Ok(Batch {
-            slots: Vec::with_capacity(alloc, MOST_EVENTS)?,
+            slots: Slots::reserved(alloc)?,
             count: 0,
             out: 0,
             bytes: 0,
@@ -131,14 +93,14 @@ impl Batch {
 
     /// Whether the batch has memory for events.
     pub(crate) fn has_room(&self) -> bool {
-        self.slots.capacity() > 0
+        self.slots.has_memory()
     }
 
     /// The events, in order.
     pub fn events(&self) -> &[Event]
         ensures { result.now ≡ self.now }
     {
-        &self.slots.as_slice()[..self.count][self.out..]
+        &self.slots.events()[..self.count][self.out..]
     }
 
     /// Notes that this many bytes of the file were read.
@@ -161,8 +123,7 @@ impl Batch {
         if self.count >= self.slots.len() {
             return Err(event);
         }
-        let stale = mem::replace(&mut self.slots[self.count], event);
-        drop(stale);
+        self.slots.put(self.count, event);
         self.count += 1;
         Ok(())
     }
@@ -178,7 +139,7 @@ impl Batch {
         if self.count >= self.slots.len() {
             return false;
         }
-        if !write_block(&mut self.slots[self.count], place, block) {
+        if !self.slots.put_block(self.count, place, block) {
             return false;
         }
         self.count += 1;
@@ -193,7 +154,7 @@ impl Batch {
         if self.out == self.count {
             return None;
         }
-        let event = mem::take(&mut self.slots[self.out]);
+        let event = self.slots.take(self.out);
         self.out += 1;
         Some(event)
     }
@@ -207,7 +168,7 @@ impl Batch {
             return None;
         }
         self.count -= 1;
-        Some(mem::take(&mut self.slots[self.count]))
+        Some(self.slots.take(self.count))
     }
 
     /// Takes out the last event, which is that of a block, and makes it the value of `block`.
@@ -237,9 +198,9 @@ impl Batch {
         self.bytes = 0;
         self.count = 0;
         self.out = 0;
-        if self.stale > MOST_STALE || self.slots.is_empty() {
+        if self.stale > MOST_STALE || self.slots.len() == 0 {
             self.stale = 0;
-            renew(&mut self.slots, alloc);
+            self.slots.renew(alloc);
         }
     }
 }

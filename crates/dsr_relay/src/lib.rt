@@ -44,6 +44,7 @@ mod name;
 mod open;
 mod rule;
 mod settled;
+mod slots;
 mod tap;
 
 pub use batch::Batch;
