@@ -15,7 +15,7 @@ use Rattle.dsr_file.specs.meaning.Runs.{FileText, IsSomeRun, IsRun, BeginsEvents
 use Rattle.dsr_file.specs.inner.Standing.{Stands, IsDone}
 use Rattle.dsr_file.specs.inner.Feeding.{Fed, FedSome}
 use Rattle.dsr_file.specs.inner.Closing.{event_at}
-use Rattle.dsr_file.proofs.LawLemmas.{so_far_begins_lem}
+use Rattle.dsr_file.proofs.LawLemmas.{so_far_begins_lem, so_far_grows}
 use Rattle.dsr_file.proofs.RunLemmas.{cut_off_run, cut_off_later}
 use Rattle.dsr_file.proofs.StandLemmas.{stands_joined}
 
@@ -31,6 +31,11 @@ pub begins_later : (layout : LayoutTable) (b more : List ℕ) (ending : Ending) 
 begins_later layout b more ending es (inl p) =
     inl (prefix_more es (so_far layout b) (text_events layout (b ++ more) ending) p (so_far_begins_lem layout b more ending))
 begins_later layout b more ending es (inr c) = inr (cut_off_later layout b more ending es c)
+
+-- they are the first of more bytes
+pub begins_more : (layout : LayoutTable) (b more : List ℕ) (es : List Placed) → BeginsEvents layout b None es → BeginsEvents layout (b ++ more) None es
+begins_more layout b more es (inl p) = inl (prefix_more es (so_far layout b) (so_far layout (b ++ more)) p (so_far_grows layout b more))
+begins_more layout b more es (inr c) = inr (cut_off_later layout b more endings.Read es c)
 
 pub begins_run : (layout : LayoutTable) (text : FileText) (es : List Placed) → BeginsEvents layout text.bytes (Some text.ending) es → IsRun layout text es
 begins_run layout text es (inl p) = inl p

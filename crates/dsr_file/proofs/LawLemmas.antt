@@ -173,6 +173,22 @@ lines_begin ls ms ending = by_first (first_from [] ls) refl
     by_first (At b l f) e =
         ([], ap (λ x. events_of (taken (ls ++ ms) x) ++ tell.Ended (outcome (ls ++ ms) ending x) ∷ []) (fault_stays [] ls ms b l f e) ∙ sym (append-nil _))
 
+-- the same, as long as more may come
+lines_grow : (ls ms : List Reading) → (more : List EventPart) × (events_so_far (ls ++ ms) ≡ events_so_far ls ++ more)
+unfolding events_so_far
+lines_grow ls ms = by_first (first_from [] ls) refl
+  where
+    by_first : (f : First) → first_from [] ls ≡ f → (more : List EventPart) × (events_so_far (ls ++ ms) ≡ (events_of (taken ls f) ++ ended_so_far f) ++ more)
+    by_first AllGood e =
+        let at = stage_from Start [] ls refl e refl in
+        let on = taken_more at.0 ls ms e at.1 in
+        let last : List EventPart = ended_so_far (first_from [] (ls ++ ms)) in (
+          on.0 ++ last,
+          ap (λ es. es ++ last) on.1 ∙ append_assoc (events_of (records ls)) on.0 last
+              ∙ ap (λ es. es ++ (on.0 ++ last)) (sym (append-nil (events_of (records ls)))),
+        )
+    by_first (At b l f) e = ([], ap (λ x. events_of (taken (ls ++ ms) x) ++ ended_so_far x) (fault_stays [] ls ms b l f e) ∙ sym (append-nil _))
+
 -- the events of records have no Ended
 pub no_ended : (rs : List Record) → list_any is_ended (events_of rs) ≡ false
 unfolding events_of
@@ -338,6 +354,12 @@ so_far_begins_lem layout b more ending =
     let r = readings_begin layout b more ending in
     let l = lines_begin (readings layout b endings.Read) (map (reading layout) r.0) ending in
     prefix_placed 0 (events_so_far (readings layout b endings.Read)) _ l.0 (ap (λ z. events z ending) r.1 ∙ l.1)
+
+pub so_far_grows : (layout : LayoutTable) (b more : List ℕ) → IsPrefix (so_far layout b) (so_far layout (b ++ more))
+so_far_grows layout b more =
+    let r = readings_begin layout b more endings.Read in
+    let l = lines_grow (readings layout b endings.Read) (map (reading layout) r.0) in
+    prefix_placed 0 (events_so_far (readings layout b endings.Read)) _ l.0 (ap events_so_far r.1 ∙ l.1)
 
 pub fault_is_final_lem : (layout : LayoutTable) (b more : List ℕ) (ending : Ending) → has_ended (so_far layout b) ≡ true
     → so_far layout b ≡ text_events layout (b ++ more) ending

@@ -33,7 +33,7 @@ use Rattle.dsr_file.proofs.RunLemmas.{cut_off_is, cut_off_later}
 use Rattle.dsr_file.proofs.StandLemmas.{ended_last, ends_has_ended, done_ended}
 use Rattle.dsr_file.proofs.EndLemmas.{events_later}
 use Rattle.dsr_file.proofs.PartLemmas.{last_of_push}
-use Rattle.dsr_file.proofs.FeedLemmas.{prefix_self, prefix_more, begins_later, begins_run}
+use Rattle.dsr_file.proofs.FeedLemmas.{prefix_self, prefix_more, begins_more}
 
 not_both : true ≡ false → ⊥
 not_both e = cc
@@ -112,11 +112,9 @@ end_read layout limit before after given ending es s first (inl h) = inl (record
 end_read layout limit before after given ending es s first (inr h) = inr (given, Some ending, s, h, first)
 
 end_refused : (layout : LayoutTable) (limit : ℕ) (before after : Told) (given : List ℕ) (ending : Ending) (es : List Placed) (e : Placed)
-    → (gave : Gave limit before after given) → gave.reads ≤ gave.filled + 1 → HasEarlier layout after.reads given es
+    → Stopped layout limit before after given (Some ending) → HasEarlier layout after.reads given es
     → BeginsEvents layout given (Some ending) (es ++ e ∷ []) → IsRefused layout limit before after es e
-end_refused layout limit before after given ending es e g once first h =
-    let text : FileText = record { bytes = given; ending = ending } in
-    (text, given, g, ([], append-nil given), begins_run layout text (es ++ e ∷ []) h, once, first)
+end_refused layout limit before after given ending es e s first h = (given, Some ending, s, h, first)
 
 cut_off_ended : (layout : LayoutTable) (b : List ℕ) (es : List Placed) → HasEvents layout b None es → has_ended es ≡ false → es ≡ so_far layout b
 cut_off_ended layout b es (inl h) n = h
@@ -236,19 +234,16 @@ module _ (layout : LayoutTable) (before mid after : Told) (reads limit : ℕ) (f
       put = cut_off_ended layout (r.given ++ piece) fs (subst (λ x. HasEvents layout (r.given ++ x) None fs) (all f.whole) f.all) going
 
   -- an event of the piece was refused
-  pub piece_refused : (e : Placed) → IsPrefix es fs → FedSome layout r.given piece (fs ++ e ∷ []) → IsRefused layout limit before after fs e
-  piece_refused e grows f =
-      let text : FileText = record { bytes = r.given ++ piece; ending = endings.Read } in (
-        text,
-        r.given ++ piece,
-        gave,
-        ([], append-nil (r.given ++ piece)),
-        begins_run layout text (fs ++ e ∷ [])
-            (subst (λ x. BeginsEvents layout x (Some endings.Read) (fs ++ e ∷ [])) (joined f.used [] ∙ append-nil (r.given ++ piece))
-            (begins_later layout (r.given ++ take f.used piece) (drop f.used piece ++ []) endings.Read (fs ++ e ∷ []) f.begins)),
-        omega arith,
-        earlier grows,
-      )
+  pub piece_refused : (e : Placed) → before.failed ≡ false → IsPrefix es fs → FedSome layout r.given piece (fs ++ e ∷ [])
+      → IsRefused layout limit before after fs e
+  piece_refused e unfailed grows f = (
+    r.given ++ piece,
+    None,
+    stopped unfailed,
+    subst (λ x. BeginsEvents layout x None (fs ++ e ∷ [])) (joined f.used [] ∙ append-nil (r.given ++ piece))
+        (begins_more layout (r.given ++ take f.used piece) (drop f.used piece ++ []) (fs ++ e ∷ []) f.begins),
+    earlier grows,
+  )
 
 -- a read gave nothing, after `reads` reads that each gave bytes: the source has nothing left, or it failed
 module _ (layout : LayoutTable) (before mid after : Told) (reads limit : ℕ) (file : FileReader) (es : List Placed) (r : Reads layout before mid reads file es)
@@ -283,17 +278,18 @@ module _ (layout : LayoutTable) (before mid after : Told) (reads limit : ℕ) (f
   whole_read c e unfailed k h = end_read layout limit before after r.given endings.Whole fs
       (ended_gave c, (refl, e, k ∙ r.kept ∙ unfailed), r.going) first h
 
-  pub whole_refused : (e : Placed) → Consumes mid.remaining after.remaining []
-      → BeginsEvents layout r.given (Some endings.Whole) (fs ++ e ∷ []) → IsRefused layout limit before after fs e
-  whole_refused e c h = end_refused layout limit before after r.given endings.Whole fs e (ended_gave c) (omega arith) first h
+  pub whole_refused : (e : Placed) → Consumes mid.remaining after.remaining [] → IsAtEnd after.remaining → before.failed ≡ false
+      → after.failed ≡ mid.failed → BeginsEvents layout r.given (Some endings.Whole) (fs ++ e ∷ []) → IsRefused layout limit before after fs e
+  whole_refused e c end unfailed k h = end_refused layout limit before after r.given endings.Whole fs e
+      (ended_gave c, (refl, end, k ∙ r.kept ∙ unfailed), r.going) first h
 
   pub failed_read : Keeps mid.remaining after.remaining → after.failed ≡ true → HasEvents layout r.given (Some endings.Read) fs
       → IsRead layout limit before after fs
   failed_read c f h = end_read layout limit before after r.given endings.Read fs (failed_gave c, (refl, f), r.going) first h
 
-  pub failed_refused : (e : Placed) → Keeps mid.remaining after.remaining
+  pub failed_refused : (e : Placed) → Keeps mid.remaining after.remaining → after.failed ≡ true
       → BeginsEvents layout r.given (Some endings.Read) (fs ++ e ∷ []) → IsRefused layout limit before after fs e
-  failed_refused e c h = end_refused layout limit before after r.given endings.Read fs e (failed_gave c) (omega arith) first h
+  failed_refused e c f h = end_refused layout limit before after r.given endings.Read fs e (failed_gave c, (refl, f), r.going) first h
 
 -- the limit on reads was reached
 module _ (layout : LayoutTable) (before after : Told) (limit : ℕ) (file : FileReader) (es fs : List Placed)
@@ -314,8 +310,9 @@ module _ (layout : LayoutTable) (before after : Told) (limit : ℕ) (file : File
   limit_read unfailed h = end_read layout limit before after r.given endings.Reads fs (all_gave, (refl, refl, r.kept ∙ unfailed), r.going)
       (earlier_more layout after.reads r.given es fs r.earlier grows) h
 
-  pub limit_refused : (e : Placed) → BeginsEvents layout r.given (Some endings.Reads) (fs ++ e ∷ []) → IsRefused layout limit before after fs e
-  limit_refused e h = end_refused layout limit before after r.given endings.Reads fs e all_gave (omega arith)
+  pub limit_refused : (e : Placed) → before.failed ≡ false → BeginsEvents layout r.given (Some endings.Reads) (fs ++ e ∷ [])
+      → IsRefused layout limit before after fs e
+  limit_refused e unfailed h = end_refused layout limit before after r.given endings.Reads fs e (all_gave, (refl, refl, r.kept ∙ unfailed), r.going)
       (earlier_more layout after.reads r.given es fs r.earlier grows) h
 
 pub not_done : {D : Type 0} (t : Bool) → (D → t ≡ true) → t ≡ false → D → ⊥

@@ -1,5 +1,5 @@
 -- A thread's list of events, by the result of reading its file.
-use Rattle.std.proofs.Common.{◌≡◌, false, List, [], ◌∷◌, inl, inr, ap, refl, Result, Ok, Err, IfErr}
+use Rattle.std.proofs.Common.{◌≡◌, false, List, [], ◌∷◌, ◌++◌, inl, inr, ap, refl, Result, Ok, Err, IfErr}
 use Rattle.std.specs.Prelude.{OnOk}
 use Rattle.dsr_events.specs.declared.fault.Outcome.{Outcome}
 use Rattle.dsr_file.specs.declared.reading.ReadFileError.{ReadFileError}
@@ -8,6 +8,7 @@ use Rattle.dsr_events.specs.meaning.Placed.{Placed}
 use Rattle.dsr_io.specs.meaning.Told.{Told}
 use Rattle.dsr_file.specs.meaning.Sources.{IsRead, IsRefused}
 use Rattle.dsr_file.specs.meaning.Refusals.{IsRefusal}
+use Rattle.dsr_file.proofs.FeedLemmas.{known_run}
 use Rattle.dsr_file.proofs.RunLemmas.{run_orderly}
 use Rattle.dsr_intake.specs.declared.pipeline.options.Options.{Options}
 use Rattle.dsr_intake.specs.inner.Ends.{ends_clean}
@@ -27,7 +28,8 @@ module _ (options : Options) (before after : Told) (sent : List Placed) where
 
   given_from_refused : (e : Placed) → IsRefused options.layout options.max_reads before after sent e → IsGiven options before after sent
   given_from_refused e h =
-      record { given = λ clean. let none = clean_is_whole sent (e ∷ []) (run_orderly options.layout h.0 _ h.4) clean in cc }
+      let run = known_run options.layout h.0 h.1 (sent ++ e ∷ []) h.3 in
+      record { given = λ clean. let none = clean_is_whole sent (e ∷ []) (run_orderly run.0 run.1 _ run.2) clean in cc }
 
   pub given_from_answer : (answer : Result Outcome ReadFileError)
       → OnOk answer (IsRead options.layout options.max_reads before after sent) → IfErr answer (IsRefusal options.layout options.max_reads before after sent)

@@ -11,7 +11,7 @@ use Rattle.dsr_events.specs.meaning.Orderly.{has_ended}
 use Rattle.dsr_io.specs.meaning.ReadCounts.{Answered}
 use Rattle.dsr_io.specs.meaning.Told.{Told}
 use Rattle.dsr_file.specs.meaning.Texts.{text_events, so_far}
-use Rattle.dsr_file.specs.meaning.Runs.{FileText, events_of_text, known_lines, IsRun, IsCutOff}
+use Rattle.dsr_file.specs.meaning.Runs.{FileText, events_of_text, known_lines, IsCutOff, BeginsEvents}
 
 -- a source gave these bytes, and no read was made beyond the limit: each read gave some of them, or none, and the last one
 -- at most 4,096. Whoever reads cannot know which read will be the last, so this holds of each.
@@ -71,9 +71,9 @@ abbrev pub IsRead : LayoutTable → ℕ → Told → Told → List Placed → Ty
 IsRead layout limit before after es =
     ((text : FileText) × GaveText layout limit before after text × (es ≡ events_of_text layout text)) ⊎ GaveForMemory layout limit before after es
 
--- the list followed by the event is a run of a text that begins with the bytes given; at most one read gave none, and
--- the events of the bytes given before the last read were put
+-- the list followed by the event begins the events of the bytes given, with their ending if they had one, or is cut off
+-- because memory was refused; the events of the bytes given before the last read were put
 abbrev pub IsRefused : LayoutTable → ℕ → Told → Told → List Placed → Placed → Type 0
 IsRefused layout limit before after es e =
-    (text : FileText) × (given : List ℕ) × (gave : Gave limit before after given) × IsPrefix given text.bytes × IsRun layout text (es ++ e ∷ [])
-    × (gave.reads ≤ gave.filled + 1) × HasEarlier layout after.reads given es
+    (given : List ℕ) × (told : Option Ending) × Stopped layout limit before after given told
+    × BeginsEvents layout given told (es ++ e ∷ []) × HasEarlier layout after.reads given es

@@ -35,7 +35,7 @@ returns-in-Err-clause-refused g c = IfErr-weaker c.finish_all.result _ _
     failed_refused layout (g.R.Source.told c.args.reader.now) (g.R.Source.told c.loop.reader) (g.R.Source.told c.read.new.self)
     c.loop.counter c.args.max_reads c.loop.file (g.S.Sink.list c.loop.sink) r
     c.in-Err.ensures.reads (omega (arith, c.loop-test.true)) _ c.finish_all.ensures.grows e
-    c.in-Err.ensures.bytes (h layout r.given r.stands)) c.finish_all.ensures.refused
+    c.in-Err.ensures.bytes c.in-Err.ensures.failed (h layout r.given r.stands)) c.finish_all.ensures.refused
 
 pub returns-in-Ok-eq0-clause-read : goal.returns-in-Ok-eq0-clause-read
 returns-in-Ok-eq0-clause-read g c =
@@ -58,8 +58,9 @@ returns-in-Ok-eq0-clause-read g c =
 
 pub returns-in-Ok-eq0-clause-refused : goal.returns-in-Ok-eq0-clause-refused
 returns-in-Ok-eq0-clause-refused g c =
+    let bytes = c.in-Ok-eq0.ensures.bytes in
     let none = subst (λ n. Consumes (g.R.Source.told c.loop.reader).remaining
-    (g.R.Source.told c.read.new.self).remaining (take n c.read.new.piece)) c.in-Ok-eq0.field-0-test c.in-Ok-eq0.ensures.bytes.0 in
+    (g.R.Source.told c.read.new.self).remaining (take n c.read.new.piece)) c.in-Ok-eq0.field-0-test bytes.0 in
     let counts = subst (AddsRead (g.R.Source.told c.loop.reader).reads (g.R.Source.told c.read.new.self).reads)
     c.in-Ok-eq0.field-0-test c.in-Ok-eq0.ensures.reads in
     IfErr-weaker c.finish_all-in-Ok-eq0.result _ _
@@ -67,7 +68,9 @@ returns-in-Ok-eq0-clause-refused g c =
     let r = c.loop.invariant.read layout s in
     whole_refused layout (g.R.Source.told c.args.reader.now) (g.R.Source.told c.loop.reader) (g.R.Source.told c.read.new.self)
     c.loop.counter c.args.max_reads c.loop.file (g.S.Sink.list c.loop.sink) r
-    counts (omega (arith, c.loop-test.true)) _ c.finish_all-in-Ok-eq0.ensures.grows e none (h layout r.given r.stands)) c.finish_all-in-Ok-eq0.ensures.refused
+    counts (omega (arith, c.loop-test.true)) _ c.finish_all-in-Ok-eq0.ensures.grows e none
+    (bytes.1 c.in-Ok-eq0.field-0-test (omega (arith, c.read.auto.piece)))
+    c.requires.unfailed c.in-Ok-eq0.ensures.failed (h layout r.given r.stands)) c.finish_all-in-Ok-eq0.ensures.refused
 
 pub returns-in_err-feed-in-Ok-clause-refused : goal.returns-in_err-feed-in-Ok-clause-refused
 returns-in_err-feed-in-Ok-clause-refused g c =
@@ -81,7 +84,7 @@ returns-in_err-feed-in-Ok-clause-refused g c =
     c.loop.counter c.args.max_reads c.loop.file c.feed.new.file (g.S.Sink.list c.loop.sink) _ r
     (take c.in-Ok.n c.read.new.piece) c.in-Ok.ensures.bytes.0
     counts (omega (arith, size, c.in-Ok.n-test))
-    few c.in-Ok.ensures.failed (omega (arith, c.loop-test.true)) c.in_err-feed-in-Ok.field-0.0 c.feed.ensures.grows
+    few c.in-Ok.ensures.failed (omega (arith, c.loop-test.true)) c.in_err-feed-in-Ok.field-0.0 c.requires.unfailed c.feed.ensures.grows
     (c.in_err-feed-in-Ok.ensures.refused layout r.given r.stands))
 
 pub returns-then-done-clause-read : goal.returns-then-done-clause-read
@@ -140,7 +143,7 @@ returns-clause-refused g c =
     let r = subst (λ n. Reads layout (g.R.Source.told c.args.reader.now)
     (g.R.Source.told c.loop.reader) n c.loop.file (g.S.Sink.list c.loop.sink)) end (c.loop.invariant.read layout s) in
     limit_refused layout (g.R.Source.told c.args.reader.now) (g.R.Source.told c.loop.reader)
-    c.args.max_reads c.loop.file (g.S.Sink.list c.loop.sink) _ r c.finish_all-2.ensures.grows e (h layout r.given r.stands)) c.finish_all-2.ensures.refused
+    c.args.max_reads c.loop.file (g.S.Sink.list c.loop.sink) _ r c.finish_all-2.ensures.grows e c.requires.unfailed (h layout r.given r.stands)) c.finish_all-2.ensures.refused
 
 pub returns-in_err-feed-in-Ok-clause-name : goal.returns-in_err-feed-in-Ok-clause-name
 returns-in_err-feed-in-Ok-clause-name g c = grind (arith, common_steps)
