@@ -51,8 +51,8 @@ pub fn send_out<R: Wait>(
     }
 }
 
-/// Takes the message at the front of the channel. If there is none, the call waits for one, unless `waits` is false. None if
-/// there is none and the feed is gone, or if the call does not wait.
+/// Takes the message at the front of the channel. If there is none, the call waits for one if `waits` is true, and is None
+/// otherwise, or once the feed is gone.
 pub fn take_next<R: Wait>(
     rt: &R,
     receiver: &RuledReceiver<Batch, Log, InOrder>,

@@ -149,7 +149,7 @@ impl Supply {
 }
 
 impl Returns {
-    /// Gives the memory of a batch back, if it has any, once there are several. The call neither waits nor allocates.
+    /// Gives the memory of a batch back, if it has any, once there are several.
     pub(crate) fn give<R: Wait>(&mut self, rt: &R, batch: Batch) {
         if !batch.has_room() {
             drop(batch);

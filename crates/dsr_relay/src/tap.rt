@@ -157,8 +157,8 @@ impl Tap {
         }
     }
 
-    /// Takes the held events of the last message, or else the next message. The call does not wait: if there is no
-    /// message, yet or at all, the batch is empty. Condition: Ended was not taken.
+    /// Takes the held events of the last message, or else the next message if there is one. If there is none, yet or at
+    /// all, the batch is empty. Condition: Ended was not taken.
     pub fn take_ready<R: Wait>(&mut self, rt: &R) -> Batch
         requires { has_ended self.old.taken ≡ false }
         ensures taken { self.new ≡ record self.old { taken = self.old.taken ++ result; held = [] } }
@@ -194,7 +194,7 @@ impl Tap {
         batch
     }
 
-    /// Receives a message and takes all its events. If there is none, the call waits for one, unless `waits` is false.
+    /// Receives a message and takes all its events. If there is none, the call waits for one if `waits` is true.
     fn take_message<R: Wait>(&mut self, rt: &R, waits: bool) -> Option<Batch>
         requires going { has_ended self.old.taken ≡ false }
         requires none_held { self.old.held ≡ [] }
@@ -217,7 +217,7 @@ impl Tap {
     }
 
     /// Gives back a batch that was taken and is no longer needed: the feed's thread frees its events and reuses its
-    /// memory. The call does not wait, and for contracts the tap is unchanged.
+    /// memory. For contracts the tap is unchanged.
     pub fn give_back<R: Wait>(&mut self, rt: &R, batch: Batch)
         ensures { self.new ≡ self.old }
     {

@@ -1,4 +1,4 @@
-//! The collector over relays that the test itself feeds.
+//! The collector, and a sink, over relays that the test itself feeds.
 ghost use Rattle.std.specs.Prelude.{◌≡◌, [], IfOk};
 
 use crate::texts::{FIRST_OF_TWO, SECOND_OF_TWO, TWO_STATEMENT};
@@ -141,5 +141,41 @@ fn a_relay_that_closes_early(rt: HostRuntime) -> Result<(), AllocError> {
     drop(answer);
     assert!(rt; !ended);
     assert!(rt; is_closed);
+    Ok(())
+}
+
+/// Takes what is there without waiting, and gives it back. Returns the number of its events.
+fn takes_ready<H: Wait>(rt: &H, tap: &mut Tap) -> usize {
+    if tap.ended() {
+        return 0;
+    }
+    let batch = tap.take_ready(rt);
+    let count = batch.events().len();
+    tap.give_back(rt, batch);
+    count
+}
+
+/// Puts the opening of a file into a sink, and notes 64 kB and then one byte more. Returns how many events are sent after
+/// each of these.
+fn sent_by_bytes<H: Wait>(rt: &H, alloc: Global) -> Result<[usize; 3], AllocError> {
+    let (feed, mut tap) = open(alloc)?;
+    let mut sink = Limited {
+        sink: FeedSink::new(rt, feed),
+        left: 1,
+    };
+    put_text(alloc, FIRST_OF_TWO, &mut sink);
+    let opened = takes_ready(rt, &mut tap);
+    sink.sink.note_bytes(64 * 1024);
+    let noted = takes_ready(rt, &mut tap);
+    sink.sink.note_bytes(1);
+    let more = takes_ready(rt, &mut tap);
+    drop(sink);
+    drop(tap);
+    Ok([opened, noted, more])
+}
+
+#[test]
+fn a_batch_is_sent_by_its_bytes(rt: HostRuntime) -> Result<(), AllocError> {
+    assert_eq!(rt; sent_by_bytes(&rt, rt.alloc())?, [0, 0, 1]);
     Ok(())
 }

@@ -9,6 +9,7 @@ ghost use Rattle.dsr_intake.specs.meaning.Options.{refusal_of, IsLate};
 ghost use Rattle.dsr_intake.specs.meaning.Outcomes.{IsReportOf};
 ghost use Rattle.dsr_intake.specs.inner.Read.{AreBooksOf};
 ghost use Rattle.dsr_intake.specs.inner.Ready.{AreReady};
+ghost use Rattle.dsr_intake.specs.inner.Stops.{intake_error_of};
 
 use crate::pipeline::collector::collect_books;
 use crate::pipeline::errors::{CollectError, IntakeError};
@@ -203,7 +204,8 @@ fn with_room<T>(alloc: Global, count: usize) -> Result<Vec<T>, IntakeError>
 
 /// The error of an intake whose collector stopped.
 fn collect_error(error: CollectError) -> IntakeError
-    ensures { IsLate result }
+    ensures same { result ≡ intake_error_of error }
+    ensures late { IsLate result }
 {
     match error {
         CollectError::Memory => IntakeError::Memory,

@@ -6,7 +6,7 @@ ghost use Rattle.dsr_events.specs.declared.fault.Outcome.TheVariants as outcome;
 ghost use Rattle.dsr_events.specs.meaning.Placed.{Placed};
 ghost use Rattle.dsr_events.specs.meaning.Orderly.{IsOrderly};
 ghost use Rattle.dsr_intake.specs.meaning.Options.{IsLate};
-ghost use Rattle.dsr_intake.specs.inner.Ends.{ends_clean};
+ghost use Rattle.dsr_intake.specs.inner.Ends.{ends_clean, was_refused_memory};
 ghost use Rattle.dsr_intake.specs.inner.Given.{IsGiven};
 
 use crate::pipeline::errors::IntakeError;
@@ -106,7 +106,9 @@ fn read_and_send<R: Source, H: Wait>(
 }
 
 /// Whether memory was refused while the file was read.
-fn wants_memory(answer: &Result<Outcome, ReadFileError>) -> bool {
+fn wants_memory(answer: &Result<Outcome, ReadFileError>) -> bool
+    ensures { result ≡ was_refused_memory answer.now }
+{
     match answer {
         Ok(outcome) => outcome.is_memory(),
         Err(ReadFileError::Memory) => true,
