@@ -3,7 +3,7 @@
 //! 1. [`open_relay`] makes the two ends, and allocates all memory that the relay will ever need (`open`, `memory`). In
 //!    contracts a relay has a name (`name`).
 //! 2. The [`Feed`] collects the events that it is given in a [`Batch`] of up to 32, and puts it into the channel as one
-//!    message; if the channel is full, it waits (`feed`, `batch`, `channel`).
+//!    message; if the channel is full, it waits (`feed`, `batch`, `slots`, `channel`).
 //! 3. The [`Tap`] takes the events one by one, or those of a message at once; if there is none, it waits (`tap`).
 //! 4. A batch whose events are no longer needed is given back ([`Tap::give_back`]). The feed writes later events over
 //!    it. A block is exchanged for an old one ([`Feed::send_block`]), so that it is not moved and the reader reuses the
