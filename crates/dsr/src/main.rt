@@ -1,14 +1,17 @@
 //! The program: it reads the files of a sales report and prints their statement.
 //!
-//! 1. `program` runs its stages: it reads the command line, opens the files and reads the layout (dsr_command), passes
-//!    the sources to `run` of dsr_intake, which writes the statement, and writes the line of an error.
-//! 2. `main` ends with the exit status that `program` returns.
+//! 1. `program` runs its stages: it reads the command line, reads the layout, opens the files and creates the output
+//!    (dsr_command).
+//! 2. `running` passes the sources to `run` of dsr_intake, which writes the statement to standard output or to the new file,
+//!    puts this in its place, and writes the line of an error.
+//! 3. `main` ends with the exit status that `program` returns.
 //!
 //! No crate depends on this one: another program calls `run` of dsr_intake, or reads a file by `FileReader` as
 //! `crates/example_reader` does.
 #![tactic(auto)]
 
 mod program;
+mod running;
 
 use dsr_intake::ToWrite;
 use std::process::ExitCode;

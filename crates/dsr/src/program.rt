@@ -1,24 +1,21 @@
 //! From the program's arguments to its exit status.
-ghost use Rattle.std.specs.Prelude.{◌≡◌, false, List, All, IfOk, IfErr, OnOk, Err, MatchOption, map, vec_len};
+ghost use Rattle.std.specs.Prelude.{◌≡◌, false, IfErr, OnOk, map};
 ghost use Rattle.std.specs.String.{string_bytes};
-ghost use Rattle.dsr_file.specs.meaning.Runs.{FileText};
-ghost use Rattle.dsr_intake.specs.meaning.Options.{refusal_of};
-ghost use Rattle.dsr_intake.specs.meaning.Outcomes.{IsReported, IsUnwritten, IsLateRun};
-ghost use Rattle.dsr_command.specs.Faults.{fault_line, status_number};
 ghost use Rattle.dsr_command.specs.Printing.{IsTold};
-ghost use Rattle.dsr.specs.Serving.{outputs, AreUnread, HadRun, IsServed, IsShown, IsDone, IsAnswered};
+ghost use Rattle.dsr.specs.Serving.{outputs, system, AreUnread, IsRead, IsServed, IsShown, IsDone, IsAnswered};
 
-use dsr_cells::{NoMemory, Text};
+use crate::running::{Reading, run_into, run_printed};
+use dsr_cells::Text;
 use dsr_command::{
-    Asked, CommandFault, Input, Inputs, OpenError, REFUSED, UNFINISHED, asked, cannot_open,
-    exit_status, no_memory, open_inputs, options_of, print_text, refuse, watch, write_fault,
+    Asked, CommandFault, DSR, FileIdentity, Input, LayoutFile, Printer, REFUSED, UNFINISHED, asked,
+    create_beside, no_memory, no_new_file, not_opened, open_inputs, open_layout, options_of,
+    print_text, refuse, write_failed,
 };
 use dsr_file::Source;
-use dsr_intake::{Options, Outlet, RunError, Status, run};
-use std::alloc::Global;
+use dsr_intake::{Options, Outlet, ToWrite};
 use std::env::Env;
 use std::fs::{File, Files};
-use std::io::{Eprint, ErrorKind, StdinLock};
+use std::io::{Eprint, ErrorKind, Read, StdinLock};
 use std::random::RandomSource;
 use std::sync::Wait;
 use std::thread::Threads;
@@ -37,13 +34,15 @@ pub fn serve<
         + Clock
         + Eprint
         + Copy
+        + Drop
         + Send
         + 'static,
     W: Outlet,
     F: Outlet,
 >(rt: &H, out: &mut W, fault: &mut F) -> u8
     requires { (W.told out.old).failed ≡ false }
-    ensures { IsAnswered (⟦<Input as Source>⟧.told) (outputs (W.told out.old) (F.told fault.old))
+    ensures { IsAnswered H (system (⟦<Input as Source>⟧.told) (⟦<File as Read>⟧.remaining)
+        (⟦<ToWrite<File> as Outlet>⟧.told)) (outputs (W.told out.old) (F.told fault.old))
         (outputs (W.told out.new) (F.told fault.new)) result }
 {
     match words(rt, fault) {
@@ -63,7 +62,7 @@ fn words<H: Env + AllocGlobal, F: Outlet>(rt: &H, fault: &mut F) -> Result<Vec<S
             let _name = words.next();
             match words.collect(rt.alloc()) {
                 Ok(words) => Ok(words),
-                Err(_) => Err(no_memory(fault)),
+                Err(_) => Err(no_memory(DSR, fault)),
             }
         }
         Err(error) => Err(no_words(error.kind(), fault)),
@@ -75,8 +74,8 @@ fn no_words<F: Outlet>(kind: ErrorKind, fault: &mut F) -> u8
     ensures { AreUnread (F.told fault.old) (F.told fault.new) result }
 {
     match kind {
-        ErrorKind::OutOfMemory => no_memory(fault),
-        _ => refuse("an argument is not UTF-8", fault),
+        ErrorKind::OutOfMemory => no_memory(DSR, fault),
+        _ => refuse(DSR, "an argument is not UTF-8", fault),
     }
 }
 
@@ -91,13 +90,15 @@ fn answer<
         + Clock
         + Eprint
         + Copy
+        + Drop
         + Send
         + 'static,
     W: Outlet,
     F: Outlet,
 >(rt: &H, words: &[String], out: &mut W, fault: &mut F) -> u8
     requires { (W.told out.old).failed ≡ false }
-    ensures { IsDone (⟦<Input as Source>⟧.told) (map string_bytes words.now)
+    ensures { IsDone H (system (⟦<Input as Source>⟧.told) (⟦<File as Read>⟧.remaining)
+        (⟦<ToWrite<File> as Outlet>⟧.told)) (map string_bytes words.now)
         (outputs (W.told out.old) (F.told fault.old)) (outputs (W.told out.new) (F.told fault.new))
         result }
 {
@@ -105,7 +106,7 @@ fn answer<
         Ok(asked) => read_and_print(rt, &asked, out, fault),
         Err(CommandFault::Help(text)) => show(&text, out, fault),
         Err(CommandFault::Refused(text)) => refused(&text, fault),
-        Err(CommandFault::Memory) => no_memory(fault),
+        Err(CommandFault::Memory) => no_memory(DSR, fault),
     }
 }
 
@@ -117,8 +118,7 @@ fn show<W: Outlet, F: Outlet>(text: &Text, out: &mut W, fault: &mut F) -> u8
     match print_text(text.as_str().as_bytes(), out) {
         Ok(()) => 0,
         Err(written) => {
-            let written = written as u64;
-            write_fault(&RunError::Write { written }, fault);
+            write_failed(DSR, written as u64, fault);
             UNFINISHED
         }
     }
@@ -133,7 +133,7 @@ fn refused<F: Outlet>(text: &Text, fault: &mut F) -> u8
     REFUSED
 }
 
-/// Reads the files of the report and prints its statement. Returns the exit status.
+/// Reads the layout, and then the files of the report, and writes their statement. Returns the exit status.
 fn read_and_print<
     H: AllocGlobal
         + Files<File = File>
@@ -144,102 +144,106 @@ fn read_and_print<
         + Clock
         + Eprint
         + Copy
+        + Drop
         + Send
         + 'static,
     W: Outlet,
     F: Outlet,
 >(rt: &H, asked: &Asked, out: &mut W, fault: &mut F) -> u8
     requires { (W.told out.old).failed ≡ false }
-    ensures { IsServed (⟦<Input as Source>⟧.told) asked.now
+    ensures { IsServed H (system (⟦<Input as Source>⟧.told) (⟦<File as Read>⟧.remaining)
+        (⟦<ToWrite<File> as Outlet>⟧.told)) asked.now
         (outputs (W.told out.old) (F.told fault.old)) (outputs (W.told out.new) (F.told fault.new))
         result }
 {
     let alloc = rt.alloc();
-    let options = match options_of(rt, alloc, asked, fault) {
-        Ok(options) => options,
-        Err(status) => return status,
+    let layout = match open_layout(rt, alloc, &asked.layout) {
+        Ok(layout) => layout,
+        Err(error) => return not_opened(DSR, &error, fault),
     };
-    match open_inputs(rt, alloc, &asked.files) {
-        Ok(inputs) => run_inputs(rt, alloc, asked.progress, inputs, options, out, fault),
-        Err(OpenError::CannotOpen(name)) => {
-            drop(options);
-            cannot_open(&name, fault)
-        }
-        Err(OpenError::Memory) => {
-            drop(options);
-            no_memory(fault)
-        }
+    let read = read_identity(&layout);
+    match options_of(alloc, asked, layout, fault) {
+        Ok(options) => read_files(rt, asked, options, read, out, fault),
+        Err(status) => status,
     }
 }
 
-/// Reads these inputs, with progress on standard error if that is asked for, and prints their statement. Returns the exit
-/// status.
-fn run_inputs<
-    H: Threads + Wait + RandomSource + Clock + Eprint + Copy + Send + 'static,
+/// Which file the layout is read from, if there is one and it is known.
+fn read_identity(layout: &Option<LayoutFile<File>>) -> Option<FileIdentity> {
+    match layout {
+        Some(layout) => layout.identity(),
+        None => None,
+    }
+}
+
+/// Reads the files of the report and writes their statement, but not to the file that the layout was read from. Returns the
+/// exit status.
+fn read_files<
+    H: AllocGlobal
+        + Files<File = File>
+        + io::Input<Reader = StdinLock<'static>>
+        + Threads
+        + Wait
+        + RandomSource
+        + Clock
+        + Eprint
+        + Copy
+        + Drop
+        + Send
+        + 'static,
     W: Outlet,
     F: Outlet,
 >(
     rt: &H,
-    alloc: Global,
-    progress: bool,
-    inputs: Inputs,
+    asked: &Asked,
     options: Box<Options>,
+    layout: Option<FileIdentity>,
     out: &mut W,
     fault: &mut F,
 ) -> u8
-    requires sources { All (λ i. (⟦<Input as Source>⟧.told i).failed ≡ false) inputs.items }
-    requires outlet { (W.told out.old).failed ≡ false }
-    ensures { HadRun (⟦<Input as Source>⟧.told) options.value inputs.items
+    requires { (W.told out.old).failed ≡ false }
+    ensures { IsRead H (system (⟦<Input as Source>⟧.told) (⟦<File as Read>⟧.remaining)
+        (⟦<ToWrite<File> as Outlet>⟧.told)) asked.now options.value
         (outputs (W.told out.old) (F.told fault.old)) (outputs (W.told out.new) (F.told fault.new))
         result }
 {
-    if !progress {
-        return status_of(&run_sources(rt, alloc, inputs, options, out), fault);
-    }
-    match watch(rt, alloc, inputs) {
-        Ok(watched) => status_of(&run_sources(rt, alloc, watched, options, out), fault),
-        Err(NoMemory) => {
+    let alloc = rt.alloc();
+    let inputs = match open_inputs(rt, alloc, &asked.files) {
+        Ok(inputs) => inputs,
+        Err(error) => {
             drop(options);
-            no_memory(fault)
+            return not_opened(DSR, &error, fault);
+        }
+    };
+    let printer = Printer::asked_for(rt, asked);
+    let Some(name) = &asked.output else {
+        let reading = Reading {
+            printer,
+            inputs,
+            options,
+        };
+        return run_printed(rt, alloc, reading, out, fault);
+    };
+    match create_beside(rt, alloc, name, &inputs, layout) {
+        Ok(mut new) => {
+            let reading = Reading {
+                printer,
+                inputs,
+                options,
+            };
+            run_into(
+                rt,
+                alloc,
+                reading,
+                name,
+                &mut new.out,
+                &mut new.place,
+                fault,
+            )
+        }
+        Err(error) => {
+            drop(options);
+            no_new_file(DSR, name, error, fault)
         }
     }
-}
-
-/// The exit status of a run. The line of its error is written to `fault`.
-fn status_of<F: Outlet>(answer: &Result<Status, RunError>, fault: &mut F) -> u8
-    ensures status { result ≡ status_number answer.now }
-    ensures quiet { IfOk answer.now (λ _. F.told fault.new ≡ F.told fault.old) }
-    ensures told { IfErr answer.now (λ error. IsTold (F.told fault.old) (F.told fault.new)
-        (fault_line error)) }
-{
-    if let Err(error) = answer {
-        write_fault(error, fault);
-    }
-    exit_status(answer)
-}
-
-/// Reads these sources and writes their statement.
-fn run_sources<
-    R: Source + Send + Drop + 'static,
-    H: Threads + Wait + RandomSource + Clock + Copy + Send + 'static,
-    W: Outlet,
->(
-    rt: &H,
-    alloc: Global,
-    sources: Vec<R>,
-    options: Box<Options>,
-    out: &mut W,
-) -> Result<Status, RunError>
-    requires sources { All (λ r. (R.told r).failed ≡ false) sources.items }
-    requires outlet { (W.told out.old).failed ≡ false }
-    ensures reported { IfOk result (λ status. (left : List R) × (texts : List FileText)
-        × IsReported R.told options.value sources.items left
-        (W.told out.old) (W.told out.new) texts status) }
-    ensures unwritten { IfErr result (λ error. (left : List R) × IsUnwritten R.told options.value
-        sources.items left (W.told out.old) (W.told out.new) error) }
-    ensures refused { MatchOption (refusal_of (vec_len sources) options.value)
-        (IfErr result IsLateRun) (λ e. result ≡ Err (RunError.Intake e)) }
-{
-    let mut sources = sources;
-    run(rt, alloc, &mut sources, Box::into_inner(options), out)
 }

@@ -1,5 +1,5 @@
 -- The exit status of a run, and the line for its error.
-use Rattle.std.specs.Prelude.{◌≡◌, ◌⊎◌, ℕ, List, [], ◌∷◌, ◌++◌, codes, decimal, Option, None, Some, Result, Ok, Err}
+use Rattle.std.specs.Prelude.{ℕ, List, [], ◌∷◌, ◌++◌, codes, decimal, Result, Ok, Err}
 use Rattle.dsr_intake.specs.declared.pipeline.errors.IntakeError.{IntakeError}
 use Rattle.dsr_intake.specs.declared.pipeline.errors.IntakeError.TheVariants as intake
 use Rattle.dsr_intake.specs.declared.pipeline.errors.RunError.{RunError}
@@ -11,6 +11,8 @@ use Rattle.dsr_records.specs.declared.layout_fault.LayoutFault.{LayoutFault}
 use Rattle.dsr_records.specs.declared.layout_fault.LayoutFault.TheVariants as layout
 use Rattle.dsr_command.specs.declared.layout_file.LayoutReadError.{LayoutReadError}
 use Rattle.dsr_command.specs.declared.layout_file.LayoutReadError.TheVariants.{Read, Bad, Memory}
+use Rattle.dsr_command.specs.declared.inputs.OpenError.{OpenError}
+use Rattle.dsr_command.specs.declared.inputs.OpenError.TheVariants as unopened
 
 -- the exit status of a run: 0 clean, 1 with remarks, 3 if it failed
 abbrev pub status_number : Result Status RunError → ℕ
@@ -18,30 +20,35 @@ status_number (Ok Clean) = 0
 status_number (Ok Remarks) = 1
 status_number (Err error) = 3
 
--- a line of the program on standard error
-abbrev pub line_of : List ℕ → List ℕ
-line_of text = codes "dsr: " ++ text ++ 10 ∷ []
+-- the name of the program that reads reports
+abbrev pub dsr : List ℕ
+dsr = codes "dsr"
+
+-- a line of a program on standard error
+abbrev pub line_of : List ℕ → List ℕ → List ℕ
+line_of program text = program ++ (codes ": " ++ (text ++ 10 ∷ []))
 
 abbrev pub closed_line : ℕ → List ℕ
 closed_line file = codes "dsr: relay of file " ++ (decimal file ++ (codes " closed early" ++ 10 ∷ []))
 
-abbrev pub failed_line : ℕ → List ℕ
-failed_line written = codes "dsr: write failed after " ++ (decimal written ++ (codes " bytes" ++ 10 ∷ []))
+-- the line for a write that failed
+abbrev pub failed_line : List ℕ → ℕ → List ℕ
+failed_line program written = program ++ (codes ": write failed after " ++ (decimal written ++ (codes " bytes" ++ 10 ∷ [])))
 
 abbrev pub intake_line : IntakeError → List ℕ
-intake_line intake.NoFiles = line_of (codes "no files")
-intake_line intake.TooManyFiles = line_of (codes "too many files")
-intake_line intake.Capacity = line_of (codes "capacity out of range")
-intake_line intake.Reads = line_of (codes "reads out of range")
-intake_line intake.Memory = line_of (codes "out of memory")
-intake_line intake.Thread = line_of (codes "cannot start a thread")
+intake_line intake.NoFiles = line_of dsr (codes "no files")
+intake_line intake.TooManyFiles = line_of dsr (codes "too many files")
+intake_line intake.Capacity = line_of dsr (codes "capacity out of range")
+intake_line intake.Reads = line_of dsr (codes "reads out of range")
+intake_line intake.Memory = line_of dsr (codes "out of memory")
+intake_line intake.Thread = line_of dsr (codes "cannot start a thread")
 intake_line (intake.Broken file) = closed_line file
 
 -- the line for a failed run
 abbrev pub fault_line : RunError → List ℕ
 fault_line (run.Intake error) = intake_line error
-fault_line run.Memory = line_of (codes "out of memory")
-fault_line (run.Write written) = failed_line written
+fault_line run.Memory = line_of dsr (codes "out of memory")
+fault_line (run.Write written) = failed_line dsr written
 
 abbrev pub layout_fault_text : LayoutFault → List ℕ
 layout_fault_text layout.Large = codes "Large"
@@ -56,8 +63,8 @@ layout_fault_text layout.ManySkips = codes "ManySkips"
 layout_fault_text layout.MissingRole = codes "MissingRole"
 
 -- the line for a file that cannot be opened
-abbrev pub cannot_open_line : List ℕ → List ℕ
-cannot_open_line name = codes "dsr: cannot open " ++ (name ++ 10 ∷ [])
+abbrev pub cannot_open_line : List ℕ → List ℕ → List ℕ
+cannot_open_line program name = program ++ (codes ": cannot open " ++ (name ++ 10 ∷ []))
 
 -- the line for a layout file that cannot be read
 abbrev pub cannot_read_line : List ℕ → List ℕ
@@ -72,7 +79,7 @@ bad_layout_line error = codes "dsr: bad layout at line "
 abbrev pub layout_refused_line : List ℕ → LayoutReadError → List ℕ
 layout_refused_line name Read = cannot_read_line name
 layout_refused_line name (Bad error) = bad_layout_line error
-layout_refused_line name Memory = line_of (codes "out of memory")
+layout_refused_line name Memory = line_of dsr (codes "out of memory")
 
 -- the exit status for a layout file that gives no layout: 2 if it cannot be read or is bad
 abbrev pub layout_refused_status : LayoutReadError → ℕ
@@ -80,9 +87,12 @@ layout_refused_status Read = 2
 layout_refused_status (Bad error) = 2
 layout_refused_status Memory = 3
 
--- the exit status and the line for a layout file that is not used: none if no file is named
-abbrev pub IsLayoutRefusal : Option (List ℕ) → ℕ → List ℕ → Type 0
-IsLayoutRefusal None status line = ⊥
-IsLayoutRefusal (Some name) status line =
-    ((status ≡ 2) × (line ≡ cannot_open_line name))
-    ⊎ ((error : LayoutReadError) × (status ≡ layout_refused_status error) × (line ≡ layout_refused_line name error))
+-- the line for files that are not opened
+abbrev pub unopened_line : List ℕ → OpenError → List ℕ
+unopened_line program (unopened.CannotOpen name) = cannot_open_line program name
+unopened_line program unopened.Memory = line_of program (codes "out of memory")
+
+-- the exit status for files that are not opened
+abbrev pub unopened_status : OpenError → ℕ
+unopened_status (unopened.CannotOpen name) = 2
+unopened_status unopened.Memory = 3

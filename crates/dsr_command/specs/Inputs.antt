@@ -14,6 +14,11 @@ abbrev pub IsRefusalOf : List ℕ → OpenError → Type 0
 IsRefusalOf name (CannotOpen refused) = refused ≡ name
 IsRefusalOf name Memory = Unit {0}
 
+-- the error says that the file that is named cannot be opened, or that memory was refused; there is none if no file is named
+abbrev pub IsLayoutUnopened : Option (List ℕ) → OpenError → Type 0
+IsLayoutUnopened None error = ⊥
+IsLayoutUnopened (Some name) error = IsRefusalOf name error
+
 -- the error says that one of these files cannot be opened, or that memory was refused
 abbrev pub IsRefusal : List (List ℕ) → OpenError → Type 0
 IsRefusal names (CannotOpen refused) = Any (λ name. refused ≡ name) names

@@ -1,8 +1,9 @@
--- The results of reading a layout file.
-use Rattle.std.specs.Prelude.{◌≡◌, ℕ, ◌≤◌, ◌⊎◌, List, length, Option, Result, Ok, Err}
+-- The file of a layout, and the results of reading it.
+use Rattle.std.specs.Prelude.{◌≡◌, ℕ, ◌≤◌, ◌⊎◌, List, length, Option, None, Some, Result, Ok, Err}
 use Rattle.std.specs.Io.KnownBytes.{Consumes, IsAtEnd}
 use Rattle.dsr_records.specs.meaning.Records.{LayoutTable}
-use Rattle.dsr_records.specs.meaning.Layouts.{layout_of}
+use Rattle.dsr_records.specs.meaning.Layouts.{layout_of, standard_layout}
+use Rattle.dsr_command.specs.declared.layout_file.LayoutFile.{LayoutFile}
 use Rattle.dsr_command.specs.declared.layout_file.LayoutReadError.{LayoutReadError}
 use Rattle.dsr_command.specs.declared.layout_file.LayoutReadError.TheVariants.{Read, Bad, Memory}
 
@@ -28,3 +29,19 @@ abbrev pub IsReadError : Option (List ℕ) → Option (List ℕ) → LayoutReadE
 IsReadError before after Read = IsCutShort before after
 IsReadError before after (Bad error) = ⊥
 IsReadError before after Memory = IsCutShort before after
+
+-- the file was opened by the name that is given, if one is
+abbrev pub IsOpened : {R : Type 0} → Option (List ℕ) → Option (LayoutFile R) → Type 0
+IsOpened None None = Unit {0}
+IsOpened None (Some file) = ⊥
+IsOpened (Some name) None = ⊥
+IsOpened (Some name) (Some file) = file.name ≡ name
+
+-- the layout is that of what the file gave, or the standard one if there is no file
+abbrev pub IsLayoutGiven : {R : Type 0} → (R → Option (List ℕ)) → Option (LayoutFile R) → LayoutTable → Type 0
+IsLayoutGiven remaining None layout = layout ≡ standard_layout
+IsLayoutGiven remaining (Some file) layout = (left : Option (List ℕ)) × IsLayoutAnswer (remaining file.reader) left (Ok layout)
+
+-- the file gave no layout, for this reason
+abbrev pub IsNoLayout : {R : Type 0} → (R → Option (List ℕ)) → LayoutFile R → LayoutReadError → Type 0
+IsNoLayout remaining file error = (left : Option (List ℕ)) × IsLayoutAnswer (remaining file.reader) left (Err error)

@@ -4,3 +4,4 @@ pub mod Inputs
 pub mod Faults
 pub mod Printing
 pub mod LayoutFile
+pub mod NewFiles

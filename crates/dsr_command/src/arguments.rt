@@ -25,7 +25,7 @@ block of records that was left out, with the reason.";
 
 /// The last lines of the help.
 const STATUSES: &str = "Example:
-  dsr 1.tsv 2.tsv 3.tsv > statement.tsv
+  dsr --output statement.tsv 1.tsv 2.tsv 3.tsv
 
 A layout is a text with a line for each record type, its cells separated by TABs:
   ROLE  TYPE  POSITION..    ROLE is HEAD, SY, AS, MW, SU or FOOT; a position is the
@@ -42,7 +42,7 @@ This is the standard one:
 Exit status:
   0  the report is complete and has no remarks
   1  the statement has remarks: look at its FILE, MISSING, SUMMARY and REJECT lines
-  2  an error in the command line, a file that cannot be opened, or a bad layout
+  2  an error in the command line, a file that cannot be opened or created, or a bad layout
   3  the run failed; standard error says why";
 
 /// `--capacity N`.
@@ -85,6 +85,20 @@ fn layout_option<'a>(alloc: Global) -> Arg<'a>
         .help("A file with the positions of the columns in each record")
 }
 
+/// `--output FILE`.
+fn output_option<'a>(alloc: Global) -> Arg<'a>
+    ensures rule { rule_of result ≡ option_rule (codes "output") }
+    ensures local { result.global ≡ false }
+{
+    Arg::new(alloc, "output")
+        .long("output")
+        .value_name("FILE")
+        .action(ArgAction::Set)
+        .help(
+            "Writes the statement to FILE, which is replaced once the statement is whole, and else stays as it was",
+        )
+}
+
 /// `--progress`.
 fn progress_option<'a>(alloc: Global) -> Arg<'a>
     ensures rule { rule_of result ≡ flag_rule (codes "progress") }
@@ -104,7 +118,9 @@ fn names_argument<'a>(alloc: Global) -> Arg<'a>
     Arg::new(alloc, "FILE")
         .num_args(0..)
         .action(ArgAction::Append)
-        .help("The files of the report, in any order; without one, standard input")
+        .help(
+            "The files of the report. The first one that has a head says which report it is, and of two with one number the first one counts. Without a FILE, standard input",
+        )
 }
 
 /// The program's command with its texts, before its arguments.
@@ -128,6 +144,7 @@ fn command<'a>(alloc: Global) -> Result<Command<'a>, AllocError>
         .arg(capacity_option(alloc))?
         .arg(reads_option(alloc))?
         .arg(layout_option(alloc))?
+        .arg(output_option(alloc))?
         .arg(progress_option(alloc))?
         .arg(names_argument(alloc))
 }
@@ -167,7 +184,8 @@ fn read_matches(alloc: Global, matches: &ArgMatches<'_>) -> Result<Asked, NoMemo
         capacity: number_or(matches, "capacity", standard.capacity, 1024),
         max_reads: number_or(matches, "max-reads", standard.max_reads, 16_777_216),
         files: read_names(alloc, matches)?,
-        layout: read_layout_name(alloc, matches)?,
+        layout: read_file_name(alloc, matches, "layout")?,
+        output: read_file_name(alloc, matches, "output")?,
         progress: is_set(matches, "progress"),
     })
 }
@@ -216,12 +234,15 @@ fn copy_names(alloc: Global, words: &[&str]) -> Result<Names, NoMemory>
     Ok(names)
 }
 
-/// The name of the layout file, if one was given.
-fn read_layout_name(alloc: Global, matches: &ArgMatches<'_>) -> Result<Option<Text>, NoMemory>
-    ensures { IfOk result (λ name.
-        name ≡ first_of (codes "layout") (rows_of (found_of matches.now))) }
+/// The name of a file that an option gives, if it was given.
+fn read_file_name(
+    alloc: Global,
+    matches: &ArgMatches<'_>,
+    id: &str,
+) -> Result<Option<Text>, NoMemory>
+    ensures { IfOk result (λ name. name ≡ first_of id.now (rows_of (found_of matches.now))) }
 {
-    match matches.get_str("layout") {
+    match matches.get_str(id) {
         Some(word) => Ok(Some(Text::copy_of(alloc, word)?)),
         None => Ok(None),
     }

@@ -15,6 +15,8 @@ pub struct Asked {
     pub files: Names,
     /// The layout file, if one is named.
     pub layout: Option<Text>,
+    /// The file that the statement is written to, if one is named; else it is standard output.
+    pub output: Option<Text>,
     /// Whether progress is to be written to standard error.
     pub progress: bool,
 }

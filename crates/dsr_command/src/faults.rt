@@ -1,14 +1,19 @@
 //! The line for a run that failed, and the exit status.
 ghost use Rattle.std.specs.Prelude.{◌≡◌};
 ghost use Rattle.dsr_command.specs.Faults.{status_number, fault_line, line_of, closed_line, failed_line};
+ghost use Rattle.dsr_command.specs.NewFiles.{cannot_replace_line, new_file_line};
 ghost use Rattle.dsr_command.specs.Faults.{cannot_open_line, cannot_read_line, bad_layout_line, layout_fault_text};
 ghost use Rattle.dsr_command.specs.Printing.{IsWritten};
 
+use crate::new_file::NewFileError;
 use crate::print::write_parts;
 use dsr_cells::Text;
 use dsr_intake::{IntakeError, Outlet, RunError, Status};
 use dsr_records::{LayoutError, LayoutFault};
 use itoa::Buffer;
+
+/// The name of the program that reads reports.
+pub const DSR: &str = "dsr";
 
 /// The exit status for a command line, a file or a layout that is refused.
 pub const REFUSED: u8 = 2;
@@ -33,8 +38,8 @@ pub fn write_fault<W: Outlet>(error: &RunError, out: &mut W) -> bool
 {
     match error {
         RunError::Intake(error) => write_intake_fault(error, out),
-        RunError::Memory => write_line("out of memory", out),
-        RunError::Write { written } => write_failed(*written, out),
+        RunError::Memory => write_line(DSR, "out of memory", out),
+        RunError::Write { written } => write_failed(DSR, *written, out),
     }
 }
 
@@ -44,21 +49,22 @@ fn write_intake_fault<W: Outlet>(error: &IntakeError, out: &mut W) -> bool
         (fault_line (RunError.Intake error.now)) }
 {
     match error {
-        IntakeError::NoFiles => write_line("no files", out),
-        IntakeError::TooManyFiles => write_line("too many files", out),
-        IntakeError::Capacity => write_line("capacity out of range", out),
-        IntakeError::Reads => write_line("reads out of range", out),
-        IntakeError::Memory => write_line("out of memory", out),
-        IntakeError::Thread => write_line("cannot start a thread", out),
+        IntakeError::NoFiles => write_line(DSR, "no files", out),
+        IntakeError::TooManyFiles => write_line(DSR, "too many files", out),
+        IntakeError::Capacity => write_line(DSR, "capacity out of range", out),
+        IntakeError::Reads => write_line(DSR, "reads out of range", out),
+        IntakeError::Memory => write_line(DSR, "out of memory", out),
+        IntakeError::Thread => write_line(DSR, "cannot start a thread", out),
         IntakeError::Broken(file) => write_closed(*file, out),
     }
 }
 
 /// Writes a line that begins with the program's name.
-pub(crate) fn write_line<W: Outlet>(text: &str, out: &mut W) -> bool
-    ensures { IsWritten result (W.told out.old) (W.told out.new) (line_of text.now) }
+pub(crate) fn write_line<W: Outlet>(program: &str, text: &str, out: &mut W) -> bool
+    ensures { IsWritten result (W.told out.old) (W.told out.new)
+        (line_of program.now text.now) }
 {
-    write_parts(&["dsr: ", text, "\n"], out)
+    write_parts(&[program, ": ", text, "\n"], out)
 }
 
 /// Writes the line for a relay that closed early.
@@ -70,21 +76,54 @@ fn write_closed<W: Outlet>(file: u32, out: &mut W) -> bool
     write_parts(&["dsr: relay of file ", file, " closed early\n"], out)
 }
 
-/// Writes the line for a write that failed.
-fn write_failed<W: Outlet>(written: u64, out: &mut W) -> bool
-    ensures { IsWritten result (W.told out.old) (W.told out.new) (failed_line written) }
+/// Writes the line for a write that failed, and returns whether the outlet took all of it.
+pub fn write_failed<W: Outlet>(program: &str, written: u64, out: &mut W) -> bool
+    ensures { IsWritten result (W.told out.old) (W.told out.new)
+        (failed_line program.now written) }
 {
     let mut digits = Buffer::new();
     let written = digits.format(written);
-    write_parts(&["dsr: write failed after ", written, " bytes\n"], out)
+    write_parts(
+        &[program, ": write failed after ", written, " bytes\n"],
+        out,
+    )
 }
 
 /// Writes the line for a file that cannot be opened.
-pub(crate) fn write_cannot_open<W: Outlet>(name: &Text, out: &mut W) -> bool
+pub(crate) fn write_cannot_open<W: Outlet>(program: &str, name: &Text, out: &mut W) -> bool
     ensures { IsWritten result (W.told out.old) (W.told out.new)
-        (cannot_open_line name.now) }
+        (cannot_open_line program.now name.now) }
 {
-    write_parts(&["dsr: cannot open ", name.as_str(), "\n"], out)
+    write_parts(&[program, ": cannot open ", name.as_str(), "\n"], out)
+}
+
+/// Writes the line for a new file that cannot be put in its place.
+pub(crate) fn write_cannot_replace<W: Outlet>(program: &str, name: &Text, out: &mut W) -> bool
+    ensures { IsWritten result (W.told out.old) (W.told out.new)
+        (cannot_replace_line program.now name.now) }
+{
+    write_parts(&[program, ": cannot replace ", name.as_str(), "\n"], out)
+}
+
+/// Writes the line for a new file that cannot be had.
+pub(crate) fn write_no_new_file<W: Outlet>(
+    program: &str,
+    name: &Text,
+    error: NewFileError,
+    out: &mut W,
+) -> bool
+    ensures { IsWritten result (W.told out.old) (W.told out.new)
+        (new_file_line program.now name.now error) }
+{
+    let name = name.as_str();
+    match error {
+        NewFileError::IsRead => write_parts(
+            &[program, ": cannot write to ", name, ", which is read\n"],
+            out,
+        ),
+        NewFileError::CannotCreate => write_parts(&[program, ": cannot create ", name, "\n"], out),
+        NewFileError::Memory => write_line(program, "out of memory", out),
+    }
 }
 
 /// Writes the line for a layout that cannot be read.

@@ -3,6 +3,7 @@ ghost use Rattle.std.specs.Prelude.{◌≡◌, false, All, IfOk, IfErr, Some, ma
 ghost use Rattle.dsr_command.specs.Inputs.{IsRefusal, IsRefusalOf, sources_of};
 
 use crate::command::Names;
+use crate::identity::{FileIdentity, identity_of};
 use dsr_cells::Text;
 use dsr_file::{Failed, FromRead, Source};
 use std::alloc::Global;
@@ -20,19 +21,6 @@ pub(crate) enum InputReader {
     Standard(Box<StdinLock<'static>>),
 }
 
-impl InputReader {
-    /// Its size in bytes, if that is known; a pipe's is not.
-    fn size(&self) -> Option<u64> {
-        match self {
-            InputReader::File(file) => match file.metadata() {
-                Ok(metadata) if metadata.is_file() => Some(metadata.len()),
-                _ => None,
-            },
-            InputReader::Standard(_) => None,
-        }
-    }
-}
-
 impl Read for InputReader {
     fn read(&mut self, piece: &mut [u8]) -> io::Result<usize> {
         match self {
@@ -47,26 +35,41 @@ impl Read for InputReader {
 pub struct Input {
     name: Option<Text>,
     source: FromRead<InputReader>,
+    /// Its size in bytes, if that is known; a pipe's is not.
     size: Option<u64>,
+    /// Which file it is, if that is known.
+    identity: Option<FileIdentity>,
 }
 
 impl Input {
-    /// The source of what this reader gives. It has not failed.
-    fn new(name: Option<Text>, reader: InputReader) -> Input
-        ensures name { result.name ≡ name }
+    /// The source of what this file gives. It has not failed.
+    fn of_file(name: Text, file: File) -> Input
+        ensures name { result.name ≡ Some name }
         ensures unfailed { (⟦<Input as Source>⟧.told result).failed ≡ false }
     {
-        let size = reader.size();
+        let metadata = file.metadata().ok();
+        let size = match &metadata {
+            Some(metadata) if metadata.is_file() => Some(metadata.len()),
+            _ => None,
+        };
         Input {
-            name,
-            source: FromRead::new(reader),
+            name: Some(name),
+            source: FromRead::new(InputReader::File(file)),
             size,
+            identity: identity_of(&metadata),
         }
     }
 
     /// Its size in bytes, if that is known.
     pub(crate) fn size(&self) -> Option<u64> {
         self.size
+    }
+
+    /// Which file it is, if that is known.
+    pub(crate) fn identity(&self) -> Option<FileIdentity>
+        ensures { result ≡ self.now.identity }
+    {
+        self.identity
     }
 }
 
@@ -126,7 +129,7 @@ pub fn open_inputs<H: Files<File = File> + io::Input<Reader = StdinLock<'static>
 }
 
 /// Standard input alone.
-fn standard_input<H: io::Input<Reader = StdinLock<'static>>>(
+fn standard_input<H: Files + io::Input<Reader = StdinLock<'static>>>(
     rt: &H,
     alloc: Global,
 ) -> Result<Inputs, OpenError>
@@ -142,7 +145,12 @@ fn standard_input<H: io::Input<Reader = StdinLock<'static>>>(
             return Err(OpenError::Memory);
         }
     };
-    let input = Input::new(None, InputReader::Standard(reader));
+    let input = Input {
+        name: None,
+        source: FromRead::new(InputReader::Standard(reader)),
+        size: None,
+        identity: identity_of(&rt.metadata("/dev/stdin").ok()),
+    };
     let mut inputs = Vec::new(alloc);
     if let Err(refused) = inputs.push(input) {
         drop(refused);
@@ -162,7 +170,7 @@ fn open_file<H: Files<File = File>>(rt: &H, alloc: Global, name: &Text) -> Resul
         return Err(OpenError::Memory);
     };
     match fs::open(rt, name.as_str()) {
-        Ok(file) => Ok(Input::new(Some(copy), InputReader::File(file))),
+        Ok(file) => Ok(Input::of_file(copy, file)),
         Err(_) => Err(OpenError::CannotOpen(copy)),
     }
 }

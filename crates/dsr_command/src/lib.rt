@@ -4,11 +4,15 @@
 //!
 //! 1. [`asked`] (`arguments`): what the command line asks for ([`Asked`], in `command`), or why there is no run. The texts of
 //!    the help and the version are here, and [`print_text`] (`print`) prints them.
-//! 2. [`options_of`] (`options`): the options of the run, with the layout that is read from its file (`layout_file`).
-//! 3. [`open_inputs`] (`inputs`): a source for each file, or standard input alone. [`watch`] (`watched`) counts what they
-//!    give, and `progress` writes the counts to standard error.
-//! 4. [`write_fault`] and [`exit_status`] (`faults`): the line that says why a run failed, and the exit status.
-//! 5. [`refuse`], [`cannot_open`] and [`no_memory`] (`refusals`): what ends the program before a file of the report is read.
+//! 2. [`open_layout`] and [`read_layout`] (`layout_file`), [`options_of`] (`options`): the options of the run, with the layout
+//!    that its file gives.
+//! 3. [`open_inputs`] (`inputs`): a source for each file, or standard input alone. Where progress was asked for there is a
+//!    [`Printer`]; [`watch`] (`watched`) counts with it what the sources give, and `progress` writes the counts.
+//! 4. [`create_beside`] (`new_file`): a new file for `--output`, in a file's folder. [`settle`] (`replacement`) puts it in the
+//!    place of that file after an Ok, and else removes it. `identity` tells whether two names are one file.
+//! 5. [`write_fault`] and [`exit_status`] (`faults`): the line that says why a run failed, and the exit status.
+//! 6. [`refuse`], [`not_opened`], [`no_new_file`] and [`no_memory`] (`refusals`): what ends the program before a file of the
+//!    report is read.
 //!
 //! **Example**: how the program calls them, in `crates/dsr/src/program.rt`.
 //!
@@ -21,8 +25,7 @@
 //!     match print_text(text.as_str().as_bytes(), out) {
 //!         Ok(()) => 0,
 //!         Err(written) => {
-//!             let written = written as u64;
-//!             write_fault(&RunError::Write { written }, fault);
+//!             write_failed(DSR, written as u64, fault);
 //!             UNFINISHED
 //!         }
 //!     }
@@ -30,8 +33,9 @@
 //! ```
 //!
 //! **The promise.** A command line is read as clap's definition of its rules says. The sources are those of the names, in
-//! their order. A layout is that of the first 65,537 bytes of its file. The lines and the exit statuses are those of
-//! `specs/Faults.antt`; a line is written whole, or the outlet has failed in it. If memory is refused, each call says so.
+//! their order. A layout is that of all bytes of its file, or of the first 65,537 if there are more, and then it is Large. A
+//! new file takes another one's place only after an Ok. The lines and the exit statuses are those of `specs/Faults.antt` and
+//! `specs/NewFiles.antt`; a line is written whole, or the outlet has failed in it. If memory is refused, each call says so.
 //!
 //! **Where to begin.** `specs/CommandLine.antt` and `specs/Faults.antt`; then `src/inputs.rt`.
 #![tactic(auto)]
@@ -39,19 +43,26 @@
 mod arguments;
 mod command;
 mod faults;
+mod identity;
 mod inputs;
 mod layout_file;
+mod new_file;
 mod options;
 mod print;
 mod progress;
 mod refusals;
+mod replacement;
 mod watched;
 
 pub use arguments::asked;
 pub use command::{Asked, CommandFault, Names};
-pub use faults::{REFUSED, UNFINISHED, exit_status, write_fault};
+pub use faults::{DSR, REFUSED, UNFINISHED, exit_status, write_failed, write_fault};
+pub use identity::FileIdentity;
 pub use inputs::{Input, Inputs, OpenError, open_inputs};
+pub use layout_file::{LayoutFile, LayoutReadError, open_layout, read_layout};
+pub use new_file::{NewFile, NewFileError, create_beside};
 pub use options::options_of;
 pub use print::print_text;
-pub use refusals::{cannot_open, no_memory, refuse};
-pub use watched::{Watched, watch};
+pub use refusals::{cannot_replace, no_memory, no_new_file, not_opened, refuse};
+pub use replacement::{Replacement, Stage, settle};
+pub use watched::{Printer, Watched, watch};

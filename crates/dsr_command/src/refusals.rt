@@ -1,12 +1,16 @@
 //! What ends the program before a file of the report is read.
 ghost use Rattle.std.specs.Prelude.{◌≡◌, codes};
-ghost use Rattle.dsr_command.specs.Faults.{cannot_open_line, layout_refused_line, layout_refused_status, line_of};
+ghost use Rattle.dsr_command.specs.Faults.{layout_refused_line, layout_refused_status, line_of, unopened_line, unopened_status};
+ghost use Rattle.dsr_command.specs.NewFiles.{cannot_replace_line, new_file_line, new_file_status};
 ghost use Rattle.dsr_command.specs.Printing.{IsTold};
 
 use crate::faults::{
-    REFUSED, UNFINISHED, write_bad_layout, write_cannot_open, write_cannot_read, write_line,
+    DSR, REFUSED, UNFINISHED, write_bad_layout, write_cannot_open, write_cannot_read,
+    write_cannot_replace, write_line, write_no_new_file,
 };
+use crate::inputs::OpenError;
 use crate::layout_file::LayoutReadError;
+use crate::new_file::NewFileError;
 use dsr_cells::Text;
 use dsr_intake::Outlet;
 
@@ -25,34 +29,63 @@ pub(crate) fn layout_refused<F: Outlet>(name: &Text, error: LayoutReadError, fau
             write_bad_layout(error, fault);
             REFUSED
         }
-        LayoutReadError::Memory => no_memory(fault),
+        LayoutReadError::Memory => no_memory(DSR, fault),
     }
 }
 
-/// Writes that a file cannot be opened, and returns the exit status.
-pub fn cannot_open<F: Outlet>(name: &Text, fault: &mut F) -> u8
-    ensures status { result ≡ 2 }
-    ensures told { IsTold (F.told fault.old) (F.told fault.new) (cannot_open_line name.now) }
+/// Writes why files are not opened, and returns the exit status.
+pub fn not_opened<F: Outlet>(program: &str, error: &OpenError, fault: &mut F) -> u8
+    ensures status { result ≡ unopened_status error.now }
+    ensures told { IsTold (F.told fault.old) (F.told fault.new)
+        (unopened_line program.now error.now) }
 {
-    write_cannot_open(name, fault);
-    REFUSED
+    match error {
+        OpenError::CannotOpen(name) => {
+            write_cannot_open(program, name, fault);
+            REFUSED
+        }
+        OpenError::Memory => no_memory(program, fault),
+    }
 }
 
 /// Writes why the arguments are refused, and returns the exit status.
-pub fn refuse<F: Outlet>(text: &str, fault: &mut F) -> u8
+pub fn refuse<F: Outlet>(program: &str, text: &str, fault: &mut F) -> u8
     ensures status { result ≡ 2 }
-    ensures told { IsTold (F.told fault.old) (F.told fault.new) (line_of text.now) }
+    ensures told { IsTold (F.told fault.old) (F.told fault.new) (line_of program.now text.now) }
 {
-    write_line(text, fault);
+    write_line(program, text, fault);
     REFUSED
 }
 
 /// Writes that memory was refused before a file of the report was read, and returns the exit status.
-pub fn no_memory<F: Outlet>(fault: &mut F) -> u8
+pub fn no_memory<F: Outlet>(program: &str, fault: &mut F) -> u8
     ensures status { result ≡ 3 }
     ensures told { IsTold (F.told fault.old) (F.told fault.new)
-        (line_of (codes "out of memory")) }
+        (line_of program.now (codes "out of memory")) }
 {
-    write_line("out of memory", fault);
+    write_line(program, "out of memory", fault);
+    UNFINISHED
+}
+
+/// Writes why there is no new file, and returns the exit status.
+pub fn no_new_file<F: Outlet>(program: &str, name: &Text, error: NewFileError, fault: &mut F) -> u8
+    ensures status { result ≡ new_file_status error }
+    ensures told { IsTold (F.told fault.old) (F.told fault.new)
+        (new_file_line program.now name.now error) }
+{
+    write_no_new_file(program, name, error, fault);
+    match error {
+        NewFileError::IsRead | NewFileError::CannotCreate => REFUSED,
+        NewFileError::Memory => UNFINISHED,
+    }
+}
+
+/// Writes that a new file cannot be put in its place, and returns the exit status.
+pub fn cannot_replace<F: Outlet>(program: &str, name: &Text, fault: &mut F) -> u8
+    ensures status { result ≡ 3 }
+    ensures told { IsTold (F.told fault.old) (F.told fault.new)
+        (cannot_replace_line program.now name.now) }
+{
+    write_cannot_replace(program, name, fault);
     UNFINISHED
 }

@@ -1,6 +1,7 @@
 //! Sources whose reads are counted, for `--progress`.
-ghost use Rattle.std.specs.Prelude.{◌≡◌, IfOk, map};
+ghost use Rattle.std.specs.Prelude.{◌≡◌, true, false, IfOk, MatchOption, map};
 
+use crate::command::Asked;
 use crate::inputs::{Input, Inputs};
 use crate::progress::Progress;
 use dsr_cells::NoMemory;
@@ -8,6 +9,25 @@ use dsr_file::{Failed, Source};
 use std::alloc::Global;
 use std::io::Eprint;
 use std::time::Clock;
+
+/// What writes the progress of a run to standard error. There is one only where progress was asked for.
+#[derive(Drop)]
+pub struct Printer<H> {
+    rt: H,
+}
+
+impl<H: Copy> Printer<H> {
+    /// The printer of the progress, if it was asked for.
+    pub fn asked_for(rt: &H, asked: &Asked) -> Option<Printer<H>>
+        ensures { MatchOption result (asked.now.progress ≡ false) (λ _. asked.now.progress ≡ true) }
+    {
+        if asked.progress {
+            Some(Printer { rt: *rt })
+        } else {
+            None
+        }
+    }
+}
 
 /// A source whose reads are counted. It gives what the source inside gives.
 #[derive(Drop)]
@@ -42,19 +62,19 @@ fn whole_size(inputs: &Inputs) -> Option<u64> {
     Some(size)
 }
 
-/// Wraps the sources, so that their reads are counted.
+/// Wraps the sources, so that their reads are counted and their progress is printed.
 ///
 /// # Errors
 ///
 /// `NoMemory`: out of memory.
 pub fn watch<H: Clock + Eprint + Copy>(
-    rt: &H,
+    printer: Printer<H>,
     alloc: Global,
     inputs: Inputs,
 ) -> Result<Vec<Watched<H>>, NoMemory>
     ensures { IfOk result (λ v. map (λ w. w.input) v.items ≡ inputs.items) }
 {
-    let progress = Progress::begin(rt, alloc, inputs.len(), whole_size(&inputs))?;
+    let progress = Progress::begin(&printer.rt, alloc, inputs.len(), whole_size(&inputs))?;
     let mut watched = Vec::new(alloc);
     for input in inputs {
         let progress = progress.share()?;

@@ -11,6 +11,7 @@ returns c =
     ∙ ap₂ with_rule (c.in_ok-arg.ensures.shape c.capacity_option.ensures.local ∙ ap₂ with_rule c.bare.ensures c.capacity_option.ensures.rule)
     c.reads_option.ensures.rule in
     let three = c.in_ok-arg-3.ensures.shape c.layout_option.ensures.local ∙ ap₂ with_rule two c.layout_option.ensures.rule in
-    let four = c.in_ok-arg-4.ensures.shape c.progress_option.ensures.local ∙ ap₂ with_rule three c.progress_option.ensures.rule in
-    IfOk-weaker c.arg-5.result _ _ (λ command h. h.shape c.names_argument.ensures.local ∙ ap₂ with_rule four c.names_argument.ensures.rule)
-    c.arg-5.ensures
+    let four = c.in_ok-arg-4.ensures.shape c.output_option.ensures.local ∙ ap₂ with_rule three c.output_option.ensures.rule in
+    let five = c.in_ok-arg-5.ensures.shape c.progress_option.ensures.local ∙ ap₂ with_rule four c.progress_option.ensures.rule in
+    IfOk-weaker c.arg-6.result _ _ (λ command h. h.shape c.names_argument.ensures.local ∙ ap₂ with_rule five c.names_argument.ensures.rule)
+    c.arg-6.ensures

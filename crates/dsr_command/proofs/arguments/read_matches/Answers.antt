@@ -15,6 +15,7 @@ returns-clause-asked c =
           (subst (λ s. IsNumberAsked s 16777216 (one_text f (codes "max-reads")) c.number_or-2.result)
           (ap (λ o. o.max_reads) options) c.number_or-2.ensures.asked);
       files = c.in_ok-read_names.ensures;
-      layout = c.in_ok-read_layout_name.ensures;
+      layout = c.in_ok-read_file_name.ensures;
+      output = c.in_ok-read_file_name-2.ensures;
       progress = subst (λ t. IsFlagAsked t c.is_set.result) (one_text-rows f (codes "progress")) c.is_set.ensures;
     }
