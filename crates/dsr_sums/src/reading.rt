@@ -1,0 +1,232 @@
+//! Reading a statement from a source, and adding its lines to the totals.
+ghost use Rattle.std.specs.Prelude.{◌≡◌, ◌+◌, ◌≤◌, [], false, List, Some, None, OnOk, IfOk, IfErr, drop, take, length, vec_len, if◌then◌else◌};
+ghost use Rattle.dsr_statement_reader.specs.declared.line.StatementLine.{StatementLine as Line};
+ghost use Rattle.dsr_statement.specs.meaning.Status.{is_clean_file};
+ghost use Rattle.dsr_sums.specs.meaning.Statements.{is_remark, key_of_line, either};
+ghost use Rattle.dsr_sums.specs.inner.Readings.{Reads, TakesLine, TakesLines, HasNoLineFeed, IsRefusedAt, IsRefusedIn, FinishesAt, IsReadFrom};
+
+use crate::reports::StatementReport;
+use crate::role::Role;
+use crate::totals::Totals;
+use dsr_cells::{NoMemory, Text};
+use dsr_events::Outcome;
+use dsr_io::{Failed, Source};
+use dsr_ledger::{FileLine, ReportKey, Standing};
+use dsr_scan::line_end;
+use dsr_statement_reader::{
+    LINE_LIMIT, ReadError, ReadReport, StatementFault, StatementLine, StatementReader,
+};
+use std::alloc::Global;
+
+/// The most bytes of a read.
+const PIECE: usize = 32_768;
+
+/// Why a statement is not read to its end.
+#[derive(Debug, Clone, Copy, PartialEq, Eq)]
+pub(crate) enum ReadingError {
+    /// The number of the line, from 1, and the fault.
+    Refused(u64, StatementFault),
+    /// Memory was refused.
+    Memory,
+}
+
+/// A statement that is being read.
+#[derive(Drop)]
+pub(crate) struct Reading {
+    alloc: Global,
+    role: Role,
+    reader: StatementReader,
+    /// The number of the next line, from 1.
+    line: u64,
+    /// The report that the statement is of.
+    key: Option<ReportKey>,
+    /// The number of the first remark's line.
+    remark: Option<u64>,
+}
+
+/// Whether a file is Ours and whole.
+fn is_clean(file: &FileLine) -> bool
+    ensures { result ≡ is_clean_file file.now }
+{
+    matches!(file.standing, Standing::Ours) && matches!(file.outcome, Outcome::Whole)
+}
+
+/// Whether a line is a remark.
+fn is_a_remark(line: &StatementLine<'_>) -> bool
+    ensures { result ≡ is_remark line.now }
+{
+    match line {
+        StatementLine::File(_, file) => !is_clean(file),
+        StatementLine::Missing(_) | StatementLine::Summary(_) | StatementLine::Reject(_) => true,
+        _ => false,
+    }
+}
+
+/// The key of a report.
+fn copy_key(alloc: Global, report: &ReadReport<'_>) -> Result<ReportKey, NoMemory>
+    ensures { IfOk result (λ key. key ≡ report.now) }
+{
+    Ok(ReportKey {
+        message_id: Text::copy_of(alloc, report.message_id)?,
+        number_of_files: report.number_of_files,
+        first_day: report.first_day,
+        last_day: report.last_day,
+    })
+}
+
+/// The key of the report that a line names.
+fn key_in(alloc: Global, line: &StatementLine<'_>) -> Result<Option<ReportKey>, NoMemory>
+    ensures { IfOk result (λ key. key ≡ key_of_line line.now) }
+{
+    match line {
+        StatementLine::Report(report) => Ok(Some(copy_key(alloc, report)?)),
+        _ => Ok(None),
+    }
+}
+
+impl Reading {
+    /// Nothing was read yet.
+    pub(crate) fn new(alloc: Global, role: Role) -> Reading
+        ensures reads { Reads result [] }
+        ensures role { result.role ≡ role }
+    {
+        Reading {
+            alloc,
+            role,
+            reader: StatementReader::new(alloc),
+            line: 1,
+            key: None,
+            remark: None,
+        }
+    }
+
+    /// Takes a line, given without its line feed, and adds it to the totals.
+    fn take(&mut self, bytes: &[u8], totals: &mut Totals) -> Result<(), ReadingError>
+        ensures role { self.new.role ≡ self.old.role }
+        ensures taken { (done : List Line) → Reads self.old done → OnOk result
+            (TakesLine self.old self.new totals.old totals.new done bytes.now) }
+        ensures refused { (done : List Line) → Reads self.old done → IfErr result
+            (IsRefusedAt done bytes.now) }
+    {
+        match self.reader.line(bytes) {
+            Ok(line) => {
+                if let Err(NoMemory) = totals.add(&line, self.role) {
+                    return Err(ReadingError::Memory);
+                }
+                match self.note(&line) {
+                    Ok(()) => Ok(()),
+                    Err(NoMemory) => Err(ReadingError::Memory),
+                }
+            }
+            Err(ReadError::Fault(fault)) => Err(ReadingError::Refused(self.line, fault)),
+            Err(ReadError::Memory) => Err(ReadingError::Memory),
+        }
+    }
+
+    /// Notes a line that was read.
+    fn note(&mut self, line: &StatementLine<'_>) -> Result<(), NoMemory>
+        ensures role { self.new.role ≡ self.old.role }
+        ensures reader { self.new.reader ≡ self.old.reader }
+        ensures line { OnOk result (self.new.line ≡ self.old.line + 1) }
+        ensures key { OnOk result (self.new.key ≡ either self.old.key (key_of_line line.now)) }
+        ensures remark { OnOk result (self.new.remark ≡ either self.old.remark
+            (if is_remark line.now then Some self.old.line else None)) }
+    {
+        if self.remark.is_none() && is_a_remark(line) {
+            self.remark = Some(self.line);
+        }
+        if self.key.is_none() {
+            self.key = key_in(self.alloc, line)?;
+        }
+        self.line = self.line.checked_add(1).ok_or(NoMemory)?;
+        Ok(())
+    }
+
+    /// Takes the whole lines of bytes. Returns how many bytes they have, with their line feeds.
+    fn take_lines(&mut self, bytes: &[u8], totals: &mut Totals) -> Result<usize, ReadingError>
+        ensures role { self.new.role ≡ self.old.role }
+        ensures within { IfOk result (λ used. used ≤ length bytes.now) }
+        ensures rest { IfOk result (λ used. HasNoLineFeed (drop used bytes.now)) }
+        ensures taken { (done : List Line) → Reads self.old done → IfOk result (λ used.
+            TakesLines self.old self.new totals.old totals.new done (take used bytes.now)) }
+        ensures refused { (done : List Line) → Reads self.old done → IfErr result
+            (IsRefusedIn done bytes.now) }
+    {
+        let mut used = 0;
+        'lines: loop {
+            let end = line_end(&bytes[used..]);
+            if end == bytes.len() - used {
+                return Ok(used);
+            }
+            match self.take(&bytes[used..used + end], totals) {
+                Ok(()) => used += end + 1,
+                Err(error) => return Err(error),
+            }
+        }
+    }
+
+    /// Ends reading with what follows the last line feed.
+    fn finish(self, rest: &[u8], failed: bool) -> Result<StatementReport, ReadingError>
+        ensures { (done : List Line) → Reads self done
+            → FinishesAt self.role done rest.now failed result }
+    {
+        let Reading {
+            alloc: _,
+            role,
+            reader,
+            line,
+            key,
+            remark,
+        } = self;
+        if let Err(fault) = reader.finish(rest, failed) {
+            return Err(ReadingError::Refused(line, fault));
+        }
+        match key {
+            Some(key) => Ok(StatementReport { role, key, remark }),
+            None => Err(ReadingError::Refused(1, StatementFault::NoReport)),
+        }
+    }
+}
+
+/// Drops the first bytes.
+fn drop_front(bytes: &mut Vec<u8>, count: usize)
+    requires { count ≤ vec_len bytes.old }
+    ensures { bytes.new.items ≡ drop count bytes.old.items }
+{
+    let rest = bytes.len() - count;
+    bytes.copy_within(count.., 0);
+    bytes.truncate(rest);
+}
+
+/// Reads a statement to its end or its first fault, and adds its lines to the totals.
+pub(crate) fn read_statement<R: Source>(
+    alloc: Global,
+    source: &mut R,
+    role: Role,
+    totals: &mut Totals,
+) -> Result<StatementReport, ReadingError>
+    requires { (R.told source.old).failed ≡ false }
+    ensures { IsReadFrom (R.told source.old) (R.told source.new) role totals.old totals.new result }
+{
+    let mut piece = [0u8; PIECE];
+    let mut kept = Vec::new(alloc);
+    let mut reading = Reading::new(alloc, role);
+    'reads: for _ in 0..u64::MAX {
+        if kept.len() > LINE_LIMIT {
+            return reading.finish(&kept, false);
+        }
+        match source.read(&mut piece) {
+            Ok(0) => return reading.finish(&kept, false),
+            Ok(count) => match kept.extend_from_slice(&piece[..count]) {
+                Ok(()) => {}
+                Err(_) => return Err(ReadingError::Memory),
+            },
+            Err(Failed) => return reading.finish(&kept, true),
+        }
+        match reading.take_lines(&kept, totals) {
+            Ok(used) => drop_front(&mut kept, used),
+            Err(error) => return Err(error),
+        }
+    }
+    Err(ReadingError::Memory)
+}

@@ -1,0 +1,85 @@
+//! The reports of the statements that were read, and which statements are refused for those before them.
+ghost use Rattle.std.specs.Prelude.{◌≡◌, ◌∷◌, ◌++◌, [], OnOk, option_map};
+ghost use Rattle.dsr_sums.specs.meaning.Statements.{is_same_report, has_report, fault_after, line_and_fault, role_eq};
+
+use crate::role::Role;
+use dsr_cells::NoMemory;
+use dsr_ledger::ReportKey;
+use dsr_statement_reader::StatementFault;
+
+/// The report of a statement.
+#[derive(Drop)]
+pub(crate) struct StatementReport {
+    /// What the statement stands for.
+    pub(crate) role: Role,
+    /// The report that it is of.
+    pub(crate) key: ReportKey,
+    /// The number of its first remark's line, if it has remarks.
+    pub(crate) remark: Option<u64>,
+}
+
+/// Appends a report.
+pub(crate) fn push_report(
+    reports: &mut Vec<StatementReport>,
+    report: StatementReport,
+) -> Result<(), NoMemory>
+    ensures { OnOk result (reports.new.items ≡ reports.old.items ++ report ∷ []) }
+{
+    reports.push(report)?;
+    Ok(())
+}
+
+/// Whether two reports are the same.
+fn is_same(one: &ReportKey, other: &ReportKey) -> bool
+    ensures { result ≡ is_same_report one.now other.now }
+{
+    one.message_id == other.message_id
+        && one.number_of_files == other.number_of_files
+        && one.first_day == other.first_day
+        && one.last_day == other.last_day
+}
+
+/// Whether two roles are the same.
+pub(crate) fn is_role(one: Role, other: Role) -> bool
+    ensures { result ≡ role_eq one other }
+{
+    one == other
+}
+
+/// Whether a statement with this role has this report.
+pub(crate) fn has(role: Role, key: &ReportKey, reports: &[StatementReport]) -> bool
+    ensures { result ≡ has_report role key.now reports.now }
+{
+    reports.iter().any(|report| is_role(report.role, role) && is_same(key, &report.key))
+}
+
+/// The line and the fault of a statement after the earlier ones; `with_remarks` says whether given ones may have remarks.
+#[tactic(auto, unfolding(crate::specs::meaning::Statements::fault_after))]
+pub(crate) fn refusal_after(
+    with_remarks: bool,
+    earlier: &[StatementReport],
+    report: &StatementReport,
+) -> Option<(u64, StatementFault)>
+    ensures { result ≡ option_map line_and_fault
+        (fault_after with_remarks earlier.now report.now) }
+{
+    if has(report.role, &report.key, earlier) {
+        return Some((1, StatementFault::Twice));
+    }
+    match report.role {
+        Role::Given if with_remarks => None,
+        Role::Given => remark_refusal(report.remark),
+        Role::Paid if has(Role::Given, &report.key, earlier) => None,
+        Role::Paid => Some((1, StatementFault::NotGiven)),
+    }
+}
+
+/// The line and the fault of a statement whose first remark has this line.
+fn remark_refusal(remark: Option<u64>) -> Option<(u64, StatementFault)>
+    ensures { result ≡ option_map (λ n. (n, StatementFault.Remarks)) remark }
+{
+    match remark {
+        Some(line) => Some((line, StatementFault::Remarks)),
+        None => None,
+    }
+}

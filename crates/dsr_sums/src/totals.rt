@@ -1,0 +1,158 @@
+//! The books of totals, and the lines that are added to them.
+ghost use Rattle.std.specs.Prelude.{◌≡◌, ◌&&◌, [], true, List, OnOk};
+
+use crate::account::Account;
+use crate::book::Book;
+use crate::role::Role;
+use crate::seeded::Seeded;
+use crate::sums::Sums;
+use dsr_cells::NoMemory;
+use dsr_statement_reader::{ReadKey, ReadParty, StatementLine};
+use std::alloc::Global;
+
+/// What the lines of statements add up to: by currency, by market, and by party.
+#[derive(Drop)]
+pub(crate) struct Totals {
+    alloc: Global,
+    pub(crate) currencies: Book,
+    pub(crate) markets: Book,
+    pub(crate) parties: Book,
+    /// The account that is posted to.
+    account: Account,
+}
+
+/// Whether both hold.
+fn both(one: bool, other: bool) -> bool
+    ensures { result ≡ (one && other) }
+{
+    one && other
+}
+
+impl Totals {
+    ghost use Rattle.dsr_sums.specs.meaning.Totals.{Booked, booked, are_in_range};
+    ghost use Rattle.dsr_sums.specs.inner.Books.{HoldsLines, AddsLine, AreSorted};
+    ghost use Rattle.dsr_statement_reader.specs.declared.line.StatementLine.TheVariants as lines;
+
+    /// The totals of nothing.
+    pub(crate) fn new(alloc: Global, seeded: Seeded) -> Totals
+        ensures { HoldsLines result [] }
+    {
+        Totals {
+            alloc,
+            currencies: Book::new(alloc, seeded),
+            markets: Book::new(alloc, seeded),
+            parties: Book::new(alloc, seeded),
+            account: Account::blank(),
+        }
+    }
+
+    /// Adds a line of a statement, or subtracts it if its statement was paid.
+    pub(crate) fn add(&mut self, line: &StatementLine<'_>, role: Role) -> Result<(), NoMemory>
+        ensures { OnOk result (AddsLine self.old self.new (booked role line.now)) }
+    {
+        match line {
+            StatementLine::Ledger(key, usages, amount) => {
+                self.add_ledger(key, *usages, *amount, role)
+            }
+            StatementLine::Party(key, party) => self.add_party(key, party, role),
+            StatementLine::Unclaimed(key, amount) => self.add_unclaimed(key, *amount, role),
+            _ => Ok(()),
+        }
+    }
+
+    /// Adds a ledger line.
+    fn add_ledger(
+        &mut self,
+        key: &ReadKey<'_>,
+        usages: i128,
+        amount: i128,
+        role: Role,
+    ) -> Result<(), NoMemory>
+        ensures { OnOk result (AddsLine self.old self.new
+            (booked role (lines.Ledger key.now usages amount))) }
+    {
+        let numbers = Sums {
+            usages,
+            amount,
+            claimed: 0,
+            unclaimed: 0,
+        };
+        self.account.assign_currency(self.alloc, key.currency)?;
+        self.currencies
+            .post(self.alloc, &self.account, &numbers, role)?;
+        self.account
+            .assign_market(self.alloc, key.territory, key.use_type, key.currency)?;
+        self.markets
+            .post(self.alloc, &self.account, &numbers, role)?;
+        Ok(())
+    }
+
+    /// Adds a party's part of a ledger line.
+    fn add_party(
+        &mut self,
+        key: &ReadKey<'_>,
+        party: &ReadParty<'_>,
+        role: Role,
+    ) -> Result<(), NoMemory>
+        ensures { OnOk result (AddsLine self.old self.new
+            (booked role (lines.Party key.now party.now))) }
+    {
+        let claimed = Sums {
+            usages: 0,
+            amount: 0,
+            claimed: party.amount,
+            unclaimed: 0,
+        };
+        let owed = Sums {
+            usages: 0,
+            amount: party.amount,
+            claimed: 0,
+            unclaimed: 0,
+        };
+        self.account.assign_currency(self.alloc, key.currency)?;
+        self.currencies
+            .post(self.alloc, &self.account, &claimed, role)?;
+        self.account
+            .assign_party(self.alloc, party.party, key.currency)?;
+        self.parties.post(self.alloc, &self.account, &owed, role)?;
+        Ok(())
+    }
+
+    /// Adds what no party has of a ledger line.
+    fn add_unclaimed(&mut self, key: &ReadKey<'_>, amount: i128, role: Role) -> Result<(), NoMemory>
+        ensures { OnOk result (AddsLine self.old self.new
+            (booked role (lines.Unclaimed key.now amount))) }
+    {
+        let numbers = Sums {
+            usages: 0,
+            amount: 0,
+            claimed: 0,
+            unclaimed: amount,
+        };
+        self.account.assign_currency(self.alloc, key.currency)?;
+        self.currencies
+            .post(self.alloc, &self.account, &numbers, role)?;
+        Ok(())
+    }
+
+    /// Whether no sum has left the range of 128 bits.
+    pub(crate) fn are_in_range(&self) -> bool
+        ensures { (bs : List Booked) → HoldsLines self.now bs → result ≡ are_in_range bs }
+    {
+        both(
+            self.currencies.in_range,
+            both(self.markets.in_range, self.parties.in_range),
+        )
+    }
+
+    /// Sorts the accounts.
+    pub(crate) fn sort(&mut self) -> Result<(), NoMemory>
+        ensures { (bs : List Booked) → HoldsLines self.old bs → are_in_range bs ≡ true
+            → OnOk result (AreSorted self.new bs) }
+    {
+        self.currencies.sort()?;
+        self.markets.sort()?;
+        self.parties.sort()?;
+        Ok(())
+    }
+}
