@@ -8,13 +8,13 @@
 //! 4. [`add_up`] (`answer`) reads one statement after another, and makes the text of their totals (`text`), or says why there
 //!    is none ([`TotalsError`], in `error`).
 //!
-//! **Example**, compiled and proved in `src/tests.rt`:
+//! **Example**, compiled and proved in `crates/dsr_sums/src/tests.rt`:
 //!
 //! ```
 //! /// The text of the totals of a given statement, or why there is none.
-//! fn totals_of(rt: HostRuntime, statement: &str) -> Result<Vec<u8>, TotalsError> {
+//! fn totals_of(alloc: Global, statement: &str) -> Result<Vec<u8>, TotalsError> {
 //!     let mut sources = [FromRead::new(statement.as_bytes())];
-//!     add_up(rt.alloc(), 0, &mut sources, 1, false)
+//!     add_up(alloc, 0, &mut sources, 1, false)
 //! }
 //! ```
 //!

@@ -2,6 +2,7 @@
 use crate::{TotalsError, add_up};
 use dsr_io::FromRead;
 use dsr_statement_reader::StatementFault;
+use std::alloc::Global;
 use std::test::Fail;
 
 /// A report with two ledger lines, one of which two parties claim.
@@ -23,10 +24,15 @@ PARTY\tP1\tGBP\t0.2500000000
 PARTY\tP2\tGBP\t0.1250000000
 ";
 
+/// The text of the totals of a given statement, or why there is none.
+fn totals_of(alloc: Global, statement: &str) -> Result<Vec<u8>, TotalsError> {
+    let mut sources = [FromRead::new(statement.as_bytes())];
+    add_up(alloc, 0, &mut sources, 1, false)
+}
+
 #[test]
 fn a_statement_is_added_up(rt: HostRuntime) -> Result<(), Fail> {
-    let mut sources = [FromRead::new(STATEMENT.as_bytes())];
-    let totals = add_up(rt.alloc(), 0, &mut sources, 1, false)?;
+    let totals = totals_of(rt.alloc(), STATEMENT)?;
     assert_eq!(rt; totals.as_slice(), TOTALS.as_bytes());
     Ok(())
 }
