@@ -94,13 +94,10 @@ fn a_feed_that_waits_for_memory_ends_with_its_tap(rt: HostRuntime) -> Result<(),
     let (feed, mut tap) = relay(alloc, 1)?;
     let mut kept = Vec::new(alloc);
     let sender = thread::spawn(&rt, move || sends_blocks(&rt, alloc, feed))?;
-    let mut count = 0u32;
-    for _ in 0..3u32 {
-        if keeps_batch(&rt, &mut tap, &mut kept) {
-            count += 1;
-        }
-    }
+    let are_kept = keeps_batch(&rt, &mut tap, &mut kept)
+        && keeps_batch(&rt, &mut tap, &mut kept)
+        && keeps_batch(&rt, &mut tap, &mut kept);
     drop(tap);
-    assert!(rt; !sender.join(&rt) && count == 3);
+    assert!(rt; !sender.join(&rt) && are_kept);
     Ok(())
 }
