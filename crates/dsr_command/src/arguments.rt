@@ -55,7 +55,9 @@ fn capacity_option<'a>(alloc: Global) -> Arg<'a>
         .value_name("N")
         .action(ArgAction::Set)
         .value_parser(clap::value_parser!(u32).range(1..=1024))
-        .help("How far each file may be read ahead, in messages: 1 to 1024 [default: 16]")
+        .help(
+            "How far each file may be read ahead, in messages of up to 32 blocks: 1 to 1024 [default: 16]; fewer take less memory, more let a file run further ahead of the others",
+        )
 }
 
 /// `--max-reads N`.
@@ -82,7 +84,7 @@ fn layout_option<'a>(alloc: Global) -> Arg<'a>
         .long("layout")
         .value_name("FILE")
         .action(ArgAction::Set)
-        .help("A file with the positions of the columns in each record")
+        .help("A file with the positions of the columns in each record; examples/layout.tsv is one to copy")
 }
 
 /// `--output FILE`.
