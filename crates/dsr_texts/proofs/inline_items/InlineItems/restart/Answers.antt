@@ -1,5 +1,0 @@
-use Rattle.std.proofs.Common.{rules}
-use Rattle.dsr_texts.proofs.inline_items.InlineItems.restart.Goals as goal
-
-pub returns : goal.returns
-returns g c = search rules
