@@ -41,6 +41,7 @@ class Browser:
         self.session = self.ask('Target.attachToTarget', targetId=target['targetId'], flatten=True)['sessionId']
         for domain in ('Page', 'Runtime', 'Network', 'Log'):
             self.ask(f'{domain}.enable')
+        self.ask('Performance.enable', timeDomain='threadTicks')
 
     def message(self):
         """The next message of the browser."""
@@ -92,6 +93,10 @@ class Browser:
         self.ask('Page.navigate', url='file://' + os.path.abspath(path))
         self.wait('document.documentElement?.dataset.ready === "yes"', seconds)
         return time.monotonic() - began
+
+    def processor_seconds(self):
+        """What the page's thread has taken of a processor since the page was opened."""
+        return next(it['value'] for it in self.ask('Performance.getMetrics')['metrics'] if it['name'] == 'ThreadTime')
 
     def end(self):
         os.close(self.asking)
