@@ -185,7 +185,7 @@ fn read_matches(alloc: Global, matches: &ArgMatches<'_>) -> Result<Asked, NoMemo
     Ok(Asked {
         capacity: number_or(matches, "capacity", standard.capacity, 1024),
         max_reads: number_or(matches, "max-reads", standard.max_reads, 16_777_216),
-        files: read_names(alloc, matches)?,
+        files: read_names(alloc, matches, "FILE")?,
         layout: read_file_name(alloc, matches, "layout")?,
         output: read_file_name(alloc, matches, "output")?,
         progress: is_set(matches, "progress"),
@@ -207,18 +207,18 @@ fn number_or(matches: &ArgMatches<'_>, id: &str, standard: u32, most: u32) -> u3
 }
 
 /// Whether a flag was given.
-fn is_set(matches: &ArgMatches<'_>, id: &str) -> bool
+pub fn is_set(matches: &ArgMatches<'_>, id: &str) -> bool
     ensures { IsFlagAsked (one_text (found_of matches.now) id.now) result }
 {
     matches.get_flag(id)
 }
 
 /// The names of the files, in the order given.
-fn read_names(alloc: Global, matches: &ArgMatches<'_>) -> Result<Names, NoMemory>
+pub fn read_names(alloc: Global, matches: &ArgMatches<'_>, id: &str) -> Result<Names, NoMemory>
     ensures { IfOk result (λ names.
-        names ≡ unwrap_or (all_of (codes "FILE") (rows_of (found_of matches.now))) []) }
+        names ≡ unwrap_or (all_of id.now (rows_of (found_of matches.now))) []) }
 {
-    match matches.get_strs("FILE") {
+    match matches.get_strs(id) {
         Some(words) => copy_names(alloc, words),
         None => Ok(Names::new(alloc)),
     }
@@ -237,7 +237,7 @@ fn copy_names(alloc: Global, words: &[&str]) -> Result<Names, NoMemory>
 }
 
 /// The name of a file that an option gives, if it was given.
-fn read_file_name(
+pub fn read_file_name(
     alloc: Global,
     matches: &ArgMatches<'_>,
     id: &str,
@@ -251,7 +251,7 @@ fn read_file_name(
 }
 
 /// Why the command line was refused, or the text that it asks for.
-fn fault_of_error(alloc: Global, error: Error) -> CommandFault
+pub fn fault_of_error(alloc: Global, error: Error) -> CommandFault
     ensures { Answers (kind_of error) result }
 {
     let kind = error.kind();

@@ -60,7 +60,7 @@ fn write_intake_fault<W: Outlet>(error: &IntakeError, out: &mut W) -> bool
 }
 
 /// Writes a line that begins with the program's name.
-pub(crate) fn write_line<W: Outlet>(program: &str, text: &str, out: &mut W) -> bool
+pub fn write_line<W: Outlet>(program: &str, text: &str, out: &mut W) -> bool
     ensures { IsWritten result (W.told out.old) (W.told out.new)
         (line_of program.now text.now) }
 {

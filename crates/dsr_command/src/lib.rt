@@ -54,15 +54,15 @@ mod refusals;
 mod replacement;
 mod watched;
 
-pub use arguments::asked;
+pub use arguments::{asked, fault_of_error, is_set, read_file_name, read_names};
 pub use command::{Asked, CommandFault, Names};
-pub use faults::{DSR, REFUSED, UNFINISHED, exit_status, write_failed, write_fault};
+pub use faults::{DSR, REFUSED, UNFINISHED, exit_status, write_failed, write_fault, write_line};
 pub use identity::FileIdentity;
 pub use inputs::{Input, Inputs, OpenError, open_inputs};
 pub use layout_file::{LayoutFile, LayoutReadError, open_layout, read_layout};
 pub use new_file::{NewFile, NewFileError, create_beside};
 pub use options::options_of;
-pub use print::print_text;
+pub use print::{print_text, write_parts};
 pub use refusals::{cannot_replace, no_memory, no_new_file, not_opened, refuse};
 pub use replacement::{Replacement, Stage, settle};
 pub use watched::{Printer, Watched, watch};

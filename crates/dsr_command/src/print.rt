@@ -24,7 +24,7 @@ pub fn print_text<W: Outlet>(text: &[u8], out: &mut W) -> Result<(), usize>
 }
 
 /// Writes the parts one after another and flushes, and returns whether the outlet took all of them.
-pub(crate) fn write_parts<W: Outlet>(parts: &[&str], out: &mut W) -> bool
+pub fn write_parts<W: Outlet>(parts: &[&str], out: &mut W) -> bool
     ensures { IsWritten result (W.told out.old) (W.told out.new) (joined parts.now) }
 {
     for part in parts {

@@ -1,0 +1,86 @@
+-- What is done with the totals of statements: where they are written, the exit status and the line on standard error.
+use Rattle.std.specs.Prelude.{◌≡◌, ◌≤◌, ◌⊎◌, ◌-◌, ℕ, Bool, nat_lt, if◌then◌else◌, List, [], ◌∷◌, codes, length, take, slice_get, Result, Ok, Err, unwrap_or}
+use Rattle.dsr_command.specs.declared.replacement.Stage.{Stage}
+use Rattle.dsr_command.specs.declared.replacement.Stage.TheVariants.{InPlace, Removed}
+use Rattle.dsr_command.specs.Faults.{failed_line}
+use Rattle.dsr_command.specs.NewFiles.{cannot_replace_line}
+use Rattle.dsr_command.specs.Printing.{IsTold}
+use Rattle.dsr_io.specs.meaning.Told.{Told}
+use Rattle.dsr_io.specs.meaning.Written.{Written, IsFlushed, IsCut}
+use Rattle.dsr_sums.specs.declared.error.TotalsError.{TotalsError}
+use Rattle.dsr_sums.specs.declared.error.TotalsError.TheVariants.{Refused, OutOfRange, Memory}
+use Rattle.dsr_sums.specs.meaning.Sources.{HasTotals, HasNoTotals}
+use Rattle.dsr_totals.specs.declared.command.Asked.{Asked}
+use Rattle.dsr_totals.specs.declared.totaling.WriteError.{WriteError}
+use Rattle.dsr_totals.specs.declared.totaling.WriteError.TheVariants.{NoTotals, Write}
+use Rattle.dsr_totals.specs.Refusals.{dsr_totals, no_totals_line, no_totals_status}
+
+-- how many statements are given: standard input is one, if none is named
+abbrev pub given_count : List (List ℕ) → ℕ
+given_count [] = 1
+given_count (name ∷ names) = length (name ∷ names)
+
+-- the name at this place: `-` if there is none
+abbrev pub name_in : List (List ℕ) → ℕ → List ℕ
+name_in names place = unwrap_or (slice_get names place) (codes "-")
+
+-- the name of the statement at this place, the given ones first
+abbrev pub name_at : Asked → ℕ → List ℕ
+name_at asked place = if nat_lt place (given_count asked.given) then name_in asked.given place
+    else name_in asked.paid (place - given_count asked.given)
+
+-- the name of the statement that is refused, if one is
+abbrev pub refused_name : Asked → TotalsError → List ℕ
+refused_name asked (Refused place line fault) = name_at asked place
+refused_name asked OutOfRange = codes "-"
+refused_name asked Memory = codes "-"
+
+-- the text of the sources' totals was written and flushed; or they have none, and nothing was written; or just the first n
+-- bytes of the text were written, and the output failed
+abbrev pub WroteTotals : {R : Type 0} → (R → Told) → Asked → List R → List R → Written → Written → Result (Unit {0}) WriteError → Type 0
+WroteTotals told asked sources left before after (Ok done) =
+    (text : List ℕ) × HasTotals told (given_count asked.given) asked.with_remarks sources left text × IsFlushed text before after
+WroteTotals told asked sources left before after (Err (NoTotals error)) =
+    HasNoTotals told (given_count asked.given) asked.with_remarks sources left error × (after ≡ before)
+WroteTotals told asked sources left before after (Err (Write n)) =
+    (text : List ℕ) × HasTotals told (given_count asked.given) asked.with_remarks sources left text
+    × (n ≤ length text) × IsCut (take n text) before after
+
+-- the exit status: 0 only if the totals were written
+abbrev pub error_status : WriteError → ℕ
+error_status (NoTotals error) = no_totals_status error
+error_status (Write n) = 3
+
+abbrev pub status_after : Result (Unit {0}) WriteError → ℕ
+status_after (Ok done) = 0
+status_after (Err error) = error_status error
+
+-- the line on standard error
+abbrev pub error_line : Asked → WriteError → List ℕ
+error_line asked (NoTotals error) = no_totals_line (refused_name asked error) error
+error_line asked (Write n) = failed_line dsr_totals n
+
+-- standard error has the line of an error, and nothing more if there is none
+abbrev pub IsAnswerTold : Asked → Written → Written → Result (Unit {0}) WriteError → Type 0
+IsAnswerTold asked before after (Ok done) = after ≡ before
+IsAnswerTold asked before after (Err error) = IsTold before after (error_line asked error)
+
+-- the totals were written, or not, and the exit status and standard error say so
+abbrev pub HadTotals : {R : Type 0} → (R → Told) → Asked → List R → List R → Written → Written → Written → Written → ℕ → Type 0
+HadTotals told asked sources left before after fault_before fault_after status = (answer : Result (Unit {0}) WriteError)
+    × WroteTotals told asked sources left before after answer × IsAnswerTold asked fault_before fault_after answer
+    × (status ≡ status_after answer)
+
+-- where a new file is after the totals were written to it, or not
+abbrev pub stage_after : Result (Unit {0}) WriteError → Stage
+stage_after (Ok done) = InPlace
+stage_after (Err error) = Removed
+
+-- the totals were written to a new file, or not. It is in the place of the file of this name only if they were written whole;
+-- if it could not be put there, it was removed, and a line says so
+abbrev pub HadTotalsInto : {R : Type 0} → (R → Told) → Asked → List ℕ → List R → List R → Written → Written → Written → Written → Stage → ℕ → Type 0
+HadTotalsInto told asked name sources left before after fault_before fault_after stage status =
+    ((answer : Result (Unit {0}) WriteError) × WroteTotals told asked sources left before after answer
+    × IsAnswerTold asked fault_before fault_after answer × (stage ≡ stage_after answer) × (status ≡ status_after answer))
+    ⊎ (((text : List ℕ) × HasTotals told (given_count asked.given) asked.with_remarks sources left text × IsFlushed text before after)
+    × (stage ≡ Removed) × IsTold fault_before fault_after (cannot_replace_line dsr_totals name) × (status ≡ 3))

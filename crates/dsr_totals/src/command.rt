@@ -1,0 +1,16 @@
+//! What a command line asks for.
+use dsr_cells::Text;
+use dsr_command::Names;
+
+/// What a command line asks for.
+#[derive(Drop)]
+pub struct Asked {
+    /// The statements whose amounts are owed, in the order given.
+    pub given: Names,
+    /// The statements whose amounts were paid, in the order given.
+    pub paid: Names,
+    /// Whether a given statement may have remarks.
+    pub with_remarks: bool,
+    /// The file that the totals are written to; standard output if there is none.
+    pub output: Option<Text>,
+}

@@ -1,0 +1,204 @@
+//! The totals, and where they go.
+ghost use Rattle.std.specs.Prelude.{◌≡◌, ◌⊎◌, ◌++◌, false, All, IfErr, IfOk, Some, map};
+ghost use Rattle.dsr_command.specs.Inputs.{IsRefusal, sources_of};
+ghost use Rattle.dsr_command.specs.Printing.{IsTold};
+ghost use Rattle.dsr_totals.specs.Totaling.{HadTotals, HadTotalsInto, IsAnswerTold, WroteTotals, error_line, error_status, given_count, name_at, name_in, refused_name, status_after};
+
+use crate::command::Asked;
+use crate::faults::{DSR_TOTALS, no_totals};
+use dsr_cells::Text;
+use dsr_command::{
+    Input, Inputs, Names, OpenError, Replacement, Stage, UNFINISHED, cannot_replace, open_inputs,
+    print_text, settle, write_failed,
+};
+use dsr_io::{Failed, Outlet, Source};
+use dsr_sums::{TotalsError, add_up};
+use std::alloc::Global;
+use std::fs::{File, Files};
+use std::io;
+use std::io::StdinLock;
+use std::random::RandomSource;
+
+/// The seed if there are no random bytes.
+const FIXED_SEED: u64 = 0x9E37_79B9_7F4A_7C15;
+
+/// A random seed, so that nobody can choose names whose hashes collide. No totals depend on it.
+pub(crate) fn random_seed<H: RandomSource>(rt: &H) -> u64 {
+    let mut bytes = [0u8; 8];
+    match rt.fill_bytes(&mut bytes) {
+        Ok(()) => u64::from_le_bytes(bytes),
+        Err(_) => FIXED_SEED,
+    }
+}
+
+/// Opens the statements: the given ones, or standard input if none is named, and then those that were paid.
+pub(crate) fn open_statements<H: Files<File = File> + io::Input<Reader = StdinLock<'static>>>(
+    rt: &H,
+    alloc: Global,
+    asked: &Asked,
+) -> Result<Inputs, OpenError>
+    ensures unfailed { IfOk result (λ v. All
+        (λ i. (⟦<Input as Source>⟧.told i).failed ≡ false) v.items) }
+    ensures sources { IfOk result (λ v. map (λ i. i.name) v.items
+        ≡ sources_of asked.now.given ++ map Some asked.now.paid) }
+    ensures refused { IfErr result (λ e. IsRefusal asked.now.given e ⊎ IsRefusal asked.now.paid e) }
+{
+    let mut inputs = open_inputs(rt, alloc, &asked.given)?;
+    if asked.paid.len() == 0 {
+        return Ok(inputs);
+    }
+    let mut paid = match open_inputs(rt, alloc, &asked.paid) {
+        Ok(paid) => paid,
+        Err(error) => {
+            drop(inputs);
+            return Err(error);
+        }
+    };
+    match inputs.append(&mut paid) {
+        Ok(()) => Ok(inputs),
+        Err(_) => Err(OpenError::Memory),
+    }
+}
+
+/// How many of the inputs are of given statements.
+fn given_count(asked: &Asked) -> usize
+    ensures { result ≡ given_count asked.now.given }
+{
+    let given = asked.given.len();
+    if given == 0 { 1 } else { given }
+}
+
+/// The name at this place: `-` if there is none.
+fn name_in(names: &Names, place: usize) -> &str
+    ensures { result.now ≡ name_in names.now place }
+{
+    match names.get(place) {
+        Some(name) => name.as_str(),
+        None => "-",
+    }
+}
+
+/// The name of the statement at this place among all: `-` for standard input.
+fn name_at(asked: &Asked, place: usize) -> &str
+    ensures { result.now ≡ name_at asked.now place }
+{
+    let given = given_count(asked);
+    if place < given {
+        name_in(&asked.given, place)
+    } else {
+        name_in(&asked.paid, place - given)
+    }
+}
+
+/// The name of the statement that is refused, if one is.
+fn refused_name(asked: &Asked, error: TotalsError) -> &str
+    ensures { result.now ≡ refused_name asked.now error }
+{
+    match error {
+        TotalsError::Refused(place, _, _) => name_at(asked, place),
+        _ => "-",
+    }
+}
+
+/// Why there are no totals, or they are not written.
+#[derive(Debug, Clone, Copy, PartialEq, Eq)]
+pub(crate) enum WriteError {
+    /// There are none.
+    NoTotals(TotalsError),
+    /// A write failed after this many bytes.
+    Write(u64),
+}
+
+/// Reads the statements and writes their totals.
+pub(crate) fn write_totals<H: RandomSource, W: Outlet>(
+    rt: &H,
+    alloc: Global,
+    asked: &Asked,
+    inputs: &mut Inputs,
+    out: &mut W,
+) -> Result<(), WriteError>
+    requires sources { All (λ i. (⟦<Input as Source>⟧.told i).failed ≡ false) inputs.old.items }
+    ensures { WroteTotals (⟦<Input as Source>⟧.told) asked.now inputs.old.items inputs.new.items
+        (W.told out.old) (W.told out.new) result }
+{
+    let text = match add_up(
+        alloc,
+        random_seed(rt),
+        inputs,
+        given_count(asked),
+        asked.with_remarks,
+    ) {
+        Ok(text) => text,
+        Err(error) => return Err(WriteError::NoTotals(error)),
+    };
+    match print_text(&text, out) {
+        Ok(()) => Ok(()),
+        Err(written) => Err(WriteError::Write(written as u64)),
+    }
+}
+
+/// Writes the line of an error, and returns the exit status.
+fn tell<F: Outlet>(error: WriteError, asked: &Asked, fault: &mut F) -> u8
+    ensures status { result ≡ error_status error }
+    ensures told { IsTold (F.told fault.old) (F.told fault.new) (error_line asked.now error) }
+{
+    match error {
+        WriteError::NoTotals(error) => no_totals(error, refused_name(asked, error), fault),
+        WriteError::Write(written) => {
+            write_failed(DSR_TOTALS, written, fault);
+            UNFINISHED
+        }
+    }
+}
+
+/// The exit status. The line of an error is written to `fault`.
+fn status_of<F: Outlet>(answer: &Result<(), WriteError>, asked: &Asked, fault: &mut F) -> u8
+    ensures status { result ≡ status_after answer.now }
+    ensures told { IsAnswerTold asked.now (F.told fault.old) (F.told fault.new) answer.now }
+{
+    match answer {
+        Ok(()) => 0,
+        Err(error) => tell(*error, asked, fault),
+    }
+}
+
+/// Reads the statements and prints their totals. Returns the exit status.
+pub(crate) fn print_totals<H: RandomSource, W: Outlet, F: Outlet>(
+    rt: &H,
+    alloc: Global,
+    asked: &Asked,
+    inputs: &mut Inputs,
+    out: &mut W,
+    fault: &mut F,
+) -> u8
+    requires sources { All (λ i. (⟦<Input as Source>⟧.told i).failed ≡ false) inputs.old.items }
+    ensures { HadTotals (⟦<Input as Source>⟧.told) asked.now inputs.old.items inputs.new.items
+        (W.told out.old) (W.told out.new) (F.told fault.old) (F.told fault.new) result }
+{
+    status_of(&write_totals(rt, alloc, asked, inputs, out), asked, fault)
+}
+
+/// Reads the statements and writes their totals to a new file, which is put in the place of the file of this name only if
+/// they are whole. Returns the exit status.
+pub(crate) fn replace_by_totals<H: RandomSource, W: Outlet, N: Replacement, F: Outlet>(
+    rt: &H,
+    alloc: Global,
+    asked: &Asked,
+    inputs: &mut Inputs,
+    name: &Text,
+    out: &mut W,
+    place: &mut N,
+    fault: &mut F,
+) -> u8
+    requires sources { All (λ i. (⟦<Input as Source>⟧.told i).failed ≡ false) inputs.old.items }
+    requires beside { N.stage place.old ≡ Stage.Beside }
+    ensures { HadTotalsInto (⟦<Input as Source>⟧.told) asked.now name.now inputs.old.items
+        inputs.new.items (W.told out.old) (W.told out.new) (F.told fault.old) (F.told fault.new)
+        (N.stage place.new) result }
+{
+    let answer = write_totals(rt, alloc, asked, inputs, out);
+    match settle(place, &answer) {
+        Ok(()) => status_of(&answer, asked, fault),
+        Err(Failed) => cannot_replace(DSR_TOTALS, name, fault),
+    }
+}
