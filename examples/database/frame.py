@@ -1,8 +1,8 @@
 #!/usr/bin/env python3
-"""frame.py STATEMENT..: what each party is owed, with pandas and exact decimals; by dsr_totals' own lines, or from the ledger.
+"""frame.py STATEMENT..: what parties are owed in each currency, with pandas and exact decimals.
 
 The statements are first given to dsr_totals (or what DSR_TOTALS names), which refuses what is not a whole statement. pandas
-adds floating point by itself: amounts are `Decimal` here, and each sum is exact below 10^90.
+adds in floating point by itself: amounts are `Decimal` here, and each sum is exact below 10^90.
 """
 import io
 import os
