@@ -4,8 +4,8 @@
 //!    of lines (`kind`), standings, faults, columns and reasons. `cells` and `file` make the lines (`line`) of cells, which
 //!    borrow their texts.
 //! 2. `reading` reads the line that a text spells, whatever stands before it, or its fault (`fault`).
-//! 3. `reader` has the public functions: it keeps of the lines that were read what the next one depends on (`last`), and tests
-//!    that it may stand there and that the amounts of a ledger line add up.
+//! 3. `reader` has the public functions: it keeps of the lines that were read what the next one depends on (`last`, `left`), and
+//!    tests that it may stand there and that the amounts of a ledger line add up.
 //! 4. `laws` has the laws of readings.
 //!
 //! **Example**, compiled and proved in `crates/dsr_tests/src/statements.rt`:
@@ -37,6 +37,7 @@ mod file;
 mod kind;
 mod last;
 pub mod laws;
+mod left;
 mod line;
 mod names;
 mod number;

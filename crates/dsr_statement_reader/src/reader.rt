@@ -6,6 +6,7 @@ ghost use Rattle.dsr_statement_reader.specs.inner.After.{IsAfter, IsErrorOf, fit
 
 use crate::fault::{ReadError, StatementFault};
 use crate::last::{Last, LastKey};
+use crate::left::Left;
 use crate::line::{ReadKey, ReadParty, StatementLine};
 use crate::reading::{LINE_LIMIT, read_line};
 use dsr_cells::{NoMemory, Text};
@@ -18,7 +19,7 @@ pub struct StatementReader {
     last: Last,
     key: LastKey,
     party: Text,
-    left: i128,
+    left: Left,
 }
 
 /// Whether it is the line of no report.
@@ -38,7 +39,7 @@ impl StatementReader {
             last: Last::Start,
             key: LastKey::new(),
             party: Text::default(),
-            left: 0,
+            left: Left::of(0),
         }
     }
 
@@ -150,7 +151,7 @@ impl StatementReader {
             → result ≡ adds_up before line.now }
     {
         match line {
-            StatementLine::Unclaimed(_, amount) => *amount == self.left,
+            StatementLine::Unclaimed(_, amount) => self.left.is(*amount),
             _ => true,
         }
     }
@@ -160,7 +161,7 @@ impl StatementReader {
         ensures { OnOk result (self.new ≡ record self.old { key = key.now; left = amount }) }
     {
         self.key.assign(self.alloc, key)?;
-        self.left = amount;
+        self.left = Left::of(amount);
         Ok(())
     }
 
@@ -169,7 +170,7 @@ impl StatementReader {
         ensures { OnOk result (self.new ≡ record self.old
             { party = party.now.party; left = self.old.left -ℤ party.now.amount }) }
     {
-        self.left = self.left.checked_sub(party.amount).ok_or(NoMemory)?;
+        self.left.subtract(party.amount)?;
         self.party.assign(self.alloc, party.party)?;
         Ok(())
     }
