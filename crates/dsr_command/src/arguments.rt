@@ -213,7 +213,11 @@ pub fn is_set(matches: &ArgMatches<'_>, id: &str) -> bool
     matches.get_flag(id)
 }
 
-/// The names of the files, in the order given.
+/// The names that an argument of this identifier gives, in their order.
+///
+/// # Errors
+///
+/// Out of memory.
 pub fn read_names(alloc: Global, matches: &ArgMatches<'_>, id: &str) -> Result<Names, NoMemory>
     ensures { IfOk result (λ names.
         names ≡ unwrap_or (all_of id.now (rows_of (found_of matches.now))) []) }
@@ -237,6 +241,10 @@ fn copy_names(alloc: Global, words: &[&str]) -> Result<Names, NoMemory>
 }
 
 /// The name of a file that an option gives, if it was given.
+///
+/// # Errors
+///
+/// Out of memory.
 pub fn read_file_name(
     alloc: Global,
     matches: &ArgMatches<'_>,

@@ -1,4 +1,12 @@
-//! The program: it reads statements and prints what they add up to.
+//! The second program: it reads statements and prints what they add up to.
+//!
+//! 1. `program` runs its stages: it reads the command line (`arguments`, which gives a `command`), opens the statements and
+//!    creates the output.
+//! 2. `totaling` passes the sources to `add_up` of dsr_sums, writes the text to standard output or to the new file, and puts this
+//!    in its place. `faults` has the line for a statement that is refused, and for totals that are out of range.
+//! 3. `main` ends with the exit status that `program` returns.
+//!
+//! What both programs do stands in dsr_command. No crate depends on this one: another program calls `add_up` of dsr_sums.
 #![tactic(auto)]
 
 mod arguments;
