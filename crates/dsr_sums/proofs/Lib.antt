@@ -6,3 +6,4 @@ pub mod TextLemmas
 pub mod ReadingLemmas
 pub mod TotalingLemmas
 pub mod SourceLemmas
+pub mod LawLemmas

@@ -5,3 +5,4 @@ pub mod Totals
 pub mod Statements
 pub mod Answers
 pub mod Sources
+pub mod Laws

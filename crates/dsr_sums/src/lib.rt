@@ -7,6 +7,7 @@
 //! 3. `reports` has the reports of the statements that were read, and refuses a statement for those before it.
 //! 4. [`add_up`] (`answer`) reads one statement after another, and makes the text of their totals (`text`), or says why there
 //!    is none ([`TotalsError`], in `error`).
+//! 5. [`laws`] has the law of totals.
 //!
 //! **Example**, compiled and proved in `crates/dsr_sums/src/tests.rt`:
 //!
@@ -19,19 +20,21 @@
 //! ```
 //!
 //! **The promise.** The totals are those of the definition, over what the sources gave: each sum is the exact sum of the
-//! statements' numbers, what was paid subtracted. No sum wraps: one that leaves the range of 128 bits is an error. The first
-//! statement that is refused is the answer, whatever follows it. A source is read to its end, or up to a failed read or a
-//! fault. Memory is kept for each account and each statement, not for each line.
+//! statements' numbers, what was paid subtracted; in each currency what is claimed and what is unclaimed add up to the amount.
+//! No sum wraps: one that leaves the range of 128 bits is an error. The first statement that is refused is the answer, whatever
+//! follows it. A source is read to its end, or up to a failed read or a fault. Memory is kept for each account and each
+//! statement, not for each line.
 //!
 //! **Where to begin.** `specs/meaning/Postings.antt` says what accounts add up to, `Totals.antt` what a line adds,
-//! `Statements.antt` and `Answers.antt` which statements are refused, and `Sources.antt` what sources gave; `src/answer.rt`
-//! has the public function.
+//! `Statements.antt` and `Answers.antt` which statements are refused, `Sources.antt` what sources gave, and `Laws.antt` the law;
+//! `src/answer.rt` has the public function.
 #![tactic(auto)]
 
 mod account;
 mod answer;
 mod book;
 mod error;
+pub mod laws;
 mod reading;
 mod reports;
 mod role;

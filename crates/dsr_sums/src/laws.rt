@@ -1,0 +1,15 @@
+//! The law of totals: a function that does nothing, whose contract is the law.
+ghost use Rattle.std.specs.Prelude.{◌≡◌, [], Bool, List, Ok};
+ghost use Rattle.dsr_sums.specs.declared.account.Account.{Account};
+ghost use Rattle.dsr_sums.specs.meaning.Answers.{StatementText, statements_after};
+ghost use Rattle.dsr_sums.specs.meaning.Laws.{AddUp, currency_sums};
+ghost use Rattle.dsr_sums.specs.meaning.Statements.{Statement};
+
+/// In each currency, what parties claim and what nobody claims add up to the amount, over all statements that are read, those
+/// that were paid subtracted.
+#[tactic(auto, using(crate::proofs::LawLemmas::add_up))]
+pub fn claimed_and_unclaimed_add_up()
+    ensures { (remarks : Bool) (texts : List StatementText) (statements : List Statement)
+        → statements_after remarks (Ok []) texts ≡ Ok statements
+        → (currency : Account) → AddUp (currency_sums statements currency) }
+{}
