@@ -84,7 +84,9 @@ fn layout_option<'a>(alloc: Global) -> Arg<'a>
         .long("layout")
         .value_name("FILE")
         .action(ArgAction::Set)
-        .help("A file with the positions of the columns in each record; examples/layout.tsv is one to copy")
+        .help(
+            "A file with the positions of the columns in each record; examples/layout.tsv is one to copy",
+        )
 }
 
 /// `--output FILE`.

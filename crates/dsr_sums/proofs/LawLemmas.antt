@@ -8,7 +8,7 @@ use Rattle.std.proofs.lemmas.List.Elements.{filter-append}
 use Rattle.std.proofs.lemmas.Slice.Eq.{bytes_eq-Decides}
 use Rattle.std.specs.List.{AllByRecursion, flat_map}
 use Rattle.std.specs.Str.{bytes_eq}
-use Rattle.std.specs.Prelude.{ℤ, pos, ◌+ℤ◌, ◌-ℤ◌, filter, map, Option, Some, None}
+use Rattle.std.specs.Prelude.{ℤ, pos, ◌+ℤ◌, ◌-ℤ◌, map, Option, Some, None}
 use Rattle.dsr_ledger.proofs.EachLemmas.{int_sum_by-append}
 use Rattle.dsr_ledger.specs.meaning.Keys.{Key, key_eq}
 use Rattle.dsr_ledger.specs.declared.report.PartyLine.{PartyLine}
