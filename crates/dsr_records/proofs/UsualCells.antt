@@ -1,6 +1,6 @@
 -- Lemmas on the printable bytes of a page, whose other bytes are known as a bit mask.
 use Rattle.std.proofs.Common.{arith, ◌≡◌, ◌<◌, ◌≤◌, ◌+◌, ◌-◌, ◌/◌, ◌^◌, ◌∙◌, ℕ, Bool, List, length, map, take, drop, get_or, true, false, not, cond, inl, inr, sym}
-use Rattle.std.proofs.Common.{ap, w64, pow_mono, length-take, length-drop, refl}
+use Rattle.std.proofs.Common.{ap, w64, pow_mono, length-take, refl}
 use Rattle.std.specs.Int.{bit_at}
 use Rattle.std.specs.Int.Count.{count_trailing_zeros}
 use Rattle.std.specs.List.{list_all, prefix_len}
@@ -12,7 +12,7 @@ use Rattle.std.proofs.lemmas.List.Elements.{All-from_get_or, All-get_or}
 use Rattle.std.proofs.lemmas.List.Sums.{fails_before_first, list_all-from_AllPass, AllPass-from_list_all}
 use Rattle.std.proofs.lemmas.Bool.Decides.{nat_tests}
 use Rattle.std.proofs.lemmas.Nat.Bits.{bit_at-trailing_zeros}
-use Rattle.std.proofs.lemmas.Simd.{trailing_mask_l, bit_mask_l, mask_l-lt}
+use Rattle.std.proofs.lemmas.Simd.{length-chunk, trailing_mask_l, bit_mask_l, mask_l-lt}
 use Rattle.dsr_scan.proofs.TabBits.{mask-drop}
 use Rattle.dsr_records.specs.inner.Usual.{is_printable, odd_bits}
 
@@ -51,37 +51,33 @@ module _ (xs : List ℕ) (odd : ℕ) (few : length xs ≤ 64) (are : odd ≡ odd
       let fails : is_odd (get_or xs k 0) ≡ false = fails_before_first is_odd xs k 0 (omega (arith, low, counted)) in
       ap is_printable (get_or-take first xs k 0 low) ∙ not_odd _ fails))
 
-module _ (page : List ℕ) (at odd : ℕ) (long : 64 ≤ length page) (near : at ≤ 64) (known : odd ≡ odd_bits (drop at (take 64 page))) where
-  left_is : drop at (take 64 page) ≡ take (64 - at) (drop at page)
-  left_is =
-      let whole : at + (64 - at) ≡ 64 = omega (arith, near) in
-      ap (λ n. drop at (take n page)) (sym whole) ∙ drop-take at (64 - at) page
+module _ (page : List ℕ) (at end odd : ℕ) (few : end ≤ at + 64) (inside : end ≤ length page) (known : odd ≡ odd_bits (chunk at (end - at) page)) where
+  module _ (order : at ≤ end) (some : 0 < odd) where
+    seen_length : length (chunk at (end - at) page) ≡ end - at
+    seen_length = length-chunk at (end - at) page (omega (arith, inside, order))
 
-  left_length : length (drop at (take 64 page)) ≡ 64 - at
-  left_length = length-drop at (take 64 page) ∙ (let l = length-take 64 page in omega (arith, l, long))
-
-  module _ (some : 0 < odd) where
-    pub cell_within : at + count_trailing_zeros 64 odd < 64
-    cell_within = omega (arith, near, left_length, run_within (drop at (take 64 page)) odd (omega (arith, left_length)) known some)
+    pub cell_within : at + count_trailing_zeros 64 odd < end
+    cell_within = omega (arith, order, seen_length, run_within (chunk at (end - at) page) odd (omega (arith, seen_length, few)) known some)
 
     pub cell_printable : list_all is_printable (chunk at (count_trailing_zeros 64 odd) page) ≡ true
     cell_printable =
         let n = count_trailing_zeros 64 odd in
-        let same : take n (drop at (take 64 page)) ≡ chunk at n page = ap (take n) left_is ∙ take-take n (64 - at) (drop at page) (omega (arith, cell_within)) in
-        ap (list_all is_printable) (sym same) ∙ run_printable (drop at (take 64 page)) odd (omega (arith, left_length)) known some
+        ap (list_all is_printable) (sym (take-take n (end - at) (drop at page) (omega (arith, cell_within))))
+        ∙ run_printable (chunk at (end - at) page) odd (omega (arith, seen_length, few)) known some
 
-  pub left_behind : (n : ℕ) → odd / 2 ^ n / 2 ≡ odd_bits (drop (at + n + 1) (take 64 page))
-  left_behind n =
+  pub left_behind : (n : ℕ) → at + n < end → odd / 2 ^ n / 2 ≡ odd_bits (chunk (at + n + 1) (end - (at + n + 1)) page)
+  left_behind n less =
+      let cut : n + 1 + (end - (at + n + 1)) ≡ end - at = omega (arith, less) in
+      let next : at + (n + 1) ≡ at + n + 1 = omega arith in
       ap (λ m. m / 2 ^ n / 2) known
-      ∙ ap (λ m. m / 2) (mask-drop is_odd (drop at (take 64 page)) n)
-      ∙ mask-drop is_odd (drop n (drop at (take 64 page))) 1
-      ∙ ap odd_bits (drop-drop 1 n (drop at (take 64 page)) ∙ drop-drop (n + 1) at (take 64 page) ∙ ap (λ k. drop k (take 64 page)) same)
-    where
-      same : at + (n + 1) ≡ at + n + 1
-      same = omega arith
+      ∙ ap (λ m. m / 2) (mask-drop is_odd (chunk at (end - at) page) n)
+      ∙ mask-drop is_odd (drop n (chunk at (end - at) page)) 1
+      ∙ ap odd_bits (drop-drop 1 n (chunk at (end - at) page)
+      ∙ ap (λ k. drop (n + 1) (take k (drop at page))) (sym cut) ∙ drop-take (n + 1) (end - (at + n + 1)) (drop at page)
+      ∙ ap (take (end - (at + n + 1))) (drop-drop (n + 1) at page ∙ ap (λ k. drop k page) next))
 
-pub behind_type : (page : List ℕ) (odd : ℕ) → odd ≡ odd_bits (take 64 page) → odd / 32 ≡ odd_bits (drop 5 (take 64 page))
-behind_type page odd are = ap (λ n. n / 32) are ∙ mask-drop is_odd (take 64 page) 5
+pub behind_type : (page : List ℕ) (odd : ℕ) → odd ≡ odd_bits (chunk 0 64 page) → odd / 32 ≡ odd_bits (chunk 5 59 page)
+behind_type page odd are = ap (λ n. n / 32) are ∙ mask-drop is_odd (chunk 0 64 page) 5 ∙ ap odd_bits (drop-take 5 59 page)
 
 low : (b : ℕ) → is_printable b ≡ true → b < 128
 low b e = grind (arith, nat_tests)

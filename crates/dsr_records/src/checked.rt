@@ -22,7 +22,7 @@ use crate::layout::Layout;
 use crate::layout_line::RoleLine;
 use crate::rest::Rest;
 use crate::row::Row;
-use crate::usual::usual_usage;
+use crate::usual::{usual_resource, usual_usage, usual_work};
 use crate::write::{write_resource, write_usage, write_work};
 use dsr_blocks::{Block, Kind, Record};
 use dsr_cells::{NoMemory, count_cells};
@@ -45,15 +45,23 @@ impl<'l> Model for CheckedLine<'l> {
 }
 
 impl<'l> CheckedLine<'l> {
-    /// The line that a page begins with, by the standard layout, and its length, if it is a usage of the usual form. None
-    /// says nothing. The bytes behind the line are read too. Nothing is allocated.
+    /// The line that a page begins with, by the standard layout, and its length, if it is a resource, a work or a usage of
+    /// the usual form. None says nothing. The bytes behind the line are read too. Nothing is allocated.
     #[inline(always)]
     pub fn usual(page: &'l [u8]) -> Option<(CheckedLine<'l>, usize)>
         ensures line { IfSome result (λ u. BeginsWithLine page.now u.1) }
         ensures record { IfSome result (λ u. record_of standard_layout (take u.1 page.now) ≡ Ok u.0) }
     {
-        let (usage, size) = usual_usage(page)?;
-        let found = RecordLine::Usage(usage);
+        if let Some((usage, size)) = usual_usage(page) {
+            let found = RecordLine::Usage(usage);
+            return Some((CheckedLine { found }, size));
+        }
+        if let Some((resource, size)) = usual_resource(page) {
+            let found = RecordLine::Resource(resource);
+            return Some((CheckedLine { found }, size));
+        }
+        let (work, size) = usual_work(page)?;
+        let found = RecordLine::Work(work);
         Some((CheckedLine { found }, size))
     }
 

@@ -177,7 +177,7 @@ fn add_share(first: &mut FirstShares, share: Share)
 
 /// The number of shares in a list cell; None if a raw part is not a share. The first four are added to `first`, which is
 /// empty.
-fn count_shares(cell: &str, first: &mut FirstShares) -> Option<usize>
+pub(crate) fn count_shares(cell: &str, first: &mut FirstShares) -> Option<usize>
     requires { first.old.items ≡ [] }
     ensures count { result ≡ share_count cell.now }
     ensures first { OnSome result (first.new.items ≡ take 4 (shares_of cell.now)) }

@@ -1,12 +1,16 @@
 -- Lines of the usual form, which are read quickly.
-use Rattle.std.specs.Prelude.{◌≡◌, ◌≢◌, ◌<◌, ◌+◌, ◌-◌, ◌*◌, ◌^◌, ◌||◌, ◌==◌, not, ℕ, Bool, true, List, length, map, take, slice_index}
+use Rattle.std.specs.Prelude.{◌≡◌, ◌≢◌, ◌<◌, ◌+◌, ◌-◌, ◌*◌, ◌^◌, ◌||◌, ◌==◌, not, ℕ, Bool, true, List, ◌++◌, ◌≤◌, Ok, length, map, take, slice_index}
 use Rattle.std.specs.Char.{is_ascii_digit}
 use Rattle.std.specs.Int.Bits.{bit_xor}
 use Rattle.std.specs.Int.{is_in_range}
 use Rattle.std.specs.List.{list_all}
 use Rattle.std.specs.Simd.Lanes.{Each1, chunk, mask_l, number_l}
+use Rattle.dsr_cells.specs.meaning.Cells.{cells}
 use Rattle.dsr_values.specs.inner.Fours.{word_of_four}
 use Rattle.dsr_values.specs.meaning.Numbers.{digits_sum, is_digits}
+use Rattle.dsr_blocks.specs.declared.record.Record.{Record}
+use Rattle.dsr_records.specs.meaning.Layouts.{standard_layout}
+use Rattle.dsr_records.specs.meaning.Values.{record_of}
 
 -- the word that eight bytes make, the first of them the lowest
 abbrev pub word_of_eight : ℕ → ℕ → ℕ → ℕ → ℕ → ℕ → ℕ → ℕ → ℕ
@@ -40,17 +44,37 @@ is_plain b = is_printable b || (b == 9)
 abbrev pub odd_bits : List ℕ → ℕ
 odd_bits bytes = mask_l (map (λ b. not (is_printable b)) bytes)
 
--- these bytes of a page, within its first 64, are printable, and this byte stands behind them
-pub record IsCell (page : List ℕ) (at size end : ℕ) : Type 0 where
-  pub within : at + size < 64
-  pub printable : list_all is_printable (chunk at size page) ≡ true
-  pub ends : slice_index page (at + size) ≡ end
+-- a page begins with a record type of four bytes and a TAB
+pub record BeginsWithType (page name : List ℕ) : Type 0 where
+  pub is : chunk 0 4 page ≡ name
+  pub tab : slice_index page 4 ≡ 9
+  pub printable : list_all is_printable name ≡ true
+  pub begins : slice_index name 0 ≢ 35
 
--- a page begins with a line of this length, fewer than 64 bytes of printable ASCII and TABs, which is not a comment
+-- these are the cells of a page up to an offset, at which the next one begins; up to there it is printable ASCII and TABs, and
+-- it is not a comment
+pub record IsFront (page seen : List ℕ) (at : ℕ) (front : List (List ℕ)) : Type 0 where
+  pub same : seen ≡ page
+  pub some : 0 < at
+  pub begins : slice_index page 0 ≢ 35
+  pub plain : list_all is_plain (take at page) ≡ true
+  pub cuts : (n : ℕ) → at ≤ n → n ≤ length page → cells (take n page) ≡ front ++ cells (chunk at (n - at) page)
+
+-- a page begins with a line of this length, fewer than 128 bytes of printable ASCII and TABs, which is not a comment
 pub record BeginsWithLine (page : List ℕ) (size : ℕ) : Type 0 where
   pub some : 0 < size
-  pub few : size < 64
+  pub few : size < 128
   pub within : size < length page
   pub plain : list_all is_plain (take size page) ≡ true
   pub begins : slice_index page 0 ≢ 35
   pub ends : slice_index page size ≡ 10
+
+-- a page begins with a line of this length, which spells this record by the standard layout
+pub record BeginsWithRecord (page : List ℕ) (size : ℕ) (item : Record) : Type 0 where
+  pub line : BeginsWithLine page size
+  pub spells : record_of standard_layout (take size page) ≡ Ok item
+
+-- a page begins with a line of this length, which has these cells
+pub record IsLineOf (page : List ℕ) (size : ℕ) (row : List (List ℕ)) : Type 0 where
+  pub line : BeginsWithLine page size
+  pub are : cells (take size page) ≡ row

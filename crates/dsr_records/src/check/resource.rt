@@ -17,9 +17,9 @@ use std::marker::Model;
 #[derive(Drop)]
 pub(crate) struct ResourceLine<'l> {
     pub(crate) block_id: &'l str,
-    isrc: &'l str,
-    titles: &'l str,
-    artists: &'l str,
+    pub(crate) isrc: &'l str,
+    pub(crate) titles: &'l str,
+    pub(crate) artists: &'l str,
 }
 
 impl<'l> Model for ResourceLine<'l> {

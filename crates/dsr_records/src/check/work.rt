@@ -21,11 +21,11 @@ use std::marker::Model;
 #[derive(Drop)]
 pub(crate) struct WorkLine<'l> {
     pub(crate) block_id: &'l str,
-    work_id: &'l str,
-    title: &'l str,
-    parties: &'l str,
-    shares: &'l str,
-    first_shares: FirstShares,
+    pub(crate) work_id: &'l str,
+    pub(crate) title: &'l str,
+    pub(crate) parties: &'l str,
+    pub(crate) shares: &'l str,
+    pub(crate) first_shares: FirstShares,
 }
 
 impl<'l> Model for WorkLine<'l> {

@@ -1,39 +1,59 @@
-//! The cells of a line of printable ASCII, found by one look at the first 64 bytes of a page.
-ghost use Rattle.std.specs.Prelude.{◌≡◌, ◌+◌, ◌<◌, ◌≤◌, IfSome, length, take, drop, true};
+//! The cells of a line of printable ASCII, found by one look at 64 bytes of a page.
+ghost use Rattle.std.specs.Prelude.{◌≡◌, ◌+◌, ◌-◌, ◌<◌, ◌≤◌, ◌∷◌, [], ◌++◌, IfSome, IsTrue, List, ℕ, length, true};
 ghost use Rattle.std.specs.List.{list_all};
 ghost use Rattle.std.specs.Simd.Lanes.{chunk};
-ghost use Rattle.dsr_records.specs.inner.Usual.{IsCell, is_printable, odd_bits};
+ghost use Rattle.dsr_values.specs.meaning.Texts.{is_identifier_text};
+ghost use Rattle.dsr_records.specs.inner.Usual.{BeginsWithType, IsFront, IsLineOf, is_printable, odd_bits};
 
 use std::simd::prelude::*;
 use std::str;
 
-/// The bytes among the first 64 that are not printable ASCII.
+/// The number of bytes that are looked at together.
+const LOOK: usize = 64;
+
+/// The number of bytes that a page must have: those behind the bytes that are looked at are read too.
+pub(crate) const PAGE: usize = 96;
+
+/// The last offset of a page from which on bytes are looked at.
+const LAST_LOOK: usize = 64;
+
+/// The bytes among the 64 from an offset of a page that are not printable ASCII.
 #[inline(always)]
-fn odd_of_64(page: &[u8]) -> u64
-    requires { 64 ≤ length page.now }
-    ensures { result ≡ odd_bits (take 64 page.now) }
+fn odd_of_64(page: &[u8], at: usize) -> u64
+    requires { at + 64 ≤ length page.now }
+    ensures { result ≡ odd_bits (chunk at 64 page.now) }
 {
-    (u8x64::from_slice(page) - u8x64::splat(32))
+    (u8x64::from_slice(&page[at..]) - u8x64::splat(32))
         .simd_ge(u8x64::splat(95))
         .to_bitmask()
 }
 
-/// A cell of a page.
+/// A cell of a page, which has 32 bytes or more behind it.
 #[derive(Clone, Copy)]
-pub(crate) struct Cell {
+pub(crate) struct Cell<'p> {
+    pub(crate) page: &'p [u8],
     pub(crate) at: usize,
     pub(crate) size: usize,
+    ghost behind: { at + size + 32 ≤ length page.now },
+    ghost printable: { list_all is_printable (chunk at size page.now) ≡ true },
 }
 
-impl Cell {
+impl<'p> Cell<'p> {
     /// The text of the cell.
     #[inline(always)]
-    pub(crate) fn text(self, page: &[u8]) -> &str
-        requires within { self.at + self.size ≤ length page.now }
-        requires printable { list_all is_printable (chunk self.at self.size page.now) ≡ true }
-        ensures { result.now ≡ chunk self.at self.size page.now }
+    pub(crate) fn text(self) -> &'p str
+        ensures { result.now ≡ chunk self.entry.at self.entry.size self.entry.page.now }
     {
-        unsafe { str::from_utf8_unchecked(&page[self.at..self.at + self.size]) }
+        unsafe { str::from_utf8_unchecked(&self.page[self.at..self.at + self.size]) }
+    }
+
+    /// Whether the cell is an identifier of at most 32 bytes.
+    #[inline(always)]
+    pub(crate) fn is_identifier(self) -> bool
+        ensures { IsTrue result → is_identifier_text 32
+            (chunk self.entry.at self.entry.size self.entry.page.now) ≡ true }
+    {
+        0 < self.size && self.size <= 32
     }
 }
 
@@ -42,32 +62,55 @@ impl Cell {
 pub(crate) struct Cells<'p> {
     page: &'p [u8],
     at: usize,
-    /// Bit k is set if byte k from the offset on, of the first 64 of the page, is not printable ASCII.
+    /// The end of the bytes that were looked at.
+    end: usize,
+    /// Bit k is set if byte k from the offset on, of those that were looked at, is not printable ASCII.
     odd: u64,
-    ghost long: { 64 ≤ length page.now },
-    ghost near: { at ≤ 64 },
-    ghost known: { odd ≡ odd_bits (drop at (take 64 page.now)) },
+    ghost order: { at ≤ end },
+    ghost few: { end ≤ at + 64 },
+    ghost near: { end ≤ 128 },
+    ghost behind: { end + 32 ≤ length page.now },
+    ghost known: { odd ≡ odd_bits (chunk at (end - at) page.now) },
 }
 
 impl<'p> Cells<'p> {
     /// The cells behind the record type of a page, which has four bytes, and its TAB.
     #[inline(always)]
     pub(crate) fn behind_type(page: &'p [u8]) -> Cells<'p>
-        requires { 64 ≤ length page.now }
-        ensures at { result.at ≡ 5 }
-        ensures page { result.page ≡ page.entry }
+        requires { 96 ≤ length page.now }
+        ensures { (name : List ℕ) → BeginsWithType page.now name
+            → IsFront page.now result.page.now result.at (name ∷ []) }
     {
         Cells {
             page,
             at: 5,
-            odd: odd_of_64(page) >> 5,
+            end: LOOK,
+            odd: odd_of_64(page, 0) >> 5,
         }
+    }
+
+    /// The same cells, with the 64 bytes from their offset on looked at, if the page has them.
+    #[inline(always)]
+    pub(crate) fn look(self) -> Option<Cells<'p>>
+        ensures { IfSome result (λ c. (page : List ℕ) (front : List (List ℕ))
+            → IsFront page self.entry.page.now self.entry.at front
+            → IsFront page c.page.now c.at front) }
+    {
+        if self.at > LAST_LOOK || self.page.len() < self.at + PAGE {
+            return None;
+        }
+        Some(Cells {
+            page: self.page,
+            at: self.at,
+            end: self.at + LOOK,
+            odd: odd_of_64(self.page, self.at),
+        })
     }
 
     /// The number of printable bytes, if another byte ends them.
     #[inline(always)]
     fn run(&self) -> Option<usize>
-        ensures within { IfSome result (λ n. self.now.at + n < 64) }
+        ensures within { IfSome result (λ n. self.now.at + n < self.now.end) }
         ensures printable { IfSome result (λ n.
             list_all is_printable (chunk self.now.at n self.now.page.now) ≡ true) }
     {
@@ -79,11 +122,10 @@ impl<'p> Cells<'p> {
 
     /// The next cell, if a TAB ends it, and what is left behind the TAB.
     #[inline(always)]
-    pub(crate) fn next(self) -> Option<(Cell, Cells<'p>)>
-        ensures cell { IfSome result (λ c. (c.0.at ≡ self.entry.at)
-            × IsCell self.entry.page.now self.entry.at c.0.size 9) }
-        ensures left { IfSome result (λ c. (c.1.page ≡ self.entry.page)
-            × (c.1.at ≡ self.entry.at + c.0.size + 1)) }
+    pub(crate) fn next(self) -> Option<(Cell<'p>, Cells<'p>)>
+        ensures { IfSome result (λ c. (page : List ℕ) (front : List (List ℕ))
+            → IsFront page self.entry.page.now self.entry.at front
+            → IsFront page c.1.page.now c.1.at (front ++ chunk c.0.at c.0.size c.0.page.now ∷ [])) }
     {
         let size = self.run()?;
         if self.page[self.at + size] != b'\t' {
@@ -92,21 +134,33 @@ impl<'p> Cells<'p> {
         let left = Cells {
             page: self.page,
             at: self.at + size + 1,
+            end: self.end,
             odd: (self.odd >> size) >> 1,
         };
-        Some((Cell { at: self.at, size }, left))
+        let cell = Cell {
+            page: self.page,
+            at: self.at,
+            size,
+        };
+        Some((cell, left))
     }
 
-    /// The last cell, if a line feed ends it.
+    /// The last cell, if a line feed ends it, and the length of the line.
     #[inline(always)]
-    pub(crate) fn last(self) -> Option<Cell>
-        ensures { IfSome result (λ c. (c.at ≡ self.entry.at)
-            × IsCell self.entry.page.now self.entry.at c.size 10) }
+    pub(crate) fn last(self) -> Option<(Cell<'p>, usize)>
+        ensures { IfSome result (λ c. (page : List ℕ) (front : List (List ℕ))
+            → IsFront page self.entry.page.now self.entry.at front
+            → IsLineOf page c.1 (front ++ chunk c.0.at c.0.size c.0.page.now ∷ [])) }
     {
         let size = self.run()?;
         if self.page[self.at + size] != b'\n' {
             return None;
         }
-        Some(Cell { at: self.at, size })
+        let cell = Cell {
+            page: self.page,
+            at: self.at,
+            size,
+        };
+        Some((cell, self.at + size))
     }
 }

@@ -10,5 +10,5 @@ from_utf8_unchecked-requires c =
     let at = c.args.self.at in
     let size = c.args.self.size in
     let same : size ≡ at + size - at = omega arith in
-    subst (λ n. IsUtf8 (take n (drop at c.args.page.now))) same
-    (IsUtf8-from_ascii (chunk at size c.args.page.now) (printable_ascii (chunk at size c.args.page.now) c.requires.printable))
+    subst (λ n. IsUtf8 (take n (drop at c.args.self.page.now))) same
+    (IsUtf8-from_ascii (chunk at size c.args.self.page.now) (printable_ascii (chunk at size c.args.self.page.now) c.args.self.printable))
