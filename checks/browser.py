@@ -8,7 +8,7 @@ import tempfile
 import time
 
 NAMES = ('chromium', 'chromium-browser', 'google-chrome', 'chrome')
-SECONDS = 60
+SECONDS = 300
 
 
 def installed():
