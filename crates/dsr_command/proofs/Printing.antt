@@ -1,12 +1,10 @@
 -- Lines that are written part by part.
-use Rattle.std.proofs.Common.{◌≡◌, ◌∙◌, ◌+◌, ◌<◌, ◌≤◌, ℕ, List, [], ◌∷◌, ◌++◌, false, true, ap, sym, arith, refl, length, take, drop, map, slice_index_or, Bor}
+use Rattle.std.proofs.Common.{◌≡◌, ◌∙◌, ◌+◌, ◌<◌, ◌≤◌, ℕ, List, [], ◌∷◌, ◌++◌, false, ap, sym, arith, length, take, drop, map, slice_index_or, Bor}
 use Rattle.std.specs.List.{concat}
-use Rattle.std.specs.Io.KnownBytes.{Keeps}
-use Rattle.std.proofs.KnownBytes.{Appends-kept, Appends-nil, Appends-trans}
 use Rattle.std.proofs.lemmas.List.{append_assoc, append-nil, length-append, map-append, take_more, take-append-drop, take-append-le}
 use Rattle.std.proofs.lemmas.List.Folds.{concat-append}
 use Rattle.std.proofs.Math.Seq.{take-append-add}
-use Rattle.dsr_io.specs.meaning.Written.{Written, IsTaken, IsFlushed, IsCut}
+use Rattle.dsr_io.specs.meaning.Written.{Written, IsCut}
 use Rattle.dsr_command.specs.Printing.{IsWritten, joined}
 
 joined_append : (xs ys : List (Bor (List ℕ))) → joined (xs ++ ys) ≡ joined xs ++ joined ys
@@ -26,41 +24,6 @@ joined_at parts i d lt =
     let rest = joined (drop (i + 1) parts) in
     ap joined (sym (take-append-drop (i + 1) parts)) ∙ (joined_append (take (i + 1) parts) (drop (i + 1) parts)
     ∙ (ap (λ l. l ++ rest) (joined_next parts i d lt) ∙ append_assoc (joined (take i parts)) (slice_index_or parts i d).now rest))
-
-pub taken_none : (w : Written) → IsTaken [] w w
-taken_none w = record { added = Appends-nil w.contents; sound = refl; flushes = refl }
-
-pub taken_more : (a b c : Written) (xs ys : List ℕ) → IsTaken xs a b → IsTaken ys b c → IsTaken (xs ++ ys) a c
-taken_more a b c xs ys first second =
-    record {
-      added = Appends-trans a.contents b.contents c.contents xs ys first.added second.added;
-      sound = second.sound ∙ first.sound;
-      flushes = second.flushes ∙ first.flushes;
-    }
-
-pub cut_after : (a b c : Written) (xs ys : List ℕ) → IsTaken xs a b → IsCut ys b c → IsCut (xs ++ ys) a c
-cut_after a b c xs ys first second =
-    record {
-      added = Appends-trans a.contents b.contents c.contents xs ys first.added second.added;
-      failed = second.failed;
-      flushes = second.flushes ∙ first.flushes;
-    }
-
--- the bytes were taken, and then a flush succeeded
-pub flushed_after : (a b c : Written) (xs : List ℕ) → IsTaken xs a b → Keeps b.contents c.contents → c.failed ≡ b.failed
-    → (c.flushes ≡ b.flushes + 1) × (c.unflushed ≡ false) → IsFlushed xs a c
-flushed_after a b c xs taken kept sound once =
-    record {
-      added = Appends-kept a.contents b.contents c.contents xs taken.added kept;
-      sound = sound ∙ taken.sound;
-      once = once.0 ∙ ap (λ n. n + 1) taken.flushes;
-      at_the_end = once.1;
-    }
-
--- the bytes were taken, and then a flush failed
-pub cut_at_flush : (a b c : Written) (xs : List ℕ) → IsTaken xs a b → Keeps b.contents c.contents → c.failed ≡ true → c.flushes ≡ b.flushes → IsCut xs a c
-cut_at_flush a b c xs taken kept failed flushes =
-    record { added = Appends-kept a.contents b.contents c.contents xs taken.added kept; failed = failed; flushes = flushes ∙ taken.flushes }
 
 -- a line of which the front and a part of the rest were written
 pub written_in_part : (a b : Written) (line front part rest : List ℕ) (n : ℕ) → line ≡ front ++ (part ++ rest)

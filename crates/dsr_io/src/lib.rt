@@ -3,8 +3,8 @@
 //! 1. `source`: a [`Source`] gives the bytes of a file. It remembers whether a read has failed, and counts its reads by a
 //!    [`ReadCount`] (`read_count`), so that contracts can say how many were made. [`FromRead`] makes a source of a
 //!    `std::io::Read`.
-//! 2. `outlet`: an [`Outlet`] takes bytes. It remembers whether a write or a flush has failed, and counts its flushes.
-//!    [`write_all`] writes all bytes, or says how many were written.
+//! 2. `outlet`: an [`Outlet`] takes bytes. It remembers whether a write or a flush has failed, and counts its bytes and
+//!    flushes. [`write_all`] writes all bytes, or says how many were written.
 //! 3. `to_write`: [`ToWrite`] makes an outlet of a `std::io::Write`.
 //!
 //! dsr_file passes on what reads, and dsr_statement what writes.

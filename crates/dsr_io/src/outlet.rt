@@ -1,24 +1,27 @@
 //! Outlets: destinations of bytes.
-ghost use Rattle.std.specs.Prelude.{◌≡◌, ◌<◌, ◌≤◌, ◌+◌, true, false, length, take, MatchResult, IfOk};
+ghost use Rattle.std.specs.Prelude.{◌≡◌, ◌<◌, ◌≤◌, ◌+◌, true, false, length, take, MatchResult};
 ghost use Rattle.std.specs.Io.KnownBytes.{WriteAppends, Keeps};
-ghost use Rattle.dsr_io.specs.meaning.Written.{Written, IsTaken, IsCut};
+ghost use Rattle.dsr_io.specs.meaning.Written.{Written, Counts, IsTaken, IsCut};
 
 use crate::source::Failed;
 
-/// A destination of bytes, which knows whether a write or a flush has failed and counts its flushes.
+/// A destination of bytes, which knows whether a write or a flush has failed and counts its bytes and flushes.
 pub trait Outlet {
-    /// What it holds, whether it has failed, how often it was flushed, and whether it has unflushed
-    /// bytes.
+    /// What it holds, how many bytes it took, whether it has failed, how often it was flushed, and
+    /// whether it has unflushed bytes.
     ghost told: { Self → Written };
 
-    /// Takes one or more first bytes of a piece, which is not empty, and returns how many.
+    /// Takes one or more first bytes of a piece, which is not empty, and returns how many. An outlet
+    /// that took 2^64 - 1 bytes takes no more.
     ///
     /// # Errors
     ///
     /// `Failed`: the write failed, and no byte of the piece was taken.
     fn write(&mut self, piece: &[u8]) -> Result<usize, Failed>
         requires { 0 < length piece.now }
-        ensures count { IfOk result (λ n. (0 < n) × (n ≤ length piece.now)) }
+        ensures count { MatchResult result
+            (λ n. (0 < n) × (n ≤ length piece.now) × Counts n (told self.old) (told self.new))
+            (λ _. (told self.new).taken ≡ (told self.old).taken) }
         ensures bytes { WriteAppends (told self.old).contents (told self.new).contents
             result piece.now }
         ensures failed { MatchResult result
@@ -34,7 +37,8 @@ pub trait Outlet {
     ///
     /// `Failed`: the flush failed. The bytes are still held.
     fn flush(&mut self) -> Result<(), Failed>
-        ensures bytes { Keeps (told self.old).contents (told self.new).contents }
+        ensures bytes { Keeps (told self.old).contents (told self.new).contents
+            × ((told self.new).taken ≡ (told self.old).taken) }
         ensures failed { MatchResult result
             (λ _. (told self.new).failed ≡ (told self.old).failed)
             (λ _. (told self.new).failed ≡ true) }

@@ -5,10 +5,11 @@ use crate::outlet::Outlet;
 use crate::source::Failed;
 use std::io::Write;
 
-/// An outlet over a writer. After 2^64 - 1 flushes it fails.
+/// An outlet over a writer. It takes at most 2^64 - 1 bytes and as many flushes, and then fails.
 #[derive(Drop)]
 pub struct ToWrite<W> {
     writer: W,
+    taken: u64,
     failed: bool,
     flushes: u64,
     unflushed: bool,
@@ -20,6 +21,7 @@ impl<W: Write> ToWrite<W> {
         ensures { ⟦<ToWrite<W> as Outlet>⟧.told result
             ≡ record {
               contents = W.contents writer;
+              taken = 0;
               failed = false;
               flushes = 0;
               unflushed = false;
@@ -27,6 +29,7 @@ impl<W: Write> ToWrite<W> {
     {
         ToWrite {
             writer,
+            taken: 0,
             failed: false,
             flushes: 0,
             unflushed: false,
@@ -45,15 +48,18 @@ impl<W: Write> ToWrite<W> {
 impl<W: Write> Outlet for ToWrite<W> {
     ghost told = { λ s. record {
       contents = W.contents s.writer;
+      taken = s.taken;
       failed = s.failed;
       flushes = s.flushes;
       unflushed = s.unflushed;
     } };
 
-    /// A write of 0 bytes is a failure.
+    /// A write of 0 bytes is a failure, as it is if there is no room left in the count.
     fn write(&mut self, piece: &[u8]) -> Result<usize, Failed> {
-        match self.writer.write(piece) {
+        let room = (u64::MAX - self.taken) as usize;
+        match self.writer.write(&piece[..piece.len().min(room)]) {
             Ok(n) if n > 0 => {
+                self.taken += n as u64;
                 self.unflushed = true;
                 Ok(n)
             }

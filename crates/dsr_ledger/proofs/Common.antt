@@ -91,7 +91,6 @@ pub use Rattle.dsr_ledger.specs.inner.Recordings.{IsLineOf, IsWideAt, KeepsKeys,
 pub use Rattle.dsr_ledger.specs.inner.Rooms.{HasPartRoom, SamePartRoom, SameRoom}
 pub use Rattle.dsr_ledger.specs.inner.Seated.{AreSeated, AreSeatsBelow, HasPart, HaveParts, HaveSeats, IsSeated, SeatedMore, shares_of}
 pub use Rattle.dsr_ledger.specs.inner.Seats.{seat_numbers}
-pub use Rattle.dsr_ledger.specs.inner.Sizes.{AreLinesWithin, AreSizesOf, IsKeyWithin, IsLineWithin, IsPartyWithin}
 pub use Rattle.dsr_ledger.specs.inner.Stands.{FileStands, FilesStand, LedgerStands, Took}
 pub use Rattle.dsr_ledger.specs.inner.Summaries.{AreNumbered, StateFits, found_in, index_at, is_known, no_sums, nothing_found, number_at, state_at, state_plus, state_with, sums_at, sums_with}
 pub use Rattle.dsr_ledger.specs.inner.SummaryKeys.{summary_key_cmp, summary_key_eq, summary_key_in}

@@ -1,5 +1,5 @@
 -- What holds of each item of a list, and sums over lists.
-use Rattle.dsr_ledger.proofs.Common.{true≢false, ◌≡◌, ℕ, List, [], ◌∷◌, ◌++◌, length, ◌≤◌, ◌+◌, ◌*◌, sym, ◌∙◌, ap, arith, ◌<◌, take, get_or, length-append, Bool, true, false, cond, suc, set, refl, subst, Option, None, Some, ℤ, pos, ◌+ℤ◌, sum_by, unsigned_abs, All, filter, map, nat_lt, ◌||◌, AllByRecursion, flat_map, list_any, Contains, ints, All-from_recursion, All-filter, All-map, All-more, All-set, All-weaker, recursion_from_All, sum_by-cons, sum_by-le, length-filter, count_by-le-length, int_sum_by, lt-ltb, get_or-map, length-map}
+use Rattle.dsr_ledger.proofs.Common.{true≢false, ◌≡◌, ℕ, List, [], ◌∷◌, ◌++◌, length, ◌≤◌, ◌+◌, ◌*◌, sym, ◌∙◌, ap, arith, get_or, length-append, Bool, true, false, cond, suc, set, refl, Option, None, Some, ℤ, pos, ◌+ℤ◌, sum_by, unsigned_abs, filter, map, nat_lt, ◌||◌, AllByRecursion, flat_map, list_any, Contains, ints, All-from_recursion, All-filter, All-map, All-set, All-weaker, recursion_from_All, sum_by-cons, sum_by-le, length-filter, count_by-le-length, int_sum_by, lt-ltb, get_or-map, length-map}
 
 pub add-assoc : (a b c : ℤ) → (a +ℤ b) +ℤ c ≡ a +ℤ (b +ℤ c)
 add-assoc a b c = omega (arith, ints)
@@ -80,8 +80,3 @@ some_pass p q f same (x ∷ xs) =
 pub some_if : {A : Type 0} (f : Option A → Bool) (o : Option A) → f None ≡ false → f o ≡ true → (x : A) × (o ≡ Some x)
 some_if f None none h = absurd (true≢false (sym h ∙ none))
 some_if f (Some x) none h = (x, refl)
-
--- one more of the first items, while what holds of them gets weaker
-pub all_more : {X : Type 0} (P Q : X → Type 0) → ((x : X) → P x → Q x) → (xs : List X) (i : ℕ) (x : X) → i < length xs → x ≡ get_or xs i x
-    → All P (take i xs) → Q x → All Q (take (i + 1) xs)
-all_more P Q f xs i x below is were one = All-more Q xs i x below (All-weaker P Q f (take i xs) were) (subst Q is one)

@@ -28,7 +28,6 @@ pub mod OpeningLemmas
 pub mod PartLemmas
 pub mod RecordingLemmas
 pub mod SeatedLemmas
-pub mod SizeLemmas
 pub mod SmallLemmas
 pub mod StandLemmas
 pub mod TakingLemmas

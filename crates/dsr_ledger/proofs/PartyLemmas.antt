@@ -59,7 +59,7 @@ names_distinct bs =
     IsDistinct-from_sorted text_cmp (names_of bs)
     (sorted_in_order text_cmp nat_list_cmp_total exact_bytes (party_amount bs) (map (λ q. q.party) (all_parts bs))))
 
-pub any_same : (q : List ℕ) (names : List (List ℕ)) → list_any (bytes_eq q) names ≡ list_any (eq_by_cmp text_cmp q) names
+any_same : (q : List ℕ) (names : List (List ℕ)) → list_any (bytes_eq q) names ≡ list_any (eq_by_cmp text_cmp q) names
 any_same q names = λ i. list_any (λ n. texts_ties q n i) names
 
 -- each party that has a part is named

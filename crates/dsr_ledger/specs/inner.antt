@@ -24,7 +24,6 @@ pub mod Taking
 pub mod Listed
 pub mod Assembly
 pub mod Rooms
-pub mod Sizes
 pub mod SortedLedgers
 pub mod BookedLines
 pub mod Lent

@@ -15,7 +15,6 @@ mod listed;
 mod lists;
 mod ranks;
 mod recordings;
-mod sizes;
 mod tables;
 
 use crate::closed::ClosedBooks;

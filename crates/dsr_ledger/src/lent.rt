@@ -2,9 +2,8 @@
 //!
 //! 1. `party`, `line`: a party's part, and a ledger line.
 //! 2. `reported`, `ledger`: the lines of a report, and those of a report or of books, given one after another.
-//! 3. `sizes`: upper bounds of these lines.
-//! 4. `report`: the whole of it.
-//! 5. `copies`: copies of the lines that are given.
+//! 3. `report`: the whole of it.
+//! 4. `copies`: copies of the lines that are given.
 
 pub mod copies;
 pub mod ledger;
@@ -12,4 +11,3 @@ pub mod line;
 pub mod party;
 pub mod report;
 pub mod reported;
-pub mod sizes;

@@ -23,7 +23,6 @@
 //!    ledger one after another (`assemble/ledger`) to whoever takes them (`taking`), in the order of
 //!    the recordings (`assemble/recordings`) and of the summary keys (`assemble/ranks`). They are made
 //!    in lists with room for the longest (`assemble/lists`), so that giving them allocates nothing.
-//!    How many and how long they are at most is known without making them (`assemble/sizes`).
 //!    They borrow their texts (`lent`); a report has copies of them.
 //!
 //! **Example**, compiled and proved in `crates/dsr_tests/src/books/example.rt`:
@@ -145,7 +144,6 @@ pub use lent::ledger::LentLedger;
 pub use lent::line::LentLine;
 pub use lent::party::LentParty;
 pub use lent::report::LentReport;
-pub use lent::sizes::LedgerSizes;
 pub use report::{
     Difference, Differences, FileLine, FileLines, LedgerLine, LedgerLines, Numbers, Parties,
     PartyLine, Reject, Rejects, Report, ReportKey,

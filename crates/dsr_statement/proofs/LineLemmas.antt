@@ -1,5 +1,5 @@
 -- What is put, cell by cell and line by line.
-use Rattle.std.proofs.Common.{◌≡◌, ℕ, ◌+◌, ◌<◌, ◌≤◌, ◌++◌, ◌∙◌, List, [], ◌∷◌, length, take, get_or, suc, sym, subst, ap, arith, append_assoc}
+use Rattle.std.proofs.Common.{◌≡◌, ℕ, ◌+◌, ◌<◌, ◌≤◌, ◌++◌, ◌∙◌, List, [], ◌∷◌, length, take, get_or, suc, sym, subst, ap, refl, arith, append_assoc}
 use Rattle.std.specs.Prelude.{ℤ}
 use Rattle.std.specs.Fmt.{signed_decimal}
 use Rattle.std.specs.List.{flat_map}
@@ -7,33 +7,38 @@ use Rattle.std.proofs.lemmas.List.{append-nil, take_all, take_more, length-take-
 use Rattle.std.proofs.lemmas.Grind.{flat_map-append}
 use Rattle.dsr_ledger.specs.declared.report.FileLine.{FileLine}
 use Rattle.dsr_statement.specs.meaning.Statement.{file_line, file_lines}
-use Rattle.dsr_statement.specs.inner.Puts.{Puts}
+use Rattle.dsr_io.specs.meaning.Written.{Written}
+use Rattle.dsr_statement.specs.inner.Pieces.{Puts}
+use Rattle.dsr_statement.specs.declared.pieces.Pieces.{Pieces}
 
-pub nothing : {P : Type 0} {after : P → P → List ℕ → Type 0} (p : P) → Puts after p p []
-nothing {P} {after} p = record { carries = λ start put h. rw (append-nil put) h }
+pub nothing : {W : Type 0} {told : W → Written} (p : Pieces W) → Puts told p p []
+nothing {W} {told} p = record { same_outlet = refl; holds = λ put before h. rw (append-nil put) h }
 
-pub then : {P : Type 0} {after : P → P → List ℕ → Type 0} {p q r : P} {xs ys : List ℕ} → Puts after p q xs → Puts after q r ys → Puts after p r (xs ++ ys)
-then {P} {after} {p} {q} {r} {xs} {ys} first second =
-    record { carries = λ start put h. rw (← append_assoc put xs ys) (second.carries start (put ++ xs) (first.carries start put h)) }
+pub then : {W : Type 0} {told : W → Written} {p q r : Pieces W} {xs ys : List ℕ} → Puts told p q xs → Puts told q r ys → Puts told p r (xs ++ ys)
+then {W} {told} {p} {q} {r} {xs} {ys} first second =
+    record {
+      same_outlet = second.same_outlet ∙ first.same_outlet;
+      holds = λ put before h. rw (← append_assoc put xs ys) (second.holds (put ++ xs) before (first.holds put before h));
+    }
 
-pub turn : {P : Type 0} {after : P → P → List ℕ → Type 0} {p q : P} {xs ys : List ℕ} → Puts after p q xs → xs ≡ ys → Puts after p q ys
-turn {P} {after} {p} {q} puts e = subst (λ l. Puts after p q l) e puts
+pub turn : {W : Type 0} {told : W → Written} {p q : Pieces W} {xs ys : List ℕ} → Puts told p q xs → xs ≡ ys → Puts told p q ys
+turn {W} {told} {p} {q} puts e = subst (λ l. Puts told p q l) e puts
 
 -- the lines of one more item
-pub one_more : {P : Type 0} {after : P → P → List ℕ → Type 0} {p q r : P} {X : Type 0} (f : X → List ℕ) (xs : List X) (x : X)
-    → Puts after p q (flat_map f xs) → Puts after q r (f x) → Puts after p r (flat_map f (xs ++ x ∷ []))
+pub one_more : {W : Type 0} {told : W → Written} {p q r : Pieces W} {X : Type 0} (f : X → List ℕ) (xs : List X) (x : X)
+    → Puts told p q (flat_map f xs) → Puts told q r (f x) → Puts told p r (flat_map f (xs ++ x ∷ []))
 one_more f xs x before now = turn (then before now) (sym (flat_map-append f xs (x ∷ []) ∙ ap (λ l. flat_map f xs ++ l) (append-nil (f x))))
 
 -- the lines of the first items of a list, and of one more
-pub more : {P : Type 0} {after : P → P → List ℕ → Type 0} {p q r : P} {X : Type 0} (f : X → List ℕ) (xs : List X) (i : ℕ) (x d : X) → i < length xs
-    → x ≡ get_or xs i d → Puts after p q (flat_map f (take i xs)) → Puts after q r (f x) → Puts after p r (flat_map f (take (i + 1) xs))
+pub more : {W : Type 0} {told : W → Written} {p q r : Pieces W} {X : Type 0} (f : X → List ℕ) (xs : List X) (i : ℕ) (x d : X) → i < length xs
+    → x ≡ get_or xs i d → Puts told p q (flat_map f (take i xs)) → Puts told q r (f x) → Puts told p r (flat_map f (take (i + 1) xs))
 more f xs i x d less is before now =
     let front : take (i + 1) xs ≡ take i xs ++ x ∷ [] = take_more xs i d less ∙ ap (λ y. take i xs ++ y ∷ []) (sym is) in
     turn (one_more f (take i xs) x before now) (sym (ap (flat_map f) front))
 
 -- the lines of all items
-pub all : {P : Type 0} {after : P → P → List ℕ → Type 0} {p q : P} {X : Type 0} (f : X → List ℕ) (xs : List X) (i : ℕ) → length xs ≤ i
-    → Puts after p q (flat_map f (take i xs)) → Puts after p q (flat_map f xs)
+pub all : {W : Type 0} {told : W → Written} {p q : Pieces W} {X : Type 0} (f : X → List ℕ) (xs : List X) (i : ℕ) → length xs ≤ i
+    → Puts told p q (flat_map f (take i xs)) → Puts told p q (flat_map f xs)
 all f xs i end puts = turn puts (ap (flat_map f) (take_all i xs end))
 
 -- the line of one more file
@@ -47,10 +52,10 @@ file_lines_more place (x ∷ xs) f =
     ap (λ l. file_line place x ++ l) (file_lines_more (suc place) xs f ∙ ap (λ n. file_lines (suc place) xs ++ file_line n f) on)
     ∙ sym (append_assoc (file_line place x) (file_lines (suc place) xs) (file_line (place + suc (length xs)) f))
 
-pub more_files : {P : Type 0} {after : P → P → List ℕ → Type 0} {p q r : P} {f : FileLine} (files : List FileLine) (i place : ℕ) (d : FileLine)
-    → i < length files → place ≡ i + 1 → Puts after p q (file_lines 1 (take i files)) → Puts after q r (file_line place f) → f ≡ get_or files i d
-    → Puts after p r (file_lines 1 (take (i + 1) files))
-more_files {P} {after} {p} {q} {r} {f} files i place d less at before now is =
+pub more_files : {W : Type 0} {told : W → Written} {p q r : Pieces W} {f : FileLine} (files : List FileLine) (i place : ℕ) (d : FileLine)
+    → i < length files → place ≡ i + 1 → Puts told p q (file_lines 1 (take i files)) → Puts told q r (file_line place f) → f ≡ get_or files i d
+    → Puts told p r (file_lines 1 (take (i + 1) files))
+more_files {W} {told} {p} {q} {r} {f} files i place d less at before now is =
     let was = take i files in
     let next = take_more files i d less ∙ ap (λ x. was ++ x ∷ []) (sym is) in
     let here : place ≡ 1 + length was = omega (arith, at, length-take-le i files (omega (arith, less))) in
@@ -58,12 +63,12 @@ more_files {P} {after} {p} {q} {r} {f} files i place d less at before now is =
     turn (then before (turn now (ap (λ n. file_line n f) here))) (sym line)
 
 -- the same number, in another form
-pub signed : {P : Type 0} {after : P → P → List ℕ → Type 0} {p q : P} {n : ℤ} (m : ℤ)
-    → Puts after p q (9 ∷ signed_decimal n) → n ≡ m → Puts after p q (9 ∷ signed_decimal m)
+pub signed : {W : Type 0} {told : W → Written} {p q : Pieces W} {n : ℤ} (m : ℤ)
+    → Puts told p q (9 ∷ signed_decimal n) → n ≡ m → Puts told p q (9 ∷ signed_decimal m)
 signed m puts same = turn puts (ap (λ x. 9 ∷ signed_decimal x) same)
 
 -- the same cell, in another form
-pub cell : {P : Type 0} {after : P → P → List ℕ → Type 0} {p q : P} {x : List ℕ} (y : List ℕ) → Puts after p q (9 ∷ x) → x ≡ y → Puts after p q (9 ∷ y)
+pub cell : {W : Type 0} {told : W → Written} {p q : Pieces W} {x : List ℕ} (y : List ℕ) → Puts told p q (9 ∷ x) → x ≡ y → Puts told p q (9 ∷ y)
 cell y puts same = turn puts (ap (λ l. 9 ∷ l) same)
 
 -- the cells of a report's line, with the two days put at once

@@ -1,5 +1,3 @@
 -- The definitions that relate the code to those of `meaning`.
 pub mod Pieces
-pub mod Puts
-pub mod Bound
 pub mod Laid

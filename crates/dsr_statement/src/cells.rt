@@ -2,14 +2,15 @@
 ghost use Rattle.std.specs.Prelude.{◌∷◌, ◌++◌, [], decimal};
 ghost use Rattle.std.specs.Fmt.{signed_decimal};
 ghost use Rattle.dsr_statement.specs.meaning.Statement.{amount_cell};
-ghost use Rattle.dsr_statement.specs.inner.Puts.{Puts};
+ghost use Rattle.dsr_statement.specs.inner.Pieces.{Puts};
 
-use crate::put::Put;
+use crate::pieces::Pieces;
+use dsr_io::Outlet;
 
 /// Puts a text.
 #[inline(always)]
-pub(crate) fn put_text<P: Put>(out: &mut P, text: &[u8])
-    ensures { Puts P.after out.old out.new (9 ∷ text.now) }
+pub(crate) fn put_text<W: Outlet>(out: &mut Pieces<'_, W>, text: &[u8])
+    ensures { Puts W.told out.old out.new (9 ∷ text.now) }
 {
     out.put(b"\t");
     out.put(text);
@@ -17,8 +18,8 @@ pub(crate) fn put_text<P: Put>(out: &mut P, text: &[u8])
 
 /// Puts a number.
 #[inline(always)]
-pub(crate) fn put_number<P: Put>(out: &mut P, number: u64)
-    ensures { Puts P.after out.old out.new (9 ∷ decimal number) }
+pub(crate) fn put_number<W: Outlet>(out: &mut Pieces<'_, W>, number: u64)
+    ensures { Puts W.told out.old out.new (9 ∷ decimal number) }
 {
     out.put(b"\t");
     out.put_decimal(number);
@@ -26,8 +27,8 @@ pub(crate) fn put_number<P: Put>(out: &mut P, number: u64)
 
 /// Puts a number that may be below zero.
 #[inline(always)]
-pub(crate) fn put_signed<P: Put>(out: &mut P, number: i128)
-    ensures { Puts P.after out.old out.new (9 ∷ signed_decimal number) }
+pub(crate) fn put_signed<W: Outlet>(out: &mut Pieces<'_, W>, number: i128)
+    ensures { Puts W.told out.old out.new (9 ∷ signed_decimal number) }
 {
     out.put(b"\t");
     out.put_signed_decimal(number);
@@ -35,24 +36,24 @@ pub(crate) fn put_signed<P: Put>(out: &mut P, number: i128)
 
 /// Puts an amount.
 #[inline(always)]
-pub(crate) fn put_amount<P: Put>(out: &mut P, amount: i128)
-    ensures { Puts P.after out.old out.new (9 ∷ amount_cell amount) }
+pub(crate) fn put_amount<W: Outlet>(out: &mut Pieces<'_, W>, amount: i128)
+    ensures { Puts W.told out.old out.new (9 ∷ amount_cell amount) }
 {
     out.put_amount(amount, false);
 }
 
 /// Puts an amount, and the end of the line.
 #[inline(always)]
-pub(crate) fn put_last_amount<P: Put>(out: &mut P, amount: i128)
-    ensures { Puts P.after out.old out.new (9 ∷ amount_cell amount ++ 10 ∷ []) }
+pub(crate) fn put_last_amount<W: Outlet>(out: &mut Pieces<'_, W>, amount: i128)
+    ensures { Puts W.told out.old out.new (9 ∷ amount_cell amount ++ 10 ∷ []) }
 {
     out.put_amount(amount, true);
 }
 
 /// Puts the end of a line.
 #[inline(always)]
-pub(crate) fn put_end<P: Put>(out: &mut P)
-    ensures { Puts P.after out.old out.new (10 ∷ []) }
+pub(crate) fn put_end<W: Outlet>(out: &mut Pieces<'_, W>)
+    ensures { Puts W.told out.old out.new (10 ∷ []) }
 {
     out.put(b"\n");
 }

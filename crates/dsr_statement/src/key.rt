@@ -1,25 +1,22 @@
 //! The cells with which each line of a ledger key begins.
 ghost use Rattle.std.specs.Prelude.{◌≡◌, ◌++◌, ◌∷◌, true, IfSome};
 ghost use Rattle.dsr_statement.specs.meaning.Statement.{tabbed, key_cells};
-ghost use Rattle.dsr_statement.specs.inner.Puts.{Puts};
+ghost use Rattle.dsr_statement.specs.inner.Pieces.{Puts};
 
 use crate::cells::put_text;
-use crate::put::Put;
+use crate::pieces::Pieces;
 use crate::slice_buffer::SliceBuffer;
+use dsr_io::Outlet;
 use dsr_ledger::LentLine;
 
 /// Room for this many bytes of a key's cells.
 pub(crate) const KEY_ROOM: usize = 256;
 
-/// The cells of a key, written into this room, if they are wanted and fit.
-pub(crate) fn laid_key<'a>(
-    are_wanted: bool,
-    room: &'a mut SliceBuffer<'_>,
-    line: &LentLine<'_>,
-) -> Option<&'a [u8]>
+/// The cells of a key, written into this room, if they fit.
+pub(crate) fn laid_key<'a>(room: &'a mut SliceBuffer<'_>, line: &LentLine<'_>) -> Option<&'a [u8]>
     ensures { IfSome result (λ k. k.now ≡ tabbed (key_cells line.now)) }
 {
-    if are_wanted && lay_key(room, line) {
+    if lay_key(room, line) {
         Some(room.as_slice())
     } else {
         None
@@ -47,9 +44,9 @@ fn lay_cell(room: &mut SliceBuffer<'_>, cell: &[u8]) -> bool
 
 /// Puts the cells of a line's key: those of `key`, if they were laid there.
 #[inline(always)]
-pub(crate) fn put_key<P: Put>(out: &mut P, key: Option<&[u8]>, line: &LentLine<'_>)
+pub(crate) fn put_key<W: Outlet>(out: &mut Pieces<'_, W>, key: Option<&[u8]>, line: &LentLine<'_>)
     requires { IfSome key (λ k. k.now ≡ tabbed (key_cells line.now)) }
-    ensures { Puts P.after out.old out.new (tabbed (key_cells line.now)) }
+    ensures { Puts W.told out.old out.new (tabbed (key_cells line.now)) }
 {
     match key {
         Some(cells) => out.put(cells),
@@ -58,8 +55,8 @@ pub(crate) fn put_key<P: Put>(out: &mut P, key: Option<&[u8]>, line: &LentLine<'
 }
 
 /// Puts the cells of a line's key one by one.
-fn put_key_cells<P: Put>(out: &mut P, line: &LentLine<'_>)
-    ensures { Puts P.after out.old out.new (tabbed (key_cells line.now)) }
+fn put_key_cells<W: Outlet>(out: &mut Pieces<'_, W>, line: &LentLine<'_>)
+    ensures { Puts W.told out.old out.new (tabbed (key_cells line.now)) }
 {
     put_text(out, line.isrc.as_bytes());
     put_text(out, line.territory.as_str().as_bytes());

@@ -1,9 +1,8 @@
 //! The statement of a report: its bytes, how they are written, and whether it has remarks.
 //!
 //! 1. `room`: allocates all memory that writing the statement needs, before its first byte is written.
-//! 2. `write`: puts the statement, by `lines`, `cells`, `key` and `names`, into a `Put` (`put`): first into `bound`,
-//!    which computes an upper bound of its bytes (that of the ledger's lines by `ledger_bytes`), then into `pieces`.
-//!    `ledger_put` puts the lines of the ledger as they are given.
+//! 2. `write`: puts the statement, by `lines`, `cells`, `key` and `names`, into `pieces`. `ledger_put` puts the lines of the
+//!    ledger as they are given.
 //! 3. `pieces`: writes what is put to an [`Outlet`] of dsr_io, in pieces of up to 64 KiB, and flushes it at the end. What
 //!    waits is in a `slice_buffer`, into which `copying` copies each cell.
 //! 4. `remarks`: whether the statement has remarks (`verdict`).
@@ -22,23 +21,20 @@
 //!
 //! **The promise.** What `write_statement` writes to an outlet and then flushes is exactly the statement of the report, as
 //! defined in `specs/`; if a write or the flush fails, exactly the reported number of its first bytes was written.
-//! `room_for` allocates all memory for this, and refuses a statement that may be too long for that number. `statement`
-//! returns the same bytes. The status is that of the same report.
+//! [`Room::new`] allocates all memory for this, and `write_statement` none. `statement` returns the same bytes. The status
+//! is that of the same report.
 //!
 //! **Where to begin.** `specs/meaning/Statement.antt` and `specs/meaning/Status.antt` have the definitions, and
 //! `Written.antt` of dsr_io what an outlet tells; `src/lines.rt` puts each line, and `src/write.rt` the whole.
 #![tactic(auto)]
 
-mod bound;
 mod cells;
 mod copying;
 mod key;
-mod ledger_bytes;
 mod ledger_put;
 mod lines;
 mod names;
 mod pieces;
-mod put;
 mod remarks;
 mod room;
 mod slice_buffer;
@@ -49,4 +45,4 @@ pub use dsr_io::{Outlet, ToWrite, write_all};
 pub use remarks::{lent_status, status};
 pub use room::Room;
 pub use verdict::Status;
-pub use write::{room_for, statement, write_statement};
+pub use write::{statement, write_statement};

@@ -6,21 +6,22 @@ ghost use Rattle.dsr_statement.specs.meaning.Statement.{tabbed, head_line, repor
 ghost use Rattle.dsr_statement.specs.meaning.Statement.{key_cells, file_line, missing_line, difference_line, ledger_lines};
 ghost use Rattle.dsr_statement.specs.meaning.Statement.{sums_line, party_line, unclaimed_line, reject_line};
 ghost use Rattle.dsr_statement.specs.inner.Laid.{day_cells};
-ghost use Rattle.dsr_statement.specs.inner.Puts.{Puts};
+ghost use Rattle.dsr_statement.specs.inner.Pieces.{Puts};
 
 use crate::cells::{put_amount, put_end, put_last_amount, put_number, put_signed, put_text};
 use crate::key::{laid_key, put_key};
 use crate::names::{reason_name, standing_name};
-use crate::put::Put;
+use crate::pieces::Pieces;
 use crate::slice_buffer::SliceBuffer;
 use dsr_blocks::Column;
 use dsr_events::Outcome;
+use dsr_io::Outlet;
 use dsr_ledger::{Difference, FileLine, LentLine, LentParty, Reject, ReportKey};
 
 /// Puts the first line. `days` has the cells of the report's days.
-pub(crate) fn put_head<P: Put>(out: &mut P, key: &Option<ReportKey>, days: &[u8])
+pub(crate) fn put_head<W: Outlet>(out: &mut Pieces<'_, W>, key: &Option<ReportKey>, days: &[u8])
     requires { IfSome key.now (λ k. days.now ≡ day_cells k) }
-    ensures { Puts P.after out.old out.new (head_line key.now) }
+    ensures { Puts W.told out.old out.new (head_line key.now) }
 {
     match key {
         Some(key) => put_report(out, key, days),
@@ -32,9 +33,9 @@ pub(crate) fn put_head<P: Put>(out: &mut P, key: &Option<ReportKey>, days: &[u8]
 }
 
 /// Puts the line of the report's key. `days` has the cells of its days.
-fn put_report<P: Put>(out: &mut P, key: &ReportKey, days: &[u8])
+fn put_report<W: Outlet>(out: &mut Pieces<'_, W>, key: &ReportKey, days: &[u8])
     requires { days.now ≡ day_cells key.now }
-    ensures { Puts P.after out.old out.new (report_line key.now) }
+    ensures { Puts W.told out.old out.new (report_line key.now) }
 {
     let first = i128::from(key.first_day.number());
     let last = i128::from(key.last_day.number());
@@ -47,8 +48,8 @@ fn put_report<P: Put>(out: &mut P, key: &ReportKey, days: &[u8])
 }
 
 /// Puts the line of the file at this place in the order given, from 1.
-pub(crate) fn put_file<P: Put>(out: &mut P, place: u64, file: &FileLine)
-    ensures { Puts P.after out.old out.new (file_line place file.now) }
+pub(crate) fn put_file<W: Outlet>(out: &mut Pieces<'_, W>, place: u64, file: &FileLine)
+    ensures { Puts W.told out.old out.new (file_line place file.now) }
 {
     out.put(b"FILE");
     put_number(out, place);
@@ -60,8 +61,8 @@ pub(crate) fn put_file<P: Put>(out: &mut P, place: u64, file: &FileLine)
 }
 
 /// Puts the number that a file's opening gives it, or a hyphen.
-fn put_file_number<P: Put>(out: &mut P, number: Option<u32>)
-    ensures { Puts P.after out.old out.new (9 ∷ number_cell number) }
+fn put_file_number<W: Outlet>(out: &mut Pieces<'_, W>, number: Option<u32>)
+    ensures { Puts W.told out.old out.new (9 ∷ number_cell number) }
 {
     match number {
         Some(number) => put_number(out, u64::from(number)),
@@ -70,8 +71,8 @@ fn put_file_number<P: Put>(out: &mut P, number: Option<u32>)
 }
 
 /// Puts the cells that say how a file ended.
-fn put_outcome<P: Put>(out: &mut P, outcome: Outcome)
-    ensures { Puts P.after out.old out.new (tabbed (outcome_cells outcome)) }
+fn put_outcome<W: Outlet>(out: &mut Pieces<'_, W>, outcome: Outcome)
+    ensures { Puts W.told out.old out.new (tabbed (outcome_cells outcome)) }
 {
     match outcome {
         Outcome::Whole => put_text(out, b"Whole"),
@@ -85,8 +86,8 @@ fn put_outcome<P: Put>(out: &mut P, outcome: Outcome)
 }
 
 /// Puts the column, if the fault has one.
-fn put_column<P: Put>(out: &mut P, column: Option<Column>)
-    ensures { Puts P.after out.old out.new (tabbed (column_cells column)) }
+fn put_column<W: Outlet>(out: &mut Pieces<'_, W>, column: Option<Column>)
+    ensures { Puts W.told out.old out.new (tabbed (column_cells column)) }
 {
     match column {
         Some(column) => put_text(out, column.name().as_bytes()),
@@ -95,8 +96,8 @@ fn put_column<P: Put>(out: &mut P, column: Option<Column>)
 }
 
 /// Puts the line of a missing file.
-pub(crate) fn put_missing<P: Put>(out: &mut P, number: u32)
-    ensures { Puts P.after out.old out.new (missing_line number) }
+pub(crate) fn put_missing<W: Outlet>(out: &mut Pieces<'_, W>, number: u32)
+    ensures { Puts W.told out.old out.new (missing_line number) }
 {
     out.put(b"MISSING");
     put_number(out, u64::from(number));
@@ -104,8 +105,8 @@ pub(crate) fn put_missing<P: Put>(out: &mut P, number: u32)
 }
 
 /// Puts the line of a difference.
-pub(crate) fn put_difference<P: Put>(out: &mut P, difference: &Difference)
-    ensures { Puts P.after out.old out.new (difference_line difference.now) }
+pub(crate) fn put_difference<W: Outlet>(out: &mut Pieces<'_, W>, difference: &Difference)
+    ensures { Puts W.told out.old out.new (difference_line difference.now) }
 {
     out.put(b"SUMMARY");
     put_number(out, u64::from(difference.file));
@@ -116,8 +117,8 @@ pub(crate) fn put_difference<P: Put>(out: &mut P, difference: &Difference)
 }
 
 /// Puts the usages that a summary states, and those that were found for it.
-fn put_usages<P: Put>(out: &mut P, stated: i64, found: i128)
-    ensures { Puts P.after out.old out.new
+fn put_usages<W: Outlet>(out: &mut Pieces<'_, W>, stated: i64, found: i128)
+    ensures { Puts W.told out.old out.new
         (tabbed (signed_decimal stated ∷ signed_decimal found ∷ [])) }
 {
     put_signed(out, i128::from(stated));
@@ -126,19 +127,23 @@ fn put_usages<P: Put>(out: &mut P, stated: i64, found: i128)
 
 /// Puts the lines of a ledger line: its sums, its parties, and the unclaimed amount. The cells of
 /// the key, with which each of them begins, are written into `room` once.
-pub(crate) fn put_ledger<P: Put>(out: &mut P, room: &mut SliceBuffer<'_>, line: &LentLine<'_>)
-    ensures { Puts P.after out.old out.new (ledger_lines line.now) }
+pub(crate) fn put_ledger<W: Outlet>(
+    out: &mut Pieces<'_, W>,
+    room: &mut SliceBuffer<'_>,
+    line: &LentLine<'_>,
+)
+    ensures { Puts W.told out.old out.new (ledger_lines line.now) }
 {
-    let key = laid_key(out.copies_bytes(), room, line);
+    let key = laid_key(room, line);
     put_sums(out, key, line);
     put_parties(out, key, line);
     put_unclaimed(out, key, line)
 }
 
 /// Puts the line of a key's sums. `key` has the key's cells, if they fit.
-fn put_sums<P: Put>(out: &mut P, key: Option<&[u8]>, line: &LentLine<'_>)
+fn put_sums<W: Outlet>(out: &mut Pieces<'_, W>, key: Option<&[u8]>, line: &LentLine<'_>)
     requires { IfSome key (λ k. k.now ≡ tabbed (key_cells line.now)) }
-    ensures { Puts P.after out.old out.new (sums_line line.now) }
+    ensures { Puts W.told out.old out.new (sums_line line.now) }
 {
     out.put(b"LEDGER");
     put_key(out, key, line);
@@ -147,9 +152,9 @@ fn put_sums<P: Put>(out: &mut P, key: Option<&[u8]>, line: &LentLine<'_>)
 }
 
 /// Puts the lines of a key's parties. `key` has the key's cells, if they fit.
-fn put_parties<P: Put>(out: &mut P, key: Option<&[u8]>, line: &LentLine<'_>)
+fn put_parties<W: Outlet>(out: &mut Pieces<'_, W>, key: Option<&[u8]>, line: &LentLine<'_>)
     requires { IfSome key (λ k. k.now ≡ tabbed (key_cells line.now)) }
-    ensures { Puts P.after out.old out.new (flat_map (party_line line.now) line.now.parties) }
+    ensures { Puts W.told out.old out.new (flat_map (party_line line.now) line.now.parties) }
 {
     for party in line.parties {
         put_party(out, key, line, party);
@@ -157,9 +162,14 @@ fn put_parties<P: Put>(out: &mut P, key: Option<&[u8]>, line: &LentLine<'_>)
 }
 
 /// Puts the line of a party. `key` has the key's cells, if they fit.
-fn put_party<P: Put>(out: &mut P, key: Option<&[u8]>, line: &LentLine<'_>, party: &LentParty<'_>)
+fn put_party<W: Outlet>(
+    out: &mut Pieces<'_, W>,
+    key: Option<&[u8]>,
+    line: &LentLine<'_>,
+    party: &LentParty<'_>,
+)
     requires { IfSome key (λ k. k.now ≡ tabbed (key_cells line.now)) }
-    ensures { Puts P.after out.old out.new (party_line line.now party.now) }
+    ensures { Puts W.told out.old out.new (party_line line.now party.now) }
 {
     out.put(b"PARTY");
     put_key(out, key, line);
@@ -168,9 +178,9 @@ fn put_party<P: Put>(out: &mut P, key: Option<&[u8]>, line: &LentLine<'_>, party
 }
 
 /// Puts the line of a key's unclaimed amount. `key` has the key's cells, if they fit.
-fn put_unclaimed<P: Put>(out: &mut P, key: Option<&[u8]>, line: &LentLine<'_>)
+fn put_unclaimed<W: Outlet>(out: &mut Pieces<'_, W>, key: Option<&[u8]>, line: &LentLine<'_>)
     requires { IfSome key (λ k. k.now ≡ tabbed (key_cells line.now)) }
-    ensures { Puts P.after out.old out.new (unclaimed_line line.now) }
+    ensures { Puts W.told out.old out.new (unclaimed_line line.now) }
 {
     out.put(b"UNCLAIMED");
     put_key(out, key, line);
@@ -178,8 +188,8 @@ fn put_unclaimed<P: Put>(out: &mut P, key: Option<&[u8]>, line: &LentLine<'_>)
 }
 
 /// Puts the line of a rejected block.
-pub(crate) fn put_reject<P: Put>(out: &mut P, reject: &Reject)
-    ensures { Puts P.after out.old out.new (reject_line reject.now) }
+pub(crate) fn put_reject<W: Outlet>(out: &mut Pieces<'_, W>, reject: &Reject)
+    ensures { Puts W.told out.old out.new (reject_line reject.now) }
 {
     out.put(b"REJECT");
     put_number(out, u64::from(reject.file));

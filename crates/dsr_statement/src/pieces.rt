@@ -1,9 +1,10 @@
 //! Writing the bytes of a statement to an outlet, in pieces.
-ghost use Rattle.std.specs.Prelude.{◌≡◌, ◌<◌, ◌≤◌, ◌++◌, [], List, ℕ, true, false, if◌then◌else◌, length, take, OnOk, IfErr};
+ghost use Rattle.std.specs.Prelude.{◌≡◌, ◌≤◌, ◌++◌, ◌∷◌, [], List, ℕ, true, false, if◌then◌else◌, decimal, length, take, OnOk, IfErr};
+ghost use Rattle.std.specs.Fmt.{signed_decimal};
 ghost use Rattle.dsr_io.specs.meaning.Written.{Written, IsFlushed, IsCut};
-ghost use Rattle.dsr_statement.specs.inner.Pieces.{IsSent, Holds, Carries, MOST};
+ghost use Rattle.dsr_statement.specs.meaning.Statement.{amount_cell};
+ghost use Rattle.dsr_statement.specs.inner.Pieces.{IsSent, Holds, Puts, end_of_line};
 
-use crate::put::Put;
 use crate::slice_buffer::SliceBuffer;
 use dsr_cells::fill_amount;
 use dsr_io::{Failed, Outlet, write_all};
@@ -32,6 +33,7 @@ impl<'a, W: Outlet> Sender<'a, W> {
             return;
         }
         match write_all(self.out, bytes) {
+            // The count fits: the outlet has counted these bytes too.
             Ok(()) => self.written = self.written.saturating_add(bytes.len() as u64),
             Err(count) => {
                 self.failed = true;
@@ -69,7 +71,7 @@ impl<'a, W: Outlet> Pieces<'a, W> {
     /// Lets these bytes wait if there is room for them. Returns whether they wait.
     #[inline(always)]
     fn keep(&mut self, bytes: &[u8]) -> bool
-        ensures { Carries W.told self.old self.new (if result then bytes.now else []) }
+        ensures { Puts W.told self.old self.new (if result then bytes.now else []) }
     {
         self.waiting.append(bytes)
     }
@@ -78,7 +80,7 @@ impl<'a, W: Outlet> Pieces<'a, W> {
     #[cold]
     #[inline(never)]
     fn put_past(&mut self, bytes: &[u8])
-        ensures { Carries W.told self.old self.new bytes.now }
+        ensures { Puts W.told self.old self.new bytes.now }
     {
         self.send_waiting();
         if self.keep(bytes) {
@@ -89,7 +91,7 @@ impl<'a, W: Outlet> Pieces<'a, W> {
 
     /// Writes what waits, and then these bytes.
     fn send_past(&mut self, bytes: &[u8])
-        ensures { Carries W.told self.old self.new bytes.now }
+        ensures { Puts W.told self.old self.new bytes.now }
     {
         self.send_waiting();
         self.sender.send(bytes);
@@ -97,7 +99,7 @@ impl<'a, W: Outlet> Pieces<'a, W> {
 
     /// Writes what waits.
     fn send_waiting(&mut self)
-        ensures nothing { Carries W.told self.old self.new [] }
+        ensures nothing { Puts W.told self.old self.new [] }
         ensures empty { self.new.waiting ≡ [] }
     {
         self.sender.send(self.waiting.as_slice());
@@ -111,7 +113,7 @@ impl<'a, W: Outlet> Pieces<'a, W> {
             → Holds W.told put before self.old
             → IsFlushed put before (W.told self.new.sender.out.now)) }
         ensures part { IfErr result (λ n. (put : List ℕ) (before : Written)
-            → Holds W.told put before self.old → length put < MOST
+            → Holds W.told put before self.old
             → (n ≤ length put) × IsCut (take n put) before (W.told self.new.sender.out.now)) }
     {
         self.send_waiting();
@@ -135,28 +137,38 @@ impl<'a, W: Outlet> Pieces<'a, W> {
     }
 }
 
-impl<'a, W: Outlet> Put for Pieces<'a, W> {
-    ghost after = { Carries W.told };
-
+impl<'a, W: Outlet> Pieces<'a, W> {
+    /// Puts bytes.
     #[inline(always)]
-    fn put(&mut self, bytes: &[u8]) {
+    pub(crate) fn put(&mut self, bytes: &[u8])
+        ensures { Puts W.told self.old self.new bytes.now }
+    {
         if self.keep(bytes) {
             return;
         }
         self.put_past(bytes);
     }
 
-    fn put_decimal(&mut self, number: u64) {
+    /// Puts the digits of a number.
+    pub(crate) fn put_decimal(&mut self, number: u64)
+        ensures { Puts W.told self.old self.new (decimal number) }
+    {
         let mut buffer = Buffer::new();
         self.put(buffer.format(number).as_bytes());
     }
 
-    fn put_signed_decimal(&mut self, number: i128) {
+    /// Puts the digits of a number that may be below zero, with its sign.
+    pub(crate) fn put_signed_decimal(&mut self, number: i128)
+        ensures { Puts W.told self.old self.new (signed_decimal number) }
+    {
         let mut buffer = Buffer::new();
         self.put(buffer.format(number).as_bytes());
     }
 
-    fn put_amount(&mut self, amount: i128, is_last: bool) {
+    /// Puts the cell of an amount, after a tab, and the end of the line if it is the last cell.
+    pub(crate) fn put_amount(&mut self, amount: i128, is_last: bool)
+        ensures { Puts W.told self.old self.new (9 ∷ amount_cell amount ++ end_of_line is_last) }
+    {
         // `fill_amount` leaves the last byte, so the end of the line is already there.
         let mut cell = [b'\n'; 64];
         let start = fill_amount(&mut cell, amount) - 1;
@@ -165,17 +177,12 @@ impl<'a, W: Outlet> Put for Pieces<'a, W> {
         self.put(&cell[start..end]);
     }
 
-    fn copies_bytes(&self) -> bool {
-        true
-    }
-
-    /// The bytes themselves matter.
-    fn put_length(&mut self, _most: u64) -> bool {
-        false
-    }
-
-    /// Once the outlet has failed, what waits is never written.
-    fn drop_if_failed(&mut self) -> bool {
+    /// If the outlet has failed, drops the bytes that wait, which are never written; any further bytes then count as put.
+    /// Returns whether it has failed; if not, nothing changes.
+    pub(crate) fn drop_if_failed(&mut self) -> bool
+        ensures dropped { result ≡ true → (bytes : List ℕ) → Puts W.told self.old self.new bytes }
+        ensures kept { result ≡ false → self.new ≡ self.old }
+    {
         if !self.sender.failed {
             return false;
         }

@@ -22,7 +22,11 @@ pub struct Room {
 
 impl Room {
     /// All memory that writing the statement of the report with this key needs.
-    pub(crate) fn new(alloc: Global, key: &Option<ReportKey>) -> Result<Room, NoMemory>
+    ///
+    /// # Errors
+    ///
+    /// `NoMemory`: out of memory.
+    pub fn new(alloc: Global, key: &Option<ReportKey>) -> Result<Room, NoMemory>
         ensures { IfOk result (λ r. IfSome key.now (λ k. r.days.items ≡ day_cells k)) }
     {
         Ok(Room {

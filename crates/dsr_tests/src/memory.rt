@@ -28,6 +28,7 @@ struct Mirror {
 impl Outlet for Mirror {
     ghost told = { λ s. record {
       contents = None;
+      taken = s.written;
       failed = s.failed;
       flushes = s.flushes;
       unflushed
@@ -35,10 +36,14 @@ impl Outlet for Mirror {
     } };
 
     fn write(&mut self, piece: &[u8]) -> Result<usize, Failed> {
+        let Some(written) = self.written.checked_add(piece.len()) else {
+            self.failed = true;
+            return Err(Failed);
+        };
         if !stands_at(self.expected, self.written, piece) {
             self.agrees = false;
         }
-        self.written = self.written.wrapping_add(piece.len());
+        self.written = written;
         self.unflushed = true;
         Ok(piece.len())
     }

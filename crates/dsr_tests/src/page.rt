@@ -1,5 +1,5 @@
 //! An outlet that fails at a given point.
-ghost use Rattle.std.specs.Prelude.{◌≡◌, None, false};
+ghost use Rattle.std.specs.Prelude.{◌≡◌, None, false, length};
 
 use dsr_file::Failed;
 use dsr_intake::Outlet;
@@ -70,6 +70,7 @@ impl Page {
 impl Outlet for Page {
     ghost told = { λ s. record {
       contents = None;
+      taken = length s.bytes.items;
       failed = s.failed;
       flushes = s.flush_count;
       unflushed = s.unflushed;

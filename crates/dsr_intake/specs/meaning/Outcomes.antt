@@ -34,6 +34,7 @@ pub record IsReported {R : Type 0} (told : R → Told) (options : Options) (read
 -- nothing was written or flushed
 pub record IsUntouched (before after : Written) : Type 0 where
   pub kept : Keeps before.contents after.contents
+  pub taken : after.taken ≡ before.taken
   pub failed : after.failed ≡ before.failed
   pub flushes : after.flushes ≡ before.flushes
   pub unflushed : after.unflushed ≡ before.unflushed

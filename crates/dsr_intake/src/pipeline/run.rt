@@ -19,7 +19,7 @@ use crate::pipeline::options::Options;
 use dsr_cells::NoMemory;
 use dsr_file::Source;
 use dsr_ledger::{ClosedBooks, LentReport};
-use dsr_statement::{Outlet, Status, lent_status, room_for, write_statement};
+use dsr_statement::{Outlet, Room, Status, lent_status, write_statement};
 use std::alloc::Global;
 use std::random::RandomSource;
 use std::sync::Wait;
@@ -31,8 +31,8 @@ use std::time::Clock;
 ///
 /// # Errors
 ///
-/// `Intake` and `Memory`: nothing was written or flushed (`Memory` also if the statement may have 2^64 - 1 bytes or more).
-/// `Write`: exactly the first `written` bytes of the statement were written, and the outlet has failed.
+/// `Intake` and `Memory`: nothing was written or flushed. `Write`: exactly the first `written` bytes of the statement were
+/// written, and the outlet has failed.
 pub fn run<
     R: Source + Send + Drop + 'static,
     W: Outlet,
@@ -104,7 +104,7 @@ fn write_report<W: Outlet>(
         → IfErr result (IsUnfinished r (W.told out.old) (W.told out.new)) }
     ensures late { IfErr result IsLateRun }
 {
-    let Ok(room) = room_for(alloc, report) else {
+    let Ok(room) = Room::new(alloc, report.key) else {
         return Err(RunError::Memory);
     };
     match write_statement(room, report, out) {

@@ -6,7 +6,6 @@ ghost use Rattle.dsr_ledger.specs.inner.Stands.{LedgerStands};
 ghost use Rattle.dsr_ledger.specs.inner.Order.{AreOfSmall};
 ghost use Rattle.dsr_ledger.specs.inner.Listed.{IsRecordingOf, AddsLines};
 ghost use Rattle.dsr_ledger.specs.inner.Rooms.{HasPartRoom, SamePartRoom, SameRoom};
-ghost use Rattle.dsr_ledger.specs.inner.Sizes.{AreLinesWithin};
 ghost use Rattle.dsr_ledger.specs.inner.Taking.{Takes};
 
 use crate::assemble::lines::give_line;
@@ -14,13 +13,11 @@ use crate::assemble::listed::lines_by_key;
 use crate::assemble::lists::{Lists, PartLists};
 use crate::assemble::ranks::ranks_of;
 use crate::assemble::recordings::sorted_recordings;
-use crate::assemble::sizes::sizes_of;
 use crate::assemble::tables::Tables;
 use crate::ledger::line::Line;
 use crate::ledger::recording::Recording;
 use crate::ledger::recordings::Ledger;
 use crate::ledger::summary_key::SummaryKey;
-use crate::lent::sizes::LedgerSizes;
 use crate::taking::TakeLines;
 use dsr_cells::{Isrc, NoMemory};
 use std::alloc::Global;
@@ -103,15 +100,6 @@ impl<'a> SortedLedger<'a> {
             );
         }
     }
-
-    /// Upper bounds of the lines.
-    fn sizes(&self) -> LedgerSizes
-        requires { IsSorted self.now }
-        ensures { (bs : List Booking) → LedgerStands self.now.books.now bs
-            → ∥ AreLinesWithin result (ledger bs) ∥₁ }
-    {
-        sizes_of(&self.tables, self.recordings.as_slice())
-    }
 }
 
 /// The lines of a ledger, and all memory that making them one after another needs.
@@ -157,14 +145,5 @@ impl<'a> BookedLines<'a> {
             → Takes T.took taker.old taker.new (ledger bs) }
     {
         self.sorted.give(taker, &mut self.lists);
-    }
-
-    /// Upper bounds of the lines.
-    pub fn sizes(&self) -> LedgerSizes
-        requires { AreReady self.now }
-        ensures { (bs : List Booking) → LedgerStands self.now.sorted.books.now bs
-            → ∥ AreLinesWithin result (ledger bs) ∥₁ }
-    {
-        self.sorted.sizes()
     }
 }

@@ -1,10 +1,8 @@
 //! A ledger whose lines are lent.
-ghost use Rattle.std.specs.Prelude.{IfSome};
 ghost use Rattle.dsr_ledger.specs.inner.Taking.{Takes};
 
 use crate::assemble::ledger::BookedLines;
 use crate::lent::reported::ReportedLines;
-use crate::lent::sizes::LedgerSizes;
 use crate::taking::TakeLines;
 
 /// The lines of a ledger, by the bytes of ISRC, territory, use type and currency. They are given one after another, and
@@ -21,7 +19,6 @@ impl<'a> LentLedger<'a> {
     ghost use Rattle.std.specs.Prelude.{List};
     ghost use Rattle.dsr_ledger.specs.declared.report.LedgerLine.{LedgerLine as LedgerLineValue};
     ghost use Rattle.dsr_ledger.specs.inner.Lent.{IsReady, LinesLent};
-    ghost use Rattle.dsr_ledger.specs.inner.Sizes.{AreLinesWithin};
 
     /// Gives the lines, in their order. This allocates nothing.
     pub fn give<T: TakeLines>(&mut self, taker: &mut T)
@@ -34,18 +31,6 @@ impl<'a> LentLedger<'a> {
         match self {
             LentLedger::Booked(lines) => lines.give(taker),
             LentLedger::Reported(lines) => lines.give(taker),
-        }
-    }
-
-    /// Upper bounds of the lines, from what they refer to; None for those of a report.
-    pub fn sizes(&self) -> Option<LedgerSizes>
-        requires { IsReady self.now }
-        ensures { IfSome result (λ sizes. (lines : List LedgerLineValue) → LinesLent self.now lines
-            → ∥ AreLinesWithin sizes lines ∥₁) }
-    {
-        match self {
-            LentLedger::Booked(lines) => Some(lines.sizes()),
-            LentLedger::Reported(_) => None,
         }
     }
 }

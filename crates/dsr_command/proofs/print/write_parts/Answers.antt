@@ -1,8 +1,9 @@
-use Rattle.std.proofs.Common.{◌≡◌, ◌∙◌, ◌+◌, ◌++◌, ap, sym, subst, take, drop, arith}
-use Rattle.std.proofs.lemmas.Grind.{common_steps}
-use Rattle.dsr_io.specs.meaning.Written.{IsTaken}
+use Rattle.std.proofs.Common.{◌≡◌, ◌∙◌, ◌+◌, ◌++◌, ap, sym, subst, length, take, drop, arith}
+use Rattle.std.proofs.lemmas.List.{take_all}
+use Rattle.dsr_io.specs.meaning.Written.{IsTaken, IsFlushed, IsCut}
 use Rattle.dsr_command.specs.Printing.{joined}
-use Rattle.dsr_command.proofs.Printing.{joined_at, joined_next, taken_none, taken_more, cut_after, written_in_part}
+use Rattle.dsr_io.proofs.Taken.{taken_none, taken_more, cut_after, flushed_after, cut_at_flush}
+use Rattle.dsr_command.proofs.Printing.{joined_at, joined_next, written_in_part}
 use Rattle.dsr_command.proofs.print.write_parts.Goals as goal
 
 pub loop-part-init : goal.loop-part-init
@@ -36,7 +37,28 @@ returns-in-Err g c =
     (cut_after a b d front (take n part) c.loop-part.invariant c.in-Err.ensures.written.1)
 
 pub returns-in-Ok-flush : goal.returns-in-Ok-flush
-returns-in-Ok-flush g c = grind (arith, common_steps)
+returns-in-Ok-flush g c =
+    let parts = c.args.parts.now in
+    let i = c.loop-part.part-index in
+    let a = g.W.Outlet.told c.args.out.now in
+    let b = g.W.Outlet.told c.loop-part.out in
+    let d = g.W.Outlet.told c.flush.new.self in
+    let all = ap joined (take_all i parts c.loop-part-test.false) in
+    subst (λ l. IsFlushed l a d) all
+    (flushed_after a b d (joined (take i parts)) c.loop-part.invariant c.flush.ensures.bytes c.in-Ok-flush.ensures.failed c.in-Ok-flush.ensures.flushes)
 
 pub returns-in-Err-flush : goal.returns-in-Err-flush
-returns-in-Err-flush g c = grind (arith, common_steps)
+returns-in-Err-flush g c =
+    let parts = c.args.parts.now in
+    let i = c.loop-part.part-index in
+    let a = g.W.Outlet.told c.args.out.now in
+    let b = g.W.Outlet.told c.loop-part.out in
+    let d = g.W.Outlet.told c.flush.new.self in
+    let line = joined parts in
+    let all : joined (take i parts) ≡ line = ap joined (take_all i parts c.loop-part-test.false) in (
+      length line,
+      omega arith,
+      rw (take_all (length line) line (omega arith)) (subst (λ l. IsCut l a d) all
+          (cut_at_flush a b d (joined (take i parts)) c.loop-part.invariant c.flush.ensures.bytes c.in-Err-flush.ensures.failed
+          c.in-Err-flush.ensures.flushes.0)),
+    )

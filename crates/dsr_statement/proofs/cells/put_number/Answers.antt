@@ -1,6 +1,5 @@
-use Rattle.std.proofs.Common.{arith}
-use Rattle.std.proofs.lemmas.Grind.{common_steps}
+use Rattle.dsr_statement.proofs.LineLemmas.{then}
 use Rattle.dsr_statement.proofs.cells.put_number.Goals as goal
 
 pub returns : goal.returns
-returns g c = grind (arith, common_steps)
+returns g c = then c.put.ensures c.put_decimal.ensures

@@ -1,11 +1,11 @@
 use Rattle.std.proofs.Common.{◌≡◌, ◌+◌, take}
 use Rattle.dsr_statement.specs.meaning.Statement.{file_lines}
-use Rattle.dsr_statement.specs.inner.Puts.{Puts}
+use Rattle.dsr_statement.specs.inner.Pieces.{Puts}
 use Rattle.dsr_statement.proofs.write.put_files.Given as goal
 
 abbrev pub invariant-loop-file : goal.invariant-loop-file
 invariant-loop-file g l =
     record {
       place : l.place ≡ l.file-index + 1;
-      lines : Puts g.P.Put.after l.fn.out l.out (file_lines 1 (take l.file-index l.files));
+      lines : Puts g.W.Outlet.told l.fn.out l.out (file_lines 1 (take l.file-index l.files));
     }

@@ -1,8 +1,8 @@
 use Rattle.std.proofs.Common.{take}
 use Rattle.std.specs.List.{flat_map}
 use Rattle.dsr_statement.specs.meaning.Statement.{reject_line}
-use Rattle.dsr_statement.specs.inner.Puts.{Puts}
+use Rattle.dsr_statement.specs.inner.Pieces.{Puts}
 use Rattle.dsr_statement.proofs.write.put_rejects.Given as goal
 
 abbrev pub invariant-loop-reject : goal.invariant-loop-reject
-invariant-loop-reject g l = Puts g.P.Put.after l.fn.out l.out (flat_map reject_line (take l.reject-index l.rejects))
+invariant-loop-reject g l = Puts g.W.Outlet.told l.fn.out l.out (flat_map reject_line (take l.reject-index l.rejects))

@@ -6,8 +6,8 @@ use Rattle.dsr_values.specs.meaning.Written.{written}
 use Rattle.dsr_statement.specs.meaning.Statement.{amount_cell}
 use Rattle.dsr_statement.proofs.AmountCells.{cell_in}
 use Rattle.dsr_statement.proofs.LineLemmas.{turn}
-use Rattle.dsr_statement.proofs.pieces.PiecesPut.put_amount.Goals as goal
-use Rattle.dsr_statement.proofs.pieces.PiecesPut.put_amount.Goals.{then-is_last, else-is_last}
+use Rattle.dsr_statement.proofs.pieces.Pieces.put_amount.Goals as goal
+use Rattle.dsr_statement.proofs.pieces.Pieces.put_amount.Goals.{then-is_last, else-is_last}
 
 pub returns : goal.returns
 unfolding amount_cell
