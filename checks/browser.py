@@ -78,13 +78,17 @@ class Browser:
         return told['result'].get('value')
 
     def wait(self, script, seconds=SECONDS):
-        """Waits until an expression is true; answers the seconds that it took."""
-        began = time.monotonic()
-        while not self.run(script):
+        """Waits until an expression is true; answers the seconds that it took. What the page's thread took of a processor between
+        two of its answers, at most, is `longest`: so long it did nothing else."""
+        began, before, self.longest = time.monotonic(), self.processor_seconds(), 0
+        while True:
+            done, taken = self.run(script), self.processor_seconds()
+            self.longest, before = max(self.longest, taken - before), taken
+            if done:
+                return time.monotonic() - began
             if time.monotonic() - began > seconds:
                 raise RuntimeError(f'not true in time: {script}')
             time.sleep(0.01)
-        return time.monotonic() - began
 
     def open(self, path, seconds=SECONDS):
         """Opens a page from disk, and waits until it is ready; answers the seconds that it took."""

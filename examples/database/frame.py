@@ -10,15 +10,17 @@ import subprocess
 import sys
 from decimal import Decimal, getcontext
 
-import pandas
-
 getcontext().prec = 100
 
 
 def main():
     if len(sys.argv) < 2:
         sys.exit(__doc__)
-    subprocess.run([os.environ.get('DSR_TOTALS', 'dsr_totals'), '--with-remarks', *sys.argv[1:]], check=True, stdout=subprocess.DEVNULL)
+    try:
+        import pandas
+        subprocess.run([os.environ.get('DSR_TOTALS', 'dsr_totals'), '--with-remarks', *sys.argv[1:]], check=True, stdout=subprocess.DEVNULL)
+    except (ImportError, OSError, subprocess.CalledProcessError) as error:
+        sys.exit(f'frame.py: {error}')
     lines = [line.split('\t') for name in sys.argv[1:] for line in io.open(name, encoding='utf-8', newline='\n').read().split('\n')]
     parts = pandas.DataFrame([cells[4:] for cells in lines if cells[0] == 'PARTY'], columns=['currency', 'party', 'amount'])
     parts['amount'] = parts['amount'].map(Decimal)

@@ -88,23 +88,35 @@ class Ledger {
   }
 
   columnsOf() {
-    const text = (name, widths, of) => ({
-      name, widths, compare: (a, b) => order(of(a), of(b)),
-      fill: (cell, at) => { cell.append(of(at)); cell.title = of(at); },
-    });
-    const number = (name, width, of, spell) => ({
-      name, right: true, widths: [Math.max(width, 4.5), 1], compare: (a, b) => order(of(a), of(b)),
-      fill: (cell, at) => cell.append(numberElement(spell(of(at)))),
-    });
-    const amount = widthOfDigits(this.digits.amount, true);
+    const text = (name, widths, place) => {
+      const texts = this.markets.map(it => it[place]), inOrder = [...new Set(texts)].sort(order);
+      const ranks = texts.map(it => inOrder.indexOf(it));
+      return {
+        name, widths, key: at => ranks[this.market[at]], compare: () => 0,
+        fill: (cell, at) => { cell.append(cell.title = texts[this.market[at]]); },
+      };
+    };
+    // The key is the first 32 bits of the widest number: one of so many digits has at most 10 bits for each three.
+    const number = (name, width, digits, of, spell) => {
+      const bits = BigInt(Math.max(0, Math.ceil(digits * 10 / 3) - 31));
+      return {
+        name, right: true, widths: [Math.max(width, 4.5), 1],
+        key: at => Number((of(at) >> bits) + 2n ** 31n), compare: (a, b) => order(of(a), of(b)),
+        fill: (cell, at) => cell.append(numberElement(spell(of(at)))),
+      };
+    };
+    const { usages, amount } = this.digits, width = widthOfDigits(amount, true);
     return [
-      { ...text('ISRC', [9, 0], at => this.isrcs[at]), fill: (cell, at) => cell.append(this.opener(at)) },
-      text('Territory', [5.6, 0], at => this.markets[this.market[at]][0]),
-      text('Use type', [10.4, 1], at => this.markets[this.market[at]][1]),
-      text('Currency', [5.4, 0], at => this.markets[this.market[at]][2]),
-      number('Usages', widthOfDigits(this.digits.usages, false), at => this.usages[at], String),
-      number('Amount', amount, at => this.amounts[at], written),
-      number('Unclaimed', amount, at => this.rests[at], written),
+      {
+        name: 'ISRC', widths: [9, 0], compare: (a, b) => order(this.isrcs[a], this.isrcs[b]),
+        fill: (cell, at) => cell.append(this.opener(at)),
+      },
+      text('Territory', [5.6, 0], 0),
+      text('Use type', [10.4, 1], 1),
+      text('Currency', [5.4, 0], 2),
+      number('Usages', widthOfDigits(usages, false), usages, at => this.usages[at], String),
+      number('Amount', width, amount + 10, at => this.amounts[at], written),
+      number('Unclaimed', width, amount + 10, at => this.rests[at], written),
       {
         name: 'Parties', widths: [9, 2],
         fill: (cell, at) => { cell.append(cell.title = this.namesOf(at).join(', ')); },

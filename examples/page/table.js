@@ -35,8 +35,14 @@ function numbers(count) {
   return made;
 }
 
-/** These numbers in the order of `compare`, which is kept where it says 0; null if it became stale. */
-async function sorted(count, compare, isStale) {
+/**
+ * The rows in the order of a column, or the other way round if `sign` is -1; rows that compare as 0 keep theirs. Rows are compared
+ * only where their keys are the same. Null if it became stale.
+ */
+async function sorted(count, { column, sign }, isStale) {
+  const keys = new Uint32Array(count);
+  if (column.key && !await slices(count, at => { keys[at] = column.key(at); }, isStale)) return null;
+  const compare = (a, b) => sign * (keys[a] - keys[b] || column.compare(a, b));
   let from = numbers(count), to = new Uint32Array(count);
   const sortRun = at => from.subarray(at * RUN, (at + 1) * RUN).sort(compare);
   if (!await slices(Math.ceil(count / RUN), sortRun, isStale, 1)) return null;
@@ -144,7 +150,7 @@ class Heights {
  * A table of any number of rows, of which only those in view are elements. `source` has `count`, `columns`, `matcher`, which
  * answers a promise of the test of a row for words, and `sums`, if it has any, of the rows that were found.
  * A column has `name`, its least width and its part of the rest (`widths`), `fill(cell, row)`, and `compare(a, b)` if it can
- * be sorted by.
+ * be sorted by, maybe with `key(row)`, a whole number below 2^32 in the same order, which tells most rows apart.
  */
 class Table {
   constructor(section, source) {
@@ -204,7 +210,7 @@ class Table {
     const turn = turns[turns.indexOf(cell.getAttribute('aria-sort')) + 1];
     for (const other of cell.parentNode.children) other.removeAttribute('aria-sort');
     if (turn) cell.setAttribute('aria-sort', turn);
-    this.by = turn && (turn === 'ascending' ? column.compare : (a, b) => column.compare(b, a));
+    this.by = turn && { column, sign: turn === 'ascending' ? 1 : -1 };
     this.order = null;
     await this.renew();
   }
