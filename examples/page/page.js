@@ -101,7 +101,7 @@ class Ledger {
       const bits = BigInt(Math.max(0, Math.ceil(digits * 10 / 3) - 31));
       return {
         name, right: true, widths: [Math.max(width, 4.5), 1],
-        key: at => Number((of(at) >> bits) + 2n ** 31n), compare: (a, b) => order(of(a), of(b)),
+        key: at => Number((of(at) >> bits) + 2n ** 31n), compare: (a, b) => bits === 0n ? 0 : order(of(a), of(b)),
         fill: (cell, at) => cell.append(numberElement(spell(of(at)))),
       };
     };

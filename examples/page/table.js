@@ -36,8 +36,8 @@ function numbers(count) {
 }
 
 /**
- * The rows in the order of a column, or the other way round if `sign` is -1; rows that compare as 0 keep theirs. Rows are compared
- * only where their keys are the same. Null if it became stale.
+ * The rows in the order of a column, or the other way round if `sign` is -1, where those that compare as 0 keep theirs. Rows
+ * are compared only where their keys are the same. Null if it became stale.
  */
 async function sorted(count, { column, sign }, isStale) {
   const keys = new Uint32Array(count);
