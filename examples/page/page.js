@@ -18,8 +18,8 @@ class Totals {
     const last = names.length - 1, currency = names.indexOf('Currency');
     this.count = rows.length;
     this.hint = hint;
-    this.texts = rows.map(row => row.join(' ').toLowerCase());
-    const amounts = rows.map(row => BigInt(row[last])), most = {};
+    this.rows = rows;
+    const amounts = rows.map(row => BigInt(row[last])), most = Object.create(null);
     const size = at => amounts[at] < 0n ? -amounts[at] : amounts[at];
     rows.forEach((row, at) => { if (!(size(at) <= most[row[currency]])) most[row[currency]] = size(at); });
     this.columns = names.map((name, column) => this.column(rows, amounts, name, column, last));
@@ -42,7 +42,9 @@ class Totals {
   }
 
   async matcher(words, isStale) {
-    const bits = words.length ? await bitsOf(this.texts, words, isStale) : null;
+    if (!words.length) return null;
+    this.texts ??= this.rows.map(row => row.join(' ').toLowerCase());
+    const bits = await bitsOf(this.texts, words, isStale);
     const all = 2 ** words.length - 1;
     return bits && (at => bits[at] === all);
   }
