@@ -8,13 +8,10 @@ use Rattle.std.specs.Fmt.{decimal, signed_decimal}
 use Rattle.std.proofs.lemmas.Bool.{and_parts, and_from, lt-ltb, eq-eqb, ne_eqb}
 use Rattle.std.proofs.lemmas.Bool.Decides.{nat_tests}
 use Rattle.std.proofs.lemmas.Fmt.{decimal_is_IsNumeral_wide}
-use Rattle.std.proofs.lemmas.Str.Parse.{not_in_digits}
 use Rattle.std.proofs.lemmas.List.Folds.{list_all-append}
 use Rattle.dsr_values.specs.meaning.Numbers.{digits_sum}
 use Rattle.dsr_values.specs.meaning.Texts.{is_run_of}
 use Rattle.dsr_values.specs.meaning.Written.{padded_number, written}
-use Rattle.dsr_values.proofs.Numbers.{own}
-use Rattle.dsr_values.proofs.Splits.{Lacks}
 use Rattle.dsr_values.proofs.Spelled.{all_digits, zeros_digits, zeros_spelled, spelled, padded_length}
 use Rattle.dsr_statement_reader.specs.meaning.Spellings.{not_zero, signed_in, usages_in, units_in, amount_in, number_in}
 use Rattle.dsr_statement_reader.specs.meaning.Statements.{is_plain, are_usages, is_amount}
@@ -76,13 +73,11 @@ usages_again z h =
 units_again : (limit u : ℕ) → u < limit → limit ≤ 10 ^ 64 → units_in limit (units_text u) ≡ Some u
 unfolding units_in
 units_again limit u low most =
-    let w : u / 10 ^ 10 < 10 ^ 64 = omega arith in
     let front : u / 10 ^ 10 < limit = omega arith in
     let d : u % 10 ^ 10 < 10 ^ 10 = omega arith in
     let wide : u % 10 ^ 10 < 10 ^ 64 = omega arith in
     let sum : u / 10 ^ 10 * 10 ^ 10 + u % 10 ^ 10 ≡ u = omega arith in
-    let none : Lacks 46 (decimal (u / 10 ^ 10)) = not_in_digits own (decimal (u / 10 ^ 10)) 46 (all_digits (u / 10 ^ 10) w) (λ r. absurd (omega arith)) in
-    let cut = units_cut limit (units_text u) (decimal (u / 10 ^ 10)) (padded_number 10 (u % 10 ^ 10)) refl none in
+    let cut = units_cut limit (units_text u) (decimal (u / 10 ^ 10)) (padded_number 10 (u % 10 ^ 10)) refl in
     let run : is_run_of is_ascii_digit 10 (padded_number 10 (u % 10 ^ 10)) ≡ true =
     and_from _ _ (zeros_digits (10 - length (decimal (u % 10 ^ 10))) (decimal (u % 10 ^ 10)) (all_digits (u % 10 ^ 10) wide)) (eq-eqb _ _ (padded_length (u % 10 ^ 10) d)) in
     let fraction : digits_sum (padded_number 10 (u % 10 ^ 10)) ≡ u % 10 ^ 10 =

@@ -1,4 +1,5 @@
 pub mod Rows
+pub mod Cuts
 pub mod KindLemmas
 pub mod Signs
 pub mod Digits

@@ -1,23 +1,20 @@
 -- The cells of a line, one after another.
-use Rattle.std.proofs.Common.{◌≡◌, ◌<◌, ℕ, List, [], ◌∷◌, ◌++◌, length, get_or, ◌≢◌, ap, ◌∙◌, sym, map, append_assoc, take, ◌≤◌, arith}
+use Rattle.std.proofs.Common.{◌≡◌, ℕ, List, [], ◌∷◌, ◌++◌, length, ap, ◌∙◌, sym, map, append_assoc, take, ◌≤◌, arith}
 use Rattle.std.proofs.lemmas.List.{map-append, length-map, take_all}
 use Rattle.std.proofs.Math.Seq.{take-append_seam}
 use Rattle.dsr_cells.specs.meaning.Cells.{cells}
-use Rattle.dsr_values.proofs.Splits.{pieces_first, pieces_plain}
 
 -- one more cell, and those after it
 pub one_more : {X : Type 0} (f : X → List ℕ) (taken : List X) (x : X) (line rest after : List ℕ) → map f taken ++ cells rest ≡ cells line
-    → rest ≡ f x ++ (9 ∷ after) → ((i : ℕ) → i < length (f x) → get_or (f x) i 0 ≢ 9) → map f (taken ++ x ∷ []) ++ cells after ≡ cells line
-one_more f taken x line rest after so_far cut none =
-    let first : cells rest ≡ f x ∷ cells after = pieces_first 9 rest (f x) after cut none in
+    → cells rest ≡ f x ∷ cells after → map f (taken ++ x ∷ []) ++ cells after ≡ cells line
+one_more f taken x line rest after so_far first =
     let all : map f (taken ++ x ∷ []) ≡ map f taken ++ f x ∷ [] = map-append f taken (x ∷ []) in
     ap (λ l. l ++ cells after) all ∙ append_assoc (map f taken) (f x ∷ []) (cells after) ∙ ap (λ l. map f taken ++ l) (sym first) ∙ so_far
 
 -- the last cell
 pub last_one : {X : Type 0} (f : X → List ℕ) (taken : List X) (x : X) (line rest : List ℕ) → map f taken ++ cells rest ≡ cells line
-    → rest ≡ f x → ((i : ℕ) → i < length rest → get_or rest i 0 ≢ 9) → map f (taken ++ x ∷ []) ≡ cells line
-last_one f taken x line rest so_far is none =
-    let only : cells rest ≡ rest ∷ [] = pieces_plain 9 rest none in
+    → rest ≡ f x → cells rest ≡ rest ∷ [] → map f (taken ++ x ∷ []) ≡ cells line
+last_one f taken x line rest so_far is only =
     map-append f taken (x ∷ []) ∙ ap (λ l. map f taken ++ l ∷ []) (sym is) ∙ ap (λ l. map f taken ++ l) (sym only) ∙ so_far
 
 -- a list of at most ten cells is its first ten

@@ -1,6 +1,6 @@
 //! Reading a statement: its lines, one after another, exactly as dsr_statement writes them. Nothing is repaired.
 //!
-//! 1. `row` cuts a line at its TABs. `number` reads the numbers, usages and amounts that cells spell, and `names` the names
+//! 1. `row` cuts a line at its TABs (`cut`). `number` reads the numbers, usages and amounts that cells spell, and `names` the names
 //!    of lines (`kind`), standings, faults, columns and reasons. `cells` and `file` make the lines (`line`) of cells, which
 //!    borrow their texts.
 //! 2. `reading` reads the line that a text spells, whatever stands before it, or its fault (`fault`).
@@ -32,6 +32,7 @@
 #![tactic(auto)]
 
 mod cells;
+mod cut;
 mod fault;
 mod file;
 mod kind;

@@ -4,6 +4,7 @@ ghost use Rattle.std.specs.Option.{option_map};
 ghost use Rattle.dsr_values.specs.meaning.Numbers.{digits_of};
 ghost use Rattle.dsr_statement_reader.specs.meaning.Spellings.{below, has_leading_zero, number_in, usages_in, units_in, units_of_parts, amount_in, not_zero};
 
+use crate::cut::at_point;
 use dsr_cells::read_number;
 
 /// The number of the units of an amount of one.
@@ -127,7 +128,7 @@ fn read_units(text: &str) -> Option<u128>
     ensures value { result ≡ units_in (2 ^ 123) text.now }
     ensures bound { IfSome result (λ n. n < 2 ^ 123) }
 {
-    match text.split_once('.') {
+    match at_point(text) {
         Some((whole, decimals)) => read_parts(whole, decimals),
         None => None,
     }

@@ -2,6 +2,7 @@
 ghost use Rattle.std.specs.Prelude.{◌≡◌, ◌<◌, ◌++◌, ◌∷◌, [], length, take, slice_index_or};
 ghost use Rattle.dsr_cells.specs.meaning.Cells.{cells};
 
+use crate::cut::first_cell;
 use arrayvec::ArrayVec;
 use std::marker::Model;
 
@@ -30,7 +31,7 @@ impl<'l> Row<'l> {
         let mut cells = ArrayVec::new();
         let mut rest = line;
         for index in 0..ROOM {
-            match rest.split_once('\t') {
+            match first_cell(rest) {
                 Some((cell, after)) => {
                     cells.push(cell);
                     rest = after;

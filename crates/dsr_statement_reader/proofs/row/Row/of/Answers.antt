@@ -1,26 +1,23 @@
-use Rattle.std.proofs.Common.{arith, rules, lit<, ◌++◌, ◌∷◌, [], ◌≤◌, Some, None, length, refl, ℕ, List, Bor}
+use Rattle.std.proofs.Common.{arith, rules, ◌++◌, ◌∷◌, [], ◌≤◌, length, refl, ℕ, List, Bor}
 use Rattle.std.proofs.lemmas.List.{length_push}
-use Rattle.std.proofs.lemmas.Str.Pattern.{split_parts}
 use Rattle.dsr_cells.specs.meaning.Cells.{cells}
 use Rattle.dsr_statement_reader.proofs.Rows.{one_more, last_one, first_ten, all_of_ten}
 use Rattle.dsr_statement_reader.proofs.row.Row.of.Goals as goal
 
 pub loop-index-preserved : goal.loop-index-preserved
 loop-index-preserved c =
-    let parts = split_parts 9 c.loop-index.rest.now (Some (c.in-Some.cell, c.in-Some.after)) c.in-Some.ensures.cases (lit< tt) in
     record {
       text = search rules;
       count = search rules;
       cut = rw c.push.ensures.items
           (one_more (λ (b : Bor (List ℕ)). b.now) c.loop-index.cells.items c.in-Some.cell c.args.line.now c.loop-index.rest.now c.in-Some.after.now
-          c.loop-index.invariant.cut parts.0 parts.1);
+          c.loop-index.invariant.cut c.in-Some.ensures);
     }
 
 pub returns-in-None : goal.returns-in-None
 returns-in-None c =
-    let none = split_parts 9 c.loop-index.rest.now None c.in-None.ensures.cases (lit< tt) in
     let all = last_one (λ (b : Bor (List ℕ)). b.now) c.loop-index.cells.items c.loop-index.rest c.args.line.now c.loop-index.rest.now
-    c.loop-index.invariant.cut refl none in
+    c.loop-index.invariant.cut refl c.in-None.ensures in
     let items = c.loop-index.cells.items ++ c.loop-index.rest ∷ [] in
     let few : length items ≤ 10 = omega (arith, length_push c.loop-index.cells.items c.loop-index.rest) in
     rw c.push-in-None.ensures.items (all_of_ten (λ (b : Bor (List ℕ)). b.now) items (cells c.args.line.now) all few)
