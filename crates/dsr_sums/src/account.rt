@@ -49,7 +49,10 @@ impl Account {
     pub(crate) fn assign_currency(&mut self, alloc: Global, currency: &str) -> Result<(), NoMemory>
         ensures { OnOk result (self.new ≡ currency_account currency.now) }
     {
-        self.assign_market(alloc, "", "", currency)
+        self.party.assign(alloc, "")?;
+        self.territory.assign(alloc, "")?;
+        self.use_type.assign(alloc, "")?;
+        self.currency.assign(alloc, currency)
     }
 
     /// Writes the account of a territory and a use type in a currency over this one.

@@ -17,8 +17,10 @@ pub(crate) struct Totals {
     pub(crate) currencies: Book,
     pub(crate) markets: Book,
     pub(crate) parties: Book,
-    /// The account that is posted to.
-    account: Account,
+    /// The accounts that are posted to, one for each book, so that a long text is written over in its memory.
+    currency: Account,
+    market: Account,
+    party: Account,
 }
 
 /// Whether both hold.
@@ -42,7 +44,9 @@ impl Totals {
             currencies: Book::new(alloc, seeded),
             markets: Book::new(alloc, seeded),
             parties: Book::new(alloc, seeded),
-            account: Account::blank(),
+            currency: Account::blank(),
+            market: Account::blank(),
+            party: Account::blank(),
         }
     }
 
@@ -77,13 +81,13 @@ impl Totals {
             claimed: 0,
             unclaimed: 0,
         };
-        self.account.assign_currency(self.alloc, key.currency)?;
+        self.currency.assign_currency(self.alloc, key.currency)?;
         self.currencies
-            .post(self.alloc, &self.account, &numbers, role)?;
-        self.account
+            .post_near(self.alloc, &self.currency, &numbers, role)?;
+        self.market
             .assign_market(self.alloc, key.territory, key.use_type, key.currency)?;
         self.markets
-            .post(self.alloc, &self.account, &numbers, role)?;
+            .post_near(self.alloc, &self.market, &numbers, role)?;
         Ok(())
     }
 
@@ -109,12 +113,12 @@ impl Totals {
             claimed: 0,
             unclaimed: 0,
         };
-        self.account.assign_currency(self.alloc, key.currency)?;
+        self.currency.assign_currency(self.alloc, key.currency)?;
         self.currencies
-            .post(self.alloc, &self.account, &claimed, role)?;
-        self.account
+            .post_near(self.alloc, &self.currency, &claimed, role)?;
+        self.party
             .assign_party(self.alloc, party.party, key.currency)?;
-        self.parties.post(self.alloc, &self.account, &owed, role)?;
+        self.parties.post(self.alloc, &self.party, &owed, role)?;
         Ok(())
     }
 
@@ -129,9 +133,9 @@ impl Totals {
             claimed: 0,
             unclaimed: amount,
         };
-        self.account.assign_currency(self.alloc, key.currency)?;
+        self.currency.assign_currency(self.alloc, key.currency)?;
         self.currencies
-            .post(self.alloc, &self.account, &numbers, role)?;
+            .post_near(self.alloc, &self.currency, &numbers, role)?;
         Ok(())
     }
 

@@ -11,8 +11,9 @@ returns-then-not-self c = λ ps held.
 
 pub returns-in-Some : goal.returns-in-Some
 returns-in-Some c = λ ps held.
+    let posted = c.post_at.ensures c.args.account.now (sym c.in-Some.ensures.index) in
     posted-push_book c.args.self.now c.post_at.new.self c.args.account.now (signed_sums c.args.role c.args.numbers.now) ps held c.if-not-self.false
-    (c.post_at.ensures c.args.account.now (sym c.in-Some.ensures.index))
+    (record { added = posted.added; range = posted.range })
 
 pub returns-in-None : goal.returns-in-None
 returns-in-None c =
