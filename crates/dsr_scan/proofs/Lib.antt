@@ -1,3 +1,3 @@
-pub mod Sequences
+pub mod Runs
 pub mod TabBits
 pub mod FeedPlaces

@@ -1,11 +1,13 @@
-use Rattle.std.proofs.Common.{refl}
-use Rattle.std.proofs.lemmas.Str.{IsUtf8-from_ascii}
-use Rattle.dsr_scan.proofs.utf8.text_of.Goals.{then-is_ascii_line-via-then-is_ascii_line, then-is_ascii_line-via-else-is_ascii_line+then-is_quick}
+use Rattle.std.proofs.lemmas.List.{take_rest}
+use Rattle.dsr_scan.proofs.Runs.{with_rest, rest_of}
 use Rattle.dsr_scan.proofs.utf8.text_of.Goals as goal
 
 pub from_utf8_unchecked-requires : goal.from_utf8_unchecked-requires
 from_utf8_unchecked-requires c =
-    elim c.then-is_ascii_line.branch [
-      | then-is_ascii_line-via-then-is_ascii_line w ↦ IsUtf8-from_ascii c.args.bytes.now (c.is_ascii_line.ensures w.if-is_ascii_line.true)
-      | then-is_ascii_line-via-else-is_ascii_line+then-is_quick w ↦ w.if-is_quick.ensures refl
-    ]
+    let front = c.quick_front-front.ensures in
+    with_rest c.args.bytes.now c.quick_front-front.result front.bound front.text (rw take_rest at c.in-Ok.ensures.cases.1)
+
+pub returns-in-Err : goal.returns-in-Err
+returns-in-Err c whole =
+    let front = c.quick_front-front.ensures in
+    (rw take_rest at c.in-Err.ensures.cases.0) (rest_of c.args.bytes.now c.quick_front-front.result front.bound front.text whole)

@@ -1,6 +1,6 @@
 use Rattle.std.proofs.Common.{◌-◌, ◌≤◌, length, take}
 use Rattle.std.specs.Str.{IsUtf8}
-use Rattle.dsr_scan.proofs.utf8.is_quick.Given as goal
+use Rattle.dsr_scan.proofs.utf8.quick_front.Given as goal
 
 abbrev pub invariant-loop-at : goal.invariant-loop-at
 invariant-loop-at l = (l.at ≤ length l.bytes) × IsUtf8 (take l.at l.bytes)
