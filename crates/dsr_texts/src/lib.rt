@@ -1,7 +1,7 @@
 //! The texts and lists that outlive a line of a report.
 //!
-//! 1. `text` keeps a text: up to 22 bytes in place (`short`), longer ones on the heap (`kept`). A text
-//!    takes 24 bytes, and can be written over, which reuses its memory.
+//! 1. `text` keeps a text: up to 22 bytes in place (`short`), longer ones on the heap. A text takes
+//!    24 bytes, and can be written over, which reuses its memory.
 //! 2. `inline_items` is the list type of blocks, and of the parties of a report's line: its first items
 //!    are in place, and its memory is reused. `items` is that of openings and reports.
 //!
@@ -34,7 +34,6 @@
 
 mod inline_items;
 mod items;
-mod kept;
 mod short;
 mod text;
 

@@ -10,7 +10,6 @@ ghost use Rattle.std.specs.Hash as fed;
 ghost use Rattle.std.proofs.Common.{rules};
 
 use crate::inline_items::InlineItems;
-use crate::kept::Kept;
 use crate::short::{SHORT, ShortText};
 use std::alloc::{AllocError, AllocFailed, Global};
 use std::cmp::Ordering;
@@ -32,6 +31,15 @@ impl<T: Drop> From<AllocFailed<T>> for NoMemory {
     fn from(_refused: AllocFailed<T>) -> NoMemory {
         NoMemory
     }
+}
+
+/// The bytes of a text: in place if there are at most 22, otherwise on the heap.
+///
+/// The string is boxed so that a text takes 24 bytes and not 32.
+#[derive(Drop)]
+enum Kept {
+    Short(ShortText),
+    Long(Box<String>),
 }
 
 /// A UTF-8 text that outlives its line. It takes 24 bytes, and stores up to 22 bytes of text in place.
