@@ -10,15 +10,9 @@ use std::marker::Model;
 use std::mem;
 
 /// A block on the heap, which is moved and exchanged by its address. Contracts see it as the block.
+#[derive(Drop)]
 pub struct BoxedBlock {
     block: Box<Block>,
-}
-
-/// Written out, so that dropping one is a call: a derived drop is proved anew wherever it happens.
-impl Drop for BoxedBlock {
-    fn drop(self) {
-        let BoxedBlock { block: _ } = self;
-    }
 }
 
 impl Model for BoxedBlock {

@@ -7,6 +7,7 @@ use std::default::MadeWith;
 use std::marker::Model;
 
 /// The first record of a file.
+#[derive(Drop)]
 pub struct Head {
     /// MessageId, which names the report: 1 to 64 bytes of printable ASCII.
     pub message_id: Text,
@@ -24,22 +25,8 @@ pub struct Head {
     pub recipient: Text,
 }
 
-/// Written out, so that dropping one is a call: a derived drop is proved anew wherever it happens.
-impl Drop for Head {
-    fn drop(self) {
-        let Head {
-            message_id: _,
-            file_number: _,
-            number_of_files: _,
-            first_day: _,
-            last_day: _,
-            sender: _,
-            recipient: _,
-        } = self;
-    }
-}
-
 /// A summary of usages.
+#[derive(Drop)]
 pub struct Summary {
     /// SummaryRecordId, to which usages refer: 1 to 32 bytes of printable ASCII.
     pub id: Text,
@@ -55,21 +42,8 @@ pub struct Summary {
     pub amount: Amount,
 }
 
-/// Written out, so that dropping one is a call: a derived drop is proved anew wherever it happens.
-impl Drop for Summary {
-    fn drop(self) {
-        let Summary {
-            id: _,
-            territory: _,
-            use_type: _,
-            currency: _,
-            usages: _,
-            amount: _,
-        } = self;
-    }
-}
-
 /// The resource of a block.
+#[derive(Drop)]
 pub struct Resource {
     /// BlockId: 1 to 32 bytes of printable ASCII.
     pub block_id: Text,
@@ -79,18 +53,6 @@ pub struct Resource {
     pub titles: Texts,
     /// Artists: the values of a list cell.
     pub artists: Texts,
-}
-
-/// Written out, so that dropping one is a call: a derived drop is proved anew wherever it happens.
-impl Drop for Resource {
-    fn drop(self) {
-        let Resource {
-            block_id: _,
-            isrc: _,
-            titles: _,
-            artists: _,
-        } = self;
-    }
 }
 
 /// An empty resource, to be overwritten.
@@ -110,6 +72,7 @@ impl MadeWith<Global> for Resource {
 }
 
 /// A work of a block, with one share for each party.
+#[derive(Drop)]
 pub struct Work {
     /// BlockId: 1 to 32 bytes of printable ASCII.
     pub block_id: Text,
@@ -121,19 +84,6 @@ pub struct Work {
     pub parties: Texts,
     /// Shares: one for each party, in units of 0.0001 percent.
     pub shares: Shares,
-}
-
-/// Written out, so that dropping one is a call: a derived drop is proved anew wherever it happens.
-impl Drop for Work {
-    fn drop(self) {
-        let Work {
-            block_id: _,
-            work_id: _,
-            title: _,
-            parties: _,
-            shares: _,
-        } = self;
-    }
 }
 
 impl Model for Work {
@@ -167,6 +117,7 @@ impl MadeWith<Global> for Work {
 }
 
 /// A usage of a block's resource.
+#[derive(Drop)]
 pub struct Usage {
     /// BlockId: 1 to 32 bytes of printable ASCII.
     pub block_id: Text,
@@ -176,18 +127,6 @@ pub struct Usage {
     pub usages: i64,
     /// Amount: the amount owed, in units of 10^-10 of the currency.
     pub amount: Amount,
-}
-
-/// Written out, so that dropping one is a call: a derived drop is proved anew wherever it happens.
-impl Drop for Usage {
-    fn drop(self) {
-        let Usage {
-            block_id: _,
-            summary_id: _,
-            usages: _,
-            amount: _,
-        } = self;
-    }
 }
 
 /// An empty usage, to be overwritten.

@@ -8,15 +8,9 @@ use std::collections::VecDeque;
 use std::marker::Model;
 
 /// A list of events. Contracts see it as their list.
+#[derive(Drop)]
 pub struct EventList {
     events: VecDeque<Event>,
-}
-
-/// Written out, so that dropping one is a call: a derived drop is proved anew wherever it happens.
-impl Drop for EventList {
-    fn drop(self) {
-        let EventList { events: _ } = self;
-    }
 }
 
 impl Model for EventList {
