@@ -7,9 +7,9 @@ use Rattle.dsr_command.specs.declared.inputs.Input.{Input}
 use Rattle.dsr_file.specs.meaning.Runs.{FileText}
 use Rattle.dsr_io.specs.declared.source.Failed.{Failed}
 use Rattle.dsr_io.specs.meaning.Told.{Told}
-use Rattle.dsr_intake.specs.declared.pipeline.errors.RunError.{RunError}
-use Rattle.dsr_intake.specs.declared.pipeline.errors.RunError.TheVariants as error
-use Rattle.dsr_intake.specs.declared.pipeline.options.Options.{Options}
+use Rattle.dsr_intake.specs.declared.errors.RunError.{RunError}
+use Rattle.dsr_intake.specs.declared.errors.RunError.TheVariants as error
+use Rattle.dsr_intake.specs.declared.options.Options.{Options}
 use Rattle.dsr_statement.specs.declared.verdict.Status.{Status}
 use Rattle.dsr_intake.specs.meaning.Outcomes.{IsReported, IsUnwritten}
 use Rattle.dsr_intake.specs.meaning.Texts.{GaveEach}

@@ -10,7 +10,7 @@ use Rattle.dsr_command.specs.Faults.{cannot_open_line, dsr, layout_refused_line,
 use Rattle.dsr_command.specs.Inputs.{IsLayoutUnopened, IsRefusal}
 use Rattle.dsr_command.specs.LayoutFile.{IsLayoutGiven, IsOpened}
 use Rattle.dsr_command.specs.Printing.{AreRefused, IsTold}
-use Rattle.dsr_intake.specs.declared.pipeline.options.Options.{Options}
+use Rattle.dsr_intake.specs.declared.options.Options.{Options}
 use Rattle.dsr_io.specs.meaning.Written.{Written, IsFlushed, IsCut}
 use Rattle.dsr.specs.Serving.{outputs, IsOnlyTold, IsLayoutAsked, IsLayoutUnused, IsWithoutMemory}
 

@@ -22,8 +22,8 @@ use Rattle.dsr_command.specs.Printing.{IsTold}
 use Rattle.dsr_file.specs.meaning.Runs.{FileText}
 use Rattle.dsr_io.specs.declared.to_write.ToWrite.{ToWrite}
 use Rattle.dsr_io.specs.meaning.Told.{Told}
-use Rattle.dsr_intake.specs.declared.pipeline.errors.RunError.{RunError}
-use Rattle.dsr_intake.specs.declared.pipeline.options.Options.{Options}
+use Rattle.dsr_intake.specs.declared.errors.RunError.{RunError}
+use Rattle.dsr_intake.specs.declared.options.Options.{Options}
 use Rattle.dsr_statement.specs.declared.verdict.Status.{Status}
 use Rattle.dsr_intake.specs.meaning.Outcomes.{IsReported, IsUnwritten}
 use Rattle.dsr_io.specs.meaning.Written.{Written, IsFlushed, IsCut}

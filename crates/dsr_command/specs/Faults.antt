@@ -1,9 +1,9 @@
 -- The exit status of a run, and the line for its error.
 use Rattle.std.specs.Prelude.{ℕ, List, [], ◌∷◌, ◌++◌, codes, decimal, Result, Ok, Err}
-use Rattle.dsr_intake.specs.declared.pipeline.errors.IntakeError.{IntakeError}
-use Rattle.dsr_intake.specs.declared.pipeline.errors.IntakeError.TheVariants as intake
-use Rattle.dsr_intake.specs.declared.pipeline.errors.RunError.{RunError}
-use Rattle.dsr_intake.specs.declared.pipeline.errors.RunError.TheVariants as run
+use Rattle.dsr_intake.specs.declared.errors.IntakeError.{IntakeError}
+use Rattle.dsr_intake.specs.declared.errors.IntakeError.TheVariants as intake
+use Rattle.dsr_intake.specs.declared.errors.RunError.{RunError}
+use Rattle.dsr_intake.specs.declared.errors.RunError.TheVariants as run
 use Rattle.dsr_statement.specs.declared.verdict.Status.{Status}
 use Rattle.dsr_statement.specs.declared.verdict.Status.TheVariants.{Clean, Remarks}
 use Rattle.dsr_records.specs.declared.layout_fault.LayoutError.{LayoutError}

@@ -10,7 +10,7 @@ use Rattle.dsr_file.specs.meaning.Sources.{GaveText}
 use Rattle.dsr_relay.specs.declared.name.Name.{Name}
 use Rattle.dsr_relay.specs.meaning.Views.{TapView}
 use Rattle.dsr_records.specs.meaning.Records.{LayoutTable}
-use Rattle.dsr_intake.specs.declared.pipeline.options.Options.{Options}
+use Rattle.dsr_intake.specs.declared.options.Options.{Options}
 use Rattle.dsr_intake.specs.inner.Ends.{ends_clean}
 use Rattle.dsr_intake.specs.inner.Collecting.{IsDrained}
 use Rattle.dsr_intake.specs.inner.Given.{IsGiven}

@@ -10,7 +10,7 @@ use Rattle.dsr_file.specs.meaning.Sources.{IsRead, IsRefused}
 use Rattle.dsr_file.specs.meaning.Refusals.{IsRefusal}
 use Rattle.dsr_file.proofs.FeedLemmas.{known_run}
 use Rattle.dsr_file.proofs.RunLemmas.{run_orderly}
-use Rattle.dsr_intake.specs.declared.pipeline.options.Options.{Options}
+use Rattle.dsr_intake.specs.declared.options.Options.{Options}
 use Rattle.dsr_intake.specs.inner.Ends.{ends_clean}
 use Rattle.dsr_intake.specs.inner.Given.{IsGiven}
 use Rattle.dsr_intake.proofs.EndLemmas.{clean_is_whole, memory_is_unclean}

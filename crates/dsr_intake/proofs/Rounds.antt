@@ -22,8 +22,8 @@ use Rattle.dsr_ledger.specs.inner.BooksWords.{Stands, files_count, opened_count,
 use Rattle.dsr_ledger.proofs.CallerLemmas.{opened_is, can_book, can_end, all_ended}
 use Rattle.dsr_intake.specs.meaning.Texts.{file_of, first, outcome_in}
 use Rattle.dsr_intake.specs.inner.Stops.{IsStopped}
-use Rattle.dsr_intake.specs.declared.pipeline.errors.CollectError.{CollectError}
-use Rattle.dsr_intake.specs.declared.pipeline.errors.CollectError.TheVariants.{Memory, Closed}
+use Rattle.dsr_intake.specs.declared.errors.CollectError.{CollectError}
+use Rattle.dsr_intake.specs.declared.errors.CollectError.TheVariants.{Memory, Closed}
 use Rattle.dsr_intake.specs.inner.Collecting.{IsTapped, IsStoppedAt, IsFileAt, Changes, Opens, first_file, IsGoing, Knows, IsNext}
 use Rattle.dsr_intake.proofs.Filing.{get_end, get_set_same}
 

@@ -2,17 +2,17 @@
 //!
 //! A run goes through these stages:
 //!
-//! 1. `pipeline/options`: the options, and what is refused before anything is read.
-//! 2. `pipeline/gather`: opens a relay for each file and starts a thread for it.
-//! 3. `pipeline/threads`: each thread reads its file, and `pipeline/feed_sink` sends its events into the relay.
-//! 4. `pipeline/collector`: takes the events of all relays, in rounds a message of each that has one,
-//!    books them, and closes the books. `pipeline/patience`: how long it looks for messages before it
-//!    naps, and when it waits. `pipeline/seed`: the seed of the hashes in the books.
-//! 5. `pipeline/gather` again: joins the threads, and returns the readers and the closed books. `intake`
+//! 1. `options`: the options, and what is refused before anything is read.
+//! 2. `gather`: opens a relay for each file and starts a thread for it.
+//! 3. `threads`: each thread reads its file, and `feed_sink` sends its events into the relay.
+//! 4. `collector`: takes the events of all relays, in rounds a message of each that has one,
+//!    books them, and closes the books. `patience`: how long it looks for messages before it
+//!    naps, and when it waits.
+//! 5. `gather` again: joins the threads, and returns the readers and the closed books. `intake`
 //!    makes their report; the statement of a run is put from lines that borrow their texts from them.
 //! 6. dsr_statement allocates all memory that writing the statement needs, writes it to an outlet in pieces, and says
 //!    whether it has remarks.
-//! 7. `pipeline/run`: all stages together.
+//! 7. `run`: all stages together.
 //!
 //! **Example**, compiled and proved in `crates/dsr_tests/src/runs.rt`. `Script` is a reader that gives a text, `Page`
 //! an outlet that keeps what it takes; a program has files and standard output instead:
@@ -41,15 +41,22 @@
 //! exactly the reported number of first bytes was written.
 //!
 //! **Where to begin.** `specs/meaning`, here and in dsr_statement, has the definitions on which the promise of `run`
-//! rests, and `specs/inner` relates the code to them. `pipeline/errors` has each error with its text.
+//! rests, and `specs/inner` relates the code to them. `errors` has each error with its text.
 #![tactic(auto)]
 
-mod pipeline;
+mod collector;
+mod errors;
+mod feed_sink;
+mod gather;
+mod options;
+mod patience;
+mod run;
+mod threads;
 
+pub use collector::collect;
 pub use dsr_statement::{Outlet, Status, ToWrite, statement, status, write_all};
-pub use pipeline::collector::collect;
-pub use pipeline::errors::{CollectError, IntakeError, RunError};
-pub use pipeline::feed_sink::FeedSink;
-pub use pipeline::gather::intake;
-pub use pipeline::options::Options;
-pub use pipeline::run::run;
+pub use errors::{CollectError, IntakeError, RunError};
+pub use feed_sink::FeedSink;
+pub use gather::intake;
+pub use options::Options;
+pub use run::run;

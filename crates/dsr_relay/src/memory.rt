@@ -14,6 +14,7 @@ use std::sync::Wait;
 const MOST_TOGETHER: usize = 4;
 
 /// The end of the pool that takes memory, to fill it.
+#[derive(Drop)]
 pub(crate) struct Supply {
     alloc: Global,
     /// The memory that was never filled.
@@ -21,19 +22,9 @@ pub(crate) struct Supply {
     receiver: Receiver<Batch>,
 }
 
-/// Written out, so that dropping one is a call: a derived drop is proved anew wherever it happens.
-impl Drop for Supply {
-    fn drop(self) {
-        let Supply {
-            alloc: _,
-            unused: _,
-            receiver: _,
-        } = self;
-    }
-}
-
 /// The end of the pool that gives memory back, several batches at a time: if each were given back alone, a feed that
 /// waits for memory would be woken for each.
+#[derive(Drop)]
 pub(crate) struct Returns {
     alloc: Global,
     sender: Sender<Batch>,
@@ -42,18 +33,6 @@ pub(crate) struct Returns {
     /// This many are given back together: 1 to 4, and at most as many as there are. So the feed never waits for memory while
     /// the tap waits for a message (`laws::never_lacks_memory`).
     together: usize,
-}
-
-/// Written out, so that dropping one is a call: a derived drop is proved anew wherever it happens.
-impl Drop for Returns {
-    fn drop(self) {
-        let Returns {
-            alloc: _,
-            sender: _,
-            kept: _,
-            together: _,
-        } = self;
-    }
 }
 
 /// Memory for this many batches.

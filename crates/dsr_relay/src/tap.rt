@@ -157,22 +157,25 @@ impl Tap {
         }
     }
 
-    /// Takes the held events of the last message, or else the next message if there is one. If there is none, yet or at
-    /// all, the batch is empty. Condition: Ended was not taken.
-    pub fn take_ready<R: Wait>(&mut self, rt: &R) -> Batch
+    /// Takes the held events of the last message, or else the next message; None if there is none, yet or at all.
+    /// Condition: Ended was not taken.
+    pub fn take_ready<R: Wait>(&mut self, rt: &R) -> Option<Batch>
         requires { has_ended self.old.taken ≡ false }
-        ensures taken { self.new ≡ record self.old { taken = self.old.taken ++ result; held = [] } }
-        ensures held { 0 < length self.old.held → result ≡ self.old.held }
-        ensures few { length result ≤ 32 }
+        ensures taken { IfSome result (λ b. self.new ≡ record self.old {
+          taken = self.old.taken ++ b;
+          held = [];
+        }) }
+        ensures held { IfSome result (λ b. 0 < length self.old.held → b ≡ self.old.held) }
+        ensures some { IfSome result (λ b. 0 < length b) }
+        ensures few { IfSome result (λ b. length b ≤ 32) }
+        ensures none { IfNone result ((self.new ≡ self.old) × (self.old.held ≡ [])) }
         ensures orderly { IsOrderly self.new.taken }
     {
-        if !self.held.events().is_empty() {
-            return self.take_rest();
-        }
-        self.let_go(rt);
-        match self.take_message(rt, false) {
-            Some(message) => message,
-            None => self.returns.none(),
+        if self.held.events().is_empty() {
+            self.let_go(rt);
+            self.take_message(rt, false)
+        } else {
+            Some(self.take_rest())
         }
     }
 

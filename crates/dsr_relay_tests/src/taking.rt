@@ -63,7 +63,9 @@ pub fn takes_ready<R: Wait>(rt: &R, tap: &mut Tap) -> Option<usize> {
     if tap.ended() {
         return None;
     }
-    let batch = tap.take_ready(rt);
+    let Some(batch) = tap.take_ready(rt) else {
+        return Some(0);
+    };
     let count = batch.events().len();
     tap.give_back(rt, batch);
     Some(count)

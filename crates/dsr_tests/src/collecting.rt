@@ -149,7 +149,9 @@ fn takes_ready<H: Wait>(rt: &H, tap: &mut Tap) -> usize {
     if tap.ended() {
         return 0;
     }
-    let batch = tap.take_ready(rt);
+    let Some(batch) = tap.take_ready(rt) else {
+        return 0;
+    };
     let count = batch.events().len();
     tap.give_back(rt, batch);
     count

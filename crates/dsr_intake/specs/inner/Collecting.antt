@@ -9,8 +9,8 @@ use Rattle.dsr_relay.specs.meaning.Views.{TapView}
 use Rattle.dsr_ledger.specs.declared.books.Books.{Books}
 use Rattle.dsr_ledger.specs.meaning.Files.{File, opened, add_block, end_with}
 use Rattle.dsr_ledger.specs.inner.BooksWords.{Stands, files_count}
-use Rattle.dsr_intake.specs.declared.pipeline.errors.CollectError.{CollectError}
-use Rattle.dsr_intake.specs.declared.pipeline.errors.CollectError.TheVariants.{Memory, Closed}
+use Rattle.dsr_intake.specs.declared.errors.CollectError.{CollectError}
+use Rattle.dsr_intake.specs.declared.errors.CollectError.TheVariants.{Memory, Closed}
 use Rattle.dsr_intake.specs.inner.Ends.{ends_clean}
 use Rattle.dsr_intake.specs.meaning.Texts.{file_of}
 

@@ -4,7 +4,7 @@ use Rattle.dsr_file.specs.meaning.Runs.{FileText, events_of_text}
 use Rattle.dsr_io.specs.meaning.Told.{Told}
 use Rattle.dsr_ledger.specs.declared.closed.ClosedBooks.{ClosedBooks}
 use Rattle.dsr_ledger.specs.inner.Closed.{AreClosed}
-use Rattle.dsr_intake.specs.declared.pipeline.options.Options.{Options}
+use Rattle.dsr_intake.specs.declared.options.Options.{Options}
 use Rattle.dsr_intake.specs.meaning.Texts.{GaveEach, file_of}
 
 -- the books are closed, and represent the files of the texts that the readers gave

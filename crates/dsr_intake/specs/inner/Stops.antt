@@ -2,10 +2,10 @@
 use Rattle.std.specs.Prelude.{◌≡◌, ℕ, ◌+◌, false, List, Some, slice_get}
 use Rattle.dsr_events.specs.meaning.Orderly.{has_ended}
 use Rattle.dsr_relay.specs.meaning.Views.{TapView}
-use Rattle.dsr_intake.specs.declared.pipeline.errors.CollectError.{CollectError}
-use Rattle.dsr_intake.specs.declared.pipeline.errors.CollectError.TheVariants.{Memory, Closed}
-use Rattle.dsr_intake.specs.declared.pipeline.errors.IntakeError.{IntakeError}
-use Rattle.dsr_intake.specs.declared.pipeline.errors.IntakeError.TheVariants as intake
+use Rattle.dsr_intake.specs.declared.errors.CollectError.{CollectError}
+use Rattle.dsr_intake.specs.declared.errors.CollectError.TheVariants.{Memory, Closed}
+use Rattle.dsr_intake.specs.declared.errors.IntakeError.{IntakeError}
+use Rattle.dsr_intake.specs.declared.errors.IntakeError.TheVariants as intake
 
 -- an error Closed has the number, from 1, of a tap that has not ended
 abbrev pub IsStopped : List TapView → CollectError → Type 0

@@ -1,9 +1,9 @@
 -- A statement that was not written, or not completely.
 use Rattle.std.specs.Prelude.{◌≡◌, ◌≤◌, length, take}
 use Rattle.dsr_ledger.specs.declared.report.Report.{Report}
-use Rattle.dsr_intake.specs.declared.pipeline.errors.IntakeError.TheVariants as intake
-use Rattle.dsr_intake.specs.declared.pipeline.errors.RunError.{RunError}
-use Rattle.dsr_intake.specs.declared.pipeline.errors.RunError.TheVariants as error
+use Rattle.dsr_intake.specs.declared.errors.IntakeError.TheVariants as intake
+use Rattle.dsr_intake.specs.declared.errors.RunError.{RunError}
+use Rattle.dsr_intake.specs.declared.errors.RunError.TheVariants as error
 use Rattle.dsr_intake.specs.meaning.Outcomes.{IsUntouched}
 use Rattle.dsr_statement.specs.meaning.Statement.{statement_of}
 use Rattle.dsr_io.specs.meaning.Written.{Written, IsCut}

@@ -13,7 +13,7 @@ use Rattle.dsr_file.specs.meaning.Sources.{GaveText}
 use Rattle.dsr_ledger.specs.declared.report.Report.{Report}
 use Rattle.dsr_ledger.specs.meaning.Files.{File}
 use Rattle.dsr_ledger.specs.meaning.Reports.{report_of}
-use Rattle.dsr_intake.specs.declared.pipeline.options.Options.{Options}
+use Rattle.dsr_intake.specs.declared.options.Options.{Options}
 
 -- each source gave the text at its place
 abbrev pub GaveEach : {R : Type 0} → (R → Told) → Options → List R → List R → List FileText → Type 0

@@ -1,0 +1,114 @@
+//! Reading the files of a report and writing its statement.
+ghost use Rattle.std.specs.Prelude.{◌≡◌, false, List, All, OnOk, IfOk, IfErr, Err, MatchOption, vec_len};
+ghost use Rattle.dsr_file.specs.meaning.Runs.{FileText};
+ghost use Rattle.dsr_ledger.specs.declared.report.Report.{Report};
+ghost use Rattle.dsr_ledger.specs.inner.Closed.{AreClosed};
+ghost use Rattle.dsr_ledger.specs.meaning.Files.{File};
+ghost use Rattle.dsr_ledger.specs.inner.Lent.{IsReady, IsLent};
+ghost use Rattle.dsr_ledger.specs.meaning.Reports.{report_of};
+ghost use Rattle.dsr_intake.specs.meaning.Options.{refusal_of};
+ghost use Rattle.dsr_intake.specs.meaning.Outcomes.{IsReported, IsUnwritten, IsLateRun};
+ghost use Rattle.dsr_statement.specs.meaning.Statement.{statement_of};
+ghost use Rattle.dsr_statement.specs.meaning.Status.{status_of};
+ghost use Rattle.dsr_io.specs.meaning.Written.{IsFlushed};
+ghost use Rattle.dsr_intake.specs.inner.Unfinished.{IsUnfinished};
+
+use crate::errors::{IntakeError, RunError};
+use crate::gather::read_books;
+use crate::options::Options;
+use dsr_cells::NoMemory;
+use dsr_file::Source;
+use dsr_ledger::{ClosedBooks, LentReport};
+use dsr_statement::{Outlet, Room, Status, lent_status, write_statement};
+use std::alloc::Global;
+use std::random::RandomSource;
+use std::sync::Wait;
+use std::thread::Threads;
+use std::time::Clock;
+
+/// Reads the files, and writes their statement in pieces. All memory that writing needs is allocated before the first byte
+/// is written.
+///
+/// # Errors
+///
+/// `Intake` and `Memory`: nothing was written or flushed. `Write`: exactly the first `written` bytes of the statement were
+/// written, and the outlet has failed.
+pub fn run<
+    R: Source + Send + Drop + 'static,
+    W: Outlet,
+    H: Threads + Wait + RandomSource + Clock + Copy + Send + 'static,
+>(
+    rt: &H,
+    alloc: Global,
+    readers: &mut Vec<R>,
+    options: Options,
+    out: &mut W,
+) -> Result<Status, RunError>
+    requires sources { All (λ r. (R.told r).failed ≡ false) readers.old.items }
+    requires outlet { (W.told out.old).failed ≡ false }
+    ensures reported { IfOk result (λ status. (texts : List FileText)
+        × IsReported R.told options readers.old.items readers.new.items
+        (W.told out.old) (W.told out.new) texts status) }
+    ensures unwritten { IfErr result (IsUnwritten R.told options readers.old.items readers.new.items
+        (W.told out.old) (W.told out.new)) }
+    ensures refused { MatchOption (refusal_of (vec_len readers.old) options)
+        (IfErr result IsLateRun)
+        (λ e. (result ≡ Err (RunError.Intake e)) × (readers.new ≡ readers.old)) }
+{
+    let books = read_books(rt, alloc, readers, &options);
+    drop(options);
+    match books {
+        Ok(books) => {
+            let answer = write_books(alloc, &books, out);
+            drop(books);
+            answer
+        }
+        Err(error) => Err(RunError::Intake(error)),
+    }
+}
+
+/// Writes the statement of closed books, and returns whether it has remarks.
+fn write_books<W: Outlet>(
+    alloc: Global,
+    books: &ClosedBooks,
+    out: &mut W,
+) -> Result<Status, RunError>
+    ensures written { (files : List File) → AreClosed books.now files → OnOk result
+        (IsFlushed (statement_of (report_of files)) (W.told out.old) (W.told out.new)) }
+    ensures status { (files : List File) → AreClosed books.now files
+        → IfOk result (λ status. status ≡ status_of (report_of files)) }
+    ensures unfinished { (files : List File) → AreClosed books.now files
+        → IfErr result (IsUnfinished (report_of files) (W.told out.old) (W.told out.new)) }
+    ensures late { IfErr result IsLateRun }
+{
+    match books.report() {
+        Ok(mut report) => write_report(alloc, &mut report, out),
+        Err(NoMemory) => Err(RunError::Intake(IntakeError::Memory)),
+    }
+}
+
+/// Writes the statement of a lent report, and returns whether it has remarks. All memory that writing needs is
+/// allocated before the first byte is written.
+fn write_report<W: Outlet>(
+    alloc: Global,
+    report: &mut LentReport<'_>,
+    out: &mut W,
+) -> Result<Status, RunError>
+    requires ready { IsReady report.old.ledger }
+    ensures same { (r : Report) → IsLent report.old r → IsLent report.new r }
+    ensures written { (r : Report) → IsLent report.old r
+        → OnOk result (IsFlushed (statement_of r) (W.told out.old) (W.told out.new)) }
+    ensures status { (r : Report) → IsLent report.old r
+        → IfOk result (λ status. status ≡ status_of r) }
+    ensures unfinished { (r : Report) → IsLent report.old r
+        → IfErr result (IsUnfinished r (W.told out.old) (W.told out.new)) }
+    ensures late { IfErr result IsLateRun }
+{
+    let Ok(room) = Room::new(alloc, report.key) else {
+        return Err(RunError::Memory);
+    };
+    match write_statement(room, report, out) {
+        Ok(()) => Ok(lent_status(report)),
+        Err(written) => Err(RunError::Write { written }),
+    }
+}
