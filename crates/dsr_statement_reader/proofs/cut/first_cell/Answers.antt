@@ -1,4 +1,4 @@
-use Rattle.std.proofs.Common.{◌≡◌, ◌∷◌, ◌∙◌, ap, sym, subst, take, drop, ◌+◌, Some, None, List, ℕ}
+use Rattle.std.proofs.Common.{◌∷◌, ◌∙◌, sym, subst, Some, None, List, ℕ}
 use Rattle.memchr.specs.Find.{IsFirstByte, is_byte}
 use Rattle.dsr_cells.specs.meaning.Cells.{cells}
 use Rattle.dsr_statement_reader.proofs.Cuts.{first_found, none_found}
