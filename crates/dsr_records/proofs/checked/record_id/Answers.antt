@@ -1,5 +1,0 @@
-use Rattle.std.proofs.Common.{rules}
-use Rattle.dsr_records.proofs.checked.record_id.Goals as goal
-
-pub returns : goal.returns
-returns c = search rules
