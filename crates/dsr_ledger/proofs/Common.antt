@@ -1,23 +1,23 @@
 -- The names that several proof files cite, of definitions and of lemmas, passed on from one place. Declares nothing.
-pub use Rattle.std.proofs.Common.{Bool, Bor, Err, List, Ok, Result, T, [], ap, append-nil, append_assoc, arith, cond, decimal, drop, false, fold, get_or, inl, inr, length, length-append, map, map-id, nat_eq, not, of_z, refl, rules, set, subst, suc, sum, sym, take, to_z, true, true≢false, zero, ℕ, ⊎_elim, ◌&&◌, ◌*◌, ◌++◌, ◌+◌, ◌-◌, ◌<◌, ◌^◌, ◌||◌, ◌∙◌, ◌∷◌, ◌≡◌, ◌≢◌, ◌≤◌, ◌⊎◌}
+pub use Rattle.std.proofs.Common.{Bool, Bor, Err, List, Ok, Result, T, [], ap, append-nil, append_assoc, arith, cond, decimal, drop, false, fold, get_or, inl, inr, length, length-append, map, map-id, nat_eq, not, of_z, refl, rules, set, subst, suc, sum, sym, take, to_z, true, true≢false, zero, ℕ, ⊎_elim, ◌&&◌, ◌*◌, ◌++◌, ◌+◌, ◌-◌, ◌<◌, ◌^◌, ◌||◌, ◌∙◌, ◌∷◌, ◌≡◌, ◌≤◌, ◌⊎◌}
 pub use Rattle.std.proofs.Math.Logic.{∥∥₁_elim, ∥∥₁_map}
-pub use Rattle.std.proofs.Math.Seq.{map-set_same, take-append_seam, take-length}
+pub use Rattle.std.proofs.Math.Seq.{map-set_same, take-append_seam}
 pub use Rattle.std.proofs.Props.{props}
 pub use Rattle.std.proofs.lemmas.Bool.{cases_eq, cond_both, lt-ltb, ltb-false, ltb-true}
 pub use Rattle.std.proofs.lemmas.Bool.Decides.{Decides-and, Decides-like, nat_tests}
 pub use Rattle.std.proofs.lemmas.Cmp.{eq_by_cmp_equiv, nat_eq_equiv, ranked}
 pub use Rattle.std.proofs.lemmas.Grind.{common_steps}
 pub use Rattle.std.proofs.lemmas.Int.{fits_signed_from_abs, ints, quot-rem, rem_below, to_z-of_z, unsigned_abs-mul}
-pub use Rattle.std.proofs.lemmas.List.{drop-append-le, drop_all, drop_more, flat_map_more, get_or-map, get_or-take, get_or_append_left, get_or_default, get_or_push, length-map, length-set, length-take, length_push, map-append, map_more, map_push, take-append-drop, take-map, take_all, take_more, take_more_set}
-pub use Rattle.std.proofs.lemmas.List.Concat.{flat_map-append, flat_map-cons, length-flat_map}
-pub use Rattle.std.proofs.lemmas.List.Elements.{All-contains, All-filter, All-from_recursion, All-map, All-more, All-push, All-set, All-weaker, Contains-append_left, Contains-append_right, Contains-get_or, filter-append, recursion_from_All}
+pub use Rattle.std.proofs.lemmas.List.{drop-append-le, drop_all, drop_more, flat_map_more, get_or-map, get_or-take, get_or_append_left, get_or_default, get_or_push, length-map, length-set, length-take, length_push, map-append, map_more, map_push, take-map, take_all, take_more}
+pub use Rattle.std.proofs.lemmas.List.Concat.{flat_map-append, flat_map-cons}
+pub use Rattle.std.proofs.lemmas.List.Elements.{All-filter, All-from_recursion, All-map, All-push, All-set, All-weaker, Contains-append_left, Contains-append_right, Contains-get_or, filter-append, recursion_from_All}
 pub use Rattle.std.proofs.lemmas.List.Folds.{find-append, list_any-append, list_any_at, list_any_none, position_or_len_push}
-pub use Rattle.std.proofs.lemmas.List.FromFn.{filter_of_map_range_with_len_more, get_or-map-range_with_len, length-map-range_with_len, map-range_with_len_more}
+pub use Rattle.std.proofs.lemmas.List.FromFn.{filter_of_map_range_with_len_more}
 pub use Rattle.std.proofs.lemmas.List.MinMax.{ranks_by}
 pub use Rattle.std.proofs.lemmas.List.Quantifiers.{position-Some}
 pub use Rattle.std.proofs.lemmas.List.Sorted.{All-permutation, Contains-permutation, IsPermutation-map, answers_always}
 pub use Rattle.std.proofs.lemmas.List.Sums.{count_by-le-length, fails_before_first, length-filter, position_or_len_is, prefix_len-le-length, sum_by-append, sum_by-cons, sum_by-le, sum_by-le-sum_by, sum_by_more_le}
-pub use Rattle.std.proofs.lemmas.Map.Entries.{length-keys_of, lookup_from_place}
+pub use Rattle.std.proofs.lemmas.Map.Entries.{lookup_from_place}
 pub use Rattle.std.proofs.lemmas.Map.Keys.{IsDistinct-IsPermutation, IsDistinct-from_apart, IsDistinct-from_sorted, IsDistinct-push, Less-from_sorted, apart_from_distinct, sorted_from_all_adjacent}
 pub use Rattle.std.proofs.lemmas.Map.Lookups.{exact_bytes}
 pub use Rattle.std.proofs.lemmas.Map.Text.{is_eq-slice_cmp}
@@ -40,7 +40,7 @@ unfoldable pub use Rattle.std.specs.List.Sorted.{IsStrictlySortedBy}
 pub use Rattle.std.specs.Map.{keys_of, lookup}
 pub use Rattle.std.specs.Option.{ForSome, option_and_then, option_map_or, option_or}
 pub use Rattle.std.specs.Ordering.{eq_by_cmp, is_eq, is_lt, nat_cmp, ordering_index, ordering_then}
-pub use Rattle.std.specs.Prelude.{All, IfOk, IfSome, IsSomeAnd, MatchResult, None, OnErr, OnOk, Option, Some, filter, find, if◌then◌else◌, is_ok, is_some, nat_lt, negsuc, option_map, pos, slice_get, slice_index, sum_by, unsigned_abs, vec_capacity, vec_len, ℤ, ◌*ℤ◌, ◌+ℤ◌, ◌-ℤ◌, ◌<ℤ◌, ◌≤ℤ◌}
+pub use Rattle.std.specs.Prelude.{All, IfOk, IsSomeAnd, MatchResult, None, OnErr, OnOk, Option, Some, filter, find, if◌then◌else◌, is_ok, is_some, nat_lt, negsuc, option_map, pos, slice_get, slice_index, sum_by, unsigned_abs, vec_capacity, vec_len, ℤ, ◌*ℤ◌, ◌+ℤ◌, ◌-ℤ◌, ◌<ℤ◌, ◌≤ℤ◌}
 pub use Rattle.std.specs.Str.{bytes_eq}
 pub use Rattle.std.specs.Vec.{with_item}
 pub use Rattle.std.specs.declared.cmp.Ordering.{Ordering}
@@ -54,7 +54,7 @@ pub use Rattle.dsr_blocks.specs.meaning.Works.{WorkParts}
 pub use Rattle.indexmap.proofs.CallerLemmas.{insert_entry-new, keys-with_value_at, updates-with_value_at}
 pub use Rattle.indexmap.proofs.MapLemmas.{Found-position, some_index}
 pub use Rattle.indexmap.specs.IndexMap.{IndexMap, IsUnchanged, IsUnique, Updates, get, index_of, keys, with_value_at}
-pub use Rattle.indexmap.specs.IndexSet.{IndexSet, insert_key}
+pub use Rattle.indexmap.specs.IndexSet.{insert_key}
 pub use Rattle.dsr_ledger.specs.declared.file.FileBooks.{FileBooks}
 pub use Rattle.dsr_ledger.specs.declared.file.summaries.Summaries.{Summaries}
 pub use Rattle.dsr_ledger.specs.declared.file.summaries.SummaryState.{SummaryState}
@@ -75,9 +75,8 @@ pub use Rattle.dsr_ledger.specs.declared.verdict.Verdict.TheVariants.{Booked, Re
 pub use Rattle.dsr_ledger.specs.inner.Assembly.{difference_to, differences_kept, differences_to, is_number_kept, line_kept, not_in, sums_or_zeros}
 pub use Rattle.dsr_ledger.specs.inner.Books.{IsReached, IsSmallFile, Stands, blocks_in, ended_in, has_opening_in}
 pub use Rattle.dsr_ledger.specs.inner.FileSteps.{IsBlockInRange, IsNumberedFile, IsSameFile, TakesBlock}
-pub use Rattle.dsr_ledger.specs.inner.IdNumbers.{IsAppended, range_texts, texts_of}
-pub use Rattle.dsr_ledger.specs.inner.IdSteps.{IsNoted, is_in, was_before}
-pub use Rattle.dsr_ledger.specs.inner.Ids.{AreSameWith, HasAlso, is_among, rank_of, with_byte}
+pub use Rattle.dsr_ledger.specs.inner.IdRanks.{number_of_id, rank_of, with_byte}
+pub use Rattle.dsr_ledger.specs.inner.Ids.{is_between, is_in}
 pub use Rattle.dsr_ledger.specs.inner.Indexes.{AreIndexed, Rise}
 pub use Rattle.dsr_ledger.specs.inner.Lined.{AreLined, IsLined}
 pub use Rattle.dsr_ledger.specs.inner.Listed.{AddsLines, AreDistinctBelow, AreListed, AreOrdered, AreRanks, HasBookings, IsRecordingOf, IsSeatedLine, booked_lines, key_in, keyed, lent, line_for, named_places, numbered_by, party_in}

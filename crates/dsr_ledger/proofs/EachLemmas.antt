@@ -1,5 +1,5 @@
 -- What holds of each item of a list, and sums over lists.
-use Rattle.dsr_ledger.proofs.Common.{true≢false, ◌≡◌, ℕ, List, [], ◌∷◌, ◌++◌, length, ◌≤◌, ◌+◌, ◌*◌, sym, ◌∙◌, ap, arith, get_or, length-append, Bool, true, false, cond, suc, set, refl, Option, None, Some, ℤ, pos, ◌+ℤ◌, sum_by, unsigned_abs, filter, map, nat_lt, ◌||◌, AllByRecursion, flat_map, list_any, Contains, ints, All-from_recursion, All-filter, All-map, All-set, All-weaker, recursion_from_All, sum_by-cons, sum_by-le, length-filter, count_by-le-length, int_sum_by, lt-ltb, get_or-map, length-map}
+use Rattle.dsr_ledger.proofs.Common.{true≢false, ◌≡◌, ℕ, List, [], ◌∷◌, ◌++◌, length, ◌≤◌, ◌*◌, sym, ◌∙◌, ap, arith, get_or, length-append, Bool, true, false, cond, suc, set, refl, Option, None, Some, ℤ, pos, ◌+ℤ◌, sum_by, unsigned_abs, filter, map, nat_lt, ◌||◌, AllByRecursion, flat_map, list_any, Contains, ints, All-from_recursion, All-filter, All-map, All-set, All-weaker, recursion_from_All, sum_by-cons, sum_by-le, length-filter, count_by-le-length, int_sum_by, lt-ltb, get_or-map, length-map}
 
 pub add-assoc : (a b c : ℤ) → (a +ℤ b) +ℤ c ≡ a +ℤ (b +ℤ c)
 add-assoc a b c = omega (arith, ints)

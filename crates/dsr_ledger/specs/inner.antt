@@ -11,9 +11,8 @@ pub mod Recordings
 pub mod Summaries
 pub mod Lined
 pub mod Plans
-pub mod IdNumbers
+pub mod IdRanks
 pub mod Ids
-pub mod IdSteps
 pub mod FileSteps
 pub mod Stands
 pub mod Openings

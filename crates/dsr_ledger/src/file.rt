@@ -16,7 +16,7 @@ use crate::booking::apply::add_usages;
 use crate::booking::plan::Plan;
 use crate::counting::count_usages;
 use crate::file::summaries::Summaries;
-use crate::ids::Ids;
+use crate::ids::{Ids, number_of};
 use crate::judge::judge;
 use crate::ledger::recordings::Ledger;
 use crate::report::Reject;
@@ -171,11 +171,14 @@ impl FileBooks {
         ensures same_ledger { OnErr result
             ((q : _) → tally_at ledger.new q ≡ tally_at ledger.old q) }
     {
-        let noted = self.ids.note(alloc, &block.id)?;
-        let answer = self.take(ledger, plan, alloc, block, noted.was_before());
-        if answer.is_err() {
-            self.ids.forget(&block.id, noted);
+        let number = number_of(&block.id);
+        let seen = self.ids.has(&block.id, number);
+        self.ids.reserve()?;
+        let id = block.id.copy(alloc)?;
+        let verdict = self.take(ledger, plan, alloc, block, seen)?;
+        if !seen {
+            self.ids.add(id, number);
         }
-        answer
+        Ok(verdict)
     }
 }

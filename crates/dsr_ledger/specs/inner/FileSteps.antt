@@ -5,7 +5,7 @@ use Rattle.dsr_blocks.specs.meaning.Blocks.{BlockParts}
 use Rattle.dsr_ledger.specs.meaning.Limits.{most_usages}
 use Rattle.dsr_ledger.specs.declared.file.FileBooks.{FileBooks}
 use Rattle.dsr_ledger.specs.declared.verdict.Verdict.{Verdict}
-use Rattle.dsr_ledger.specs.inner.IdSteps.{is_in}
+use Rattle.dsr_ledger.specs.inner.Ids.{is_in}
 use Rattle.dsr_ledger.specs.meaning.Bookings.{summary_key_named, verdict_bookings}
 use Rattle.dsr_ledger.specs.meaning.Files.{summaries_of}
 use Rattle.dsr_ledger.specs.meaning.Findings.{rejects_from}

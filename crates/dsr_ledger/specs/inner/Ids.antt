@@ -1,25 +1,20 @@
--- The set of the identifiers of a file's blocks, and their ranks.
-use Rattle.std.specs.Prelude.{◌≡◌, ℕ, ◌+◌, ◌-◌, ◌*◌, ◌^◌, ◌%◌, Bool, List, ◌||◌, length, drop}
-use Rattle.std.specs.List.{list_any, fold}
+-- The set of the identifiers of a file's blocks.
+use Rattle.std.specs.Prelude.{ℕ, ◌<◌, Bool, false, List, ◌||◌, ◌&&◌, Option, None, Some, nat_le, nat_lt, vec_len, vec_capacity}
+use Rattle.std.specs.List.{list_any}
 use Rattle.std.specs.Str.{bytes_eq}
-use Rattle.indexmap.specs.IndexSet.{contains, IndexSet}
+use Rattle.indexmap.specs.IndexSet.{contains, spare}
+use Rattle.dsr_ledger.specs.declared.ids.Ids.{Ids}
+use Rattle.dsr_ledger.specs.inner.IdRanks.{number_of_id}
 
--- a number with one more byte appended, modulo 2^64
-abbrev pub with_byte : ℕ → ℕ → ℕ
-with_byte number byte = (number * 256 % 2 ^ 64 + byte) % 2 ^ 64
+-- a number, if there is one, is one of those from the first up to the end
+abbrev pub is_between : Ids → Option ℕ → Bool
+is_between ids None = false
+is_between ids (Some n) = nat_le ids.first n && nat_lt n ids.end
 
--- the rank of an identifier: its length times 2^64, plus its last eight bytes as a big-endian number
-unfoldable pub rank_of : List ℕ → ℕ
-rank_of id = length id * 2 ^ 64 + fold with_byte 0 (drop (length id - 8) id)
+-- an identifier is in the set
+abbrev pub is_in : Ids → List ℕ → Bool
+is_in ids q = is_between ids (number_of_id q) || list_any (bytes_eq q) ids.run.items || contains bytes_eq ids.rest q
 
--- an identifier is in a list or in a set
-abbrev pub is_among : {S : Type 0} → List (List ℕ) → IndexSet (List ℕ) S → List ℕ → Bool
-is_among ids rest q = list_any (bytes_eq q) ids || contains bytes_eq rest q
-
--- the new set has what the old one has and these identifiers
-abbrev pub HasAlso : {S : Type 0} → List (List ℕ) → IndexSet (List ℕ) S → IndexSet (List ℕ) S → Type 0
-HasAlso ids old new = (q : List ℕ) → contains bytes_eq new q ≡ is_among ids old q
-
--- together with these identifiers, both sets have the same
-abbrev pub AreSameWith : {S : Type 0} → List (List ℕ) → IndexSet (List ℕ) S → IndexSet (List ℕ) S → Type 0
-AreSameWith ids old new = (q : List ℕ) → is_among ids new q ≡ is_among ids old q
+-- there is memory for one more identifier
+abbrev pub HasRoom : Ids → Type 0
+HasRoom ids = (vec_len ids.run < vec_capacity ids.run) × (0 < spare ids.rest)

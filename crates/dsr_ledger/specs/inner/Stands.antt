@@ -11,7 +11,7 @@ use Rattle.dsr_ledger.specs.meaning.Files.{File, Filed, filed_after, summaries_o
 use Rattle.dsr_ledger.specs.meaning.Verdicts.{has_id, verdict_of}
 use Rattle.dsr_ledger.specs.meaning.Bookings.{Booking, verdict_bookings}
 use Rattle.dsr_ledger.specs.meaning.Findings.{usages_in, rejects_in}
-use Rattle.dsr_ledger.specs.inner.IdSteps.{is_in}
+use Rattle.dsr_ledger.specs.inner.Ids.{is_in}
 use Rattle.dsr_ledger.specs.inner.Summaries.{sums_at, found_in}
 use Rattle.dsr_ledger.specs.inner.Tallies.{tally_plus, key_tally}
 use Rattle.dsr_ledger.specs.inner.Recordings.{tally_at}
