@@ -133,7 +133,7 @@ impl Index {
 
     /// The place of a number in a list. Callers mostly find the place by a hint, so this is not inlined.
     #[inline(never)]
-    pub fn find<T: Numbered>(&self, items: &[T], number: u32) -> Option<usize>
+    pub fn search<T: Numbered>(&self, items: &[T], number: u32) -> Option<usize>
         requires { AreIndexed (map T.number_of items.now) self.now }
         ensures { result ≡ place_in (map T.number_of items.now) number }
     {
@@ -141,6 +141,20 @@ impl Index {
             Some(numbers) => numbers.get_index_of(&number),
             None => search_all(items, number),
         }
+    }
+
+    /// The place of a number in a list. The item at `hint` is tried first.
+    pub fn find<T: Numbered>(&self, items: &[T], number: u32, hint: usize) -> Option<usize>
+        requires apart { AreApart (map T.number_of items.now) }
+        requires indexed { AreIndexed (map T.number_of items.now) self.now }
+        ensures { result ≡ place_in (map T.number_of items.now) number }
+    {
+        if let Some(item) = items.get(hint) {
+            if item.number() == number {
+                return Some(hint);
+            }
+        }
+        self.search(items, number)
     }
 
     /// Adds the number of the item that comes after those of a list, none of which has it.

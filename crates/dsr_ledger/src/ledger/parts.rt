@@ -91,20 +91,6 @@ fn share_of(amount: i128, share: u32) -> i128
     }
 }
 
-/// The place of a seat's part. The part at `hint` is tried first.
-fn find_part(parts: &[SeatPart], index: &Index, seat: u32, hint: usize) -> Option<usize>
-    requires apart { AreApart (part_seats parts.now) }
-    requires indexed { AreIndexed (part_seats parts.now) index.now }
-    ensures { result ≡ part_in parts.now seat }
-{
-    if let Some(part) = parts.get(hint) {
-        if part.seat == seat {
-            return Some(hint);
-        }
-    }
-    index.find(parts, seat)
-}
-
 /// How many of these seats are above all before them: the number of parties, if the shares come in
 /// the order of their seats.
 fn rising_seats(shares: &[SeatShare]) -> usize {
@@ -155,7 +141,7 @@ fn add_share(
         then owed_with (int_div (amount *ℤ pos share.now.share) (pos 1000000)) (owed_in parts.old (seat q))
         else owed_in parts.old (seat q)) }
 {
-    let Some(place) = find_part(parts, index, share.seat, hint) else {
+    let Some(place) = index.find(parts, share.seat, hint) else {
         return hint;
     };
     add_part(parts, place, share_of(amount.units(), share.share));
@@ -236,7 +222,7 @@ impl Parts {
             → AreBelow n (part_seats self.new.items.items) }
         ensures there { IfOk result (λ place. part_in self.new.items.items seat ≡ Some place) }
     {
-        if let Some(place) = find_part(self.items.as_slice(), &self.index, seat, hint) {
+        if let Some(place) = self.index.find(self.items.as_slice(), seat, hint) {
             return Ok(place);
         }
         let place = self.items.len();

@@ -56,20 +56,6 @@ fn line_group(key: u32) -> usize {
     key as usize % LINE_GROUPS
 }
 
-/// The line of a summary key. The line at `hint` is tried first.
-fn find_line(lines: &[Line], index: &Index, key: u32, hint: usize) -> Option<usize>
-    requires apart { AreApart (line_keys lines.now) }
-    requires indexed { AreIndexed (line_keys lines.now) index.now }
-    ensures { result ≡ line_in lines.now key }
-{
-    if let Some(line) = lines.get(hint) {
-        if line.key == key {
-            return Some(hint);
-        }
-    }
-    index.find(lines, key)
-}
-
 /// Reserves memory for one more line. A new recording already has room for those of its first block.
 fn reserve_line(lines: &mut Vec<Line>) -> Result<(), NoMemory>
     ensures items { lines.new.items ≡ lines.old.items }
@@ -196,7 +182,7 @@ impl Recording {
         ensures there { IfOk result (λ i. line_in self.new.lines.items key ≡ Some i) }
     {
         let hint = self.line_hint(key, next);
-        if let Some(number) = find_line(self.lines.as_slice(), &self.index, key, hint) {
+        if let Some(number) = self.index.find(self.lines.as_slice(), key, hint) {
             return Ok(number);
         }
         self.add_line(alloc, seeded, key)

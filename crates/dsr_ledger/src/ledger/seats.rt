@@ -57,7 +57,7 @@ impl Seats {
     fn find(&self, party: u32) -> Option<usize>
         ensures { result ≡ place_in (seat_numbers self.now) party }
     {
-        self.index.find(self.numbers.as_slice(), party)
+        self.index.search(self.numbers.as_slice(), party)
     }
 
     /// Gives the next seat to a party that has none.

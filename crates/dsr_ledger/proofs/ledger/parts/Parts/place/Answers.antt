@@ -4,8 +4,8 @@ use Rattle.dsr_ledger.proofs.PartLemmas.{seat_of_part}
 use Rattle.dsr_ledger.proofs.RecordingLemmas.{below_with}
 use Rattle.dsr_ledger.proofs.ledger.parts.Parts.place.Goals as goal
 
-pub find_part-requires-clause-indexed : goal.find_part-requires-clause-indexed
-find_part-requires-clause-indexed c = rw c.as_slice.ensures c.args.self.now.indexed
+pub find-requires-clause-indexed : goal.find-requires-clause-indexed
+find-requires-clause-indexed c = rw c.as_slice.ensures c.args.self.now.indexed
 
 pub returns-clause-below : goal.returns-clause-below
 returns-clause-below c = λ n less below.

@@ -1,5 +1,5 @@
 use Rattle.dsr_ledger.proofs.Common.{map-id}
 use Rattle.dsr_ledger.proofs.ledger.seats.Seats.find.Goals as goal
 
-pub find-requires : goal.find-requires
-find-requires c = rw (map-id c.as_slice.result.now, c.as_slice.ensures) c.args.self.now.indexed
+pub search-requires : goal.search-requires
+search-requires c = rw (map-id c.as_slice.result.now, c.as_slice.ensures) c.args.self.now.indexed
