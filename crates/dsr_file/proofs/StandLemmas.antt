@@ -337,27 +337,3 @@ done_ended layout r b es s = by_phase r.phase refl s.phase_is
 pub done_told : (layout : LayoutTable) (r : FileReader) (t : Bool) → (IsTrue t → IsDone r) → (IsDone r → IsTrue t) → (b : List ℕ) (es : List Placed)
     → Stands layout r b es → (IsTrue t → has_ended es ≡ true) × (has_ended es ≡ true → IsTrue t)
 done_told layout r t there back b es s = let d = done_ended layout r b es s in ((λ h. d.0 (there h)), (λ h. back (d.1 h)))
-
--- what a reader represents depends on these, and on its phase
-pub record SameStand (old new : FileReader) : Type 0 where
-  pub layout : new.layout ≡ old.layout
-  pub given : new.given ≡ old.given
-  pub place : new.place ≡ old.place
-  pub ending : new.ending ≡ old.ending
-  pub cutter : new.cutter ≡ old.cutter
-  pub grammar : new.grammar ≡ old.grammar
-
-stand_at : (layout : LayoutTable) (old new : FileReader) (p : Phase) (b : List ℕ) (es : List Placed) → SameStand old new → StandsAt layout p old b es
-    → StandsAt layout p new b es
-stand_at layout old new phases.Reading b es same s = (s.0, rw (same.cutter) s.1, rw same.grammar s.2, s.3, same.ending ∙ s.4)
-stand_at layout old new (phases.Waiting o) b es same s = (rw same.ending s.0, s.1)
-stand_at layout old new (phases.Done o) b es same s = (rw same.ending s.0, s.1)
-
-pub stands_same : (layout : LayoutTable) (old new : FileReader) (b : List ℕ) (es : List Placed) → new.phase ≡ old.phase → SameStand old new
-    → Stands layout old b es → Stands layout new b es
-stands_same layout old new b es phase same s = record {
-  layout_is = same.layout ∙ s.layout_is;
-  given_is = same.given ∙ s.given_is;
-  place_is = same.place ∙ s.place_is;
-  phase_is = subst (λ p. StandsAt layout p new b es) (sym phase) (stand_at layout old new old.phase b es same s.phase_is);
-}

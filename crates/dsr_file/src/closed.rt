@@ -1,5 +1,5 @@
 //! What a line closes, in a place that is lent from the sink's caller down to the stage.
-ghost use Rattle.std.specs.Prelude.{◌≡◌, ◌++◌, ◌∷◌, ◌<◌, ◌^◌, [], true, false, IfOk, OnOk, OnErr, IfSome, Some, None, is_some};
+ghost use Rattle.std.specs.Prelude.{◌≡◌, ◌++◌, ◌∷◌, ◌<◌, ◌^◌, [], true, false, IfOk, IfErr, OnOk, OnErr, IfSome, Some, None, is_some};
 ghost use Rattle.std.specs.Option.{option_to_list};
 ghost use Rattle.dsr_blocks.specs.declared.kinds.Kind.TheVariants as kinds;
 ghost use Rattle.dsr_blocks.specs.meaning.Blocks.{OpensBlock};
@@ -49,15 +49,15 @@ impl Model for Closed {
 }
 
 impl Closed {
-    /// Nothing, with a block whose memory may be used again.
-    pub(crate) fn over(alloc: Global, spare: Option<BoxedBlock>) -> Closed
+    /// Nothing.
+    pub(crate) fn new(alloc: Global) -> Closed
         ensures { result ≡ None }
     {
         Closed {
             alloc,
             block: None,
             other: None,
-            spare,
+            spare: None,
         }
     }
 
@@ -133,13 +133,6 @@ impl Closed {
         Some(Event { place, part })
     }
 
-    /// The block to be overwritten, if there is one. What was closed is dropped.
-    pub(crate) fn into_spare(mut self) -> Option<BoxedBlock> {
-        let spare = self.spare.take();
-        drop(self);
-        spare
-    }
-
     /// Writes the block of a resource line over the spare one. It takes the place of the open block, which is closed.
     #[inline(always)]
     pub(crate) fn open_next(
@@ -197,32 +190,24 @@ impl Closed {
         true
     }
 
-    /// Puts what was closed into a sink, as the event with this place, by moving it. An event that the sink refuses is in
-    /// `refused` then. Not inlined, since most blocks are exchanged.
+    /// Puts what was closed into a sink, as the event with this place, by moving it. Returns an event that the sink refuses.
+    /// Not inlined, since most blocks are exchanged.
     #[cold]
     #[inline(never)]
-    pub(crate) fn put_into<S: Sink>(
-        &mut self,
-        place: u64,
-        sink: &mut S,
-        refused: &mut Option<Event>,
-    )
+    pub(crate) fn put_into<S: Sink>(&mut self, place: u64, sink: &mut S) -> Result<(), Event>
         requires small { place < 2 ^ 37 }
         requires run { IfSome (event_at place self.old)
             (λ e. IsSomeRun (S.list sink.old ++ e ∷ [])) }
-        requires none { refused.old ≡ None }
-        ensures added { refused.new ≡ None
-            → S.list sink.new ≡ S.list sink.old ++ option_to_list (event_at place self.old) }
-        ensures refused { IfSome refused.new (λ back.
+        ensures added { OnOk result
+            (S.list sink.new ≡ S.list sink.old ++ option_to_list (event_at place self.old)) }
+        ensures refused { IfErr result (λ back.
             (event_at place self.old ≡ Some back) × (S.list sink.new ≡ S.list sink.old)) }
         ensures none { self.new ≡ None }
         ensures name { S.name sink.new ≡ S.name sink.old }
     {
-        let Some(event) = self.take_event(place) else {
-            return;
-        };
-        if let Err(back) = sink.put(event) {
-            drop(refused.replace(back));
+        match self.take_event(place) {
+            Some(event) => sink.put(event),
+            None => Ok(()),
         }
     }
 }

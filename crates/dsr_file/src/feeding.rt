@@ -9,49 +9,6 @@ use crate::reader::FileReader;
 use crate::sink::Sink;
 use dsr_events::{Ending, Event, Outcome};
 
-/// Gives a piece to a reader and its events to a sink, and notes the length of the piece in the sink. An event that the
-/// sink refuses is in `refused` then: as a result it would be a large local of the loop, which is set to zero each time.
-fn feed_up_to<S: Sink>(
-    file: &mut FileReader,
-    part: &mut Closed,
-    piece: &[u8],
-    sink: &mut S,
-    refused: &mut Option<Event>,
-)
-    requires none { part.old ≡ None }
-    requires open { ending_told file.old ≡ None }
-    requires room { bytes_used file.old + length piece.now ≤ 2 ^ 36 }
-    requires known { IsKnown file.old (S.list sink.old) }
-    requires not_refused { refused.old ≡ None }
-    ensures open { ending_told file.new ≡ None }
-    ensures none { part.new ≡ None }
-    ensures used { refused.new ≡ None
-        → bytes_used file.new ≤ bytes_used file.old + length piece.now }
-    ensures name { S.name sink.new ≡ S.name sink.old }
-    ensures grows { IsPrefix (S.list sink.old) (S.list sink.new) }
-    ensures fed { refused.new ≡ None
-        → Feeds file.old file.new piece.now (S.list sink.old) (S.list sink.new) }
-    ensures refused { IfSome refused.new (λ e.
-        FeedsSome file.old piece.now (S.list sink.old) (S.list sink.new ++ e ∷ [])) }
-{
-    let mut used = 0;
-    loop {
-        let place = file.place();
-        used += file.take_part(&piece[used..], part);
-        if !part.is_some() {
-            sink.note_bytes(piece.len());
-            return;
-        }
-        if part.exchange_into(place, sink) {
-            continue;
-        }
-        part.put_into(place, sink, refused);
-        if refused.is_some() {
-            return;
-        }
-    }
-}
-
 /// Gives a piece to a reader and its events to a sink, and notes the length of the piece in the sink.
 pub(crate) fn feed<S: Sink>(
     file: &mut FileReader,
@@ -73,11 +30,18 @@ pub(crate) fn feed<S: Sink>(
     ensures refused { IfErr result (λ e.
         FeedsSome file.old piece.now (S.list sink.old) (S.list sink.new ++ e ∷ [])) }
 {
-    let mut refused = None;
-    feed_up_to(file, part, piece, sink, &mut refused);
-    match refused {
-        Some(event) => Err(event),
-        None => Ok(()),
+    let mut used = 0;
+    loop {
+        let place = file.place();
+        used += file.take_part(&piece[used..], part);
+        if !part.is_some() {
+            sink.note_bytes(piece.len());
+            return Ok(());
+        }
+        if part.exchange_into(place, sink) {
+            continue;
+        }
+        part.put_into(place, sink)?;
     }
 }
 

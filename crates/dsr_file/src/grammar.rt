@@ -382,7 +382,7 @@ impl Grammar {
             → LineSteps ls (reading layout.now line.now) result.0 result.1 self.new }
         ensures counts { self.new.lines ≤ self.old.lines + 1 }
     {
-        let mut closed = Closed::over(alloc, None);
+        let mut closed = Closed::new(alloc);
         let mut step = Step::Good;
         self.line(alloc, layout, line, &mut closed, &mut step);
         let part = closed.take();

@@ -17,7 +17,7 @@ use crate::grammar::Grammar;
 use crate::reader::phase::Phase;
 use dsr_cells::NoMemory;
 use dsr_events::{Ending, Event, Outcome};
-use dsr_records::{BoxedBlock, Layout};
+use dsr_records::Layout;
 use std::alloc::Global;
 
 /// Reads a file by a layout: takes its bytes in pieces, and gives its events one by one.
@@ -30,8 +30,6 @@ pub struct FileReader {
     place: u64,
     phase: Phase,
     ending: Option<Ending>,
-    /// A block to be overwritten by the next one, if there is one.
-    spare: Option<BoxedBlock>,
     // A line has at least one byte, and the bytes that the cutter keeps belong to no counted line.
     ghost lines_given: { grammar.lines + length cutter.bytes.items ≤ given },
     ghost given_small: { given ≤ 2 ^ 36 },
@@ -50,7 +48,6 @@ impl Drop for FileReader {
             place: _,
             phase: _,
             ending: _,
-            spare: _,
         } = self;
     }
 }
@@ -58,7 +55,6 @@ impl Drop for FileReader {
 impl FileReader {
     ghost use Rattle.dsr_file.specs.inner.Standing.{Stands, IsDone, bytes_used, events_left, ending_told, first_ending};
     ghost use Rattle.dsr_file.specs.inner.Advances.{Advances, Gives, HasBegun, HasGivenAll, GivesBeforeItUses};
-    ghost use Rattle.dsr_file.specs.inner.ReaderSteps.{StandsAs};
     ghost use Rattle.dsr_file.specs.declared.reader.phase.Phase.TheVariants as phases;
 
     /// A reader that has used no bytes. It keeps the allocator and a copy of the layout.
@@ -80,20 +76,7 @@ impl FileReader {
             place: 0,
             phase: Phase::Reading,
             ending: None,
-            spare: None,
         })
-    }
-
-    /// Keeps a block, if there is one, whose memory is used for the next one.
-    fn keep(&mut self, spare: Option<BoxedBlock>)
-        // The reader represents what it represented before.
-        ensures stands { StandsAs self.old self.new }
-        ensures stood { StandsAs self.new self.old }
-        ensures used { bytes_used self.new ≡ bytes_used self.old }
-        ensures left { events_left self.new ≡ events_left self.old }
-        ensures ending { ending_told self.new ≡ ending_told self.old }
-    {
-        self.spare = spare;
     }
 
     /// The number of bytes used.
@@ -138,20 +121,7 @@ impl FileReader {
     pub(crate) fn nothing_closed(&self) -> Closed
         ensures { result ≡ None }
     {
-        Closed::over(self.alloc, None)
-    }
-
-    /// Nothing closed, over the spare block of the reader.
-    fn over_spare(&mut self) -> Closed
-        ensures none { result ≡ None }
-        ensures stands { StandsAs self.old self.new }
-        ensures stood { StandsAs self.new self.old }
-        ensures used { bytes_used self.new ≡ bytes_used self.old }
-        ensures left { events_left self.new ≡ events_left self.old }
-        ensures ending { ending_told self.new ≡ ending_told self.old }
-        ensures place { self.new.place ≡ self.old.place }
-    {
-        Closed::over(self.alloc, self.spare.take())
+        Closed::new(self.alloc)
     }
 
     /// Uses bytes of a piece, up to the next event. Returns how many, and the event. A waiting outcome is given first.
@@ -183,10 +153,10 @@ impl FileReader {
             return (0, None);
         }
         let place = self.place;
-        let mut part = self.over_spare();
+        let mut part = self.nothing_closed();
         let used = self.take_part(piece, &mut part);
         let event = part.take_event(place);
-        self.keep(part.into_spare());
+        drop(part);
         (used, event)
     }
 

@@ -12,7 +12,7 @@ use crate::grammar::Step;
 use crate::reader::FileReader;
 use crate::reader::phase::Phase;
 use dsr_events::{FileFault, Outcome};
-use dsr_records::CheckedLine;
+use dsr_records::{CheckedLine, Kind};
 
 impl FileReader {
     ghost use Rattle.dsr_file.specs.inner.Advances.{Advances, HasBegun, HasGivenAll, GivesBeforeItUses};
@@ -75,7 +75,8 @@ impl FileReader {
         used
     }
 
-    /// Uses bytes of a piece, up to the end of a line. Returns how many. A line of the usual form is read quickly.
+    /// Uses bytes of a piece, up to the end of a line. Returns how many. A line of the usual form is read quickly: the calls
+    /// below are inlined here once for each kind that blocks are made of, so that they need not match the kind again.
     fn step(&mut self, piece: &[u8], part: &mut Closed) -> usize
         requires reading { self.old.phase ≡ phases.Reading }
         requires some { 0 < length piece.now }
@@ -89,9 +90,13 @@ impl FileReader {
         ensures reading { IfNone part.new (self.new.phase ≡ phases.Reading) }
         ensures place { IfNone part.new (self.new.place ≡ self.old.place) }
     {
-        match self.usual(piece) {
-            Some((line, size)) => self.take_usual(piece, &line, size, part),
-            None => self.take_any(piece, part),
+        let Some((line, size)) = self.usual(piece) else {
+            return self.take_any(piece, part);
+        };
+        match line.kind() {
+            Kind::Usage => self.take_usual(piece, &line, size, part),
+            Kind::Work => self.take_usual(piece, &line, size, part),
+            _ => self.take_usual(piece, &line, size, part),
         }
     }
 

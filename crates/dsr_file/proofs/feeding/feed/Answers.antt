@@ -1,14 +1,14 @@
 use Rattle.std.proofs.Common.{◌≡◌, ◌∙◌, ◌++◌, ap, sym, subst, arith, length-drop}
 use Rattle.std.proofs.lemmas.Grind.{common_steps}
+use Rattle.std.proofs.lemmas.Result.{err_from_is_err_and}
 use Rattle.std.specs.Option.{option_to_list}
 use Rattle.dsr_file.specs.inner.Closing.{event_at}
 use Rattle.dsr_file.specs.inner.Feeding.{Fed}
-use Rattle.dsr_file.proofs.ClosedLemmas.{not_some, if_some_more}
 use Rattle.dsr_file.proofs.FeedLemmas.{prefix_part, part_run, fed_more, fed_all, fed_some}
-use Rattle.dsr_file.proofs.feeding.feed_up_to.Goals as goal
+use Rattle.dsr_file.proofs.feeding.feed.Goals as goal
 
 pub returns-then-not-is_some-clause-fed : goal.returns-then-not-is_some-clause-fed
-returns-then-not-is_some-clause-fed g c = λ _ layout b s.
+returns-then-not-is_some-clause-fed g c = λ layout b s.
     subst (λ es. Fed layout c.take_part-used.new.self b c.args.piece.now es) (sym c.note_bytes.ensures.list)
     (fed_all layout c.take_part-used.new.self b c.args.piece.now (g.S.Sink.list c.loop-sink.sink) c.loop-sink.used c.take_part-used.result
     c.loop-sink.file.place c.take_part-used.new.part c.loop-sink.invariant.bound c.take_part-used.ensures.bound
@@ -27,7 +27,6 @@ loop-sink-preserved-then-exchange_into g c = record {
   count = omega (arith, c.take_part-used.ensures.used, c.loop-sink.invariant.count);
   ending = c.take_part-used.ensures.«open»;
   none = c.exchange_into.ensures.none c.if-exchange_into.true;
-  refused = c.loop-sink.invariant.refused;
   name = c.exchange_into.ensures.name ∙ c.loop-sink.invariant.name;
   grows =
       prefix_part (g.S.Sink.list c.args.sink.now) (g.S.Sink.list c.loop-sink.sink) (g.S.Sink.list c.exchange_into.new.sink) c.place-place.result
@@ -52,7 +51,7 @@ pub loop-sink-preserved : goal.loop-sink-preserved
 loop-sink-preserved g c =
     let kept = c.exchange_into.ensures.kept c.if-exchange_into.false in
     let added : g.S.Sink.list c.put_into.new.sink ≡ g.S.Sink.list c.loop-sink.sink ++ option_to_list (event_at c.place-place.result c.take_part-used.new.part) =
-    c.put_into.ensures.added (not_some c.put_into.new.refused (sym c.is_some-in-loop-sink.ensures ∙ c.if-is_some.false))
+    c.in_ok-put_into.ensures.added
     ∙ ap (λ part. g.S.Sink.list c.exchange_into.new.sink ++ option_to_list (event_at c.place-place.result part)) kept.0
     ∙ ap (λ es. es ++ option_to_list (event_at c.place-place.result c.take_part-used.new.part)) kept.1 in
     record {
@@ -60,7 +59,6 @@ loop-sink-preserved g c =
       count = omega (arith, c.take_part-used.ensures.used, c.loop-sink.invariant.count);
       ending = c.take_part-used.ensures.«open»;
       none = c.put_into.ensures.none;
-      refused = not_some c.put_into.new.refused (sym c.is_some-in-loop-sink.ensures ∙ c.if-is_some.false);
       name = c.put_into.ensures.name ∙ c.exchange_into.ensures.name ∙ c.loop-sink.invariant.name;
       grows =
           prefix_part (g.S.Sink.list c.args.sink.now) (g.S.Sink.list c.loop-sink.sink) (g.S.Sink.list c.put_into.new.sink) c.place-place.result
@@ -72,25 +70,20 @@ loop-sink-preserved g c =
           (c.take_part-used.ensures.stands layout _ _ (c.loop-sink.invariant.stands layout b s));
     }
 
-pub returns-then-is_some-clause-refused : goal.returns-then-is_some-clause-refused
-returns-then-is_some-clause-refused g c =
+pub returns-in_err-put_into-clause-refused : goal.returns-in_err-put_into-clause-refused
+returns-in_err-put_into-clause-refused g c =
+    let p = err_from_is_err_and c.from_residual.result c.from_residual.ensures.1 in
     let kept = c.exchange_into.ensures.kept c.if-exchange_into.false in
-    if_some_more c.put_into.new.refused (λ e was layout b s.
+    let was = c.in_err-put_into.ensures.refused in
+    rw (p.1, p.2) (λ layout b s.
     fed_some layout c.take_part-used.new.self b c.args.piece.now (g.S.Sink.list c.loop-sink.sink) (g.S.Sink.list c.put_into.new.sink)
-    c.loop-sink.used c.take_part-used.result c.loop-sink.file.place c.place-place.result c.take_part-used.new.part e
+    c.loop-sink.used c.take_part-used.result c.loop-sink.file.place c.place-place.result c.take_part-used.new.part c.in_err-put_into.field-0.0
     c.loop-sink.invariant.bound c.take_part-used.ensures.bound c.place-place.ensures.place
     (ap (event_at c.place-place.result) (sym kept.0) ∙ was.0, was.1 ∙ kept.1)
     (c.take_part-used.ensures.stands layout _ _ (c.loop-sink.invariant.stands layout b s)) c.take_part-used.ensures.begins)
-    c.put_into.ensures.refused
 
 pub loop-sink-init : goal.loop-sink-init
 loop-sink-init g c = grind (arith, common_steps)
 
 pub returns-then-not-is_some-clause-name : goal.returns-then-not-is_some-clause-name
 returns-then-not-is_some-clause-name g c = grind (arith, common_steps)
-
-pub returns-then-is_some-clause-name : goal.returns-then-is_some-clause-name
-returns-then-is_some-clause-name g c = grind (arith, common_steps)
-
-pub returns-then-is_some-clause-fed : goal.returns-then-is_some-clause-fed
-returns-then-is_some-clause-fed g c = grind (arith, common_steps)

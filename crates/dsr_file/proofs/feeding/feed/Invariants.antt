@@ -2,7 +2,7 @@ use Rattle.std.proofs.Common.{◌≡◌, ◌≤◌, ◌+◌, ◌-◌, ◌++◌, 
 use mathlib.Core.List.{IsPrefix}
 use Rattle.dsr_records.specs.meaning.Records.{LayoutTable}
 use Rattle.dsr_file.specs.inner.Standing.{Stands, bytes_used, ending_told, events_left}
-use Rattle.dsr_file.proofs.feeding.feed_up_to.Given as goal
+use Rattle.dsr_file.proofs.feeding.feed.Given as goal
 
 abbrev pub invariant-loop-sink : goal.invariant-loop-sink
 invariant-loop-sink g l = record {
@@ -10,7 +10,6 @@ invariant-loop-sink g l = record {
   count : bytes_used l.file ≡ bytes_used l.fn.file + l.used;
   ending : ending_told l.file ≡ None;
   none : l.part ≡ None;
-  refused : l.refused ≡ None;
   name : g.S.Sink.name l.sink ≡ g.S.Sink.name l.fn.sink;
   grows : IsPrefix (g.S.Sink.list l.fn.sink) (g.S.Sink.list l.sink);
   stands : (layout : LayoutTable) (b : List ℕ) → Stands layout l.fn.file b (g.S.Sink.list l.fn.sink)
