@@ -12,7 +12,7 @@
 //!    makes their report; the statement of a run is put from lines that borrow their texts from them.
 //! 6. dsr_statement allocates all memory that writing the statement needs, writes it to an outlet in pieces, and says
 //!    whether it has remarks.
-//! 7. `run`: all stages together.
+//! 7. `stages`: all of them together.
 //!
 //! **Example**, compiled and proved in `crates/dsr_tests/src/runs.rt`. `Script` is a reader that gives a text, `Page`
 //! an outlet that keeps what it takes; a program has files and standard output instead:
@@ -50,7 +50,7 @@ mod feed_sink;
 mod gather;
 mod options;
 mod patience;
-mod run;
+mod stages;
 mod threads;
 
 pub use collector::collect;
@@ -59,4 +59,4 @@ pub use errors::{CollectError, IntakeError, RunError};
 pub use feed_sink::FeedSink;
 pub use gather::intake;
 pub use options::Options;
-pub use run::run;
+pub use stages::run;

@@ -13,7 +13,7 @@ use Rattle.dsr_statement.specs.meaning.Status.{status_of}
 use Rattle.dsr_intake.specs.meaning.Texts.{GaveEach, report_of_texts}
 use Rattle.dsr_io.specs.meaning.Written.{Written, IsFlushed}
 use Rattle.dsr_intake.specs.inner.Unfinished.{IsUnfinished}
-use Rattle.dsr_intake.proofs.run.run.Goals as goal
+use Rattle.dsr_intake.proofs.stages.run.Goals as goal
 
 not_refused : {E : Type 0} (o : Option E) (A B : Type 0) (C D : E → Type 0) → MatchOption o A C → ((e : E) → C e → ⊥) → B → MatchOption o B D
 not_refused None A B C D met never b = b
