@@ -89,7 +89,6 @@ fn take_batch<H: Wait>(rt: &H, tap: &mut Tap, waits: bool) -> Result<Option<Batc
 
 /// Takes a message of file k, or the rest of one, and books it, if the file has not ended. If there is none, the call waits
 /// for one if `waits` is true. Returns whether a message was taken.
-#[tactic(auto, using(crate::proofs::Filing::changes_none))]
 fn go_on<H: Wait>(
     rt: &H,
     books: &mut Books,
