@@ -1,4 +1,4 @@
-//! The calls of dsr_values, and the two of dsr_cells that write its values.
+//! The calls of dsr_cells on single values, and the two that write them.
 use crate::answers::{no_memory, quote_bytes, say, say_option};
 use crate::argument::numbered;
 use dsr_cells::{

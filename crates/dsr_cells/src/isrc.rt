@@ -9,9 +9,9 @@ ghost use Rattle.std.specs.Hash as fed;
 ghost use Rattle.std.proofs.Common.{rules};
 ghost use Rattle.dsr_texts.specs.inner.Bytes.{AreBytes};
 ghost use Rattle.dsr_cells.specs.inner.Order.{number_of_bytes};
-ghost use Rattle.dsr_values.specs.meaning.Texts.{is_isrc_text};
+ghost use Rattle.dsr_cells.specs.meaning.Texts.{is_isrc_text};
 
-use dsr_values::is_isrc;
+use crate::spelling::is_isrc;
 use std::cmp::Ordering;
 use std::hash::{Hash, Hasher};
 use std::marker::Model;
@@ -27,7 +27,7 @@ pub struct Isrc {
 
 impl Model for Isrc {
     ghost use Rattle.std.specs.Prelude.{◌≡◌, List, ℕ, true};
-    ghost use Rattle.dsr_values.specs.meaning.Texts.{is_isrc_text};
+    ghost use Rattle.dsr_cells.specs.meaning.Texts.{is_isrc_text};
 
     ghost Value = { List ℕ };
 

@@ -1,11 +1,12 @@
 //! Appending amounts and days to bytes.
 ghost use Rattle.std.specs.Prelude.{◌≡◌, ◌^◌, ◌++◌, unsigned_abs, is_ok, if◌then◌else◌, nat_lt, Some, None};
-ghost use Rattle.dsr_values.specs.meaning.Days.{day_of};
-ghost use Rattle.dsr_values.specs.meaning.Numbers.{amount_of};
-ghost use Rattle.dsr_values.specs.meaning.Written.{written, written_day};
+ghost use Rattle.dsr_cells.specs.meaning.Days.{day_of};
+ghost use Rattle.dsr_cells.specs.meaning.Numbers.{amount_of};
+ghost use Rattle.dsr_cells.specs.meaning.Written.{written, written_day};
 
+use crate::amount::fill_amount;
+use crate::day::Day;
 use dsr_texts::NoMemory;
-use dsr_values::{Day, fill_amount};
 
 /// Appends an amount, or a sum of amounts, in units of 10^-10: a minus sign below zero, the whole
 /// part without leading zeros, a point and ten decimals.

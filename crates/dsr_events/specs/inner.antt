@@ -1,2 +1,3 @@
--- Laws of the definitions of `meaning`.
+-- Boxed blocks, and laws of the definitions of `meaning`.
 pub mod OrderlyLaws
+pub mod Boxes

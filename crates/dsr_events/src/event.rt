@@ -2,8 +2,9 @@
 ghost use Rattle.std.specs.Prelude.{◌≡◌};
 ghost use Rattle.dsr_events.specs.meaning.Orderly.{is_ended};
 
+use crate::block::Block;
 use crate::fault::Outcome;
-use dsr_blocks::{Block, Head, Summary};
+use crate::record::{Head, Summary};
 use dsr_cells::Items;
 use std::marker::Model;
 

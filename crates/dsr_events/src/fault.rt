@@ -3,7 +3,7 @@ ghost use Rattle.std.specs.Prelude.{◌≡◌};
 ghost use Rattle.dsr_events.specs.meaning.Names.{name_of, column_named};
 ghost use Rattle.dsr_events.specs.meaning.Ends.{is_memory};
 
-use dsr_blocks::Column;
+use crate::kinds::Column;
 
 /// The first fault of a file.
 #[derive(Clone, Copy, PartialEq, Eq)]

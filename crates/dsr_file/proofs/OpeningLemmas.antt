@@ -4,7 +4,7 @@ use Rattle.std.specs.Prelude.{Result, Ok, Err, MatchResult}
 use Rattle.std.specs.List.{list_any}
 use Rattle.std.specs.Str.{bytes_eq}
 use Rattle.std.proofs.lemmas.List.Folds.{list_any-append}
-use Rattle.dsr_blocks.specs.declared.record.Summary.{Summary}
+use Rattle.dsr_events.specs.declared.record.Summary.{Summary}
 use Rattle.dsr_events.specs.meaning.Openings.{distinct}
 
 and_first : (a b : Bool) → (a && b) ≡ true → a ≡ true

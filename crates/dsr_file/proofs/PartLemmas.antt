@@ -1,7 +1,7 @@
 -- The parts of records, with one more record at the end.
 use Rattle.std.proofs.Common.{◌≡◌, ◌∙◌, sym, ap, refl, true, false, cond, List, [], ◌∷◌, ◌++◌, drop, Some}
 use Rattle.std.specs.List.{onto_first}
-use Rattle.dsr_blocks.specs.declared.record.Record.{Record}
+use Rattle.dsr_events.specs.declared.record.Record.{Record}
 use Rattle.dsr_file.specs.meaning.Parts.{parts, opens, but_last, last_of, closed}
 
 -- a list of lists with x at the end of its last list

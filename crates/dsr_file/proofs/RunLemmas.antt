@@ -6,8 +6,8 @@ use Rattle.std.specs.Option.{option_to_list}
 use Rattle.std.specs.List.{filter_map}
 use Rattle.std.proofs.lemmas.List.{append-nil, map-append}
 use Rattle.std.proofs.lemmas.List.Folds.{list_any-append}
-use Rattle.dsr_blocks.specs.declared.record.Record.{Record}
-use Rattle.dsr_blocks.specs.meaning.Blocks.{BlockParts}
+use Rattle.dsr_events.specs.declared.record.Record.{Record}
+use Rattle.dsr_events.specs.meaning.Blocks.{BlockParts}
 use Rattle.dsr_records.specs.meaning.Records.{LayoutTable}
 use Rattle.dsr_events.specs.declared.fault.FileFault.{FileFault}
 use Rattle.dsr_events.specs.declared.fault.FileFault.TheVariants as faults

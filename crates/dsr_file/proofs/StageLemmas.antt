@@ -1,15 +1,15 @@
 -- A stage changes as the records do.
 use Rattle.std.proofs.Common.{◌≡◌, ℕ, ◌∙◌, sym, ap, refl, true, false, eqb, List, [], ◌∷◌, length, map, Option, None, Some, unwrap_or, arith, length-append}
 use Rattle.std.proofs.lemmas.List.{length-map}
-use Rattle.dsr_blocks.specs.declared.kinds.Kind.TheVariants as kinds
+use Rattle.dsr_events.specs.declared.kinds.Kind.TheVariants as kinds
 use Rattle.std.specs.Prelude.{if◌then◌else◌}
 use Rattle.dsr_records.specs.meaning.Reads.{id_of_record, kind_of_record}
 use Rattle.dsr_records.specs.meaning.Records.{or_else}
-use Rattle.dsr_blocks.specs.declared.record.Record.{Record}
-use Rattle.dsr_blocks.specs.declared.record.Record.TheVariants as the
-use Rattle.dsr_blocks.specs.declared.record.Summary as summary
-use Rattle.dsr_blocks.specs.declared.record.Head as head
-use Rattle.dsr_blocks.specs.meaning.Blocks.{BlockParts, OpensBlock}
+use Rattle.dsr_events.specs.declared.record.Record.{Record}
+use Rattle.dsr_events.specs.declared.record.Record.TheVariants as the
+use Rattle.dsr_events.specs.declared.record.Summary as summary
+use Rattle.dsr_events.specs.declared.record.Head as head
+use Rattle.dsr_events.specs.meaning.Blocks.{BlockParts, OpensBlock}
 use Rattle.dsr_events.specs.declared.fault.FileFault.{FileFault}
 use Rattle.dsr_file.specs.declared.stage.Before.TheVariants as columns
 use Rattle.dsr_file.specs.declared.stage.Stage.{Stage}

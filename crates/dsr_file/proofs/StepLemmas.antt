@@ -10,17 +10,17 @@ use Rattle.std.proofs.lemmas.List.Folds.{list_all-append, list_any-append}
 use Rattle.std.specs.List.{onto_first, filter_map, list_any, list_all}
 use Rattle.std.specs.Str.{bytes_eq}
 use Rattle.dsr_records.specs.meaning.Records.{or_else}
-use Rattle.dsr_blocks.specs.declared.kinds.Kind.{Kind}
-use Rattle.dsr_blocks.specs.declared.kinds.Kind.TheVariants as kinds
-use Rattle.dsr_blocks.specs.declared.record.Record.{Record}
-use Rattle.dsr_blocks.specs.declared.record.Record.TheVariants as the
-use Rattle.dsr_blocks.specs.declared.record.Summary as summary
-use Rattle.dsr_blocks.specs.meaning.Works.{WorkParts}
-use Rattle.dsr_blocks.specs.declared.record.Usage as usage
-use Rattle.dsr_blocks.specs.declared.record.Head as head
-use Rattle.dsr_blocks.specs.declared.record.Foot as foot
-use Rattle.dsr_blocks.specs.declared.record.Resource as resource
-use Rattle.dsr_blocks.specs.meaning.Blocks.{BlockParts}
+use Rattle.dsr_events.specs.declared.kinds.Kind.{Kind}
+use Rattle.dsr_events.specs.declared.kinds.Kind.TheVariants as kinds
+use Rattle.dsr_events.specs.declared.record.Record.{Record}
+use Rattle.dsr_events.specs.declared.record.Record.TheVariants as the
+use Rattle.dsr_events.specs.declared.record.Summary as summary
+use Rattle.dsr_events.specs.meaning.Works.{WorkParts}
+use Rattle.dsr_events.specs.declared.record.Usage as usage
+use Rattle.dsr_events.specs.declared.record.Head as head
+use Rattle.dsr_events.specs.declared.record.Foot as foot
+use Rattle.dsr_events.specs.declared.record.Resource as resource
+use Rattle.dsr_events.specs.meaning.Blocks.{BlockParts}
 use Rattle.dsr_events.specs.declared.fault.FileFault.{FileFault}
 use Rattle.dsr_events.specs.meaning.Openings.{OpeningParts}
 use Rattle.dsr_events.specs.declared.event.EventPart.TheVariants as tell

@@ -10,13 +10,13 @@ use Rattle.dsr_cells.specs.meaning.Lines.{line_limit, is_long, without_return}
 use Rattle.dsr_records.specs.meaning.Reads.{id_of_record, kind_of_record}
 use Rattle.dsr_records.specs.meaning.Records.{LayoutTable, or_else}
 use Rattle.dsr_records.specs.meaning.Values.{record_of}
-use Rattle.dsr_blocks.specs.declared.kinds.Kind.{Kind}
-use Rattle.dsr_blocks.specs.declared.kinds.Kind.TheVariants as kinds
+use Rattle.dsr_events.specs.declared.kinds.Kind.{Kind}
+use Rattle.dsr_events.specs.declared.kinds.Kind.TheVariants as kinds
 use Rattle.dsr_records.specs.declared.fault.RecordFault.{RecordFault}
 use Rattle.dsr_records.specs.declared.fault.RecordFault.TheVariants as own
-use Rattle.dsr_blocks.specs.declared.record.Record.{Record}
-use Rattle.dsr_blocks.specs.declared.record.Summary as summary
-use Rattle.dsr_blocks.specs.declared.record.Record.TheVariants.{Head, Summary, Resource, Work, Usage, Foot, Skipped}
+use Rattle.dsr_events.specs.declared.record.Record.{Record}
+use Rattle.dsr_events.specs.declared.record.Summary as summary
+use Rattle.dsr_events.specs.declared.record.Record.TheVariants.{Head, Summary, Resource, Work, Usage, Foot, Skipped}
 use Rattle.dsr_events.specs.declared.fault.FileFault.{FileFault}
 use Rattle.dsr_events.specs.declared.fault.FileFault.TheVariants as faults
 use Rattle.dsr_file.specs.declared.grammar.Grammar.{Grammar}

@@ -10,7 +10,7 @@ use Rattle.std.proofs.lemmas.List.Elements.{All-get_or}
 use Rattle.std.proofs.lemmas.List.Sums.{AllPass-from_list_all}
 use Rattle.std.proofs.lemmas.Str.{IsUtf8-from_ascii, is_utf8-from_IsUtf8}
 use Rattle.dsr_cells.specs.meaning.Lines.{is_line_feed, without_return}
-use Rattle.dsr_blocks.specs.declared.record.Record.{Record}
+use Rattle.dsr_events.specs.declared.record.Record.{Record}
 use Rattle.dsr_records.specs.inner.Usual.{BeginsWithLine, is_plain}
 use Rattle.dsr_records.specs.meaning.Records.{LayoutTable}
 use Rattle.dsr_records.specs.meaning.Values.{record_of}

@@ -1,8 +1,8 @@
 //! What a line closes, in a place that is lent from the sink's caller down to the stage.
 ghost use Rattle.std.specs.Prelude.{◌≡◌, ◌++◌, ◌∷◌, ◌<◌, ◌^◌, [], true, false, IfOk, IfErr, OnOk, OnErr, IfSome, Some, None, is_some};
 ghost use Rattle.std.specs.Option.{option_to_list};
-ghost use Rattle.dsr_blocks.specs.declared.kinds.Kind.TheVariants as kinds;
-ghost use Rattle.dsr_blocks.specs.meaning.Blocks.{OpensBlock};
+ghost use Rattle.dsr_events.specs.declared.kinds.Kind.TheVariants as kinds;
+ghost use Rattle.dsr_events.specs.meaning.Blocks.{OpensBlock};
 ghost use Rattle.dsr_records.specs.meaning.Reads.{has_texts, kind_of_record};
 ghost use Rattle.dsr_file.specs.meaning.Runs.{IsSomeRun};
 ghost use Rattle.dsr_file.specs.inner.Counting.{block_count};

@@ -3,7 +3,7 @@ ghost use Rattle.std.specs.Prelude.{◌≡◌, ◌++◌, ◌∷◌, [], ◌+◌,
 ghost use Rattle.dsr_cells.specs.meaning.Lines.{line_limit, without_mark};
 
 use dsr_cells::NoMemory;
-use dsr_scan::line_end;
+use dsr_texts::line_end;
 use std::alloc::Global;
 
 /// The maximum length of a line in bytes, without its line feed.

@@ -39,9 +39,9 @@ pub(crate) struct Grammar {
 impl Grammar {
     ghost use Rattle.dsr_file.specs.declared.grammar.Step.{Step};
     ghost use Rattle.dsr_file.specs.meaning.Readings.{Reading, SkippedLine, Holds, reading, of_record, of_utf8};
-    ghost use Rattle.dsr_blocks.specs.declared.record.Record.TheVariants as the;
+    ghost use Rattle.dsr_events.specs.declared.record.Record.TheVariants as the;
     ghost use Rattle.dsr_file.specs.inner.Grammars.{Keeps, LineSteps, RecordSteps, IsRecord, kept_count_fault};
-    ghost use Rattle.dsr_blocks.specs.declared.kinds.Kind.TheVariants as kinds;
+    ghost use Rattle.dsr_events.specs.declared.kinds.Kind.TheVariants as kinds;
     ghost use Rattle.dsr_records.specs.meaning.Reads.{kind_of_record};
     ghost use Rattle.dsr_file.specs.inner.Stages.{IsFree, IsMember, IsOther, column_at};
     ghost use Rattle.dsr_file.specs.meaning.Texts.{outcome_at};

@@ -2,7 +2,7 @@
 //!
 //! How a file is read:
 //!
-//! 1. `cutter` cuts the bytes into lines, at the line feeds that dsr_scan finds. A line after the
+//! 1. `cutter` cuts the bytes into lines, at the line feeds that dsr_texts finds. A line after the
 //!    first that is whole in the piece is not copied.
 //! 2. `grammar` takes each line: it has `dsr_records` check it, looks up its place in the table in
 //!    `stage`, and keeps the counts that FOOT is compared with. `same_text` compares its block's identifier.

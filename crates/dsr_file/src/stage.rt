@@ -3,7 +3,7 @@ ghost use Rattle.std.specs.Prelude.{◌≡◌, ◌<◌, true, None, OnOk, OnErr}
 ghost use Rattle.std.specs.List.{list_any};
 ghost use Rattle.std.specs.Str.{bytes_eq};
 ghost use Rattle.std.specs.Option.{option_map};
-ghost use Rattle.dsr_blocks.specs.declared.kinds.Kind.TheVariants as kinds;
+ghost use Rattle.dsr_events.specs.declared.kinds.Kind.TheVariants as kinds;
 ghost use Rattle.dsr_records.specs.meaning.Reads.{has_texts, kind_of_record};
 ghost use Rattle.dsr_file.specs.meaning.Faults.{place, member_fault, summary_fault};
 ghost use Rattle.dsr_file.specs.inner.Stages.{column_at, stage_fault, stage_after, given_by, part_given, kept_fault, block_length, IsFree, IsMember, IsOther, IsNew};

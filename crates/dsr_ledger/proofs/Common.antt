@@ -47,10 +47,10 @@ pub use Rattle.std.specs.declared.cmp.Ordering.{Ordering}
 pub use Rattle.std.specs.declared.cmp.Ordering.TheVariants.{Equal, Less}
 pub use Rattle.dsr_events.specs.declared.fault.Outcome.{Outcome}
 pub use Rattle.dsr_events.specs.meaning.Openings.{OpeningParts}
-pub use Rattle.dsr_blocks.specs.declared.record.Summary.{Summary}
-pub use Rattle.dsr_blocks.specs.declared.record.Usage.{Usage}
-pub use Rattle.dsr_blocks.specs.meaning.Blocks.{BlockParts}
-pub use Rattle.dsr_blocks.specs.meaning.Works.{WorkParts}
+pub use Rattle.dsr_events.specs.declared.record.Summary.{Summary}
+pub use Rattle.dsr_events.specs.declared.record.Usage.{Usage}
+pub use Rattle.dsr_events.specs.meaning.Blocks.{BlockParts}
+pub use Rattle.dsr_events.specs.meaning.Works.{WorkParts}
 pub use Rattle.indexmap.proofs.CallerLemmas.{insert_entry-new, keys-with_value_at, updates-with_value_at}
 pub use Rattle.indexmap.proofs.MapLemmas.{Found-position, some_index}
 pub use Rattle.indexmap.specs.IndexMap.{IndexMap, IsUnchanged, IsUnique, Updates, get, index_of, keys, with_value_at}

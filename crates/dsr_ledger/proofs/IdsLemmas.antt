@@ -3,8 +3,8 @@ use Rattle.dsr_ledger.proofs.Common.{◌≡◌, ℕ, ◌<◌, ◌≤◌, true, f
 use Rattle.std.proofs.lemmas.Fmt.{decimal-digits_value}
 use Rattle.std.proofs.lemmas.Str.Parse.{digits_value_short}
 use Rattle.std.specs.Char.{is_ascii_digit}
-use Rattle.dsr_values.specs.meaning.Numbers.{is_digits, digits_sum}
-use Rattle.dsr_values.proofs.Numbers.{own}
+use Rattle.dsr_cells.specs.meaning.Numbers.{is_digits, digits_sum}
+use Rattle.dsr_cells.proofs.Numbers.{own}
 use Rattle.dsr_ledger.proofs.IndexLemmas.{rise_more}
 use Rattle.dsr_ledger.proofs.NumberedLemmas.{none_any, position_none}
 use Rattle.dsr_ledger.proofs.TextLemmas.{same_text, text_itself}

@@ -1,7 +1,7 @@
 -- The opening of files, and the numbers of their summary keys.
 use Rattle.dsr_ledger.proofs.Common.{◌≡◌, ℕ, ◌<◌, List, [], ◌∷◌, ◌++◌, length, get_or, true, sym, ◌∙◌, ap, arith, Bool, cond, Option, option_map, None, Some, find, list_any, bytes_eq, bytes_eq-Decides, nat_tests, get_or-map, length-map, find-append, list_any_at, option_or, Summary, OpeningParts, SummaryState, key_of, is_same_report, has_same_number, first_head, summaries_of, found_in, no_sums, nothing_found, state_at, number_at, AreNumbered, named, openings_of, FileBooks, Summaries, Ledger, SummaryKey, summary_key_of, summary_key_named, IsNumberedFile, Grows, key_number, summary_key_eq}
 use Rattle.std.specs.Prelude.{position}
-use Rattle.dsr_blocks.specs.declared.record.Head.{Head}
+use Rattle.dsr_events.specs.declared.record.Head.{Head}
 use Rattle.dsr_ledger.specs.declared.report.ReportKey.{ReportKey}
 use Rattle.dsr_ledger.proofs.ListedLemmas.{mapped}
 

@@ -12,9 +12,8 @@ use crate::open::open_after;
 use crate::report::Report;
 use crate::seeded::Seeded;
 use crate::verdict::{Standing, Verdict};
-use dsr_blocks::Block;
 use dsr_cells::NoMemory;
-use dsr_events::{Opening, Outcome};
+use dsr_events::{Block, Opening, Outcome};
 use std::alloc::Global;
 
 /// The books of a report: they take the openings, blocks and outcomes of its files, and make its

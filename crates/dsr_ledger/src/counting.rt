@@ -7,7 +7,7 @@ ghost use Rattle.dsr_ledger.specs.inner.Summaries.{state_at, state_with, StateFi
 
 use crate::file::summaries::Summaries;
 use crate::sums::check_range;
-use dsr_blocks::Usage;
+use dsr_events::Usage;
 
 /// Adds a usage to the summary that it names, and to no other.
 #[tactic(auto, using(crate::proofs::StateLemmas::uncounted))]

@@ -12,9 +12,8 @@ use crate::file::summaries::Summaries;
 use crate::report::{Difference, Differences};
 use crate::sums::Sums;
 use crate::verdict::Standing;
-use dsr_blocks::Summary;
 use dsr_cells::{Items, NoMemory};
-use dsr_events::Outcome;
+use dsr_events::{Outcome, Summary};
 use std::alloc::Global;
 
 /// The sums of the usages that name a summary.

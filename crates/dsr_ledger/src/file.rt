@@ -21,9 +21,8 @@ use crate::judge::judge;
 use crate::ledger::recordings::Ledger;
 use crate::report::Reject;
 use crate::verdict::{Reason, Standing, Verdict};
-use dsr_blocks::Block;
 use dsr_cells::{Isrc, NoMemory};
-use dsr_events::{Opening, Outcome};
+use dsr_events::{Block, Opening, Outcome};
 use std::alloc::Global;
 
 /// The books' state of a file.

@@ -7,8 +7,8 @@ ghost use Rattle.dsr_ledger.specs.meaning.Verdicts.{names_unknown, share_total, 
 
 use crate::file::summaries::Summaries;
 use crate::verdict::{Reason, Standing, Verdict};
-use dsr_blocks::{Block, Usage, Work};
 use dsr_cells::{Isrc, NoMemory};
+use dsr_events::{Block, Usage, Work};
 
 /// Finds the numbers of the summaries that usages name. Returns whether each usage names one.
 ///

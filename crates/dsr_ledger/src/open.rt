@@ -17,9 +17,8 @@ use crate::ledger::recordings::Ledger;
 use crate::ledger::summary_key::SummaryKey;
 use crate::seeded::Seeded;
 use crate::verdict::Standing;
-use dsr_blocks::{Head, Summary};
 use dsr_cells::NoMemory;
-use dsr_events::Opening;
+use dsr_events::{Head, Opening, Summary};
 use std::alloc::Global;
 
 /// Whether two files are of one report.

@@ -9,9 +9,8 @@ ghost use Rattle.dsr_ledger.specs.meaning.Reports.{key_of};
 use crate::append::append;
 use crate::file::FileBooks;
 use crate::report::{Reject, Rejects, ReportKey};
-use dsr_blocks::Head;
 use dsr_cells::{Items, NoMemory};
-use dsr_events::Opening;
+use dsr_events::{Head, Opening};
 use std::alloc::Global;
 use std::mem;
 

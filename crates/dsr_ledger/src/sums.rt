@@ -3,7 +3,7 @@ ghost use Rattle.std.specs.Prelude.{◌≡◌, ◌+ℤ◌, pos};
 ghost use Rattle.dsr_ledger.specs.inner.Ranges.{IsInRange, SumsFit};
 
 use crate::wide::Wide;
-use dsr_blocks::Usage;
+use dsr_events::Usage;
 
 /// The sums of the usages and of the amounts, in units.
 #[derive(Drop)]

@@ -1,8 +1,6 @@
-//! The examples that the lib.rt files show, one file for each crate except dsr_io and dsr_blocks.
+//! The examples that the lib.rt files show, except those of dsr_io and of boxed blocks.
 mod cells;
 mod events;
 mod file;
 mod records;
-mod scan;
 mod texts;
-mod values;

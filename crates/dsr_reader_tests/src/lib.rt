@@ -1,8 +1,8 @@
-//! The examples of the nine crates from dsr_values to dsr_file, and tests of what their contracts leave open.
+//! The examples of the six crates from dsr_texts to dsr_file, and tests of what their contracts leave open.
 //!
-//! 1. `examples`: those that the lib.rt files of these crates show, except those of dsr_io and dsr_blocks.
+//! 1. `examples`: those that the lib.rt files of these crates show, except those of dsr_io and of boxed blocks.
 //! 2. `memory`: calls that take memory. Contracts say what each returns if memory is refused; here each succeeds if it is
-//!    not. One of these calls is the example of dsr_blocks.
+//!    not. One of these calls is the example of boxed blocks.
 //! 3. `reads`: how far a file is read, which contracts do not say of one that ends for want of memory. The source of this
 //!    test is the example of dsr_io.
 //! 4. `whole`: all events of a file at once, asked for again if memory is refused.

@@ -14,10 +14,10 @@ use Rattle.std.proofs.lemmas.Nat.Bits.{bit_at-trailing_zeros}
 use Rattle.std.proofs.lemmas.Simd.{mask_l-lt, ones-mask_l}
 use Rattle.std.specs.Prelude.{count_ones}
 use Rattle.std.specs.Int.Count.{count_trailing_zeros}
-use Rattle.dsr_scan.specs.Tabs.{tab_bits}
+use Rattle.dsr_texts.specs.Tabs.{tab_bits}
 use Rattle.dsr_cells.specs.meaning.Cells.{cells}
 use Rattle.dsr_records.proofs.FirstCells.{TabAt, first_tab, no_tab}
-use Rattle.dsr_scan.proofs.TabBits.{is_tab, bit_at-tab_bits, bit_at-take, bit_at-past, tab_bits-drop, take_first}
+use Rattle.dsr_texts.proofs.TabBits.{is_tab, bit_at-tab_bits, bit_at-take, bit_at-past, tab_bits-drop, take_first}
 
 -- a shift past a TAB leaves the bits of the searched bytes after it
 pub tab_bits-behind : (text : List ℕ) (seen place : ℕ) → place < seen

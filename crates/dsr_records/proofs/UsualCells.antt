@@ -13,7 +13,7 @@ use Rattle.std.proofs.lemmas.List.Sums.{fails_before_first, list_all-from_AllPas
 use Rattle.std.proofs.lemmas.Bool.Decides.{nat_tests}
 use Rattle.std.proofs.lemmas.Nat.Bits.{bit_at-trailing_zeros}
 use Rattle.std.proofs.lemmas.Simd.{length-chunk, trailing_mask_l, bit_mask_l, mask_l-lt}
-use Rattle.dsr_scan.proofs.TabBits.{mask-drop}
+use Rattle.dsr_texts.proofs.TabBits.{mask-drop}
 use Rattle.dsr_records.specs.inner.Usual.{is_printable, odd_bits}
 
 abbrev is_odd : ℕ → Bool

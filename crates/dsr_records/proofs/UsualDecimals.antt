@@ -12,9 +12,9 @@ use Rattle.std.proofs.lemmas.List.{drop-drop}
 use Rattle.std.proofs.lemmas.List.Folds.{list_all-append}
 use Rattle.std.proofs.lemmas.Nat.{pow-add}
 use Rattle.std.proofs.lemmas.Simd.{length-chunk}
-use Rattle.dsr_values.specs.meaning.Numbers.{digits_sum}
-use Rattle.dsr_values.proofs.Fours.{digit, digits_sum-append}
-use Rattle.dsr_values.proofs.Numbers.{digits_sum-lt, is_digits_yes}
+use Rattle.dsr_cells.specs.meaning.Numbers.{digits_sum}
+use Rattle.dsr_cells.proofs.Fours.{digit, digits_sum-append}
+use Rattle.dsr_cells.proofs.Numbers.{digits_sum-lt, is_digits_yes}
 use Rattle.dsr_records.specs.inner.Usual.{IsFilledUp}
 
 -- decimals in units of 10 ^ -places are fewer than 10 ^ places

@@ -15,11 +15,11 @@ use Rattle.std.proofs.lemmas.List.Sums.{position_or_len_is, AllPass-from_list_al
 use Rattle.std.proofs.lemmas.Simd.{get_or-chunk, length-chunk, run_in_chunk_stops}
 use Rattle.dsr_cells.specs.meaning.Cells.{cells}
 use Rattle.dsr_cells.specs.meaning.Values.{raw_parts}
-use Rattle.dsr_values.specs.meaning.Numbers.{amount_of, decimal_of, digits_of, digits_sum, is_digits, number_of, signed_of, usages_of}
-use Rattle.dsr_values.specs.meaning.Texts.{is_identifier_text}
-use Rattle.dsr_values.proofs.Lanes.{part_passes}
-use Rattle.dsr_values.proofs.Numbers.{decimal_parts, is_digits_yes}
-use Rattle.dsr_blocks.specs.declared.record.Record.TheVariants as of
+use Rattle.dsr_cells.specs.meaning.Numbers.{amount_of, decimal_of, digits_of, digits_sum, is_digits, number_of, signed_of, usages_of}
+use Rattle.dsr_cells.specs.meaning.Texts.{is_identifier_text}
+use Rattle.dsr_cells.proofs.Lanes.{part_passes}
+use Rattle.dsr_cells.proofs.Numbers.{decimal_parts, is_digits_yes}
+use Rattle.dsr_events.specs.declared.record.Record.TheVariants as of
 use Rattle.dsr_records.specs.meaning.Layouts.{standard_layout}
 use Rattle.dsr_records.specs.inner.Rows.{share_count}
 use Rattle.dsr_records.specs.meaning.Tables.{is_share}

@@ -3,9 +3,9 @@ ghost use Rattle.std.specs.Prelude.{◌≡◌, ◌+◌, ◌<◌, true, length, m
 ghost use Rattle.std.specs.Prelude.{Ok, Err, IfOk, IfSome, OnOk, OnErr, MatchResult, nat_lt, drop, take};
 ghost use Rattle.std.specs.Option.{option_map};
 ghost use Rattle.dsr_cells.specs.meaning.Cells.{cells};
-ghost use Rattle.dsr_blocks.specs.meaning.Blocks.{OpensBlock, with_member};
-ghost use Rattle.dsr_blocks.specs.declared.kinds.Kind.TheVariants as kinds;
-ghost use Rattle.dsr_blocks.specs.declared.record.Record.TheVariants as records;
+ghost use Rattle.dsr_events.specs.meaning.Blocks.{OpensBlock, with_member};
+ghost use Rattle.dsr_events.specs.declared.kinds.Kind.TheVariants as kinds;
+ghost use Rattle.dsr_events.specs.declared.record.Record.TheVariants as records;
 ghost use Rattle.dsr_records.specs.inner.Checked.{record_seen};
 ghost use Rattle.dsr_records.specs.inner.Usual.{BeginsWithLine};
 ghost use Rattle.dsr_records.specs.meaning.Layouts.{standard_layout};
@@ -24,8 +24,8 @@ use crate::rest::Rest;
 use crate::row::Row;
 use crate::usual::{usual_resource, usual_usage, usual_work};
 use crate::write::{write_resource, write_usage, write_work};
-use dsr_blocks::{Block, Kind, Record};
 use dsr_cells::{NoMemory, count_cells};
+use dsr_events::{Block, Kind, Record};
 use std::alloc::Global;
 use std::marker::Model;
 
@@ -36,7 +36,7 @@ pub struct CheckedLine<'l> {
 }
 
 impl<'l> Model for CheckedLine<'l> {
-    ghost use Rattle.dsr_blocks.specs.declared.record.Record.{Record as RecordValue};
+    ghost use Rattle.dsr_events.specs.declared.record.Record.{Record as RecordValue};
     ghost use Rattle.dsr_records.specs.inner.Checked.{record_seen};
 
     ghost Value = { RecordValue };
@@ -206,7 +206,7 @@ pub struct TypedLine<'l> {
 
 impl<'l> Model for TypedLine<'l> {
     ghost use Rattle.std.specs.Prelude.{Result};
-    ghost use Rattle.dsr_blocks.specs.declared.record.Record.{Record as RecordValue};
+    ghost use Rattle.dsr_events.specs.declared.record.Record.{Record as RecordValue};
     ghost use Rattle.dsr_records.specs.declared.fault.RecordFault.{RecordFault as FaultValue};
     ghost use Rattle.dsr_records.specs.meaning.Values.{record_by_row};
 

@@ -2,7 +2,7 @@
 ghost use Rattle.std.specs.Prelude.{◌≡◌};
 ghost use Rattle.dsr_records.specs.meaning.Tables.{columns_of, may_be_empty};
 
-use dsr_blocks::{Column, Kind};
+use dsr_events::{Column, Kind};
 
 /// The maximum number of columns of a kind.
 pub(crate) const MOST_COLUMNS: usize = 7;

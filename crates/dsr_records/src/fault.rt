@@ -1,5 +1,5 @@
 //! The faults of a line.
-use dsr_blocks::Column;
+use dsr_events::Column;
 
 /// A fault of a line.
 #[derive(Clone, Copy, PartialEq, Eq)]

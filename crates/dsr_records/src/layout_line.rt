@@ -5,7 +5,7 @@ ghost use Rattle.dsr_records.specs.inner.Names.{start_of};
 
 use crate::positions::Positions;
 use arrayvec::ArrayString;
-use dsr_blocks::Kind;
+use dsr_events::Kind;
 use std::marker::Model;
 
 /// The first four bytes of a record type as a number; 0 if it is shorter.

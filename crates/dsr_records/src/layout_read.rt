@@ -16,9 +16,9 @@ use crate::pieces::{Pieces, lines};
 use crate::positions::Positions;
 use crate::rest::Rest;
 use arrayvec::ArrayVec;
-use dsr_blocks::{Column, Kind};
 use dsr_cells::read_number;
-use dsr_scan::text_of;
+use dsr_events::{Column, Kind};
+use dsr_texts::text_of;
 
 /// The maximum number of bytes of a layout.
 const MOST_BYTES: usize = 65536;

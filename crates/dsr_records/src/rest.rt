@@ -3,9 +3,9 @@ ghost use Rattle.std.specs.Prelude.{◌≡◌, ◌≢◌, ◌+◌, ◌-◌, ◌<
 ghost use Rattle.std.specs.Prelude.{[], slice_index, not, false, IfSome};
 ghost use Rattle.std.specs.List.{position, position_or_len};
 ghost use Rattle.dsr_cells.specs.meaning.Cells.{cells};
-ghost use Rattle.dsr_scan.specs.Tabs.{tab_bits};
+ghost use Rattle.dsr_texts.specs.Tabs.{tab_bits};
 
-use dsr_scan::tabs_of;
+use dsr_texts::tabs_of;
 
 /// The index of the first TAB, if there is one.
 fn find_tab(bytes: &[u8]) -> Option<usize>

@@ -1,9 +1,9 @@
 //! Reading the cells of a row: each call returns what the column's text spells, or the fault of the column.
 ghost use Rattle.std.specs.Prelude.{◌≡◌, ℕ, List, [], ◌∷◌, ◌++◌, Some, None, MatchResult, OnOk, OnSome, is_some, false, take};
-ghost use Rattle.dsr_values.specs.meaning.Days.{day_of};
-ghost use Rattle.dsr_values.specs.meaning.Numbers.{amount_of, number_of, usages_of};
-ghost use Rattle.dsr_values.specs.meaning.Texts.{is_identifier_text};
-ghost use Rattle.dsr_blocks.specs.declared.kinds.Column.TheVariants as columns;
+ghost use Rattle.dsr_cells.specs.meaning.Days.{day_of};
+ghost use Rattle.dsr_cells.specs.meaning.Numbers.{amount_of, number_of, usages_of};
+ghost use Rattle.dsr_cells.specs.meaning.Texts.{is_identifier_text};
+ghost use Rattle.dsr_events.specs.declared.kinds.Column.TheVariants as columns;
 ghost use Rattle.dsr_records.specs.declared.fault.RecordFault.TheVariants as faults;
 ghost use Rattle.dsr_records.specs.inner.Rows.{ReadsText, ReadsValue, share_count};
 ghost use Rattle.dsr_records.specs.meaning.Tables.{cell_of, file_number_of, is_spelled, may_be_empty, text_of};
@@ -12,11 +12,11 @@ ghost use Rattle.dsr_records.specs.meaning.Values.{shares_of};
 use crate::fault::RecordFault;
 use crate::row::Row;
 use arrayvec::ArrayVec;
-use dsr_blocks::Column;
 use dsr_cells::{
     Amount, Day, Share, is_currency, is_identifier, is_territory, is_use_type, read_number,
     read_usages, values,
 };
+use dsr_events::Column;
 
 /// The first shares of a list cell, at most four. Most works have fewer, so their cells are read only once.
 pub(crate) type FirstShares = ArrayVec<Share, 4>;

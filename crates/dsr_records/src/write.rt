@@ -1,11 +1,11 @@
 //! Writing the records of checked lines into a block.
 ghost use Rattle.std.specs.Prelude.{◌≡◌, ◌<◌, ◌+◌, length, OnOk, OnErr};
-ghost use Rattle.dsr_blocks.specs.meaning.Blocks.{OpensBlock, with_member};
-ghost use Rattle.dsr_blocks.specs.declared.record.Record.TheVariants as records;
+ghost use Rattle.dsr_events.specs.meaning.Blocks.{OpensBlock, with_member};
+ghost use Rattle.dsr_events.specs.declared.record.Record.TheVariants as records;
 
 use crate::check::{ResourceLine, UsageLine, WorkLine};
-use dsr_blocks::Block;
 use dsr_cells::NoMemory;
+use dsr_events::Block;
 use std::alloc::Global;
 
 /// Writes a new block of a resource, without works and usages, over another one. If memory is refused,

@@ -5,13 +5,12 @@
 //! and the reader writes the next one into its memory. So that there is a stale one from the beginning, each slot has
 //! the event of an empty block before a batch is filled for the first time.
 ghost use Rattle.std.specs.Prelude.{◌≡◌, ◌<◌, ◌^◌, ◌∷◌, ◌++◌, [], ℕ, List, true, false, MatchOption, MatchResult, IfOk};
-ghost use Rattle.dsr_blocks.specs.meaning.Blocks.{BlockParts};
+ghost use Rattle.dsr_events.specs.meaning.Blocks.{BlockParts};
 ghost use Rattle.dsr_events.specs.meaning.Placed.{Placed, block_event};
 
 use crate::slots::Slots;
-use dsr_blocks::Block;
 use dsr_cells::NoMemory;
-use dsr_events::{Event, EventPart};
+use dsr_events::{Block, Event, EventPart};
 use std::alloc::Global;
 use std::marker::Model;
 use std::mem;

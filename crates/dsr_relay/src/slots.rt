@@ -6,9 +6,8 @@ ghost use Rattle.std.specs.Prelude.{◌≡◌, ◌<◌, ◌^◌, [], length, tru
 ghost use Rattle.dsr_events.specs.meaning.Placed.{Placed, block_event};
 
 use arrayvec::ArrayVec;
-use dsr_blocks::Block;
 use dsr_cells::NoMemory;
-use dsr_events::{Event, EventPart};
+use dsr_events::{Block, Event, EventPart};
 use std::alloc::Global;
 use std::marker::Model;
 use std::mem;

@@ -2,9 +2,8 @@
 ghost use Rattle.std.specs.Prelude.{◌≡◌, ℕ};
 ghost use Rattle.dsr_events.specs.meaning.Orderly.{MayStandAt};
 
-use dsr_blocks::{Block, Head};
 use dsr_cells::{Day, NoMemory, Text};
-use dsr_events::{Event, EventPart, Opening, Outcome, Summaries};
+use dsr_events::{Block, Event, EventPart, Head, Opening, Outcome, Summaries};
 use std::alloc::Global;
 
 /// A title that a block stores in place.

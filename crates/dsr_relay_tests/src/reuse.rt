@@ -5,7 +5,7 @@ ghost use Rattle.dsr_events.specs.meaning.Orderly.{has_ended};
 use crate::events::{LONG_TITLE, are_right, block};
 use crate::sending::{flushes, relay, send_block, send_blocks};
 use crate::taking::takes_batch;
-use dsr_blocks::Block;
+use dsr_events::Block;
 use dsr_relay::{Feed, Tap};
 use std::alloc::Global;
 use std::sync::Wait;

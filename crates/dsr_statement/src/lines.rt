@@ -13,8 +13,7 @@ use crate::key::{laid_key, put_key};
 use crate::names::{reason_name, standing_name};
 use crate::pieces::Pieces;
 use crate::slice_buffer::SliceBuffer;
-use dsr_blocks::Column;
-use dsr_events::Outcome;
+use dsr_events::{Column, Outcome};
 use dsr_io::Outlet;
 use dsr_ledger::{Difference, FileLine, LentLine, LentParty, Reject, ReportKey};
 

@@ -1,6 +1,6 @@
 //! The memory that writing a statement needs.
 ghost use Rattle.std.specs.Prelude.{◌≡◌, ◌++◌, ◌∷◌, IfSome, IfOk, OnOk};
-ghost use Rattle.dsr_values.specs.meaning.Written.{written_day};
+ghost use Rattle.dsr_cells.specs.meaning.Written.{written_day};
 ghost use Rattle.dsr_statement.specs.inner.Laid.{day_cells};
 
 use crate::key::KEY_ROOM;

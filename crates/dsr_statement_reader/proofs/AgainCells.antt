@@ -9,10 +9,10 @@ use Rattle.std.proofs.lemmas.Bool.{and_parts, and_from, lt-ltb, eq-eqb, ne_eqb}
 use Rattle.std.proofs.lemmas.Bool.Decides.{nat_tests}
 use Rattle.std.proofs.lemmas.Fmt.{decimal_is_IsNumeral_wide}
 use Rattle.std.proofs.lemmas.List.Folds.{list_all-append}
-use Rattle.dsr_values.specs.meaning.Numbers.{digits_sum}
-use Rattle.dsr_values.specs.meaning.Texts.{is_run_of}
-use Rattle.dsr_values.specs.meaning.Written.{padded_number, written}
-use Rattle.dsr_values.proofs.Spelled.{all_digits, zeros_digits, zeros_spelled, spelled, padded_length}
+use Rattle.dsr_cells.specs.meaning.Numbers.{digits_sum}
+use Rattle.dsr_cells.specs.meaning.Texts.{is_run_of}
+use Rattle.dsr_cells.specs.meaning.Written.{padded_number, written}
+use Rattle.dsr_cells.proofs.Spelled.{all_digits, zeros_digits, zeros_spelled, spelled, padded_length}
 use Rattle.dsr_statement_reader.specs.meaning.Spellings.{not_zero, signed_in, usages_in, units_in, amount_in, number_in}
 use Rattle.dsr_statement_reader.specs.meaning.Statements.{is_plain, are_usages, is_amount}
 use Rattle.dsr_statement_reader.proofs.Signs.{signed_plain, signed_minus, units_cut}

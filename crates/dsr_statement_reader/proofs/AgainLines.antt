@@ -11,18 +11,18 @@ use Rattle.std.proofs.lemmas.List.Folds.{list_all-append, list_all_at}
 use Rattle.std.proofs.lemmas.Bool.{and_parts, and_from, cases_Bool, eq-eqb, le-ltb, leb-true, and_right}
 use Rattle.std.proofs.lemmas.Bool.Decides.{nat_tests}
 use Rattle.std.proofs.Math.Seq.{take-append_seam}
-use Rattle.dsr_values.specs.meaning.Days.{CivilDay, is_civil_day}
-use Rattle.dsr_values.specs.meaning.Texts.{is_run_of, is_capital_or_digit, is_identifier_text, is_territory_text, is_use_type_text, is_currency_text, is_isrc_text}
-use Rattle.dsr_values.specs.meaning.Written.{padded_number, written, written_day}
-use Rattle.dsr_values.proofs.SpelledDays.{written_day_spells}
-use Rattle.dsr_values.proofs.Days.{civil_bounds}
-use Rattle.dsr_values.proofs.Splits.{Lacks, pieces_first, pieces_plain}
+use Rattle.dsr_cells.specs.meaning.Days.{CivilDay, is_civil_day}
+use Rattle.dsr_cells.specs.meaning.Texts.{is_run_of, is_capital_or_digit, is_identifier_text, is_territory_text, is_use_type_text, is_currency_text, is_isrc_text}
+use Rattle.dsr_cells.specs.meaning.Written.{padded_number, written, written_day}
+use Rattle.dsr_cells.proofs.SpelledDays.{written_day_spells}
+use Rattle.dsr_cells.proofs.Days.{civil_bounds}
+use Rattle.dsr_cells.proofs.Splits.{Lacks, pieces_first, pieces_plain}
 use Rattle.dsr_cells.specs.meaning.Cells.{cells}
-use Rattle.dsr_blocks.specs.meaning.Columns.{column_name}
-use Rattle.dsr_blocks.specs.declared.kinds.Column.{Column}
-use Rattle.dsr_blocks.specs.declared.kinds.Column.TheVariants.{MessageId}
+use Rattle.dsr_events.specs.meaning.Columns.{column_name}
+use Rattle.dsr_events.specs.declared.kinds.Column.{Column}
+use Rattle.dsr_events.specs.declared.kinds.Column.TheVariants.{MessageId}
 use Rattle.std.proofs.lemmas.Slice.Eq.{bytes_eq-Decides}
-use Rattle.dsr_values.proofs.Spelled.{all_digits}
+use Rattle.dsr_cells.proofs.Spelled.{all_digits}
 use Rattle.dsr_events.specs.meaning.Names.{name_of, column_named}
 use Rattle.dsr_events.specs.declared.fault.FileFault.{FileFault}
 use Rattle.dsr_events.specs.declared.fault.FileFault.TheVariants as file_faults

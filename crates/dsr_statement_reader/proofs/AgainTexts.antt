@@ -7,7 +7,7 @@ use Rattle.std.specs.Str.{IsAscii, is_utf8}
 use Rattle.std.proofs.lemmas.Str.{IsUtf8-from_ascii, is_utf8-from_IsUtf8}
 use Rattle.std.proofs.lemmas.List.Concat.{flat_map-cons}
 use Rattle.std.proofs.lemmas.List.Splits.{slice_split-cons_yes, slice_split-cons_no}
-use Rattle.dsr_values.proofs.Splits.{pieces, pieces_first}
+use Rattle.dsr_cells.proofs.Splits.{pieces, pieces_first}
 use Rattle.dsr_statement_reader.specs.declared.line.StatementLine.{StatementLine}
 use Rattle.dsr_statement_reader.specs.declared.line.StatementLine.TheVariants as lines
 use Rattle.dsr_statement_reader.specs.declared.fault.StatementFault.{StatementFault}

@@ -14,11 +14,11 @@ use Rattle.std.proofs.lemmas.Bool.{and_parts, le-ltb, cases_Bool, eqb-true, ne_e
 use Rattle.std.proofs.lemmas.Bool.Decides.{nat_tests, Decides-int_eq}
 use Rattle.std.proofs.lemmas.Slice.Eq.{bytes_eq-Decides}
 use Rattle.std.proofs.lemmas.List.Splits.{join_with_byte-slice_split}
-use Rattle.dsr_values.specs.meaning.Numbers.{digits_sum}
-use Rattle.dsr_values.specs.meaning.Texts.{is_run_of}
-use Rattle.dsr_values.specs.meaning.Days.{CivilDay, day_of, day_of_parts, if_civil, is_civil_day, day_number}
-use Rattle.dsr_values.specs.meaning.Written.{padded_number, written, written_day}
-use Rattle.dsr_values.proofs.Numbers.{digits_sum-lt}
+use Rattle.dsr_cells.specs.meaning.Numbers.{digits_sum}
+use Rattle.dsr_cells.specs.meaning.Texts.{is_run_of}
+use Rattle.dsr_cells.specs.meaning.Days.{CivilDay, day_of, day_of_parts, if_civil, is_civil_day, day_number}
+use Rattle.dsr_cells.specs.meaning.Written.{padded_number, written, written_day}
+use Rattle.dsr_cells.proofs.Numbers.{digits_sum-lt}
 use Rattle.dsr_statement_reader.specs.meaning.Spellings.{◌>>=◌, below, not_zero, signed_in, usages_in, units_of_parts, units_in, amount_in, number_in, named, is_period, text_if}
 use Rattle.dsr_statement_reader.proofs.Digits.{number_spelled, padded_same}
 

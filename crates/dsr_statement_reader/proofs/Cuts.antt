@@ -9,7 +9,7 @@ use Rattle.std.specs.Int.Count.{count_trailing_zeros}
 use Rattle.std.proofs.lemmas.Simd.{trailing_mask_l, leading_from_mask_l, length-chunk, run_in_chunk_fails, run_in_chunk_stops}
 use Rattle.memchr.specs.Find.{IsFirstByte, is_byte}
 use Rattle.dsr_cells.specs.meaning.Cells.{cells}
-use Rattle.dsr_values.proofs.Splits.{pieces_first, pieces_plain}
+use Rattle.dsr_cells.proofs.Splits.{pieces_first, pieces_plain}
 use Rattle.dsr_statement_reader.specs.inner.Cuts.{HasNoPoint}
 
 -- a text is what comes before a byte, the byte, and what follows

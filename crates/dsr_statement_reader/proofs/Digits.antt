@@ -9,10 +9,10 @@ use Rattle.std.proofs.lemmas.Bool.Decides.{nat_tests}
 use Rattle.std.proofs.lemmas.Fmt.{length-decimal-le_wide, decimal_is_IsNumeral_wide, decimal_by_steps_wide, decimal_digit}
 use Rattle.std.proofs.lemmas.List.{length-replicate, get_or_append_left}
 use Rattle.std.proofs.Math.Nat.{pow-le-pow_right}
-use Rattle.dsr_values.specs.meaning.Numbers.{digits_sum, is_digits}
-use Rattle.dsr_values.specs.meaning.Written.{padded_number}
-use Rattle.dsr_values.proofs.Numbers.{digits_sum-lt, is_digits_yes}
-use Rattle.dsr_values.proofs.Spelled.{all_digits, zeros_digits, zeros_spelled, spelled}
+use Rattle.dsr_cells.specs.meaning.Numbers.{digits_sum, is_digits}
+use Rattle.dsr_cells.specs.meaning.Written.{padded_number}
+use Rattle.dsr_cells.proofs.Numbers.{digits_sum-lt, is_digits_yes}
+use Rattle.dsr_cells.proofs.Spelled.{all_digits, zeros_digits, zeros_spelled, spelled}
 use Rattle.dsr_statement_reader.specs.meaning.Spellings.{has_leading_zero, number_in}
 
 -- a digit and a rest below the power are one number in one way

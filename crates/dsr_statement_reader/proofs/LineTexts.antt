@@ -10,12 +10,12 @@ use Rattle.std.proofs.lemmas.List.Concat.{flat_map-cons}
 use Rattle.std.proofs.lemmas.Bool.{and_parts, cases_Bool, eqb-true}
 use Rattle.std.proofs.lemmas.Slice.Eq.{bytes_eq-Decides}
 use Rattle.std.proofs.lemmas.List.Splits.{join_with_byte-slice_split}
-use Rattle.dsr_values.specs.meaning.Days.{CivilDay, day_of}
-use Rattle.dsr_values.specs.meaning.Texts.{is_identifier_text, is_territory_text, is_use_type_text, is_currency_text, is_isrc_text}
-use Rattle.dsr_values.specs.meaning.Written.{written, written_day}
+use Rattle.dsr_cells.specs.meaning.Days.{CivilDay, day_of}
+use Rattle.dsr_cells.specs.meaning.Texts.{is_identifier_text, is_territory_text, is_use_type_text, is_currency_text, is_isrc_text}
+use Rattle.dsr_cells.specs.meaning.Written.{written, written_day}
 use Rattle.dsr_cells.specs.meaning.Cells.{cells}
-use Rattle.dsr_blocks.specs.meaning.Columns.{column_name}
-use Rattle.dsr_blocks.specs.declared.kinds.Column.{Column}
+use Rattle.dsr_events.specs.meaning.Columns.{column_name}
+use Rattle.dsr_events.specs.declared.kinds.Column.{Column}
 use Rattle.dsr_events.specs.meaning.Names.{name_of, column_named}
 use Rattle.dsr_events.specs.declared.fault.FileFault.{FileFault}
 use Rattle.dsr_events.specs.declared.fault.FileFault.TheVariants as file_faults

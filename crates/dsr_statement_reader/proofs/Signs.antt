@@ -8,8 +8,8 @@ use Rattle.std.proofs.lemmas.Bool.Decides.{nat_tests}
 use Rattle.std.proofs.lemmas.Bool.{and_left, and_parts, cases_Bool, eqb-true}
 use Rattle.std.proofs.lemmas.List.Splits.{slice_split-cons_yes, slice_split-cons_no, join_with_byte-slice_split}
 use Rattle.std.specs.List.{join_with_byte}
-use Rattle.dsr_values.specs.meaning.Texts.{is_run_of}
-use Rattle.dsr_values.proofs.Splits.{pieces, pieces_cases}
+use Rattle.dsr_cells.specs.meaning.Texts.{is_run_of}
+use Rattle.dsr_cells.proofs.Splits.{pieces, pieces_cases}
 use Rattle.dsr_statement_reader.specs.inner.Cuts.{HasNoPoint}
 use Rattle.dsr_statement_reader.specs.meaning.Spellings.{signed_in, not_zero, number_in, units_of_parts}
 

@@ -5,8 +5,7 @@ ghost use Rattle.dsr_events.specs.meaning.Names.{name_of};
 ghost use Rattle.dsr_statement_reader.specs.meaning.Readings.{kind_in};
 
 use crate::kind::LineKind;
-use dsr_blocks::Column;
-use dsr_events::FileFault;
+use dsr_events::{Column, FileFault};
 use dsr_ledger::{Reason, Standing};
 
 /// The kind of line with this name.

@@ -1,7 +1,7 @@
 //! The numbers that cells spell.
 ghost use Rattle.std.specs.Prelude.{◌≡◌, ◌<◌, ◌≤◌, ◌^◌, ◌+◌, length, IfSome, [], ◌∷◌, Some, pos, neg_ℤ};
 ghost use Rattle.std.specs.Option.{option_map};
-ghost use Rattle.dsr_values.specs.meaning.Numbers.{digits_of};
+ghost use Rattle.dsr_cells.specs.meaning.Numbers.{digits_of};
 ghost use Rattle.dsr_statement_reader.specs.meaning.Spellings.{below, has_leading_zero, number_in, usages_in, units_in, units_of_parts, amount_in, not_zero};
 
 use crate::cut::at_point;

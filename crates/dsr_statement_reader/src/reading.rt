@@ -13,7 +13,7 @@ use crate::kind::LineKind;
 use crate::line::StatementLine;
 use crate::names::kind_named;
 use crate::row::Row;
-use dsr_scan::text_of;
+use dsr_texts::text_of;
 
 /// The most bytes of a line, without its line feed.
 pub const LINE_LIMIT: usize = 16384;

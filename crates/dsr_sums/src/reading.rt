@@ -12,10 +12,10 @@ use dsr_cells::{NoMemory, Text};
 use dsr_events::Outcome;
 use dsr_io::{Failed, Source};
 use dsr_ledger::{FileLine, ReportKey, Standing};
-use dsr_scan::line_end;
 use dsr_statement_reader::{
     LINE_LIMIT, ReadError, ReadReport, StatementFault, StatementLine, StatementReader,
 };
+use dsr_texts::line_end;
 use std::alloc::Global;
 
 /// The most bytes of a read.

@@ -2,7 +2,7 @@
 ghost use Rattle.std.specs.Prelude.{◌≡◌, ◌∷◌, ◌++◌, [], OnOk, codes, decimal, if◌then◌else◌};
 ghost use Rattle.std.specs.Fmt.{signed_decimal};
 ghost use Rattle.std.specs.List.{flat_map};
-ghost use Rattle.dsr_values.specs.meaning.Written.{written_day};
+ghost use Rattle.dsr_cells.specs.meaning.Written.{written_day};
 ghost use Rattle.dsr_statement.specs.meaning.Statement.{amount_cell};
 ghost use Rattle.dsr_sums.specs.meaning.Totals.{currency_line, market_line, party_line};
 ghost use Rattle.dsr_sums.specs.meaning.Statements.{statement_line, statement_lines};

@@ -1,2 +1,3 @@
--- No definition here has to be trusted beyond those of std: a text is its bytes, a list its items.
+-- To be trusted: the bits of a line's TABs. A text is its bytes and a list its items, as in std.
 pub mod inner
+pub mod Tabs

@@ -1,15 +1,28 @@
-//! The texts and lists that outlive a line of a report.
+//! The texts of a report: found in the bytes of a file, tested, and kept past their line.
 //!
-//! 1. `text` keeps a text: up to 22 bytes in place (`short`), longer ones on the heap. A text takes
-//!    24 bytes, and can be written over, which reuses its memory.
-//! 2. `inline_items` is the list type of blocks, and of the parties of a report's line: its first items
+//! 1. `line_feed` finds the first line feed, which ends a line; `tabs` the TABs of a line's first 64 bytes; `utf8` tests
+//!    that bytes are UTF-8 (RFC 3629). They look at many bytes at a time (SIMD), in reports and in layouts.
+//! 2. `text` keeps a text: up to 22 bytes in place (`short`), longer ones on the heap (`kept`). A text
+//!    takes 24 bytes, and can be written over, which reuses its memory.
+//! 3. `inline_items` is the list type of blocks, and of the parties of a report's line: its first items
 //!    are in place, and its memory is reused. `items` is that of openings and reports.
 //!
-//! dsr_cells passes all of these on, so the crates above it name them `dsr_cells::Text` and so on.
+//! dsr_cells passes the texts and lists on, and dsr_records `text_of`.
 //!
-//! **Example**, compiled and proved in `crates/dsr_reader_tests/src/examples/texts.rt`:
+//! **Examples**, compiled and proved in `crates/dsr_reader_tests/src/examples/texts.rt`:
 //!
 //! ```
+//! /// The end of a line, its TABs, and whether bytes are a text.
+//! fn lines_tabs_and_texts(rt: HostRuntime) -> Result<(), Fail> {
+//!     assert_eq!(rt; line_end(b"S1\nS2\n"), 2);
+//!     // Bytes 4 and 7 are TABs.
+//!     assert_eq!(rt; tabs_of(b"SU01\tB1\tS1"), 0b1001_0000);
+//!     assert_eq!(rt; text_of(b"S1"), Some("S1"));
+//!     // The first byte of a character of two bytes, without the second.
+//!     assert!(rt; text_of(b"\xc3").is_none());
+//!     Ok(())
+//! }
+//!
 //! /// A text is written over another, and a list over the items that it had.
 //! fn a_text_and_a_list_written_over(rt: HostRuntime) -> Result<(), Fail> {
 //!     let mut title = Text::copy_of(rt.alloc(), "A Title")?;
@@ -25,18 +38,25 @@
 //! }
 //! ```
 //!
-//! **The promise.** Contracts see a text as its bytes and a list as its items, in order: what is stored
-//! is what was given. Texts are equal, ordered and hashed by their bytes. Only calls that return
-//! `NoMemory`, and `push` of the two list types, take memory. If it is refused, they change nothing.
+//! **The promise.** What is found in bytes equals a definition over them, for all bytes, and takes no memory.
+//! Contracts see a text as its bytes and a list as its items, in order: what is stored is what was given. Texts are
+//! equal, ordered and hashed by their bytes. Only calls that return `NoMemory`, and `push` of the two list types, take
+//! memory. If it is refused, they change nothing.
 //!
-//! **Where to begin.** `src/items.rt`, then `src/text.rt`.
+//! **Where to begin.** `src/items.rt`, then `src/text.rt`; `src/tabs.rt` for what is found.
 #![tactic(auto)]
 
 mod inline_items;
 mod items;
+mod line_feed;
 mod short;
+mod tabs;
 mod text;
+mod utf8;
 
 pub use inline_items::InlineItems;
 pub use items::Items;
+pub use line_feed::line_end;
+pub use tabs::tabs_of;
 pub use text::{NoMemory, Text, Texts};
+pub use utf8::text_of;

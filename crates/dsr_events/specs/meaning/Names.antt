@@ -1,6 +1,6 @@
 -- The names of the faults, as they are printed.
 use Rattle.std.specs.Prelude.{ℕ, List, codes, Option, None, Some}
-use Rattle.dsr_blocks.specs.declared.kinds.Column.{Column}
+use Rattle.dsr_events.specs.declared.kinds.Column.{Column}
 use Rattle.dsr_events.specs.declared.fault.FileFault.{FileFault}
 use Rattle.dsr_events.specs.declared.fault.FileFault.TheVariants.{LongLine, NotUtf8, ManyCells, UnknownRecord, MissingCell, BadCell, Uneven, NoHead, SecondHead}
 use Rattle.dsr_events.specs.declared.fault.FileFault.TheVariants.{LateSummary, NoResource, LateWork, BlockNumber, NoUsage, AfterFoot, NoFoot, SummaryTwice}

@@ -2,8 +2,8 @@
 use Rattle.std.specs.Prelude.{◌≡◌, Bool, true, ◌&&◌, not, List, [], ◌∷◌}
 use Rattle.std.specs.List.{list_any}
 use Rattle.std.specs.Str.{bytes_eq}
-use Rattle.dsr_blocks.specs.declared.record.Head.{Head}
-use Rattle.dsr_blocks.specs.declared.record.Summary.{Summary}
+use Rattle.dsr_events.specs.declared.record.Head.{Head}
+use Rattle.dsr_events.specs.declared.record.Summary.{Summary}
 
 pub record OpeningParts : Type 0 where
   pub head : Head

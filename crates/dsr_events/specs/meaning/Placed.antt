@@ -1,6 +1,6 @@
 -- An event with its place in the file's list of events.
 use Rattle.std.specs.Prelude.{ℕ}
-use Rattle.dsr_blocks.specs.meaning.Blocks.{BlockParts}
+use Rattle.dsr_events.specs.meaning.Blocks.{BlockParts}
 use Rattle.dsr_events.specs.declared.event.EventPart.{EventPart}
 use Rattle.dsr_events.specs.declared.event.EventPart.TheVariants as tell
 

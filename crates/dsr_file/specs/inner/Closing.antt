@@ -1,6 +1,6 @@
 -- What a line closes, and its event.
 use Rattle.std.specs.Prelude.{◌≡◌, ℕ, Option, None, Some, OnSome}
-use Rattle.dsr_blocks.specs.meaning.Blocks.{BlockParts}
+use Rattle.dsr_events.specs.meaning.Blocks.{BlockParts}
 use Rattle.dsr_events.specs.declared.event.EventPart.{EventPart}
 use Rattle.dsr_events.specs.declared.event.EventPart.TheVariants as tell
 use Rattle.dsr_file.specs.declared.closed.Closed.TheInside.{Inside}

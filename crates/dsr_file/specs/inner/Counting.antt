@@ -1,8 +1,8 @@
 -- The counts to which a record or an event adds.
 use Rattle.std.specs.Prelude.{ℕ, Option, None, Some}
-use Rattle.dsr_blocks.specs.declared.record.Foot as foot
-use Rattle.dsr_blocks.specs.declared.record.Record.{Record}
-use Rattle.dsr_blocks.specs.declared.record.Record.TheVariants.{Summary, Foot}
+use Rattle.dsr_events.specs.declared.record.Foot as foot
+use Rattle.dsr_events.specs.declared.record.Record.{Record}
+use Rattle.dsr_events.specs.declared.record.Record.TheVariants.{Summary, Foot}
 use Rattle.dsr_events.specs.declared.event.EventPart.{EventPart}
 use Rattle.dsr_events.specs.declared.event.EventPart.TheVariants as tell
 

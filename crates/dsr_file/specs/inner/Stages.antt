@@ -2,12 +2,12 @@
 use Rattle.std.specs.Prelude.{◌≡◌, ℕ, ◌+◌, ◌≤◌, ◌<◌, ◌==◌, true, false, List, [], ◌∷◌, ◌++◌, length, map, Option, None, Some, if◌then◌else◌}
 use Rattle.std.specs.Str.{bytes_eq}
 use Rattle.std.specs.List.{list_any, list_all}
-use Rattle.dsr_blocks.specs.declared.kinds.Kind.{Kind}
-use Rattle.dsr_blocks.specs.declared.kinds.Kind.TheVariants as kinds
-use Rattle.dsr_blocks.specs.declared.record.Record.{Record}
-use Rattle.dsr_blocks.specs.declared.record.Record.TheVariants as the
-use Rattle.dsr_blocks.specs.declared.record.Head as head
-use Rattle.dsr_blocks.specs.meaning.Blocks.{BlockParts}
+use Rattle.dsr_events.specs.declared.kinds.Kind.{Kind}
+use Rattle.dsr_events.specs.declared.kinds.Kind.TheVariants as kinds
+use Rattle.dsr_events.specs.declared.record.Record.{Record}
+use Rattle.dsr_events.specs.declared.record.Record.TheVariants as the
+use Rattle.dsr_events.specs.declared.record.Head as head
+use Rattle.dsr_events.specs.meaning.Blocks.{BlockParts}
 use Rattle.dsr_records.specs.meaning.Records.{or_else}
 use Rattle.dsr_events.specs.declared.fault.FileFault.{FileFault}
 use Rattle.dsr_events.specs.declared.event.EventPart.{EventPart}

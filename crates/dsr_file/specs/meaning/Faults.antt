@@ -2,11 +2,11 @@
 use Rattle.std.specs.Prelude.{ℕ, ◌+◌, ◌==◌, nat_le, not, ◌||◌, Bool, List, [], ◌∷◌, ◌++◌, length, count_by, Option, None, Some, unwrap_or, if◌then◌else◌}
 use Rattle.std.specs.List.{list_any}
 use Rattle.std.specs.Str.{bytes_eq}
-use Rattle.dsr_blocks.specs.declared.kinds.Kind.{Kind}
-use Rattle.dsr_blocks.specs.declared.kinds.Kind.TheVariants as kinds
-use Rattle.dsr_blocks.specs.declared.record.Record.{Record}
-use Rattle.dsr_blocks.specs.declared.record.Record.TheVariants.{Head, Summary, Resource, Work, Usage, Foot, Skipped}
-use Rattle.dsr_blocks.specs.declared.record.Summary as summary
+use Rattle.dsr_events.specs.declared.kinds.Kind.{Kind}
+use Rattle.dsr_events.specs.declared.kinds.Kind.TheVariants as kinds
+use Rattle.dsr_events.specs.declared.record.Record.{Record}
+use Rattle.dsr_events.specs.declared.record.Record.TheVariants.{Head, Summary, Resource, Work, Usage, Foot, Skipped}
+use Rattle.dsr_events.specs.declared.record.Summary as summary
 use Rattle.dsr_records.specs.meaning.Reads.{id_of_record}
 use Rattle.dsr_records.specs.meaning.Records.{or_else}
 use Rattle.dsr_events.specs.declared.fault.FileFault.{FileFault}

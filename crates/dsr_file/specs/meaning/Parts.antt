@@ -3,12 +3,12 @@ use Rattle.std.specs.Prelude.{ℕ, ◌+◌, ◌&&◌, nat_le, Bool, true, false,
 use Rattle.std.specs.List.{onto_first, filter_map, list_any, list_all}
 use Rattle.std.specs.Option.{option_to_list, option_map}
 use Rattle.std.specs.Str.{bytes_eq}
-use Rattle.dsr_blocks.specs.declared.record.Record.{Record}
-use Rattle.dsr_blocks.specs.declared.record.Record.TheVariants.{Head, Summary, Resource, Work, Usage, Foot}
-use Rattle.dsr_blocks.specs.declared.record.Usage as usage
-use Rattle.dsr_blocks.specs.declared.record.Summary as summary
-use Rattle.dsr_blocks.specs.meaning.Blocks.{BlockParts}
-use Rattle.dsr_blocks.specs.meaning.Works.{WorkParts}
+use Rattle.dsr_events.specs.declared.record.Record.{Record}
+use Rattle.dsr_events.specs.declared.record.Record.TheVariants.{Head, Summary, Resource, Work, Usage, Foot}
+use Rattle.dsr_events.specs.declared.record.Usage as usage
+use Rattle.dsr_events.specs.declared.record.Summary as summary
+use Rattle.dsr_events.specs.meaning.Blocks.{BlockParts}
+use Rattle.dsr_events.specs.meaning.Works.{WorkParts}
 use Rattle.dsr_events.specs.declared.event.EventPart.{EventPart}
 use Rattle.dsr_events.specs.declared.event.EventPart.TheVariants as tell
 use Rattle.dsr_events.specs.meaning.Openings.{OpeningParts}

@@ -1,7 +1,7 @@
 -- The prefixes of a text's events that a reader may give, and events cut off because memory was refused.
 use Rattle.std.specs.Prelude.{◌≡◌, ℕ, ◌+◌, ◌⊎◌, true, false, List, [], ◌∷◌, ◌++◌, length, Option, None, Some}
 use mathlib.Core.List.{IsPrefix}
-use Rattle.dsr_blocks.specs.declared.record.Record.{Record}
+use Rattle.dsr_events.specs.declared.record.Record.{Record}
 use Rattle.dsr_records.specs.meaning.Reads.{has_texts}
 use Rattle.dsr_records.specs.meaning.Records.{LayoutTable}
 use Rattle.dsr_events.specs.declared.fault.FileFault.TheVariants.{Memory}

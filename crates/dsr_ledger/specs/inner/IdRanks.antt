@@ -1,7 +1,7 @@
 -- The numbers and the ranks of identifiers.
 use Rattle.std.specs.Prelude.{ℕ, ◌+◌, ◌-◌, ◌*◌, ◌^◌, ◌%◌, List, ◌&&◌, ◌==◌, length, drop, get_or, Option, None, Some, nat_lt, if◌then◌else◌}
 use Rattle.std.specs.List.{fold}
-use Rattle.dsr_values.specs.meaning.Numbers.{number_of}
+use Rattle.dsr_cells.specs.meaning.Numbers.{number_of}
 
 -- the number that an identifier is: without leading zeros
 abbrev pub number_of_id : List ℕ → Option ℕ

@@ -1,7 +1,7 @@
 -- The lines under which usages count.
 use Rattle.std.specs.Prelude.{◌≡◌, ℕ, List, Option, Some}
 use Rattle.std.specs.List.{AllZip}
-use Rattle.dsr_blocks.specs.declared.record.Usage.{Usage}
+use Rattle.dsr_events.specs.declared.record.Usage.{Usage}
 use Rattle.dsr_ledger.specs.declared.ledger.parts.SeatShare.{SeatShare}
 use Rattle.dsr_ledger.specs.declared.ledger.summary_key.SummaryKey.{SummaryKey}
 use Rattle.dsr_ledger.specs.declared.ledger.recordings.Ledger.{Ledger}

@@ -1,7 +1,7 @@
 -- The openings in the files' states.
 use Rattle.std.specs.Prelude.{ℕ, List, Option, None, Some, map, if◌then◌else◌}
 use Rattle.std.specs.Str.{bytes_eq}
-use Rattle.dsr_blocks.specs.declared.record.Summary.{Summary}
+use Rattle.dsr_events.specs.declared.record.Summary.{Summary}
 use Rattle.dsr_events.specs.meaning.Openings.{OpeningParts}
 use Rattle.dsr_ledger.specs.declared.file.FileBooks.{FileBooks}
 

@@ -1,7 +1,7 @@
 -- The plan of a block, made before anything is added.
 use Rattle.std.specs.Prelude.{◌≡◌, ℕ, List, Option, Some, map}
-use Rattle.dsr_blocks.specs.declared.record.Usage.{Usage}
-use Rattle.dsr_blocks.specs.meaning.Works.{WorkParts}
+use Rattle.dsr_events.specs.declared.record.Usage.{Usage}
+use Rattle.dsr_events.specs.meaning.Works.{WorkParts}
 use Rattle.dsr_ledger.specs.declared.booking.plan.Plan.{Plan}
 use Rattle.dsr_ledger.specs.declared.ledger.recordings.Ledger.{Ledger}
 use Rattle.dsr_ledger.specs.declared.file.summaries.Summaries.{Summaries}

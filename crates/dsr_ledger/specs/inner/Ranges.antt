@@ -1,6 +1,6 @@
 -- The ranges of the numbers that are added.
 use Rattle.std.specs.Prelude.{ℕ, ◌+◌, ◌*◌, ◌^◌, ◌<◌, ◌≤◌, unsigned_abs}
-use Rattle.dsr_blocks.specs.declared.record.Usage.{Usage}
+use Rattle.dsr_events.specs.declared.record.Usage.{Usage}
 use Rattle.dsr_ledger.specs.meaning.Limits.{amount_bound}
 use Rattle.dsr_ledger.specs.declared.sums.Sums.{Sums}
 

@@ -1,7 +1,7 @@
 -- The shares of works at the seats of their parties.
 use Rattle.std.specs.Prelude.{◌≡◌, ℕ, ◌<◌, List, ◌++◌, Option, Some}
 use Rattle.std.specs.List.{flat_map, zip, AllByRecursion, AllZip}
-use Rattle.dsr_blocks.specs.meaning.Works.{WorkParts}
+use Rattle.dsr_events.specs.meaning.Works.{WorkParts}
 use Rattle.dsr_ledger.specs.declared.ledger.parts.SeatPart.{SeatPart}
 use Rattle.dsr_ledger.specs.declared.ledger.parts.SeatShare.{SeatShare}
 use Rattle.dsr_ledger.specs.inner.Numbered.{IsNumbered}

@@ -2,8 +2,8 @@
 use Rattle.std.specs.Prelude.{◌≡◌, ℕ, pos, ◌+ℤ◌, Bool, is_some, List, Option, Some, option_map, find}
 use Rattle.std.specs.Str.{bytes_eq}
 use Rattle.indexmap.specs.IndexMap.{get, index_of}
-use Rattle.dsr_blocks.specs.declared.record.Summary.{Summary}
-use Rattle.dsr_blocks.specs.declared.record.Usage.{Usage}
+use Rattle.dsr_events.specs.declared.record.Summary.{Summary}
+use Rattle.dsr_events.specs.declared.record.Usage.{Usage}
 use Rattle.dsr_ledger.specs.declared.sums.Sums.{Sums}
 use Rattle.dsr_ledger.specs.declared.file.summaries.SummaryState.{SummaryState}
 use Rattle.dsr_ledger.specs.declared.file.summaries.Summaries.{Summaries}

@@ -1,7 +1,7 @@
 -- The tally of a key: by its bookings, and as a line has it.
 use Rattle.std.specs.Prelude.{◌≡◌, ℕ, ◌+◌, ◌*◌, ◌^◌, ◌<◌, ℤ, ◌+ℤ◌, Bool, true, ◌||◌, nat_lt, List, [], length, map, Option, Some, slice_get, unsigned_abs}
 use Rattle.std.specs.Option.{option_and_then}
-use Rattle.dsr_blocks.specs.declared.record.Usage.{Usage}
+use Rattle.dsr_events.specs.declared.record.Usage.{Usage}
 use Rattle.dsr_ledger.specs.meaning.Limits.{amount_bound}
 use Rattle.dsr_ledger.specs.meaning.Keys.{Key}
 use Rattle.dsr_ledger.specs.declared.ledger.parts.SeatShare.{SeatShare}

@@ -2,10 +2,10 @@
 use Rattle.std.specs.Prelude.{ℕ, Option, None, Some, List, [], ◌∷◌, find, option_map}
 use Rattle.std.specs.List.{flat_map}
 use Rattle.std.specs.Str.{bytes_eq}
-use Rattle.dsr_blocks.specs.declared.record.Summary.{Summary}
-use Rattle.dsr_blocks.specs.declared.record.Usage.{Usage}
-use Rattle.dsr_blocks.specs.meaning.Works.{WorkParts}
-use Rattle.dsr_blocks.specs.meaning.Blocks.{BlockParts}
+use Rattle.dsr_events.specs.declared.record.Summary.{Summary}
+use Rattle.dsr_events.specs.declared.record.Usage.{Usage}
+use Rattle.dsr_events.specs.meaning.Works.{WorkParts}
+use Rattle.dsr_events.specs.meaning.Blocks.{BlockParts}
 use Rattle.dsr_ledger.specs.meaning.Keys.{Key}
 use Rattle.dsr_ledger.specs.declared.ledger.summary_key.SummaryKey.{SummaryKey}
 use Rattle.dsr_ledger.specs.declared.verdict.Verdict.{Verdict}

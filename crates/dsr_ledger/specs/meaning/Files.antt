@@ -2,10 +2,10 @@
 use Rattle.std.specs.Prelude.{ℕ, zero, suc, Bool, false, not, ◌==◌, ◌&&◌, Option, None, Some, List, [], ◌∷◌, ◌++◌, if◌then◌else◌}
 use Rattle.std.specs.List.{list_any}
 use Rattle.std.specs.Str.{bytes_eq}
-use Rattle.dsr_values.specs.meaning.Days.{CivilDay}
-use Rattle.dsr_blocks.specs.declared.record.Head.{Head}
-use Rattle.dsr_blocks.specs.declared.record.Summary.{Summary}
-use Rattle.dsr_blocks.specs.meaning.Blocks.{BlockParts}
+use Rattle.dsr_cells.specs.meaning.Days.{CivilDay}
+use Rattle.dsr_events.specs.declared.record.Head.{Head}
+use Rattle.dsr_events.specs.declared.record.Summary.{Summary}
+use Rattle.dsr_events.specs.meaning.Blocks.{BlockParts}
 use Rattle.dsr_events.specs.declared.fault.Outcome.{Outcome}
 use Rattle.dsr_events.specs.meaning.Openings.{OpeningParts}
 use Rattle.dsr_ledger.specs.declared.verdict.Standing.{Standing}

@@ -3,10 +3,10 @@ use Rattle.std.specs.Prelude.{ℕ, ◌+◌, Bool, true, false, not, ◌==◌, �
 use Rattle.std.specs.List.{flat_map, list_any, range_with_len}
 use Rattle.std.specs.Str.{bytes_eq}
 use Rattle.std.specs.Ordering.{int_eq}
-use Rattle.dsr_blocks.specs.declared.record.Head.{Head}
-use Rattle.dsr_blocks.specs.declared.record.Summary.{Summary}
-use Rattle.dsr_blocks.specs.declared.record.Usage.{Usage}
-use Rattle.dsr_blocks.specs.meaning.Blocks.{BlockParts}
+use Rattle.dsr_events.specs.declared.record.Head.{Head}
+use Rattle.dsr_events.specs.declared.record.Summary.{Summary}
+use Rattle.dsr_events.specs.declared.record.Usage.{Usage}
+use Rattle.dsr_events.specs.meaning.Blocks.{BlockParts}
 use Rattle.dsr_events.specs.declared.fault.Outcome.{Outcome}
 use Rattle.dsr_events.specs.declared.fault.Outcome.TheVariants.{Whole, Fault}
 use Rattle.dsr_events.specs.meaning.Openings.{OpeningParts}

@@ -3,7 +3,7 @@ use Rattle.std.specs.Prelude.{ℕ, ℤ, pos, ◌*ℤ◌, ◌-ℤ◌, Bool, List,
 use Rattle.std.specs.Int.RustNames.{int_div}
 use Rattle.std.specs.List.{flat_map, zip}
 use Rattle.std.specs.Str.{bytes_eq}
-use Rattle.dsr_blocks.specs.meaning.Works.{WorkParts}
+use Rattle.dsr_events.specs.meaning.Works.{WorkParts}
 use Rattle.dsr_ledger.specs.meaning.Sums.{int_sum_by}
 use Rattle.dsr_ledger.specs.meaning.Bookings.{Booking}
 

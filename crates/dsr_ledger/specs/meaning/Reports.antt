@@ -1,6 +1,6 @@
 -- The report of a list of files.
 use Rattle.std.specs.Prelude.{ℕ, Option, None, Some, List, map, option_map, length}
-use Rattle.dsr_blocks.specs.declared.record.Head.{Head}
+use Rattle.dsr_events.specs.declared.record.Head.{Head}
 use Rattle.dsr_events.specs.declared.fault.Outcome.{Outcome}
 use Rattle.dsr_events.specs.declared.fault.Outcome.TheVariants.{Whole}
 use Rattle.dsr_ledger.specs.declared.report.ReportKey.{ReportKey}

@@ -2,8 +2,8 @@
 ghost use Rattle.std.specs.Prelude.{◌≡◌, ◌≤◌, ℕ, List, ◌∷◌, [], Option, Some, option_map, slice_get, length};
 ghost use Rattle.std.specs.List.{AllByRecursion};
 ghost use Rattle.std.specs.Option.{ForSome};
-ghost use Rattle.dsr_blocks.specs.declared.record.Usage.{Usage};
-ghost use Rattle.dsr_blocks.specs.meaning.Works.{WorkParts};
+ghost use Rattle.dsr_events.specs.declared.record.Usage.{Usage};
+ghost use Rattle.dsr_events.specs.meaning.Works.{WorkParts};
 ghost use Rattle.dsr_ledger.specs.meaning.Limits.{whole_share};
 ghost use Rattle.dsr_ledger.specs.meaning.Keys.{Key};
 ghost use Rattle.dsr_ledger.specs.declared.ledger.summary_key.SummaryKey.{SummaryKey};
@@ -18,7 +18,7 @@ ghost use Rattle.dsr_ledger.specs.meaning.Verdicts.{share_total};
 use crate::booking::plan::Plan;
 use crate::file::summaries::Summaries;
 use crate::ledger::recordings::Ledger;
-use dsr_blocks::Usage;
+use dsr_events::Usage;
 
 /// Adds usage i of a block to its summary and to its line, and to no other.
 fn add_usage(ledger: &mut Ledger, summaries: &mut Summaries, plan: &Plan, i: usize, usage: &Usage)

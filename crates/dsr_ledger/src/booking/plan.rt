@@ -1,7 +1,7 @@
 //! The plan of a block's additions: all memory that they need is allocated here.
 ghost use Rattle.std.specs.Prelude.{◌≡◌, ℕ, List, [], OnOk, Option, Some, map};
 ghost use Rattle.std.specs.List.{zip};
-ghost use Rattle.dsr_blocks.specs.declared.record.Usage.{Usage};
+ghost use Rattle.dsr_events.specs.declared.record.Usage.{Usage};
 ghost use Rattle.dsr_ledger.specs.declared.ledger.summary_key.SummaryKey.{SummaryKey};
 ghost use Rattle.dsr_ledger.specs.inner.Recordings.{tally_at, seat_at, recording_number, KeepsSeats, KeepsLines};
 ghost use Rattle.dsr_ledger.specs.inner.Seated.{shares_of, AreSeated, SeatedMore};
@@ -12,8 +12,8 @@ use crate::file::summaries::Summaries;
 use crate::ledger::parts::SeatShare;
 use crate::ledger::recordings::Ledger;
 use crate::narrow::narrow;
-use dsr_blocks::Work;
 use dsr_cells::{Isrc, NoMemory};
+use dsr_events::Work;
 use std::alloc::Global;
 
 /// The plan of a block's additions. The lists are filled anew for each block; until then they and the recording are those of

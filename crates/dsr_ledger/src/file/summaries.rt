@@ -6,8 +6,8 @@ ghost use Rattle.dsr_ledger.specs.inner.Summaries.{state_plus, nothing_found};
 use crate::hints::Hints;
 use crate::seeded::Seeded;
 use crate::sums::Sums;
-use dsr_blocks::{Summary, Usage};
 use dsr_cells::{NoMemory, Text};
+use dsr_events::{Summary, Usage};
 use indexmap::IndexMap;
 use std::alloc::Global;
 

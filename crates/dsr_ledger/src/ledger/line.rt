@@ -10,7 +10,7 @@ ghost use Rattle.dsr_ledger.specs.inner.Tallies.{no_tally, line_tally, tally_wit
 use crate::ledger::index::Numbered;
 use crate::ledger::parts::{Parts, SeatShare};
 use crate::sums::Sums;
-use dsr_blocks::Usage;
+use dsr_events::Usage;
 use std::alloc::Global;
 
 /// A line: the number of its summary key, whether it has a booked usage, the sums of these, and the

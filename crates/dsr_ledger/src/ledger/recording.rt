@@ -14,8 +14,8 @@ use crate::ledger::line::Line;
 use crate::ledger::parts::{SeatShare, widen};
 use crate::ledger::seats::Seats;
 use crate::seeded::Seeded;
-use dsr_blocks::Usage;
 use dsr_cells::NoMemory;
+use dsr_events::Usage;
 use std::alloc::Global;
 
 /// The lines of a recording have hints in this many groups, by the numbers of their summary keys.

@@ -13,8 +13,8 @@ use crate::ledger::recording::Recording;
 use crate::ledger::summary_key::SummaryKey;
 use crate::narrow::narrow;
 use crate::seeded::Seeded;
-use dsr_blocks::Usage;
 use dsr_cells::{Isrc, NoMemory, Text};
+use dsr_events::Usage;
 use indexmap::{IndexMap, IndexSet};
 use std::alloc::Global;
 

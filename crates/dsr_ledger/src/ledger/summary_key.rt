@@ -2,8 +2,8 @@
 ghost use Rattle.std.specs.Prelude.{◌≡◌, IfOk};
 ghost use Rattle.dsr_ledger.specs.meaning.Bookings.{summary_key_of};
 
-use dsr_blocks::Summary;
 use dsr_cells::{NoMemory, Text};
+use dsr_events::Summary;
 use std::alloc::Global;
 
 /// The key that a summary gives to its usages: a ledger line's key without the recording.

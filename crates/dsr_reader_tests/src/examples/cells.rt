@@ -1,6 +1,20 @@
-//! The example of dsr_cells.
-use dsr_cells::{Amount, Texts, cell, count_cells, read_texts_into, read_usages};
+//! The examples of dsr_cells.
+use dsr_cells::{
+    Amount, Day, Share, Texts, cell, count_cells, is_currency, read_texts_into, read_usages,
+};
 use std::test::Fail;
+
+/// What three texts spell.
+#[test]
+fn what_texts_spell(rt: HostRuntime) -> Result<(), Fail> {
+    // A share is a whole number of units of 0.0001 percent.
+    let share = Share::read("12.5").map(|share| share.parts());
+    assert_eq!(rt; share, Some(125_000));
+    // The calendar has no 30 February.
+    assert!(rt; Day::read("2024-02-30").is_none());
+    assert!(rt; is_currency("GBP"));
+    Ok(())
+}
 
 /// The cells of a usage and of a list of parties, and what they spell.
 #[test]

@@ -1,6 +1,6 @@
 -- Checked lines, as contracts see them.
-use Rattle.dsr_blocks.specs.declared.record.Record.{Record}
-use Rattle.dsr_blocks.specs.declared.record.Record.TheVariants as records
+use Rattle.dsr_events.specs.declared.record.Record.{Record}
+use Rattle.dsr_events.specs.declared.record.Record.TheVariants as records
 use Rattle.dsr_records.specs.declared.check.RecordLine.{RecordLine}
 use Rattle.dsr_records.specs.declared.check.RecordLine.TheVariants.{Head, Summary, Resource, Work, Usage, Foot, Skipped}
 

@@ -4,7 +4,7 @@ use Rattle.std.specs.Borrow.{Bor}
 use Rattle.std.specs.List.{list_all}
 use Rattle.dsr_cells.specs.meaning.Cells.{cells}
 use Rattle.dsr_cells.specs.meaning.Values.{raw_parts}
-use Rattle.dsr_blocks.specs.declared.kinds.Column.{Column}
+use Rattle.dsr_events.specs.declared.kinds.Column.{Column}
 use Rattle.dsr_records.specs.declared.fault.RecordFault.{RecordFault}
 use Rattle.dsr_records.specs.declared.rest.Rest.{Rest}
 use Rattle.dsr_records.specs.meaning.Records.{column_fault}

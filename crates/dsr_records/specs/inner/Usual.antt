@@ -6,9 +6,9 @@ use Rattle.std.specs.Int.{is_in_range}
 use Rattle.std.specs.List.{list_all}
 use Rattle.std.specs.Simd.Lanes.{Each1, chunk, mask_l, number_l}
 use Rattle.dsr_cells.specs.meaning.Cells.{cells}
-use Rattle.dsr_values.specs.inner.Fours.{word_of_four}
-use Rattle.dsr_values.specs.meaning.Numbers.{digits_sum, is_digits}
-use Rattle.dsr_blocks.specs.declared.record.Record.{Record}
+use Rattle.dsr_cells.specs.inner.Fours.{word_of_four}
+use Rattle.dsr_cells.specs.meaning.Numbers.{digits_sum, is_digits}
+use Rattle.dsr_events.specs.declared.record.Record.{Record}
 use Rattle.dsr_records.specs.meaning.Layouts.{standard_layout}
 use Rattle.dsr_records.specs.meaning.Values.{record_of}
 

@@ -8,11 +8,11 @@ use Rattle.std.specs.Option.{unwrap_or, option_and_then}
 use Rattle.std.specs.Str.{bytes_eq, is_utf8}
 use Rattle.dsr_cells.specs.meaning.Cells.{cells}
 use Rattle.dsr_cells.specs.meaning.Lines.{is_long, without_return, whole_lines}
-use Rattle.dsr_values.specs.meaning.Numbers.{number_of}
-use Rattle.dsr_values.specs.meaning.Texts.{is_text_of}
-use Rattle.dsr_blocks.specs.declared.kinds.Column.{Column}
-use Rattle.dsr_blocks.specs.declared.kinds.Kind.{Kind}
-use Rattle.dsr_blocks.specs.declared.kinds.Kind.TheVariants.{Head, Summary, Resource, Work, Usage, Foot, Skipped}
+use Rattle.dsr_cells.specs.meaning.Numbers.{number_of}
+use Rattle.dsr_cells.specs.meaning.Texts.{is_text_of}
+use Rattle.dsr_events.specs.declared.kinds.Column.{Column}
+use Rattle.dsr_events.specs.declared.kinds.Kind.{Kind}
+use Rattle.dsr_events.specs.declared.kinds.Kind.TheVariants.{Head, Summary, Resource, Work, Usage, Foot, Skipped}
 use Rattle.dsr_records.specs.declared.layout_fault.LayoutFault.{LayoutFault}
 use Rattle.dsr_records.specs.declared.layout_fault.LayoutFault.TheVariants.{Large, LongLine, NotUtf8, UnknownRole, BadType, RoleTwice, TypeTwice, BadPosition}
 use Rattle.dsr_records.specs.declared.layout_fault.LayoutFault.TheVariants.{ManySkips, MissingRole}

@@ -5,9 +5,9 @@ use Rattle.std.specs.Option.{unwrap_or}
 use Rattle.std.specs.Str.{bytes_eq}
 use Rattle.dsr_cells.specs.meaning.Cells.{cells}
 use Rattle.dsr_cells.specs.meaning.Values.{raw_parts}
-use Rattle.dsr_blocks.specs.declared.kinds.Column.{Column}
-use Rattle.dsr_blocks.specs.declared.kinds.Kind.{Kind}
-use Rattle.dsr_blocks.specs.declared.kinds.Kind.TheVariants.{Work}
+use Rattle.dsr_events.specs.declared.kinds.Column.{Column}
+use Rattle.dsr_events.specs.declared.kinds.Kind.{Kind}
+use Rattle.dsr_events.specs.declared.kinds.Kind.TheVariants.{Work}
 use Rattle.dsr_records.specs.declared.fault.RecordFault.{RecordFault}
 use Rattle.dsr_records.specs.declared.fault.RecordFault.TheVariants.{Missing, Bad, Uneven}
 use Rattle.dsr_records.specs.meaning.Tables.{cell_of, text_of, columns_of, may_be_empty, is_spelled}

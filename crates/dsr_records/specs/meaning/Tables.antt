@@ -3,17 +3,17 @@ use Rattle.std.specs.Prelude.{ℕ, nat_le, Bool, true, false, if◌then◌else�
 use Rattle.std.specs.Int.{is_in_range}
 use Rattle.std.specs.List.{list_all}
 use Rattle.std.specs.Option.{unwrap_or}
-use Rattle.dsr_values.specs.meaning.Days.{CivilDay, day_of, day_number}
-use Rattle.dsr_values.specs.meaning.Numbers.{number_of, usages_of, amount_of, share_of}
-use Rattle.dsr_values.specs.meaning.Texts.{is_identifier_text, is_territory_text, is_use_type_text, is_currency_text}
+use Rattle.dsr_cells.specs.meaning.Days.{CivilDay, day_of, day_number}
+use Rattle.dsr_cells.specs.meaning.Numbers.{number_of, usages_of, amount_of, share_of}
+use Rattle.dsr_cells.specs.meaning.Texts.{is_identifier_text, is_territory_text, is_use_type_text, is_currency_text}
 use Rattle.dsr_cells.specs.meaning.Values.{raw_parts}
-use Rattle.dsr_blocks.specs.declared.kinds.Column.{Column}
-use Rattle.dsr_blocks.specs.declared.kinds.Column.TheVariants.{MessageId, FileNumber, NumberOfFiles, UsageStartDate, UsageEndDate, Sender, Recipient}
-use Rattle.dsr_blocks.specs.declared.kinds.Column.TheVariants.{SummaryRecordId, Territory, UseType, Currency, Usages, Amount, BlockId, Isrc, Titles, Artists}
-use Rattle.dsr_blocks.specs.declared.kinds.Column.TheVariants.{WorkId, Title, Parties, Shares, NumberOfLinesInFile, NumberOfSummaryRecords}
-use Rattle.dsr_blocks.specs.declared.kinds.Column.TheVariants.{NumberOfBlocksInFile}
-use Rattle.dsr_blocks.specs.declared.kinds.Kind.{Kind}
-use Rattle.dsr_blocks.specs.declared.kinds.Kind.TheVariants.{Head, Summary, Resource, Work, Usage, Foot, Skipped}
+use Rattle.dsr_events.specs.declared.kinds.Column.{Column}
+use Rattle.dsr_events.specs.declared.kinds.Column.TheVariants.{MessageId, FileNumber, NumberOfFiles, UsageStartDate, UsageEndDate, Sender, Recipient}
+use Rattle.dsr_events.specs.declared.kinds.Column.TheVariants.{SummaryRecordId, Territory, UseType, Currency, Usages, Amount, BlockId, Isrc, Titles, Artists}
+use Rattle.dsr_events.specs.declared.kinds.Column.TheVariants.{WorkId, Title, Parties, Shares, NumberOfLinesInFile, NumberOfSummaryRecords}
+use Rattle.dsr_events.specs.declared.kinds.Column.TheVariants.{NumberOfBlocksInFile}
+use Rattle.dsr_events.specs.declared.kinds.Kind.{Kind}
+use Rattle.dsr_events.specs.declared.kinds.Kind.TheVariants.{Head, Summary, Resource, Work, Usage, Foot, Skipped}
 
 -- the cell of a column, given the cells of a line's columns
 abbrev pub cell_of : List (Option (List ℕ)) → ℕ → Option (List ℕ)

@@ -2,21 +2,21 @@
 use Rattle.std.specs.Prelude.{ℕ, nat_lt, if◌then◌else◌, List, map, length, Option, Some, None, Result, Ok, Err, ℤ, pos}
 use Rattle.std.specs.Option.{unwrap_or}
 use Rattle.dsr_cells.specs.meaning.Cells.{cells}
-use Rattle.dsr_values.specs.meaning.Days.{CivilDay, day_of}
-use Rattle.dsr_values.specs.meaning.Numbers.{number_of, usages_of, amount_of, share_of}
+use Rattle.dsr_cells.specs.meaning.Days.{CivilDay, day_of}
+use Rattle.dsr_cells.specs.meaning.Numbers.{number_of, usages_of, amount_of, share_of}
 use Rattle.dsr_cells.specs.meaning.Values.{raw_parts, value_of}
-use Rattle.dsr_blocks.specs.declared.kinds.Kind.{Kind}
-use Rattle.dsr_blocks.specs.declared.kinds.Kind.TheVariants.{Head, Summary, Resource, Work, Usage, Foot, Skipped}
+use Rattle.dsr_events.specs.declared.kinds.Kind.{Kind}
+use Rattle.dsr_events.specs.declared.kinds.Kind.TheVariants.{Head, Summary, Resource, Work, Usage, Foot, Skipped}
 use Rattle.dsr_records.specs.declared.fault.RecordFault.{RecordFault}
 use Rattle.dsr_records.specs.declared.fault.RecordFault.TheVariants.{Many, Unknown}
-use Rattle.dsr_blocks.specs.declared.record.Head.{Head as HeadRecord}
-use Rattle.dsr_blocks.specs.declared.record.Summary.{Summary as SummaryRecord}
-use Rattle.dsr_blocks.specs.declared.record.Resource.{Resource as ResourceRecord}
-use Rattle.dsr_blocks.specs.declared.record.Usage.{Usage as UsageRecord}
-use Rattle.dsr_blocks.specs.declared.record.Foot.{Foot as FootRecord}
-use Rattle.dsr_blocks.specs.declared.record.Record.{Record}
-use Rattle.dsr_blocks.specs.declared.record.Record.TheVariants as of
-use Rattle.dsr_blocks.specs.meaning.Works.{WorkParts}
+use Rattle.dsr_events.specs.declared.record.Head.{Head as HeadRecord}
+use Rattle.dsr_events.specs.declared.record.Summary.{Summary as SummaryRecord}
+use Rattle.dsr_events.specs.declared.record.Resource.{Resource as ResourceRecord}
+use Rattle.dsr_events.specs.declared.record.Usage.{Usage as UsageRecord}
+use Rattle.dsr_events.specs.declared.record.Foot.{Foot as FootRecord}
+use Rattle.dsr_events.specs.declared.record.Record.{Record}
+use Rattle.dsr_events.specs.declared.record.Record.TheVariants as of
+use Rattle.dsr_events.specs.meaning.Works.{WorkParts}
 use Rattle.dsr_records.specs.meaning.Records.{LayoutTable, RoleLine, role_of, is_skipped, type_of, cells_at, fault_of}
 use Rattle.dsr_records.specs.meaning.Reads.{kind_of_record, id_of_record}
 use Rattle.dsr_records.specs.meaning.Tables.{file_number_of, text_of}

@@ -1,13 +1,13 @@
 //! FOOT: the last record of a file.
 ghost use Rattle.std.specs.Prelude.{◌≡◌, Ok, Err, MatchResult};
-ghost use Rattle.dsr_blocks.specs.declared.kinds.Kind.TheVariants as kinds;
-ghost use Rattle.dsr_blocks.specs.declared.record.Record.TheVariants as records;
+ghost use Rattle.dsr_events.specs.declared.kinds.Kind.TheVariants as kinds;
+ghost use Rattle.dsr_events.specs.declared.record.Record.TheVariants as records;
 ghost use Rattle.dsr_records.specs.meaning.Values.{record_by_row};
 
 use crate::fault::RecordFault;
 use crate::row::Row;
 use crate::spelled::read_count;
-use dsr_blocks::{Column, Foot};
+use dsr_events::{Column, Foot};
 
 /// The foot that a row spells, or its first fault.
 #[inline(always)]

@@ -1,7 +1,7 @@
 //! HEAD: the first record of a file.
 ghost use Rattle.std.specs.Prelude.{◌≡◌, Ok, Err, MatchResult, IfOk};
-ghost use Rattle.dsr_blocks.specs.declared.kinds.Kind.TheVariants as kinds;
-ghost use Rattle.dsr_blocks.specs.declared.record.Record.TheVariants as records;
+ghost use Rattle.dsr_events.specs.declared.kinds.Kind.TheVariants as kinds;
+ghost use Rattle.dsr_events.specs.declared.record.Record.TheVariants as records;
 ghost use Rattle.dsr_records.specs.meaning.Values.{record_by_row};
 
 use crate::fault::RecordFault;
@@ -9,8 +9,8 @@ use crate::row::Row;
 use crate::spelled::{
     read_file_number, read_first_day, read_identifier, read_last_day, read_number_of_files,
 };
-use dsr_blocks::{Column, Head};
 use dsr_cells::{Day, NoMemory, Text};
+use dsr_events::{Column, Head};
 use std::alloc::Global;
 use std::marker::Model;
 
@@ -27,7 +27,7 @@ pub(crate) struct HeadLine<'l> {
 }
 
 impl<'l> Model for HeadLine<'l> {
-    ghost use Rattle.dsr_blocks.specs.declared.record.Head.{Head as HeadRecord};
+    ghost use Rattle.dsr_events.specs.declared.record.Head.{Head as HeadRecord};
 
     ghost Value = { HeadRecord };
 

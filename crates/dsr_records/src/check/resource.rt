@@ -1,14 +1,14 @@
 //! AS01: the resource of a block.
 ghost use Rattle.std.specs.Prelude.{◌≡◌, Ok, Err, MatchResult, IfOk, OnOk};
-ghost use Rattle.dsr_blocks.specs.declared.kinds.Kind.TheVariants as kinds;
-ghost use Rattle.dsr_blocks.specs.declared.record.Record.TheVariants as records;
+ghost use Rattle.dsr_events.specs.declared.kinds.Kind.TheVariants as kinds;
+ghost use Rattle.dsr_events.specs.declared.record.Record.TheVariants as records;
 ghost use Rattle.dsr_records.specs.meaning.Values.{record_by_row};
 
 use crate::fault::RecordFault;
 use crate::row::Row;
 use crate::spelled::read_identifier;
-use dsr_blocks::{Column, Resource};
 use dsr_cells::{NoMemory, read_texts_into};
+use dsr_events::{Column, Resource};
 use std::alloc::Global;
 use std::default::MadeWith;
 use std::marker::Model;
@@ -23,7 +23,7 @@ pub(crate) struct ResourceLine<'l> {
 }
 
 impl<'l> Model for ResourceLine<'l> {
-    ghost use Rattle.dsr_blocks.specs.declared.record.Resource.{Resource as ResourceRecord};
+    ghost use Rattle.dsr_events.specs.declared.record.Resource.{Resource as ResourceRecord};
     ghost use Rattle.dsr_records.specs.meaning.Values.{values_of};
 
     ghost Value = { ResourceRecord };

@@ -1,7 +1,7 @@
 //! SY01: a summary of usages.
 ghost use Rattle.std.specs.Prelude.{◌≡◌, Ok, Err, MatchResult, IfOk};
-ghost use Rattle.dsr_blocks.specs.declared.kinds.Kind.TheVariants as kinds;
-ghost use Rattle.dsr_blocks.specs.declared.record.Record.TheVariants as records;
+ghost use Rattle.dsr_events.specs.declared.kinds.Kind.TheVariants as kinds;
+ghost use Rattle.dsr_events.specs.declared.record.Record.TheVariants as records;
 ghost use Rattle.dsr_records.specs.meaning.Values.{record_by_row};
 
 use crate::fault::RecordFault;
@@ -9,8 +9,8 @@ use crate::row::Row;
 use crate::spelled::{
     read_amount, read_currency, read_identifier, read_territory, read_usage_count, read_use_type,
 };
-use dsr_blocks::{Column, Summary};
 use dsr_cells::{Amount, NoMemory, Text};
+use dsr_events::{Column, Summary};
 use std::alloc::Global;
 use std::marker::Model;
 
@@ -26,7 +26,7 @@ pub(crate) struct SummaryLine<'l> {
 }
 
 impl<'l> Model for SummaryLine<'l> {
-    ghost use Rattle.dsr_blocks.specs.declared.record.Summary.{Summary as SummaryRecord};
+    ghost use Rattle.dsr_events.specs.declared.record.Summary.{Summary as SummaryRecord};
 
     ghost Value = { SummaryRecord };
 

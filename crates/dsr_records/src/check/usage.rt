@@ -1,14 +1,14 @@
 //! SU01: a usage of a block's resource.
 ghost use Rattle.std.specs.Prelude.{◌≡◌, Ok, Err, MatchResult, IfOk, OnOk};
-ghost use Rattle.dsr_blocks.specs.declared.kinds.Kind.TheVariants as kinds;
-ghost use Rattle.dsr_blocks.specs.declared.record.Record.TheVariants as records;
+ghost use Rattle.dsr_events.specs.declared.kinds.Kind.TheVariants as kinds;
+ghost use Rattle.dsr_events.specs.declared.record.Record.TheVariants as records;
 ghost use Rattle.dsr_records.specs.meaning.Values.{record_by_row};
 
 use crate::fault::RecordFault;
 use crate::row::Row;
 use crate::spelled::{read_amount, read_identifier, read_usage_count};
-use dsr_blocks::{Column, Usage};
 use dsr_cells::{Amount, NoMemory};
+use dsr_events::{Column, Usage};
 use std::alloc::Global;
 use std::default::MadeWith;
 use std::marker::Model;
@@ -23,7 +23,7 @@ pub(crate) struct UsageLine<'l> {
 }
 
 impl<'l> Model for UsageLine<'l> {
-    ghost use Rattle.dsr_blocks.specs.declared.record.Usage.{Usage as UsageRecord};
+    ghost use Rattle.dsr_events.specs.declared.record.Usage.{Usage as UsageRecord};
 
     ghost Value = { UsageRecord };
 

@@ -1,7 +1,7 @@
 //! MW01: a work of a block.
 ghost use Rattle.std.specs.Prelude.{◌≡◌, Ok, Err, MatchResult, IfOk, OnOk, OnErr, [], true};
-ghost use Rattle.dsr_blocks.specs.declared.kinds.Kind.TheVariants as kinds;
-ghost use Rattle.dsr_blocks.specs.declared.record.Record.TheVariants as records;
+ghost use Rattle.dsr_events.specs.declared.kinds.Kind.TheVariants as kinds;
+ghost use Rattle.dsr_events.specs.declared.record.Record.TheVariants as records;
 ghost use Rattle.dsr_records.specs.meaning.Values.{record_by_row, shares_of, values_of};
 ghost use Rattle.std.specs.List.{list_all};
 ghost use Rattle.dsr_cells.specs.meaning.Values.{raw_parts};
@@ -11,8 +11,8 @@ use crate::fault::RecordFault;
 use crate::row::Row;
 use crate::spelled::{FirstShares, read_identifier, read_share_count};
 use arrayvec::ArrayVec;
-use dsr_blocks::{Column, Work};
 use dsr_cells::{NoMemory, Share, Shares, Texts, count_values, read_texts_into, values};
+use dsr_events::{Column, Work};
 use std::alloc::Global;
 use std::default::MadeWith;
 use std::marker::Model;
@@ -34,7 +34,7 @@ impl<'l> Model for WorkLine<'l> {
     ghost use Rattle.dsr_cells.specs.meaning.Values.{raw_parts};
     ghost use Rattle.dsr_records.specs.meaning.Tables.{is_share};
     ghost use Rattle.dsr_records.specs.meaning.Values.{values_of, shares_of};
-    ghost use Rattle.dsr_blocks.specs.meaning.Works.{WorkParts};
+    ghost use Rattle.dsr_events.specs.meaning.Works.{WorkParts};
 
     ghost Value = { WorkParts };
 

@@ -2,7 +2,7 @@
 ghost use Rattle.std.specs.Prelude.{◌≡◌, ◌+◌, ◌-◌, ◌<◌, ◌≤◌, ◌∷◌, [], ◌++◌, IfSome, IsTrue, List, ℕ, length, true};
 ghost use Rattle.std.specs.List.{list_all};
 ghost use Rattle.std.specs.Simd.Lanes.{chunk};
-ghost use Rattle.dsr_values.specs.meaning.Texts.{is_identifier_text};
+ghost use Rattle.dsr_cells.specs.meaning.Texts.{is_identifier_text};
 ghost use Rattle.dsr_records.specs.inner.Usual.{BeginsWithType, IsFront, IsLineOf, is_printable, odd_bits};
 
 use std::simd::prelude::*;

@@ -4,7 +4,7 @@ ghost use Rattle.std.specs.Int.Bits.{bit_xor};
 ghost use Rattle.std.specs.List.{prefix_len};
 ghost use Rattle.std.specs.Int.{w64, from_le_bytes};
 ghost use Rattle.std.specs.Simd.Lanes.{chunk, mask_l};
-ghost use Rattle.dsr_values.specs.meaning.Numbers.{digits_of};
+ghost use Rattle.dsr_cells.specs.meaning.Numbers.{digits_of};
 ghost use Rattle.dsr_records.specs.inner.Usual.{word_of_eight, number_of_eight, IsWordOf, SpellsNumber, IsFilledUp};
 
 use std::simd::prelude::*;

@@ -1,8 +1,8 @@
 //! SU01: usages of the usual form.
 ghost use Rattle.std.specs.Prelude.{◌≡◌, ◌≤◌, IfSome, IsTrue, Some, codes, length, slice_index};
 ghost use Rattle.std.specs.Simd.Lanes.{chunk};
-ghost use Rattle.dsr_values.specs.meaning.Numbers.{amount_of};
-ghost use Rattle.dsr_blocks.specs.declared.record.Record.TheVariants as records;
+ghost use Rattle.dsr_cells.specs.meaning.Numbers.{amount_of};
+ghost use Rattle.dsr_events.specs.declared.record.Record.TheVariants as records;
 ghost use Rattle.dsr_records.specs.inner.Usual.{BeginsWithRecord};
 
 use crate::check::UsageLine;

@@ -1,7 +1,7 @@
 //! MW01: works of the usual form.
 ghost use Rattle.std.specs.Prelude.{◌≡◌, ◌≤◌, IfSome, IsTrue, codes, length, slice_index};
 ghost use Rattle.std.specs.Simd.Lanes.{chunk};
-ghost use Rattle.dsr_blocks.specs.declared.record.Record.TheVariants as records;
+ghost use Rattle.dsr_events.specs.declared.record.Record.TheVariants as records;
 ghost use Rattle.dsr_records.specs.inner.Usual.{BeginsWithRecord};
 
 use crate::check::WorkLine;

@@ -1,6 +1,6 @@
 -- What is written into memory before the first byte of a statement is written.
 use Rattle.std.specs.Prelude.{ℕ, List, [], ◌∷◌}
-use Rattle.dsr_values.specs.meaning.Written.{written_day}
+use Rattle.dsr_cells.specs.meaning.Written.{written_day}
 use Rattle.dsr_ledger.specs.declared.report.ReportKey.{ReportKey}
 use Rattle.dsr_statement.specs.meaning.Statement.{tabbed}
 

@@ -5,8 +5,8 @@ use Rattle.std.specs.List.{slice_split}
 use Rattle.std.specs.Ordering.{int_eq, is_lt}
 use Rattle.std.specs.Str.{bytes_eq, is_utf8}
 use Rattle.dsr_cells.specs.meaning.Cells.{cells}
-use Rattle.dsr_values.specs.meaning.Days.{day_of}
-use Rattle.dsr_values.specs.meaning.Texts.{is_identifier_text}
+use Rattle.dsr_cells.specs.meaning.Days.{day_of}
+use Rattle.dsr_cells.specs.meaning.Texts.{is_identifier_text}
 use Rattle.dsr_ledger.specs.meaning.Keys.{Key, key_eq, key_cmp, text_cmp}
 use Rattle.dsr_ledger.specs.declared.report.ReportKey.{ReportKey}
 use Rattle.dsr_statement_reader.specs.declared.line.StatementLine.{StatementLine}

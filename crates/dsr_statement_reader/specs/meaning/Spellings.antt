@@ -5,12 +5,12 @@ use Rattle.std.specs.List.{slice_split}
 use Rattle.std.specs.Char.{is_ascii_digit}
 use Rattle.std.specs.Ordering.{int_eq}
 use Rattle.std.specs.Str.{bytes_eq}
-use Rattle.dsr_values.specs.meaning.Days.{CivilDay, day_number}
-use Rattle.dsr_values.specs.meaning.Numbers.{digits_sum, digits_of}
-use Rattle.dsr_values.specs.meaning.Texts.{is_run_of, is_territory_text, is_use_type_text, is_currency_text, is_isrc_text}
-use Rattle.dsr_blocks.specs.meaning.Columns.{column_name}
-use Rattle.dsr_blocks.specs.declared.kinds.Column.{Column}
-use Rattle.dsr_blocks.specs.declared.kinds.Column.TheVariants as columns
+use Rattle.dsr_cells.specs.meaning.Days.{CivilDay, day_number}
+use Rattle.dsr_cells.specs.meaning.Numbers.{digits_sum, digits_of}
+use Rattle.dsr_cells.specs.meaning.Texts.{is_run_of, is_territory_text, is_use_type_text, is_currency_text, is_isrc_text}
+use Rattle.dsr_events.specs.meaning.Columns.{column_name}
+use Rattle.dsr_events.specs.declared.kinds.Column.{Column}
+use Rattle.dsr_events.specs.declared.kinds.Column.TheVariants as columns
 use Rattle.dsr_events.specs.meaning.Names.{name_of}
 use Rattle.dsr_events.specs.declared.fault.FileFault.{FileFault}
 use Rattle.dsr_events.specs.declared.fault.FileFault.TheVariants as faults

@@ -2,8 +2,8 @@
 use Rattle.std.specs.Prelude.{◌≡◌, ℕ, suc, ◌+◌, ◌-◌, ◌^◌, ◌<◌, ◌&&◌, ◌||◌, ◌==◌, nat_lt, nat_le, not, Bool, true, false, List, [], ◌∷◌, length, take, Option, Some, None, Ok, ℤ, pos, negsuc, unsigned_abs}
 use Rattle.std.specs.List.{list_all, AllByRecursion}
 use Rattle.std.specs.Str.{is_utf8}
-use Rattle.dsr_values.specs.meaning.Days.{is_civil_day}
-use Rattle.dsr_values.specs.meaning.Texts.{is_identifier_text, is_territory_text, is_use_type_text, is_currency_text, is_isrc_text}
+use Rattle.dsr_cells.specs.meaning.Days.{is_civil_day}
+use Rattle.dsr_cells.specs.meaning.Texts.{is_identifier_text, is_territory_text, is_use_type_text, is_currency_text, is_isrc_text}
 use Rattle.dsr_events.specs.declared.fault.FileFault.{FileFault}
 use Rattle.dsr_events.specs.declared.fault.FileFault.TheVariants as file_faults
 use Rattle.dsr_events.specs.declared.fault.Outcome.{Outcome}

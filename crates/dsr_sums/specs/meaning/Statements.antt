@@ -2,8 +2,8 @@
 use Rattle.std.specs.Prelude.{ℕ, suc, ◌==◌, ◌&&◌, Bool, true, false, not, if◌then◌else◌, List, [], ◌∷◌, ◌++◌, Option, None, Some, option_map, map, codes, decimal, is_some}
 use Rattle.std.specs.List.{flat_map, list_any}
 use Rattle.std.specs.Str.{bytes_eq}
-use Rattle.dsr_values.specs.meaning.Written.{written_day}
-use Rattle.dsr_values.specs.meaning.Days.{CivilDay}
+use Rattle.dsr_cells.specs.meaning.Written.{written_day}
+use Rattle.dsr_cells.specs.meaning.Days.{CivilDay}
 use Rattle.dsr_ledger.specs.declared.report.ReportKey.{ReportKey}
 use Rattle.dsr_statement.specs.meaning.Statement.{line}
 use Rattle.dsr_statement.specs.meaning.Status.{is_clean_file}

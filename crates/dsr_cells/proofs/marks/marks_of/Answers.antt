@@ -2,7 +2,7 @@ use Rattle.std.proofs.Common.{◌∙◌, ◌%◌, ◌^◌, ap, cond, refl, eqb, 
 use Rattle.std.specs.Simd.Lanes.{chunk, mask_l, top, zip2}
 use Rattle.std.proofs.lemmas.List.{length-map}
 use Rattle.std.proofs.lemmas.Simd.{bitmask_splat, length-chunk, zip2_splat, map-map, chunk-fits}
-use Rattle.dsr_values.proofs.Lanes.{same_flags}
+use Rattle.dsr_cells.proofs.Lanes.{same_flags}
 use Rattle.dsr_cells.proofs.Marked.{is_pipe_with_bit}
 use Rattle.dsr_cells.proofs.RawParts.{is_mark}
 use Rattle.dsr_cells.proofs.marks.marks_of.Goals as goal

@@ -1,6 +1,6 @@
 use Rattle.std.proofs.Common.{arith}
 use Rattle.std.proofs.lemmas.Grind.{common_steps}
-use Rattle.dsr_values.proofs.Spelled.{written_total}
+use Rattle.dsr_cells.proofs.Spelled.{written_total}
 use Rattle.dsr_cells.proofs.written.write_amount.Goals as goal
 
 pub returns-in_err-extend_from_slice-clause-spelling : goal.returns-in_err-extend_from_slice-clause-spelling

@@ -1,6 +1,6 @@
 use Rattle.std.proofs.Common.{rules, ◌≡◌, true}
 use Rattle.std.specs.Prelude.{nat_lt}
-use Rattle.dsr_values.specs.meaning.Days.{day_number}
+use Rattle.dsr_cells.specs.meaning.Days.{day_number}
 use Rattle.std.proofs.lemmas.Bool.{lt-ltb}
 use Rattle.dsr_statement_reader.proofs.cells.is_period.Goals as goal
 

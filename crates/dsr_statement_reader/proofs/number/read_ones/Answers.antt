@@ -1,6 +1,6 @@
 use Rattle.std.proofs.Common.{arith, rules, ◌≡◌, ◌<◌, true, get_or, length}
 use Rattle.std.specs.Char.{is_ascii_digit}
-use Rattle.dsr_values.proofs.Numbers.{digits_more, sum_more}
+use Rattle.dsr_cells.proofs.Numbers.{digits_more, sum_more}
 use Rattle.dsr_statement_reader.proofs.number.read_ones.Goals as goal
 
 pub loop-byte-preserved : goal.loop-byte-preserved

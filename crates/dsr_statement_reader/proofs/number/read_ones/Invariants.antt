@@ -1,7 +1,7 @@
 use Rattle.std.proofs.Common.{◌≡◌, ◌^◌, ◌-◌, true, take, min}
 use Rattle.std.specs.Char.{is_ascii_digit}
 use Rattle.std.specs.List.{list_all}
-use Rattle.dsr_values.specs.meaning.Numbers.{digits_sum}
+use Rattle.dsr_cells.specs.meaning.Numbers.{digits_sum}
 use Rattle.dsr_statement_reader.proofs.number.read_ones.Given as goal
 
 abbrev pub invariant-loop-byte : goal.invariant-loop-byte

@@ -1,6 +1,6 @@
 use Rattle.std.proofs.Common.{ap, refl, decimal, ◌∙◌, ◌++◌, ◌∷◌, [], codes}
 use Rattle.std.specs.Prelude.{if◌then◌else◌, is_some}
-use Rattle.dsr_values.specs.meaning.Written.{written_day}
+use Rattle.dsr_cells.specs.meaning.Written.{written_day}
 use Rattle.dsr_sums.specs.meaning.Statements.{statement_line}
 use Rattle.dsr_sums.proofs.TextLemmas.{cell, line_put}
 use Rattle.dsr_sums.proofs.text.put_statement.Goals as goal

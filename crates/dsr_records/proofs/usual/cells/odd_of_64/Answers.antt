@@ -2,7 +2,7 @@ use Rattle.std.proofs.Common.{◌∙◌, ◌+◌, ◌-◌, ◌%◌, ◌^◌, ap,
 use Rattle.std.specs.Simd.Lanes.{chunk, mask_l, top, zip2}
 use Rattle.std.proofs.lemmas.List.{length-map}
 use Rattle.std.proofs.lemmas.Simd.{tops_compared, zip2_splat, zip2_splat_left, mask_l-mod, length-chunk, map-map, chunk-fits}
-use Rattle.dsr_values.proofs.Lanes.{same_flags}
+use Rattle.dsr_cells.proofs.Lanes.{same_flags}
 use Rattle.dsr_records.proofs.usual.cells.odd_of_64.Goals as goal
 
 pub returns : goal.returns

@@ -2,7 +2,7 @@ use Rattle.std.proofs.Common.{rules, FitsSigned, [], ◌∷◌, ◌++◌, ap, �
 use Rattle.std.specs.Prelude.{ℤ}
 use Rattle.std.specs.Int.{w128}
 use Rattle.std.proofs.lemmas.Int.{to_z-of_z}
-use Rattle.dsr_values.specs.meaning.Written.{written}
+use Rattle.dsr_cells.specs.meaning.Written.{written}
 use Rattle.dsr_statement.specs.meaning.Statement.{amount_cell}
 use Rattle.dsr_statement.proofs.AmountCells.{cell_in}
 use Rattle.dsr_statement.proofs.LineLemmas.{turn}

@@ -1,2 +1,0 @@
--- The definitions that relate the code to those of `meaning`.
-pub mod Boxes

@@ -1,0 +1,15 @@
+use Rattle.std.proofs.Common.{◌∙◌, ap}
+use Rattle.std.specs.Int.Bits.{bit_xor}
+use Rattle.dsr_cells.proofs.Fours.{four_some, four_none}
+use Rattle.dsr_cells.proofs.number.read_four.Goals as goal
+
+pub returns-then-not-are_below_ten : goal.returns-then-not-are_below_ten
+returns-then-not-are_below_ten c =
+    four_none c.args.bytes.now c.args.at c.from-word.result c.are_below_ten.result c.type_inv.bytes c.are_below_ten.ensures c.requires.within
+    (c.from-word.ensures ∙ ap (λ w. bit_xor w 0x3030_3030) c.from_le_bytes.ensures) c.if-not-are_below_ten.true
+
+pub returns : goal.returns
+returns c =
+    four_some c.args.bytes.now c.args.at c.from-word.result c.are_below_ten.result c.type_inv.bytes c.are_below_ten.ensures c.requires.within
+    (c.from-word.ensures ∙ ap (λ w. bit_xor w 0x3030_3030) c.from_le_bytes.ensures) c.if-not-are_below_ten.false c.number_of_four.result
+    c.number_of_four.ensures

@@ -1,2 +1,0 @@
--- The definition in the contracts of this crate.
-pub mod Tabs

@@ -1,9 +1,0 @@
-pub mod Days
-pub mod Elevens
-pub mod Fours
-pub mod Lanes
-pub mod Numbers
-pub mod Spelled
-pub mod SpelledDays
-pub mod Splits
-pub mod Written
