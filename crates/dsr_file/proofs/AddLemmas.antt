@@ -8,8 +8,6 @@ use Rattle.std.specs.Option.{option_to_list}
 use Rattle.dsr_events.specs.declared.record.Foot as foot
 use Rattle.dsr_events.specs.declared.record.Record.{Record}
 use Rattle.dsr_events.specs.declared.record.Record.TheVariants.{Head, Summary, Resource, Work, Usage, Foot, Skipped}
-use Rattle.dsr_events.specs.declared.kinds.Kind.TheVariants as kinds
-use Rattle.dsr_records.specs.meaning.Reads.{kind_of_record}
 use Rattle.dsr_events.specs.declared.fault.FileFault.{FileFault}
 use Rattle.dsr_events.specs.declared.fault.FileFault.TheVariants as faults
 use Rattle.dsr_events.specs.declared.event.EventPart.{EventPart}
@@ -19,7 +17,7 @@ use Rattle.dsr_file.specs.meaning.Parts.{closed, summaries, events_of}
 use Rattle.dsr_file.specs.meaning.Faults.{fault_if, fault_of, early_fault, count_fault}
 use Rattle.dsr_records.specs.meaning.Records.{or_else}
 use Rattle.dsr_file.specs.meaning.Texts.{counts_fault}
-use Rattle.dsr_file.specs.inner.Stages.{KeepsStage, IsMember, stage_after, given_by}
+use Rattle.dsr_file.specs.inner.Stages.{KeepsStage, stage_after, given_by}
 use Rattle.dsr_file.specs.inner.Counting.{foot_in, summary_count, block_count}
 use Rattle.dsr_file.specs.inner.Grammars.{Keeps, kept_count_fault, IsRecord}
 use Rattle.dsr_file.proofs.StepLemmas.{Steps, step_record, summaries-append}
@@ -35,53 +33,6 @@ pub record Adds (old new : Grammar) (item : Record) (part : Option EventPart) : 
   pub skipped_records : new.skipped_records ≡ old.skipped_records
   pub summaries : new.summaries ≡ old.summaries + summary_count item
   pub blocks : new.blocks ≡ old.blocks + block_count part
-
--- how a work or a usage changes the numbers
-module _ (old new : Grammar) where
-  pub member_adds : (item : Record) → IsMember item → new.stage ≡ stage_after old.stage item → new.lines ≡ old.lines + 1 → new.records ≡ old.records + 1
-      → new.skipped_lines ≡ old.skipped_lines → new.skipped_records ≡ old.skipped_records → new.summaries ≡ old.summaries + 0 → new.blocks ≡ old.blocks + 0
-      → Adds old new item None
-  member_adds (Work w) m s l r a b ss bs =
-      record { stage = s; given = refl; lines = l; records = r; skipped_lines = a; skipped_records = b; summaries = ss; blocks = bs }
-  member_adds (Usage u) m s l r a b ss bs =
-      record { stage = s; given = refl; lines = l; records = r; skipped_lines = a; skipped_records = b; summaries = ss; blocks = bs }
-  member_adds (Head h) m s l r a b ss bs = absurd m
-  member_adds (Summary h) m s l r a b ss bs = absurd m
-  member_adds (Resource h) m s l r a b ss bs = absurd m
-  member_adds (Foot h) m s l r a b ss bs = absurd m
-  member_adds Skipped m s l r a b ss bs = absurd m
-
-  pub member_has_no_counts : (item : Record) → IsMember item → option_and_then (kept_count_fault new) (foot_in item) ≡ None
-  member_has_no_counts (Work w) m = refl
-  member_has_no_counts (Usage u) m = refl
-  member_has_no_counts (Head h) m = refl
-  member_has_no_counts (Summary h) m = refl
-  member_has_no_counts (Resource h) m = refl
-  member_has_no_counts (Foot h) m = absurd m
-  member_has_no_counts Skipped m = refl
-
-  -- how a resource changes the numbers
-  pub resource_adds : (item : Record) (part : Option EventPart) → kind_of_record item ≡ kinds.Resource → new.stage ≡ stage_after old.stage item
-      → part ≡ given_by old.stage item
-      → new.lines ≡ old.lines + 1 → new.records ≡ old.records + 1 → new.skipped_lines ≡ old.skipped_lines → new.skipped_records ≡ old.skipped_records
-      → new.summaries ≡ old.summaries + 0 → new.blocks ≡ old.blocks + block_count part → Adds old new item part
-  resource_adds (Resource r) part e s g l n a b ss bs =
-      record { stage = s; given = g; lines = l; records = n; skipped_lines = a; skipped_records = b; summaries = ss; blocks = bs }
-  resource_adds (Head h) part e s g l n a b ss bs = absurd (cc)
-  resource_adds (Summary h) part e s g l n a b ss bs = absurd (cc)
-  resource_adds (Work h) part e s g l n a b ss bs = absurd (cc)
-  resource_adds (Usage h) part e s g l n a b ss bs = absurd (cc)
-  resource_adds (Foot h) part e s g l n a b ss bs = absurd (cc)
-  resource_adds Skipped part e s g l n a b ss bs = absurd (cc)
-
-  pub resource_has_no_counts : (item : Record) → kind_of_record item ≡ kinds.Resource → option_and_then (kept_count_fault new) (foot_in item) ≡ None
-  resource_has_no_counts (Work w) e = refl
-  resource_has_no_counts (Usage u) e = refl
-  resource_has_no_counts (Head h) e = refl
-  resource_has_no_counts (Summary h) e = refl
-  resource_has_no_counts (Resource h) e = refl
-  resource_has_no_counts (Foot h) e = cc
-  resource_has_no_counts Skipped e = refl
 
 summary_added : (item : Record) → length (summaries (item ∷ [])) ≡ summary_count item
 summary_added (Summary s) = refl

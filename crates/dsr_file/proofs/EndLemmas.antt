@@ -18,8 +18,8 @@ use Rattle.dsr_events.specs.declared.event.EventPart.TheVariants.{Ended}
 use Rattle.dsr_file.specs.declared.grammar.Grammar.{Grammar}
 use Rattle.dsr_file.specs.declared.grammar.Step.{Step}
 use Rattle.dsr_file.specs.declared.grammar.Step.TheVariants.{Good, Faulty, NoMemory}
-use Rattle.dsr_file.specs.declared.reader.phase.Phase.{Phase}
-use Rattle.dsr_file.specs.declared.reader.phase.Phase.TheVariants as phases
+use Rattle.dsr_file.specs.declared.phase.Phase.{Phase}
+use Rattle.dsr_file.specs.declared.phase.Phase.TheVariants as phases
 use Rattle.dsr_file.specs.declared.reader.FileReader.{FileReader}
 use Rattle.dsr_events.specs.meaning.Placed.{Placed}
 use Rattle.dsr_events.specs.meaning.Orderly.{has_ended}
@@ -79,19 +79,19 @@ pub no_line_stands : (layout : LayoutTable) (r new : FileReader) (ending : Endin
     → e ≡ ended r.place (outcome_at (column_at r.grammar.stage) ending (r.grammar.lines + 1)) → SameText r new → new.place ≡ r.place + 1
     → new.phase ≡ phases.Done (outcome_at (column_at r.grammar.stage) ending (r.grammar.lines + 1)) → Stands layout new b (es ++ e ∷ [])
 no_line_stands layout r new ending b es e a w is same p d =
-    let ls = map (reading layout) a.whole in
+    let ls = map (reading layout) a.0 in
     let o = outcome_at (column_at r.grammar.stage) ending (r.grammar.lines + 1) in
     let now : readings layout b ending ≡ ls =
-    readings_end layout b r.cutter.bytes.items a.whole ending a.cuts.pieces_are
+    readings_end layout b r.cutter.bytes.items a.0 ending a.1.pieces_are
     ∙ ap (λ x. ls ++ map (reading layout) x) (no_line_end ending r.cutter.bytes.items r.cutter.short w) ∙ append-nil ls in
     let text : text_events layout b ending ≡ placed 0 ((events_of (records ls) ++ []) ++ Ended o ∷ []) =
     ap (λ x. placed 0 (events x ending)) now ∙ ap (placed 0)
-    (good_end ls ending a.keeps.good ∙ ap (λ x. events_of (records ls) ++ Ended x ∷ []) (sym (end_kept r.grammar ls ending a.keeps))
+    (good_end ls ending a.2.keeps.good ∙ ap (λ x. events_of (records ls) ++ Ended x ∷ []) (sym (end_kept r.grammar ls ending a.2.keeps))
     ∙ ap (λ x. x ++ Ended o ∷ []) (sym (append-nil (events_of (records ls))))) in
-    gives_stands layout r new b es None o e a.layout_is a.given_is a.place_is
-    (ap (known_events layout b) (same.ending ∙ a.ending_is)
-    ∙ all_end es (text_events layout b ending) (events_of (records ls)) [] o r.place a.events_are a.place_is text)
-    (going_is _ (events_of (records ls)) _ (append-nil es ∙ a.events_are) refl) (d, is) same p
+    gives_stands layout r new b es None o e a.2.layout_is a.2.given_is a.2.place_is
+    (ap (known_events layout b) (same.ending ∙ a.2.ending_is)
+    ∙ all_end es (text_events layout b ending) (events_of (records ls)) [] o r.place a.2.events_are a.2.place_is text)
+    (going_is _ (events_of (records ls)) _ (append-nil es ∙ a.2.events_are) refl) (d, is) same p
 
 pub same_text : {old new : FileReader} → new.layout ≡ old.layout → new.given ≡ old.given → new.ending ≡ old.ending → SameText old new
 same_text l g e = record { layout = l; given = g; ending = e }
@@ -100,55 +100,55 @@ same_text l g e = record { layout = l; given = g; ending = e }
 module _ (layout : LayoutTable) (r : FileReader) (b : List ℕ) (es : List Placed) (a : AtEnd layout r endings.Whole b es)
     (some : 0 < length r.cutter.bytes.items) (h : Grammar) (step : Step) (closed : Option EventPart)
     (steps : (ls : List Reading) → Keeps r.grammar ls → LineSteps ls (reading r.layout r.cutter.bytes.items) step closed h) where
-  now : readings layout b endings.Whole ≡ map (reading layout) a.whole ++ reading layout r.cutter.bytes.items ∷ []
+  now : readings layout b endings.Whole ≡ map (reading layout) a.0 ++ reading layout r.cutter.bytes.items ∷ []
   now =
-      readings_end layout b r.cutter.bytes.items a.whole endings.Whole a.cuts.pieces_are
-      ∙ ap (λ x. map (reading layout) a.whole ++ map (reading layout) x) (line_end r.cutter.bytes.items some)
+      readings_end layout b r.cutter.bytes.items a.0 endings.Whole a.1.pieces_are
+      ∙ ap (λ x. map (reading layout) a.0 ++ map (reading layout) x) (line_end r.cutter.bytes.items some)
 
-  did : (s : Step) → step ≡ s → LineSteps (map (reading layout) a.whole) (reading layout r.cutter.bytes.items) s closed h
+  did : (s : Step) → step ≡ s → LineSteps (map (reading layout) a.0) (reading layout r.cutter.bytes.items) s closed h
   did s is =
-      subst (λ x. LineSteps (map (reading layout) a.whole) (reading layout r.cutter.bytes.items) x closed h) is
-      (subst (λ x. LineSteps (map (reading layout) a.whole) (reading x r.cutter.bytes.items) step closed h) a.layout_is
-      (steps (map (reading layout) a.whole) a.keeps))
+      subst (λ x. LineSteps (map (reading layout) a.0) (reading layout r.cutter.bytes.items) x closed h) is
+      (subst (λ x. LineSteps (map (reading layout) a.0) (reading x r.cutter.bytes.items) step closed h) a.2.layout_is
+      (steps (map (reading layout) a.0) a.2.keeps))
 
   pub good_last : (new : FileReader) (o : Outcome) (e : Placed) → step ≡ Good → o ≡ outcome_at (column_at h.stage) endings.Whole (h.lines + 1)
       → EndsAfter r.place closed o e new → SameText r new → new.place ≡ r.place + 1 → Stands layout new b (es ++ e ∷ [])
   good_last new o e s os gives same p =
-      let ls = map (reading layout) a.whole in
+      let ls = map (reading layout) a.0 in
       let d = did Good s in
       let text : text_events layout b endings.Whole ≡ placed 0 ((events_of (records ls) ++ option_to_list closed) ++ Ended o ∷ []) =
       ap (λ x. placed 0 (events x endings.Whole)) now ∙ ap (placed 0)
       (good_end _ endings.Whole d.0.good ∙ ap (λ x. events_of (records (ls ++ reading layout r.cutter.bytes.items ∷ [])) ++ Ended x ∷ [])
       (sym (os ∙ end_kept h _ endings.Whole d.0)) ∙ ap (λ x. x ++ Ended o ∷ []) d.2) in
-      gives_stands layout r new b es closed o e a.layout_is a.given_is a.place_is
-      (ap (known_events layout b) (same.ending ∙ a.ending_is)
-      ∙ all_end es (text_events layout b endings.Whole) (events_of (records ls)) (option_to_list closed) o r.place a.events_are a.place_is text)
-      (going_is _ _ _ (placed_more es (events_of (records ls)) (option_to_list closed) r.place a.events_are a.place_is) (sym d.2)) gives same p
+      gives_stands layout r new b es closed o e a.2.layout_is a.2.given_is a.2.place_is
+      (ap (known_events layout b) (same.ending ∙ a.2.ending_is)
+      ∙ all_end es (text_events layout b endings.Whole) (events_of (records ls)) (option_to_list closed) o r.place a.2.events_are a.2.place_is text)
+      (going_is _ _ _ (placed_more es (events_of (records ls)) (option_to_list closed) r.place a.2.events_are a.2.place_is) (sym d.2)) gives same p
 
   pub faulty_last : (new : FileReader) (f : FileFault) (e : Placed) → step ≡ Faulty f
       → EndsAfter r.place closed (outcomes.Fault (r.grammar.lines + 1) f) e new → SameText r new → new.place ≡ r.place + 1
       → Stands layout new b (es ++ e ∷ [])
   faulty_last new f e s gives same p =
-      let ls = map (reading layout) a.whole in
+      let ls = map (reading layout) a.0 in
       let d = did (Faulty f) s in
       let o = outcomes.Fault (r.grammar.lines + 1) f in
       let text : text_events layout b endings.Whole ≡ placed 0 ((events_of (records ls) ++ option_to_list closed) ++ Ended o ∷ []) =
       ap (λ x. placed 0 (events x endings.Whole)) now ∙ ap (placed 0)
-      (fault_end ls (reading layout r.cutter.bytes.items) f endings.Whole a.keeps.good d.0
+      (fault_end ls (reading layout r.cutter.bytes.items) f endings.Whole a.2.keeps.good d.0
       ∙ ap (λ m. events_of (records (if counts_fault f then ls ++ reading layout r.cutter.bytes.items ∷ [] else ls)) ++ Ended
-      (outcomes.Fault (m + 1) f) ∷ []) (sym a.keeps.lines_are) ∙ ap (λ x. x ++ Ended o ∷ []) d.1) in
-      gives_stands layout r new b es closed o e a.layout_is a.given_is a.place_is
-      (ap (known_events layout b) (same.ending ∙ a.ending_is)
-      ∙ all_end es (text_events layout b endings.Whole) (events_of (records ls)) (option_to_list closed) o r.place a.events_are a.place_is text)
-      (going_is _ _ _ (placed_more es (events_of (records ls)) (option_to_list closed) r.place a.events_are a.place_is) (sym d.1)) gives same p
+      (outcomes.Fault (m + 1) f) ∷ []) (sym a.2.keeps.lines_are) ∙ ap (λ x. x ++ Ended o ∷ []) d.1) in
+      gives_stands layout r new b es closed o e a.2.layout_is a.2.given_is a.2.place_is
+      (ap (known_events layout b) (same.ending ∙ a.2.ending_is)
+      ∙ all_end es (text_events layout b endings.Whole) (events_of (records ls)) (option_to_list closed) o r.place a.2.events_are a.2.place_is text)
+      (going_is _ _ _ (placed_more es (events_of (records ls)) (option_to_list closed) r.place a.2.events_are a.2.place_is) (sym d.1)) gives same p
 
   pub memory_last : (new : FileReader) (e : Placed) → step ≡ NoMemory → e ≡ ended r.place (outcomes.Fault (r.grammar.lines + 1) faults.Memory)
       → new.phase ≡ phases.Done (outcomes.Fault (r.grammar.lines + 1) faults.Memory) → SameText r new → new.place ≡ r.place + 1
       → Stands layout new b (es ++ e ∷ [])
   memory_last new e s is d same p =
-      memory_stands_at layout r new (Some endings.Whole) b es (map (reading layout) a.whole) (reading layout r.cutter.bytes.items)
-      (r.grammar.lines + 1) e a.layout_is a.given_is a.place_is a.ending_is now a.keeps.good (did NoMemory s) a.events_are
-      (ap (λ n. n + 1) a.keeps.lines_are) is d same p
+      memory_stands_at layout r new (Some endings.Whole) b es (map (reading layout) a.0) (reading layout r.cutter.bytes.items)
+      (r.grammar.lines + 1) e a.2.layout_is a.2.given_is a.2.place_is a.2.ending_is now a.2.keeps.good (did NoMemory s) a.2.events_are
+      (ap (λ n. n + 1) a.2.keeps.lines_are) is d same p
 
 -- if the events of bytes have ended, all of them or because memory was refused, they are those of every text that
 -- begins with the bytes

@@ -14,7 +14,7 @@ use Rattle.dsr_events.specs.declared.fault.Outcome.TheVariants as outcomes
 use Rattle.dsr_events.specs.declared.event.EventPart.{EventPart}
 use Rattle.dsr_events.specs.declared.event.EventPart.TheVariants.{Ended}
 use Rattle.dsr_io.specs.declared.read_count.ReadCount.{ReadCount}
-use Rattle.dsr_file.specs.declared.reader.phase.Phase.TheVariants as phases
+use Rattle.dsr_file.specs.declared.phase.Phase.TheVariants as phases
 use Rattle.dsr_file.specs.declared.reader.FileReader.{FileReader}
 use Rattle.dsr_events.specs.meaning.Placed.{Placed}
 use Rattle.dsr_events.specs.meaning.Orderly.{has_ended}

@@ -22,9 +22,9 @@ use Rattle.dsr_events.specs.declared.event.EventPart.TheVariants.{Ended}
 use Rattle.dsr_file.specs.declared.grammar.Step.{Step}
 use Rattle.dsr_file.specs.declared.grammar.Step.TheVariants.{Good, Faulty, NoMemory}
 use Rattle.dsr_file.specs.declared.cutter.Cut.{Cut}
-use Rattle.dsr_file.specs.declared.cutter.Cut.TheVariants.{Kept, Here, Long}
-use Rattle.dsr_file.specs.declared.reader.phase.Phase.{Phase}
-use Rattle.dsr_file.specs.declared.reader.phase.Phase.TheVariants as phases
+use Rattle.dsr_file.specs.declared.cutter.Cut.TheVariants.{Long}
+use Rattle.dsr_file.specs.declared.phase.Phase.{Phase}
+use Rattle.dsr_file.specs.declared.phase.Phase.TheVariants as phases
 use Rattle.dsr_file.specs.declared.reader.FileReader.{FileReader}
 use Rattle.dsr_events.specs.meaning.Placed.{Placed}
 use Rattle.dsr_events.specs.meaning.Orderly.{is_ended, has_ended}
@@ -199,20 +199,20 @@ pub line_taken : (layout : LayoutTable) (old new : FileReader) (b : List ℕ) (e
     → new.cutter.bytes.items ≡ [] → new.cutter.fresh ≡ false → new.layout ≡ old.layout → new.given ≡ old.given → new.place ≡ old.place → new.ending ≡ old.ending
     → AtAnswer layout new (old.grammar.lines + 1) step closed b es
 line_taken layout old new b es line step closed a steps cleared settled la g p n = record {
-  whole = a.whole;
+  whole = a.0;
   line = line;
-  cuts = a.cuts;
-  good = a.keeps.good;
+  cuts = a.1;
+  good = a.2.keeps.good;
   steps =
-      subst (λ x. LineSteps (map (reading layout) a.whole) (reading x line) step closed new.grammar) a.layout_is (steps (map (reading layout) a.whole) a.keeps);
+      subst (λ x. LineSteps (map (reading layout) a.0) (reading x line) step closed new.grammar) a.2.layout_is (steps (map (reading layout) a.0) a.2.keeps);
   cleared = cleared;
   settled = settled;
-  number_is = ap (λ x. x + 1) a.keeps.lines_are;
-  events_are = a.events_are;
-  layout_is = la ∙ a.layout_is;
-  given_is = g ∙ a.given_is;
-  place_is = p ∙ a.place_is;
-  open_is = n ∙ a.open_is;
+  number_is = ap (λ x. x + 1) a.2.keeps.lines_are;
+  events_are = a.2.events_are;
+  layout_is = la ∙ a.2.layout_is;
+  given_is = g ∙ a.2.given_is;
+  place_is = p ∙ a.2.place_is;
+  open_is = n ∙ a.2.ending_is;
 }
 
 -- after the cutter has returned
@@ -222,43 +222,18 @@ pub at_cut : (layout : LayoutTable) (old new : FileReader) (cut : Cut) (b : List
     → new.grammar ≡ old.grammar → new.layout ≡ old.layout → new.given ≡ old.given + used → new.place ≡ old.place → new.ending ≡ old.ending
     → AtCut layout new cut b (take used piece) es
 at_cut layout old new cut b es piece used s r h cuts gr la g p n =
-    let at : StandsAt layout phases.Reading old b es = subst (λ x. StandsAt layout x old b es) r s.phase_is in
-    record {
-      whole = at.0;
-      cuts = cuts b at.0 at.1;
-      keeps = subst (λ x. Keeps x (map (reading layout) at.0)) (sym gr) at.2;
-      events_are = at.3;
-      layout_is = la ∙ s.layout_is;
-      given_is = g ∙ ap (λ x. x + used) s.given_is ∙ sym (simp (length-append, length-take) (omega arith));
-      place_is = p ∙ s.place_is;
-      open_is = n ∙ at.4;
-    }
-
-pub at_kept : (layout : LayoutTable) (r : FileReader) (b used : List ℕ) (es : List Placed) (cut : Cut) → AtCut layout r cut b used es → cut ≡ Kept
-    → AtLine layout r r.cutter.bytes.items (b ++ used) es
-at_kept layout r b used es cut a is = record {
-  whole = a.whole;
-  cuts = subst (λ x. CutSteps b used a.whole x r.cutter) is a.cuts;
-  keeps = a.keeps;
-  events_are = a.events_are;
-  layout_is = a.layout_is;
-  given_is = a.given_is;
-  place_is = a.place_is;
-  open_is = a.open_is;
-}
-
-pub at_here : (layout : LayoutTable) (r : FileReader) (b used : List ℕ) (es : List Placed) (cut : Cut) → AtCut layout r cut b used es → cut ≡ Here
-    → AtLine layout r (take (length used - 1) used) (b ++ used) es
-at_here layout r b used es cut a is = record {
-  whole = a.whole;
-  cuts = subst (λ x. CutSteps b used a.whole x r.cutter) is a.cuts;
-  keeps = a.keeps;
-  events_are = a.events_are;
-  layout_is = a.layout_is;
-  given_is = a.given_is;
-  place_is = a.place_is;
-  open_is = a.open_is;
-}
+    let at : StandsAt layout phases.Reading old b es = subst (λ x. StandsAt layout x old b es) r s.phase_is in (
+      at.0,
+      cuts b at.0 at.1,
+      record {
+        keeps = subst (λ x. Keeps x (map (reading layout) at.0)) (sym gr) at.2;
+        events_are = at.3;
+        layout_is = la ∙ s.layout_is;
+        given_is = g ∙ ap (λ x. x + used) s.given_is ∙ sym (simp (length-append, length-take) (omega arith));
+        place_is = p ∙ s.place_is;
+        ending_is = n ∙ at.4;
+      },
+    )
 
 -- a line that is too long
 pub long_stands : (layout : LayoutTable) (r new : FileReader) (cut : Cut) (b used : List ℕ) (es : List Placed) (e : Placed) → AtCut layout r cut b used es
@@ -266,22 +241,22 @@ pub long_stands : (layout : LayoutTable) (r new : FileReader) (cut : Cut) (b use
     → new.phase ≡ phases.Done (outcomes.Fault (r.grammar.lines + 1) faults.LongLine) → Stands layout new (b ++ used) (es ++ e ∷ [])
 unfolding fault_of reading
 long_stands layout r new cut b used es e a is ev same p d =
-    let ls = map (reading layout) a.whole in
-    let cuts : CutSteps b used a.whole Long r.cutter = subst (λ x. CutSteps b used a.whole x r.cutter) is a.cuts in
-    let now = readings_long layout (b ++ used) cuts.0 a.whole cuts.2 cuts.1 in
+    let ls = map (reading layout) a.0 in
+    let cuts : CutSteps b used a.0 Long r.cutter = subst (λ x. CutSteps b used a.0 x r.cutter) is a.1 in
+    let now = readings_long layout (b ++ used) cuts.0 a.0 cuts.2 cuts.1 in
     let long : reading layout cuts.0 ≡ of.Faulty faults.LongLine =
     (let t : is_long cuts.0 ≡ true = (let h = cuts.1 in grind (arith, nat_tests)) in rw t refl) in
-    let events = ap events_so_far (now ∙ ap (λ l. ls ++ l ∷ []) long) ∙ fault_events ls (of.Faulty faults.LongLine) faults.LongLine a.keeps.good refl in
-    let so = placed_more es (events_of (records ls)) (Ended (outcomes.Fault (length ls + 1) faults.LongLine) ∷ []) r.place a.events_are a.place_is in
+    let events = ap events_so_far (now ∙ ap (λ l. ls ++ l ∷ []) long) ∙ fault_events ls (of.Faulty faults.LongLine) faults.LongLine a.2.keeps.good refl in
+    let so = placed_more es (events_of (records ls)) (Ended (outcomes.Fault (length ls + 1) faults.LongLine) ∷ []) r.place a.2.events_are a.2.place_is in
     record {
-      layout_is = same.layout ∙ a.layout_is;
-      given_is = same.given ∙ a.given_is;
-      place_is = p ∙ ap (λ x. x + 1) a.place_is ∙ sym (length-append es (e ∷ []));
+      layout_is = same.layout ∙ a.2.layout_is;
+      given_is = same.given ∙ a.2.given_is;
+      place_is = p ∙ ap (λ x. x + 1) a.2.place_is ∙ sym (length-append es (e ∷ []));
       phase_is = subst (λ x. StandsAt layout x new (b ++ used) (es ++ e ∷ [])) (sym d) (
         inl (
-            ap (λ x. es ++ x ∷ []) (ev ∙ ap (λ m. ended r.place (outcomes.Fault (m + 1) faults.LongLine)) a.keeps.lines_are) ∙ so
-            ∙ sym (ap (placed 0) events) ∙ sym (ap (known_events layout (b ++ used)) (same.ending ∙ a.open_is))),
-        ends_next es r.place _ e ev a.place_is,
+            ap (λ x. es ++ x ∷ []) (ev ∙ ap (λ m. ended r.place (outcomes.Fault (m + 1) faults.LongLine)) a.2.keeps.lines_are) ∙ so
+            ∙ sym (ap (placed 0) events) ∙ sym (ap (known_events layout (b ++ used)) (same.ending ∙ a.2.ending_is))),
+        ends_next es r.place _ e ev a.2.place_is,
       );
     }
 

@@ -9,6 +9,7 @@ use Rattle.std.proofs.lemmas.List.Elements.{filter_map-append}
 use Rattle.std.proofs.lemmas.List.Folds.{list_all-append, list_any-append}
 use Rattle.std.specs.List.{onto_first, filter_map, list_any, list_all}
 use Rattle.std.specs.Str.{bytes_eq}
+use Rattle.dsr_records.specs.meaning.Reads.{id_of_record, kind_of_record}
 use Rattle.dsr_records.specs.meaning.Records.{or_else}
 use Rattle.dsr_events.specs.declared.kinds.Kind.{Kind}
 use Rattle.dsr_events.specs.declared.kinds.Kind.TheVariants as kinds
@@ -22,6 +23,7 @@ use Rattle.dsr_events.specs.declared.record.Foot as foot
 use Rattle.dsr_events.specs.declared.record.Resource as resource
 use Rattle.dsr_events.specs.meaning.Blocks.{BlockParts}
 use Rattle.dsr_events.specs.declared.fault.FileFault.{FileFault}
+use Rattle.dsr_events.specs.declared.fault.FileFault.TheVariants as faults
 use Rattle.dsr_events.specs.meaning.Openings.{OpeningParts}
 use Rattle.dsr_events.specs.declared.event.EventPart.TheVariants as tell
 use Rattle.dsr_file.specs.declared.stage.Before.TheVariants as columns
@@ -29,8 +31,8 @@ use Rattle.dsr_file.specs.declared.stage.Stage.{Stage}
 use Rattle.dsr_file.specs.declared.stage.Stage.TheVariants.{Start, Front, Open, Closed}
 use Rattle.dsr_file.specs.meaning.Parts.{parts, opens, but_last, closed, block_limit, has_id, summaries, works, usages, works_then_usages, is_usage, block_of}
 use Rattle.dsr_file.specs.meaning.Parts.{opening_of, opened, events_of}
-use Rattle.dsr_file.specs.meaning.Faults.{column, place, fault_if, summary_fault, member_fault, early_fault}
-use Rattle.dsr_file.specs.inner.Stages.{column_at, block_length, stage_fault, given_by, stage_after, records_of, IsOpen, KeepsStage}
+use Rattle.dsr_file.specs.meaning.Faults.{column, place, fault_if, summary_fault, summary_limit, member_fault, early_fault}
+use Rattle.dsr_file.specs.inner.Stages.{column_at, block_length, stage_fault, given_by, stage_after, records_of, IsFree, IsOpen, KeepsStage}
 use Rattle.dsr_file.specs.inner.Grammars.{IsRecord}
 use Rattle.dsr_file.specs.inner.Counting.{block_count}
 use Rattle.dsr_file.proofs.StageLemmas.{column_kept, fault_agrees}
@@ -62,6 +64,30 @@ or_else_second (Some f) g e = cc
 member_ok : (part_id i : List ℕ) (n : ℕ) → member_fault part_id n i ≡ None → (bytes_eq i part_id ≡ true) × (leb block_limit n ≡ false)
 member_ok part_id i n e =
     (not_false _ (fault_if_false _ _ (or_else_first _ _ e)), fault_if_false _ _ (or_else_second (fault_if (not (bytes_eq i part_id)) _) _ e))
+
+-- for a record without a fault there is room, and no summary has its identifier
+pub fault_free : (stage : Stage) (r : Record) → stage_fault stage (kind_of_record r) (id_of_record r) ≡ None → IsFree stage r
+fault_free (Front o) (the.Summary s) e =
+    fault_if_false (list_any (λ t. bytes_eq t.id s.id) o.summaries) faults.SummaryTwice
+    (or_else_first (fault_if (list_any (λ t. bytes_eq t.id s.id) o.summaries) faults.SummaryTwice)
+    (fault_if (leb summary_limit (length o.summaries)) faults.ManySummaries) e)
+fault_free (Open b) (the.Work w) e = let few = (member_ok b.id w.block_id (block_length b) (or_else_second (place (column_at (Open b)) kinds.Work) _ e)).1 in
+    grind (arith, nat_tests)
+fault_free (Open b) (the.Usage u) e = let few = (member_ok b.id u.block_id (block_length b) (or_else_second (place (column_at (Open b)) kinds.Usage) _ e)).1 in
+    grind (arith, nat_tests)
+fault_free Start (the.Summary s) e = tt
+fault_free Start (the.Work w) e = tt
+fault_free Start (the.Usage u) e = tt
+fault_free (Front o) (the.Work w) e = tt
+fault_free (Front o) (the.Usage u) e = tt
+fault_free (Open b) (the.Summary s) e = tt
+fault_free Closed (the.Summary s) e = tt
+fault_free Closed (the.Work w) e = tt
+fault_free Closed (the.Usage u) e = tt
+fault_free stage (the.Head h) e = tt
+fault_free stage (the.Resource r) e = tt
+fault_free stage (the.Foot f) e = tt
+fault_free stage the.Skipped e = tt
 
 -- the columns of an open block
 unused : (b : Bool) (k : Kind) → place columns.Used k ≢ None → place (if b then columns.Open else columns.Used) k ≡ None → b ≡ true

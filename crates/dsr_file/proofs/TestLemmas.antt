@@ -7,6 +7,9 @@ use Rattle.std.proofs.lemmas.List.{append-nil}
 use Rattle.std.proofs.lemmas.Str.{IsUtf8-from_is_utf8}
 use Rattle.std.proofs.lemmas.Bool.Decides.{nat_tests}
 use Rattle.dsr_cells.specs.meaning.Lines.{line_limit, is_long, without_return}
+use Rattle.dsr_records.specs.declared.checked.CheckedLine.{CheckedLine}
+use Rattle.dsr_records.specs.declared.checked.CheckedLine.TheVariants as lines
+use Rattle.dsr_records.specs.inner.Checked.{record_seen}
 use Rattle.dsr_records.specs.meaning.Reads.{id_of_record, kind_of_record}
 use Rattle.dsr_records.specs.meaning.Records.{LayoutTable, or_else}
 use Rattle.dsr_records.specs.meaning.Values.{record_of}
@@ -30,7 +33,7 @@ use Rattle.dsr_file.specs.meaning.Readings as line
 use Rattle.dsr_file.specs.meaning.Parts.{closed, summaries, events_of, last_of}
 use Rattle.dsr_file.specs.meaning.Faults.{fault_if, fault_of, early_fault, place, column, member_fault, in_part, summary_fault, summary_limit, last_part, first_id}
 use Rattle.dsr_file.specs.meaning.Texts.{counts_fault}
-use Rattle.dsr_file.specs.inner.Stages.{IsOther, stage_fault}
+use Rattle.dsr_file.specs.inner.Stages.{stage_fault}
 use Rattle.dsr_file.specs.inner.Grammars.{Keeps, LineSteps, IsRecord}
 use Rattle.dsr_file.proofs.StageLemmas.{fault_agrees}
 use Rattle.dsr_file.proofs.LineLemmas.{records-same, first_good}
@@ -206,35 +209,15 @@ reading_garbled layout bytes h u = let n : is_long bytes ≡ false = grind (arit
 pub utf8_false : (bs : List ℕ) → (IsUtf8 bs → ⊥) → is_utf8 bs ≡ false
 utf8_false bs n = elim (is_utf8 bs) as (λ b. is_utf8 bs ≡ b → b ≡ false) [ true ↦ λ e. absurd (n (IsUtf8-from_is_utf8 bs e)) | false ↦ λ e. refl ] refl
 
--- a record that is not of a skipped type, by its kind
-pub real_record : (r : Record) → (kinds.Skipped ≡ kind_of_record r → ⊥) → IsRecord r
-real_record Skipped n = absurd (n refl)
-real_record (Head h) n = tt
-real_record (Summary h) n = tt
-real_record (Resource h) n = tt
-real_record (Work h) n = tt
-real_record (Usage h) n = tt
-real_record (Foot h) n = tt
-
--- a record that does not belong to a block, by its kind
-pub other_record : (r : Record) → (kinds.Resource ≡ kind_of_record r → ⊥) → (kinds.Work ≡ kind_of_record r → ⊥) → (kinds.Usage ≡ kind_of_record r → ⊥)
-    → IsOther r
-other_record (Resource h) n m u = n refl
-other_record (Work h) n m u = m refl
-other_record (Usage h) n m u = u refl
-other_record Skipped n m u = tt
-other_record (Head h) n m u = tt
-other_record (Summary h) n m u = tt
-other_record (Foot h) n m u = tt
-
-pub skipped_record : (r : Record) → kinds.Skipped ≡ kind_of_record r → r ≡ Skipped
-skipped_record Skipped e = refl
-skipped_record (Head h) e = cc
-skipped_record (Summary s) e = cc
-skipped_record (Resource s) e = cc
-skipped_record (Work s) e = cc
-skipped_record (Usage s) e = cc
-skipped_record (Foot s) e = cc
+-- a line that is not of a skipped type
+pub real_record : (l : CheckedLine) → (l ≡ lines.Skipped → ⊥) → IsRecord (record_seen l)
+real_record lines.Skipped n = absurd (n refl)
+real_record (lines.Head h) n = tt
+real_record (lines.Summary h) n = tt
+real_record (lines.Resource h) n = tt
+real_record (lines.Work h) n = tt
+real_record (lines.Usage h) n = tt
+real_record (lines.Foot h) n = tt
 
 -- the fault that the code finds is that of the record
 pub fault_found : (stage : Stage) (r : Record) (k : Kind) (i : Option (List ℕ)) (f g : Option FileFault) → f ≡ stage_fault stage k i → k ≡ kind_of_record r

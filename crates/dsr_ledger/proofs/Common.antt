@@ -8,7 +8,7 @@ pub use Rattle.std.proofs.lemmas.Bool.Decides.{Decides-and, Decides-like, nat_te
 pub use Rattle.std.proofs.lemmas.Cmp.{eq_by_cmp_equiv, nat_eq_equiv, ranked}
 pub use Rattle.std.proofs.lemmas.Grind.{common_steps}
 pub use Rattle.std.proofs.lemmas.Int.{fits_signed_from_abs, ints, quot-rem, rem_below, to_z-of_z, unsigned_abs-mul}
-pub use Rattle.std.proofs.lemmas.List.{drop-append-le, drop_all, drop_more, flat_map_more, get_or-map, get_or-take, get_or_append_left, get_or_default, get_or_push, length-map, length-set, length-take, length_push, map-append, map_more, map_push, take-map, take_all, take_more}
+pub use Rattle.std.proofs.lemmas.List.{drop-append-le, drop_all, drop_more, flat_map_more, get_or-map, get_or-take, get_or_append_left, get_or_default, get_or_push, length-map, length-take, length_push, map-append, map_push, take-map, take_all, take_more}
 pub use Rattle.std.proofs.lemmas.List.Concat.{flat_map-append, flat_map-cons}
 pub use Rattle.std.proofs.lemmas.List.Elements.{All-filter, All-from_recursion, All-map, All-push, All-set, All-weaker, Contains-append_left, Contains-append_right, Contains-get_or, filter-append, recursion_from_All}
 pub use Rattle.std.proofs.lemmas.List.Folds.{find-append, list_any-append, list_any_at, list_any_none, position_or_len_push}
@@ -29,7 +29,7 @@ pub use Rattle.std.proofs.lemmas.Slice.Eq.{bytes_eq-Decides}
 pub use Rattle.std.proofs.lemmas.Slice.Zip.{AllZip-left, AllZip-long, all_zipped_more, get_or-zip, length-zip}
 pub use Rattle.std.specs.BTreeSet.{BTreeSet, contains}
 pub use Rattle.std.specs.Bool.{Decides}
-pub use Rattle.std.specs.Cmp.{Equal-is, IsEquivalence, IsTotalOrder, both_tied, nat_cmp_total, on_total, then_total, tied_itself}
+pub use Rattle.std.specs.Cmp.{Equal-is, IsEquivalence, IsTotalOrder, both_tied, on_total, then_total, tied_itself}
 pub use Rattle.std.specs.Cmp.Lexicographic.{nat_list_cmp_total, nat_list_eq_equiv, texts_ties}
 pub use Rattle.std.specs.Int.{w128}
 pub use Rattle.std.specs.Int.RustNames.{FitsSigned, int_div}
@@ -40,7 +40,7 @@ unfoldable pub use Rattle.std.specs.List.Sorted.{IsStrictlySortedBy}
 pub use Rattle.std.specs.Map.{keys_of, lookup}
 pub use Rattle.std.specs.Option.{ForSome, option_and_then, option_map_or, option_or}
 pub use Rattle.std.specs.Ordering.{eq_by_cmp, is_eq, is_lt, nat_cmp, ordering_index, ordering_then}
-pub use Rattle.std.specs.Prelude.{All, IfOk, IsSomeAnd, MatchResult, None, OnErr, OnOk, Option, Some, filter, find, if◌then◌else◌, is_ok, is_some, nat_lt, negsuc, option_map, pos, slice_get, slice_index, sum_by, unsigned_abs, vec_capacity, vec_len, ℤ, ◌*ℤ◌, ◌+ℤ◌, ◌-ℤ◌, ◌<ℤ◌, ◌≤ℤ◌}
+pub use Rattle.std.specs.Prelude.{All, IfOk, IsSomeAnd, MatchResult, None, OnErr, OnOk, Option, Some, filter, find, if◌then◌else◌, is_ok, is_some, nat_lt, negsuc, option_map, pos, slice_get, sum_by, unsigned_abs, vec_capacity, vec_len, ℤ, ◌*ℤ◌, ◌+ℤ◌, ◌-ℤ◌, ◌<ℤ◌, ◌≤ℤ◌}
 pub use Rattle.std.specs.Str.{bytes_eq}
 pub use Rattle.std.specs.Vec.{with_item}
 pub use Rattle.std.specs.declared.cmp.Ordering.{Ordering}
@@ -66,6 +66,7 @@ pub use Rattle.dsr_ledger.specs.declared.ledger.parts.SeatShare.{SeatShare}
 pub use Rattle.dsr_ledger.specs.declared.ledger.recording.Recording.{Recording}
 pub use Rattle.dsr_ledger.specs.declared.ledger.recordings.Ledger.{Ledger}
 pub use Rattle.dsr_ledger.specs.declared.ledger.summary_key.SummaryKey.{SummaryKey}
+pub use Rattle.dsr_ledger.specs.declared.lent.ledger.LentLedger.{LentLedger}
 pub use Rattle.dsr_ledger.specs.declared.report.LedgerLine.{LedgerLine}
 pub use Rattle.dsr_ledger.specs.declared.report.PartyLine.{PartyLine}
 pub use Rattle.dsr_ledger.specs.declared.sums.Sums.{Sums}
@@ -79,7 +80,8 @@ pub use Rattle.dsr_ledger.specs.inner.IdRanks.{number_of_id, rank_of, with_byte}
 pub use Rattle.dsr_ledger.specs.inner.Ids.{is_between, is_in}
 pub use Rattle.dsr_ledger.specs.inner.Indexes.{AreIndexed, Rise}
 pub use Rattle.dsr_ledger.specs.inner.Lined.{AreLined, IsLined}
-pub use Rattle.dsr_ledger.specs.inner.Listed.{AddsLines, AreDistinctBelow, AreListed, AreOrdered, AreRanks, HasBookings, IsRecordingOf, IsSeatedLine, booked_lines, key_in, keyed, lent, line_for, named_places, numbered_by, party_in}
+pub use Rattle.dsr_ledger.specs.inner.Lent.{AreBefore, AreGiven, HaveGiven, IsBookedLine, booked_lines, keys_under, lines_left, most_left}
+pub use Rattle.dsr_ledger.specs.inner.Listed.{AreDistinctBelow, AreListed, key_in, lent, line_for, numbered_by, party_in}
 pub use Rattle.dsr_ledger.specs.inner.Numbered.{AreApart, AreBelow, Grows, IsNumbered, IsWithNumber, place_by, place_in, read_at}
 pub use Rattle.dsr_ledger.specs.inner.Openings.{named, openings_of}
 pub use Rattle.dsr_ledger.specs.inner.Order.{AreOfSmall, AreSmall, IsSmall}
@@ -87,13 +89,11 @@ pub use Rattle.dsr_ledger.specs.inner.Owed.{Owed, PartsGrow, nothing_owed, owed_
 pub use Rattle.dsr_ledger.specs.inner.Plans.{IsPlanned}
 pub use Rattle.dsr_ledger.specs.inner.Ranges.{IsInRange, SumsFit}
 pub use Rattle.dsr_ledger.specs.inner.Recordings.{IsLineOf, IsWideAt, KeepsKeys, KeepsLines, KeepsSeats, SameNumbers, key_number, line_at, party_number, recording_number, recording_tally, seat_at, seat_of, tally_at}
-pub use Rattle.dsr_ledger.specs.inner.Rooms.{HasPartRoom, SamePartRoom, SameRoom}
 pub use Rattle.dsr_ledger.specs.inner.Seated.{AreSeated, AreSeatsBelow, HasPart, HaveParts, HaveSeats, IsSeated, SeatedMore, shares_of}
 pub use Rattle.dsr_ledger.specs.inner.Seats.{seat_numbers}
 pub use Rattle.dsr_ledger.specs.inner.Stands.{FileStands, FilesStand, LedgerStands, Took}
 pub use Rattle.dsr_ledger.specs.inner.Summaries.{AreNumbered, StateFits, found_in, index_at, is_known, no_sums, nothing_found, number_at, state_at, state_plus, state_with, sums_at, sums_with}
 pub use Rattle.dsr_ledger.specs.inner.SummaryKeys.{summary_key_cmp, summary_key_eq, summary_key_in}
-pub use Rattle.dsr_ledger.specs.inner.Taking.{Takes}
 pub use Rattle.dsr_ledger.specs.inner.Tallies.{AreWithin, IsWide, LinesGrow, Tally, TallyFits, key_tally, line_in, line_keys, line_tally, lines_tally, no_tally, tally_of, tally_plus, tally_with}
 pub use Rattle.dsr_ledger.specs.meaning.Bookings.{Booking, booked_under, bookings, filed_bookings, key_under, summary_key_named, summary_key_of, usage_bookings, verdict_bookings}
 unfoldable pub use Rattle.dsr_ledger.specs.meaning.Bookings.{block_bookings}

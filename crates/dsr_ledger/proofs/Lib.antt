@@ -5,8 +5,8 @@ pub mod PlanLemmas
 pub mod TextLemmas
 pub mod OrderLemmas
 pub mod ListedLemmas
-pub mod RoomLemmas
 pub mod ReportLemmas
+pub mod LentLemmas
 pub mod PartyLemmas
 pub mod JudgedLemmas
 pub mod IdsLemmas
@@ -30,5 +30,4 @@ pub mod RecordingLemmas
 pub mod SeatedLemmas
 pub mod SmallLemmas
 pub mod StandLemmas
-pub mod TakingLemmas
 pub mod TallyLemmas

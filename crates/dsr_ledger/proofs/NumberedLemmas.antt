@@ -1,5 +1,5 @@
 -- Numbered keys and items: one more key, and one more value.
-use Rattle.dsr_ledger.proofs.Common.{◌≡◌, ℕ, ◌<◌, Bool, true, false, not, cond, List, [], ◌∷◌, ◌++◌, length, set, get_or, nat_eq, refl, sym, ap, ◌∙◌, arith, subst, Option, None, Some, slice_get, map, option_map, Decides, list_any, position, AllByRecursion, option_and_then, nat_tests, common_steps, length_push, length-map, map_push, position_or_len_push, list_any_none, position-Some, position_or_len_is, prefix_len-le-length, fails_before_first, gets, slice_get-map, slice_get_read, slice_get_within, get_or_from_slice_get, IsNumbered, Grows, read_at, place_in, place_by, AreBelow, map-set_same, All-from_recursion}
+use Rattle.dsr_ledger.proofs.Common.{◌≡◌, ℕ, ◌<◌, Bool, true, false, not, cond, List, [], ◌∷◌, ◌++◌, length, set, get_or, nat_eq, refl, sym, ap, ◌∙◌, arith, subst, Option, None, Some, slice_get, map, option_map, Decides, list_any, position, AllByRecursion, option_and_then, option_map_or, nat_tests, common_steps, length_push, length-map, map_push, position_or_len_push, list_any_none, position-Some, position_or_len_is, prefix_len-le-length, fails_before_first, gets, slice_get-map, slice_get_read, slice_get_within, get_or_from_slice_get, IsNumbered, Grows, read_at, place_in, place_by, AreBelow, map-set_same, All-from_recursion}
 use Rattle.std.specs.Prelude.{position}
 use Rattle.std.specs.Option.{option_map}
 pub use Rattle.std.proofs.lemmas.Bool.Decides.{Decides-eqb as same_number}
@@ -17,6 +17,12 @@ none_any p xs e = list_any_none p xs (λ k d l. grind (arith, nat_tests, fails_b
 
 pub taken : {A B : Type 0} (f : A → Option B) (o : Option A) (y : B) → option_and_then f o ≡ Some y → (x : A) × (o ≡ Some x) × (f x ≡ Some y)
 taken f o y e = grind arith
+
+-- what is read of the value at a place
+pub read_is : {V W : Type 0} (read : V → W) (none : W) (vs : List V) (o : Option ℕ)
+    → read_at read none vs o ≡ option_map_or read (option_and_then (slice_get vs) o) none
+read_is read none vs None = refl
+read_is read none vs (Some i) = refl
 
 module _ {V W : Type 0} (read : V → W) (none : W) where
   -- one more value, of which nothing is read

@@ -19,11 +19,7 @@ pub mod Openings
 pub mod Books
 pub mod BooksWords
 pub mod Order
-pub mod Taking
 pub mod Listed
 pub mod Assembly
-pub mod Rooms
-pub mod SortedLedgers
-pub mod BookedLines
 pub mod Lent
 pub mod Closed

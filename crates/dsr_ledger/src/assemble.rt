@@ -9,14 +9,6 @@ ghost use Rattle.dsr_ledger.specs.meaning.Files.{File};
 ghost use Rattle.dsr_ledger.specs.inner.Closed.{AreClosed};
 ghost use Rattle.dsr_ledger.specs.inner.Books.{IsReached, Stands};
 
-pub mod ledger;
-mod lines;
-mod listed;
-mod lists;
-mod ranks;
-mod recordings;
-mod tables;
-
 use crate::closed::ClosedBooks;
 use crate::differences::differences_of;
 use crate::file::FileBooks;

@@ -1,12 +1,11 @@
 //! Books whose files have all ended.
 ghost use Rattle.dsr_ledger.specs.inner.Order.{AreOfSmall};
 
-use crate::assemble::ledger::BookedLines;
 use crate::ledger::recordings::Ledger;
-use crate::lent::copies::Copies;
+use crate::lent::copies::copied_lines;
 use crate::lent::ledger::LentLedger;
 use crate::lent::report::LentReport;
-use crate::report::{Differences, FileLines, LedgerLines, Numbers, Rejects, Report, ReportKey};
+use crate::report::{Differences, FileLines, Numbers, Rejects, Report, ReportKey};
 use dsr_cells::NoMemory;
 use std::alloc::Global;
 
@@ -40,9 +39,7 @@ impl Drop for ClosedBooks {
 impl ClosedBooks {
     ghost use Rattle.std.specs.Prelude.{◌≡◌, IfOk, List};
     ghost use Rattle.dsr_ledger.specs.inner.Closed.{AreClosed};
-    ghost use Rattle.dsr_ledger.specs.meaning.Bookings.{bookings};
     ghost use Rattle.dsr_ledger.specs.meaning.Files.{File};
-    ghost use Rattle.dsr_ledger.specs.meaning.Ledger.{ledger};
     ghost use Rattle.dsr_ledger.specs.inner.Lent.{IsReady, IsLent};
     ghost use Rattle.dsr_ledger.specs.meaning.Reports.{report_of};
 
@@ -61,7 +58,7 @@ impl ClosedBooks {
             files: self.files.as_slice(),
             missing: self.missing.as_slice(),
             differences: self.differences.as_slice(),
-            ledger: LentLedger::Booked(BookedLines::of(self.alloc, &self.ledger)?),
+            ledger: LentLedger::of(self.alloc, &self.ledger)?,
             rejects: self.rejects.as_slice(),
         })
     }
@@ -75,7 +72,7 @@ impl ClosedBooks {
         ensures { (files : List File) → AreClosed self files
             → IfOk result (λ r. r ≡ report_of files) }
     {
-        let Ok(lines) = self.copied_lines() else {
+        let Ok(lines) = copied_lines(self.alloc, &self.ledger) else {
             drop(self);
             return Err(NoMemory);
         };
@@ -97,18 +94,5 @@ impl ClosedBooks {
             ledger: lines,
             rejects,
         })
-    }
-
-    /// Copies of the lines of the ledger.
-    fn copied_lines(&self) -> Result<LedgerLines, NoMemory>
-        ensures { (files : List File) → AreClosed self.now files
-            → IfOk result (λ ls. ls ≡ ledger (bookings files)) }
-    {
-        let mut copies = Copies::new(self.alloc);
-        self.report()?.ledger.give(&mut copies);
-        if copies.refused {
-            return Err(NoMemory);
-        }
-        Ok(copies.lines)
     }
 }

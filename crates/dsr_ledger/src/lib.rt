@@ -17,13 +17,11 @@
 //!    maps with seeded hashers (`seeded`). A recording owns its seats and lines (`ledger/recording`,
 //!    `seats`, `line`), a line its sums and parts (`sums`, `parts`), whose numbers are `wide`. A long
 //!    list whose numbers do not rise has an index of them (`ledger/index`); in a short one, `hints`
-//!    have the probable places of lines and summaries. Numbers are kept in 32 bits (`narrow`).
+//!    have the probable places of lines and summaries. Numbers are kept in 32 bits (`wide`).
 //! 5. `assemble` closes the books (`closed`): it makes the parts of the `report` that say how the files
 //!    did (`file_lines`, `missing`, `differences`, `rejects`), item by item (`append`). Closed books give the lines of the
-//!    ledger one after another (`assemble/ledger`) to whoever takes them (`taking`), in the order of
-//!    the recordings (`assemble/recordings`) and of the summary keys (`assemble/ranks`). They are made
-//!    in lists with room for the longest (`assemble/lists`), so that giving them allocates nothing.
-//!    They borrow their texts (`lent`); a report has copies of them.
+//!    ledger one after another (`lent/ledger`), in the order of the recordings (`lent/recordings`) and of the summary keys
+//!    (`lent/listed`). Giving them allocates nothing. They borrow their texts (`lent`); a report has copies of them.
 //!
 //! **Example**, compiled and proved in `crates/dsr_tests/src/books/example.rt`:
 //!
@@ -128,13 +126,11 @@ pub mod laws;
 mod ledger;
 mod lent;
 mod missing;
-mod narrow;
 mod open;
 mod rejects;
 mod report;
 mod seeded;
 mod sums;
-mod taking;
 mod verdict;
 mod wide;
 
@@ -148,5 +144,4 @@ pub use report::{
     Difference, Differences, FileLine, FileLines, LedgerLine, LedgerLines, Numbers, Parties,
     PartyLine, Reject, Rejects, Report, ReportKey,
 };
-pub use taking::TakeLines;
 pub use verdict::{Reason, Standing, Verdict};

@@ -1,6 +1,7 @@
-//! Numbers of 128 bits with the alignment of 64.
-ghost use Rattle.std.specs.Prelude.{◌≡◌};
+//! Numbers that are kept otherwise than they are computed with: of 128 bits with the alignment of 64, and of 32 bits.
+ghost use Rattle.std.specs.Prelude.{◌≡◌, IfOk};
 
+use dsr_cells::NoMemory;
 use std::marker::Model;
 
 /// A number of 128 bits that is aligned like one of 64 bits, so that a struct with one takes less memory. Contracts see
@@ -37,5 +38,15 @@ impl Wide {
         ensures { result ≡ self.now }
     {
         (i128::from(self.high) << 64) + i128::from(self.low)
+    }
+}
+
+/// The number in 32 bits. One past 32 bits is reported as `NoMemory`.
+pub fn narrow(number: usize) -> Result<u32, NoMemory>
+    ensures { IfOk result (λ same. same ≡ number) }
+{
+    match u32::try_from(number) {
+        Ok(same) => Ok(same),
+        Err(_) => Err(NoMemory),
     }
 }

@@ -45,25 +45,29 @@ const USAGES: [&str; 10] = [
     "SU01\t7\tS1\t1\t1.0009765625\n",
 ];
 
-/// Resources, with and without an ISRC, titles and artists.
-const RESOURCES: [&str; 4] = [
+/// Resources, with and without an ISRC, titles and artists, and with letters past ASCII.
+const RESOURCES: [&str; 7] = [
     "AS01\t7\tGBABC2400001\tSong 1\tThe Lanterns\n",
     "AS01\t7\t\t\t\n",
     "AS01\t7\tGBABC2400001\tSong 1|Song One\tThe Lanterns|Ada Hart\n",
     "AS01\t7\tGBABC2400001\tA title that is quite long\tThe Lant\n",
+    "AS01\t7\tGBABC2400001\tCaf\u{e9}\t\n",
+    "AS01\t7\tGBABC2400001\t\u{e9}t\u{e9}|\u{590f}\tBj\u{f6}rk\n",
+    "AS01\t7\tGBABC2400001\tSong 1\t\u{1f3b5}\n",
 ];
 
-/// Works of fewer than 64 bytes and of more, with up to five parties.
-const WORKS: [&str; 5] = [
+/// Works of fewer than 64 bytes and of more, with up to five parties, and with letters past ASCII.
+const WORKS: [&str; 6] = [
     "MW01\t7\tT-1\tSong 1\tAda Hart\t50\n",
     "MW01\t7\t\t\t\t\n",
     "MW01\t7\tT-000000001-0\tSong 1\tParty 454|Party 455\t49.7500|49.7500\n",
     "MW01\t7\tT-1\tSong 1\tA|B|C|D|E\t20|20.0|20.00|20.000|20.0000\n",
     "MW01\t7\tT-000000001-0\tA title of 23 characters\tParty 1|Party 2\t100|0\n",
+    "MW01\t7\tT-1\tD\u{e9}j\u{e0} vu\tJos\u{e9}|\u{c5}sa\t50|50\n",
 ];
 
 /// Lines that are not read quickly, good and bad ones.
-const DECLINED: [&str; 14] = [
+const DECLINED: [&str; 16] = [
     "SU01\t7\tS1\t-1\t0.5\n",
     "SU01\t7\tS1\t1\t1\n",
     "SU01\t7\tS1\t123456789\t0.5\n",
@@ -73,7 +77,9 @@ const DECLINED: [&str; 14] = [
     "SU01\t7\tS\u{e9}\t1\t0.5\n",
     "AS01\t\tGBABC2400001\t\t\n",
     "AS01\t7\tGBABC2400001\t\n",
-    "AS01\t7\tGBABC2400001\tCaf\u{e9}\t\n",
+    "AS01\t7\tGBABC240000\u{e9}\tSong 1\t\n",
+    "AS01\t7\tGBABC2400001\tSong\u{1}\t\n",
+    "AS01\t7\tGBABC2400001\tCaf\u{e9}\u{7f}\t\n",
     "AS02\t7\tGBABC2400001\t\t\n",
     "MW01\t7\tT-1\tSong 1\tAda Hart\t50|50\n",
     "MW01\t7\tT-1\tSong 1\tAda Hart\t100.5\n",
@@ -83,8 +89,8 @@ const DECLINED: [&str; 14] = [
 #[test]
 fn usual_lines_are_read_quickly(rt: HostRuntime) -> Result<(), Fail> {
     assert_eq!(rt; count_quick(rt.alloc(), &USAGES, Kind::Usage)?, 10);
-    assert_eq!(rt; count_quick(rt.alloc(), &RESOURCES, Kind::Resource)?, 4);
-    assert_eq!(rt; count_quick(rt.alloc(), &WORKS, Kind::Work)?, 5);
+    assert_eq!(rt; count_quick(rt.alloc(), &RESOURCES, Kind::Resource)?, 7);
+    assert_eq!(rt; count_quick(rt.alloc(), &WORKS, Kind::Work)?, 6);
     Ok(())
 }
 

@@ -1,20 +1,23 @@
 -- Lemmas on the printable bytes of a page, whose other bytes are known as a bit mask.
 use Rattle.std.proofs.Common.{arith, ◌≡◌, ◌<◌, ◌≤◌, ◌+◌, ◌-◌, ◌/◌, ◌^◌, ◌∙◌, ℕ, Bool, List, length, map, take, drop, get_or, true, false, not, cond, inl, inr, sym}
-use Rattle.std.proofs.Common.{ap, w64, pow_mono, length-take, refl}
+use Rattle.std.proofs.Common.{[], ◌∷◌, ap, w64, pow_mono, length-take, refl, slice_index}
 use Rattle.std.specs.Int.{bit_at}
 use Rattle.std.specs.Int.Count.{count_trailing_zeros}
 use Rattle.std.specs.List.{list_all, prefix_len}
 use Rattle.std.specs.Simd.Lanes.{chunk}
-use Rattle.std.specs.Str.{IsAscii}
-use Rattle.std.proofs.lemmas.Bool.{cases_lt}
+use Rattle.std.specs.Str.{IsAscii, IsUtf8}
+use Rattle.std.proofs.lemmas.Bool.{and_parts, cases_lt}
+use Rattle.std.proofs.Common.{drop-cons}
 use Rattle.std.proofs.lemmas.List.{get_or_past, get_or-take, length-map, drop-drop, drop-take, take-take}
 use Rattle.std.proofs.lemmas.List.Elements.{All-from_get_or, All-get_or}
 use Rattle.std.proofs.lemmas.List.Sums.{fails_before_first, list_all-from_AllPass, AllPass-from_list_all}
 use Rattle.std.proofs.lemmas.Bool.Decides.{nat_tests}
 use Rattle.std.proofs.lemmas.Nat.Bits.{bit_at-trailing_zeros}
+use Rattle.std.proofs.lemmas.Str.{IsUtf8-from_ascii}
 use Rattle.std.proofs.lemmas.Simd.{length-chunk, trailing_mask_l, bit_mask_l, mask_l-lt}
 use Rattle.dsr_texts.proofs.TabBits.{mask-drop}
-use Rattle.dsr_records.specs.inner.Usual.{is_printable, odd_bits}
+use Rattle.dsr_cells.proofs.Lanes.{part_passes}
+use Rattle.dsr_records.specs.inner.Usual.{is_printable, is_shown, odd_bits}
 
 abbrev is_odd : ℕ → Bool
 is_odd b = not (is_printable b)
@@ -82,9 +85,38 @@ behind_type page odd are = ap (λ n. n / 32) are ∙ mask-drop is_odd (chunk 0 6
 low : (b : ℕ) → is_printable b ≡ true → b < 128
 low b e = grind (arith, nat_tests)
 
--- printable bytes are ASCII
-pub printable_ascii : (bytes : List ℕ) → list_all is_printable bytes ≡ true → IsAscii bytes
+printable_ascii : (bytes : List ℕ) → list_all is_printable bytes ≡ true → IsAscii bytes
 printable_ascii bytes all i = elim (cases_lt i (length bytes)) [
   | inl inside ↦ low (get_or bytes i 0) (All-get_or (λ b. is_printable b ≡ true) bytes i 0 inside (AllPass-from_list_all is_printable bytes all))
   | inr past ↦ omega (arith, get_or_past bytes i 0 past)
 ]
+
+-- printable bytes are a text
+pub printable_utf8 : (bytes : List ℕ) → list_all is_printable bytes ≡ true → IsUtf8 bytes
+printable_utf8 bytes all = IsUtf8-from_ascii bytes (printable_ascii bytes all)
+
+-- ---- bytes that are printable or past ASCII
+
+shown : (b : ℕ) → is_printable b ≡ true → is_shown b ≡ true
+shown b e = rw e refl
+
+shown_wide : (b : ℕ) → 128 ≤ b → is_shown b ≡ true
+shown_wide b e = grind (arith, nat_tests)
+
+pub shown_all : (bytes : List ℕ) → list_all is_printable bytes ≡ true → list_all is_shown bytes ≡ true
+shown_all [] all = refl
+shown_all (b ∷ bytes) all = let both = and_parts _ _ all in rw (shown b both.0, shown_all bytes both.1) refl
+
+pub shown_to : (page : List ℕ) (at mid n : ℕ) → at ≤ mid → list_all is_shown (chunk at (mid - at) page) ≡ true
+    → list_all is_shown (chunk mid n page) ≡ true → list_all is_shown (chunk at (mid + n - at) page) ≡ true
+shown_to page at mid n order before more =
+    let size : mid - at + n ≡ mid + n - at = omega (arith, order) in
+    let there : at + (mid - at) ≡ mid = omega (arith, order) in
+    ap (λ k. list_all is_shown (chunk at k page)) (sym size)
+    ∙ part_passes is_shown (drop at page) (mid - at) n before
+    (ap (λ xs. list_all is_shown (take n xs)) (drop-drop (mid - at) at page ∙ ap (λ k. drop k page) there) ∙ more)
+
+pub shown_past : (page : List ℕ) (at end : ℕ) → at ≤ end → end < length page → list_all is_shown (chunk at (end - at) page) ≡ true
+    → 128 ≤ slice_index page end → list_all is_shown (chunk at (end + 1 - at) page) ≡ true
+shown_past page at end order inside before wide =
+    shown_to page at end 1 order before (ap (λ xs. list_all is_shown (take 1 xs)) (drop-cons page end 0 inside) ∙ rw (shown_wide _ wide) refl)

@@ -1,18 +1,21 @@
 -- Lemmas on lines of the usual form.
 use Rattle.std.proofs.Common.{arith, ◌≡◌, ◌<◌, ◌≤◌, ◌+◌, ◌-◌, ◌*◌, ◌^◌, ◌∙◌, ℕ, Bool, List, [], ◌∷◌, length, take, drop, get_or, true, false, sym, ap, refl, subst, eqb, leb, ltb, not, cond}
-use Rattle.std.proofs.Common.{inl, inr, Option, Some, None, ◌++◌, slice_index}
+use Rattle.std.proofs.Common.{inl, inr, suc, zero, Option, Some, None, ◌++◌, slice_index}
 use Rattle.std.specs.Prelude.{ℤ, pos, codes, Ok}
 use Rattle.std.specs.Char.{is_ascii_digit}
 use Rattle.std.specs.List.{list_all, position_or_len, prefix_len}
 use Rattle.std.specs.Simd.Lanes.{chunk}
 use Rattle.std.proofs.lemmas.Bool.{cases_Bool, and_parts, leb-true, ltb-true, eqb-true, eq-eqb}
 use Rattle.std.proofs.lemmas.Bool.Decides.{nat_tests}
-use Rattle.std.proofs.lemmas.List.{append_assoc, drop-drop, drop-take, take-take}
+use Rattle.std.proofs.lemmas.List.{append_assoc, drop-drop, drop-take, take-take, take_more}
 use Rattle.std.proofs.lemmas.List.Elements.{All-from_get_or, All-get_or}
 use Rattle.std.proofs.lemmas.List.Folds.{list_all_more}
 use Rattle.std.proofs.lemmas.List.Splits.{slice_split_none}
 use Rattle.std.proofs.lemmas.List.Sums.{position_or_len_is, AllPass-from_list_all}
 use Rattle.std.proofs.lemmas.Simd.{get_or-chunk, length-chunk, run_in_chunk_stops}
+use Rattle.std.proofs.lemmas.Str.{IsUtf8-append, IsUtf8-from_ascii}
+use Rattle.std.proofs.Math.Seq.{take-add}
+use Rattle.std.specs.Str.{IsAscii, IsUtf8}
 use Rattle.dsr_cells.specs.meaning.Cells.{cells}
 use Rattle.dsr_cells.specs.meaning.Values.{raw_parts}
 use Rattle.dsr_cells.specs.meaning.Numbers.{amount_of, decimal_of, digits_of, digits_sum, is_digits, number_of, signed_of, usages_of}
@@ -24,34 +27,40 @@ use Rattle.dsr_records.specs.meaning.Layouts.{standard_layout}
 use Rattle.dsr_records.specs.inner.Rows.{share_count}
 use Rattle.dsr_records.specs.meaning.Tables.{is_share}
 use Rattle.dsr_records.specs.meaning.Values.{record_of, shares_of, values_of}
-use Rattle.dsr_records.specs.inner.Usual.{BeginsWithType, IsFilledUp, IsFront, IsLineOf, is_plain, is_printable}
+use Rattle.dsr_records.specs.inner.Usual.{BeginsWithType, IsFilledUp, IsFront, IsLineOf, is_plain, is_printable, is_shown}
 use Rattle.dsr_records.proofs.FirstCells.{TabAt, first_tab}
 use Rattle.dsr_records.proofs.LineChecks.{found}
+use Rattle.dsr_records.proofs.UsualCells.{printable_utf8, shown_all}
 
 abbrev is_tab : ℕ → Bool
 is_tab b = eqb b 9
 
-no_tab : (b : ℕ) → is_printable b ≡ true → is_tab b ≡ false
+no_tab : (b : ℕ) → is_shown b ≡ true → is_tab b ≡ false
 no_tab b e = grind (arith, nat_tests)
 
-plain : (b : ℕ) → is_printable b ≡ true → is_plain b ≡ true
+plain : (b : ℕ) → is_shown b ≡ true → is_plain b ≡ true
 plain b e = rw e refl
 
-printable_at : (bytes : List ℕ) (i : ℕ) → list_all is_printable bytes ≡ true → i < length bytes → is_printable (get_or bytes i 0) ≡ true
-printable_at bytes i all inside = All-get_or (λ b. is_printable b ≡ true) bytes i 0 inside (AllPass-from_list_all is_printable bytes all)
+shown_at : (bytes : List ℕ) (i : ℕ) → list_all is_shown bytes ≡ true → i < length bytes → is_shown (get_or bytes i 0) ≡ true
+shown_at bytes i all inside = All-get_or (λ b. is_shown b ≡ true) bytes i 0 inside (AllPass-from_list_all is_shown bytes all)
+
+tab_ascii : IsAscii (9 ∷ [])
+tab_ascii zero = omega arith
+tab_ascii (suc i) = omega arith
 
 -- ---- the cells of a line
 
-only : (text : List ℕ) → list_all is_printable text ≡ true → cells text ≡ text ∷ []
+only : (text : List ℕ) → list_all is_shown text ≡ true → cells text ≡ text ∷ []
 only text all =
-    slice_split_none is_tab text (All-from_get_or (λ b. is_tab b ≡ false) text 0 (λ k inside. no_tab _ (printable_at text k all inside)))
+    slice_split_none is_tab text (All-from_get_or (λ b. is_tab b ≡ false) text 0 (λ k inside. no_tab _ (shown_at text k all inside)))
 
-plain_all : (bytes : List ℕ) → list_all is_printable bytes ≡ true → list_all is_plain bytes ≡ true
+plain_all : (bytes : List ℕ) → list_all is_shown bytes ≡ true → list_all is_plain bytes ≡ true
 plain_all [] all = refl
 plain_all (b ∷ bytes) all = let both = and_parts _ _ all in rw (plain b both.0, plain_all bytes both.1) refl
 
 -- a cell of a page
-module _ (page : List ℕ) (at size : ℕ) (inside : at + size < length page) (printable : list_all is_printable (chunk at size page) ≡ true) where
+module _ (page : List ℕ) (at size : ℕ) (inside : at + size < length page) (all_shown : list_all is_shown (chunk at size page) ≡ true)
+    (utf8 : IsUtf8 (chunk at size page)) where
   size_is : length (chunk at size page) ≡ size
   size_is = length-chunk at size page (omega (arith, inside))
 
@@ -64,7 +73,7 @@ module _ (page : List ℕ) (at size : ℕ) (inside : at + size < length page) (p
       let less : size < n - at = omega (arith, behind) in
       let place : position_or_len is_tab text ≡ size = position_or_len_is is_tab text size 0 (omega (arith, long, less))
       (λ k low. ap is_tab (get_or-chunk at (n - at) page k 0 (omega (arith, low, less)) ∙ sym (get_or-chunk at size page k 0 low))
-      ∙ no_tab _ (printable_at (chunk at size page) k printable (omega (arith, low, size_is))))
+      ∙ no_tab _ (shown_at (chunk at size page) k all_shown (omega (arith, low, size_is))))
       (λ _. ap is_tab (get_or-chunk at (n - at) page size 0 less) ∙ eq-eqb _ _ tab) in
       let there : TabAt text size = subst (TabAt text) place (first_tab text (omega (arith, place, long, less))) in
       let more : (size + 1) + (n - (at + size + 1)) ≡ n - at = omega (arith, behind) in
@@ -75,7 +84,15 @@ module _ (page : List ℕ) (at size : ℕ) (inside : at + size < length page) (p
       there.cut ∙ rw (take-take size (n - at) (drop at page) (omega (arith, less)), rest) refl
 
   plain_to : list_all is_plain (take at page) ≡ true → list_all is_plain (take (at + size) page) ≡ true
-  plain_to before = part_passes is_plain page at size before (plain_all (chunk at size page) printable)
+  plain_to before = part_passes is_plain page at size before (plain_all (chunk at size page) all_shown)
+
+  utf8_to : IsUtf8 (take at page) → IsUtf8 (take (at + size) page)
+  utf8_to before = subst IsUtf8 (sym (take-add at size page)) (IsUtf8-append (take at page) (chunk at size page) before utf8)
+
+  utf8_past : IsUtf8 (take at page) → slice_index page (at + size) ≡ 9 → IsUtf8 (take (at + size + 1) page)
+  utf8_past before tab =
+      subst IsUtf8 (sym (take_more page (at + size) 0 inside ∙ ap (λ b. take (at + size) page ++ b ∷ []) tab))
+      (IsUtf8-append (take (at + size) page) (9 ∷ []) (utf8_to before) (IsUtf8-from_ascii (9 ∷ []) tab_ascii))
 
   module _ (front : List (List ℕ)) (f : IsFront page page at front) where
     next_here : slice_index page (at + size) ≡ 9 → IsFront page page (at + size + 1) (front ++ chunk at size page ∷ [])
@@ -86,6 +103,7 @@ module _ (page : List ℕ) (at size : ℕ) (inside : at + size < length page) (p
       plain =
           let is : is_plain (get_or page (at + size) 0) ≡ true = ap is_plain tab in
           list_all_more is_plain page (at + size) 0 inside ∙ rw (plain_to f.plain, is) refl;
+      utf8 = utf8_past f.utf8 tab;
       cuts = λ n behind within.
           f.cuts n (omega (arith, behind)) within ∙ ap (λ cs. front ++ cs) (first_cell tab n behind within)
           ∙ sym (append_assoc front (chunk at size page ∷ []) (cells (chunk (at + size + 1) (n - (at + size + 1)) page)));
@@ -93,11 +111,11 @@ module _ (page : List ℕ) (at size : ℕ) (inside : at + size < length page) (p
 
     last_here : at + size < 128 → slice_index page (at + size) ≡ 10 → IsLineOf page (at + size) (front ++ chunk at size page ∷ [])
     last_here few feed = record {
-      line = record { some = omega (arith, f.some); few = few; within = inside; plain = plain_to f.plain; begins = f.begins; ends = feed };
+      line = record { some = omega (arith, f.some); few = few; within = inside; plain = plain_to f.plain; utf8 = utf8_to f.utf8; begins = f.begins; ends = feed };
       are =
           let all : at + size - at ≡ size = omega arith in
           f.cuts (at + size) (omega arith) (omega (arith, inside)) ∙ ap (λ n. front ++ cells (chunk at n page)) all
-          ∙ ap (λ cs. front ++ cs) (only (chunk at size page) printable);
+          ∙ ap (λ cs. front ++ cs) (only (chunk at size page) all_shown);
     }
 
   module _ (whole : List ℕ) (front : List (List ℕ)) (f : IsFront whole page at front) where
@@ -113,12 +131,15 @@ module _ (page : List ℕ) (at size : ℕ) (inside : at + size < length page) (p
 pub type_front : (page name : List ℕ) → 5 ≤ length page → BeginsWithType page name → IsFront page page 5 (name ∷ [])
 type_front page name long t =
     let printable : list_all is_printable (chunk 0 4 page) ≡ true = ap (list_all is_printable) t.is ∙ t.printable in
+    let utf8 : IsUtf8 (chunk 0 4 page) = printable_utf8 (chunk 0 4 page) printable in
+    let all_shown : list_all is_shown (chunk 0 4 page) ≡ true = shown_all (chunk 0 4 page) printable in
     record {
       same = refl;
       some = omega arith;
       begins = λ e. t.begins (ap (λ bytes. get_or bytes 0 0) (sym t.is) ∙ get_or-chunk 0 4 page 0 0 (omega arith) ∙ e);
-      plain = list_all_more is_plain page 4 0 (omega (arith, long)) ∙ rw (plain_to page 0 4 (omega (arith, long)) printable refl, ap is_plain t.tab) refl;
-      cuts = λ n behind within. ap (λ k. cells (take k page)) (whole n) ∙ first_cell page 0 4 (omega (arith, long)) printable t.tab n behind within
+      plain = list_all_more is_plain page 4 0 (omega (arith, long)) ∙ rw (plain_to page 0 4 (omega (arith, long)) all_shown utf8 refl, ap is_plain t.tab) refl;
+      utf8 = utf8_past page 0 4 (omega (arith, long)) all_shown utf8 (IsUtf8-from_ascii [] (λ i. omega arith)) t.tab;
+      cuts = λ n behind within. ap (λ k. cells (take k page)) (whole n) ∙ first_cell page 0 4 (omega (arith, long)) all_shown utf8 t.tab n behind within
           ∙ ap (λ c. c ∷ cells (chunk 5 (n - 5) page)) t.is;
     }
   where

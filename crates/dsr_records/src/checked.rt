@@ -5,43 +5,43 @@ ghost use Rattle.std.specs.Option.{option_map};
 ghost use Rattle.dsr_cells.specs.meaning.Cells.{cells};
 ghost use Rattle.dsr_events.specs.meaning.Blocks.{OpensBlock, with_member};
 ghost use Rattle.dsr_events.specs.declared.kinds.Kind.TheVariants as kinds;
-ghost use Rattle.dsr_events.specs.declared.record.Record.TheVariants as records;
-ghost use Rattle.dsr_records.specs.inner.Checked.{record_seen};
+ghost use Rattle.dsr_records.specs.inner.Checked.{found_by, record_seen};
 ghost use Rattle.dsr_records.specs.inner.Usual.{BeginsWithLine};
 ghost use Rattle.dsr_records.specs.meaning.Layouts.{standard_layout};
-ghost use Rattle.dsr_records.specs.meaning.Records.{cell_in};
-ghost use Rattle.dsr_records.specs.inner.Rows.{cells_left};
 ghost use Rattle.dsr_records.specs.meaning.Reads.{AnswersRecord, kind_of_record, id_of_record, has_texts};
 ghost use Rattle.dsr_records.specs.meaning.Values.{id_of, kind_of, record_by_row, record_of};
 
 use crate::check::{
-    RecordLine, check_foot, check_head, check_resource, check_summary, check_usage, check_work,
+    HeadLine, ResourceLine, SummaryLine, UsageLine, WorkLine, check_foot, check_head,
+    check_resource, check_summary, check_usage, check_work,
 };
 use crate::fault::{ReadRecordError, RecordFault};
 use crate::layout::Layout;
-use crate::layout_line::RoleLine;
 use crate::rest::Rest;
 use crate::row::Row;
 use crate::usual::{usual_resource, usual_usage, usual_work};
 use crate::write::{write_resource, write_usage, write_work};
 use dsr_cells::{NoMemory, count_cells};
-use dsr_events::{Block, Kind, Record};
+use dsr_events::{Block, Foot, Kind, Record};
 use std::alloc::Global;
-use std::marker::Model;
 
-/// A line without a fault. Contracts see it as the record that it spells.
+/// A line without a fault: its record, whose texts are borrowed from the line.
 #[derive(Drop)]
-pub struct CheckedLine<'l> {
-    found: RecordLine<'l>,
-}
-
-impl<'l> Model for CheckedLine<'l> {
-    ghost use Rattle.dsr_events.specs.declared.record.Record.{Record as RecordValue};
-    ghost use Rattle.dsr_records.specs.inner.Checked.{record_seen};
-
-    ghost Value = { RecordValue };
-
-    ghost view = { λ c. record_seen c.found };
+pub enum CheckedLine<'l> {
+    /// The line of a HEAD.
+    Head(HeadLine<'l>),
+    /// The line of a summary.
+    Summary(SummaryLine<'l>),
+    /// The line of a resource.
+    Resource(ResourceLine<'l>),
+    /// The line of a work.
+    Work(WorkLine<'l>),
+    /// The line of a usage.
+    Usage(UsageLine<'l>),
+    /// The line of a FOOT, which has no text.
+    Foot(Foot),
+    /// The line of a record of a skipped type.
+    Skipped,
 }
 
 impl<'l> CheckedLine<'l> {
@@ -50,47 +50,44 @@ impl<'l> CheckedLine<'l> {
     #[inline(always)]
     pub fn usual(page: &'l [u8]) -> Option<(CheckedLine<'l>, usize)>
         ensures line { IfSome result (λ u. BeginsWithLine page.now u.1) }
-        ensures record { IfSome result (λ u. record_of standard_layout (take u.1 page.now) ≡ Ok u.0) }
+        ensures record { IfSome result (λ u. record_of standard_layout (take u.1 page.now) ≡ Ok (record_seen u.0)) }
     {
         if let Some((usage, size)) = usual_usage(page) {
-            let found = RecordLine::Usage(usage);
-            return Some((CheckedLine { found }, size));
+            return Some((CheckedLine::Usage(usage), size));
         }
         if let Some((resource, size)) = usual_resource(page) {
-            let found = RecordLine::Resource(resource);
-            return Some((CheckedLine { found }, size));
+            return Some((CheckedLine::Resource(resource), size));
         }
         let (work, size) = usual_work(page)?;
-        let found = RecordLine::Work(work);
-        Some((CheckedLine { found }, size))
+        Some((CheckedLine::Work(work), size))
     }
 
     /// The kind of the line's record.
     #[inline(always)]
     pub fn kind(&self) -> Kind
-        ensures { result ≡ kind_of_record self.now }
+        ensures { result ≡ kind_of_record (record_seen self.now) }
     {
-        match &self.found {
-            RecordLine::Head(_) => Kind::Head,
-            RecordLine::Summary(_) => Kind::Summary,
-            RecordLine::Resource(_) => Kind::Resource,
-            RecordLine::Work(_) => Kind::Work,
-            RecordLine::Usage(_) => Kind::Usage,
-            RecordLine::Foot(_) => Kind::Foot,
-            RecordLine::Skipped => Kind::Skipped,
+        match self {
+            CheckedLine::Head(_) => Kind::Head,
+            CheckedLine::Summary(_) => Kind::Summary,
+            CheckedLine::Resource(_) => Kind::Resource,
+            CheckedLine::Work(_) => Kind::Work,
+            CheckedLine::Usage(_) => Kind::Usage,
+            CheckedLine::Foot(_) => Kind::Foot,
+            CheckedLine::Skipped => Kind::Skipped,
         }
     }
 
     /// The identifier of a summary, or of the block of a resource, a work or a usage; None for other records.
     #[inline(always)]
     pub fn id(&self) -> Option<&'l str>
-        ensures { option_map (λ i. i.now) result ≡ id_of_record self.now }
+        ensures { option_map (λ i. i.now) result ≡ id_of_record (record_seen self.now) }
     {
-        match &self.found {
-            RecordLine::Summary(summary) => Some(summary.id),
-            RecordLine::Resource(resource) => Some(resource.block_id),
-            RecordLine::Work(work) => Some(work.block_id),
-            RecordLine::Usage(usage) => Some(usage.block_id),
+        match self {
+            CheckedLine::Summary(summary) => Some(summary.id),
+            CheckedLine::Resource(resource) => Some(resource.block_id),
+            CheckedLine::Work(work) => Some(work.block_id),
+            CheckedLine::Usage(usage) => Some(usage.block_id),
             _ => None,
         }
     }
@@ -101,17 +98,17 @@ impl<'l> CheckedLine<'l> {
     ///
     /// `NoMemory`: out of memory for the record's texts.
     pub fn read(&self, alloc: Global) -> Result<Record, NoMemory>
-        ensures value { IfOk result (λ r. r ≡ self.now) }
-        ensures memory { OnErr result (has_texts self.now ≡ true) }
+        ensures value { IfOk result (λ r. r ≡ record_seen self.now) }
+        ensures memory { OnErr result (has_texts (record_seen self.now) ≡ true) }
     {
-        Ok(match &self.found {
-            RecordLine::Head(head) => Record::Head(head.copy(alloc)?),
-            RecordLine::Summary(summary) => Record::Summary(summary.copy(alloc)?),
-            RecordLine::Resource(resource) => Record::Resource(resource.read(alloc)?),
-            RecordLine::Work(work) => Record::Work(work.read(alloc)?),
-            RecordLine::Usage(usage) => Record::Usage(usage.read(alloc)?),
-            RecordLine::Foot(foot) => Record::Foot(*foot),
-            RecordLine::Skipped => Record::Skipped,
+        Ok(match self {
+            CheckedLine::Head(head) => Record::Head(head.copy(alloc)?),
+            CheckedLine::Summary(summary) => Record::Summary(summary.copy(alloc)?),
+            CheckedLine::Resource(resource) => Record::Resource(resource.read(alloc)?),
+            CheckedLine::Work(work) => Record::Work(work.read(alloc)?),
+            CheckedLine::Usage(usage) => Record::Usage(usage.read(alloc)?),
+            CheckedLine::Foot(foot) => Record::Foot(*foot),
+            CheckedLine::Skipped => Record::Skipped,
         })
     }
 
@@ -123,11 +120,11 @@ impl<'l> CheckedLine<'l> {
     /// `NoMemory`: out of memory; the block may have any value.
     #[inline(always)]
     pub fn open_block(&self, alloc: Global, block: &mut Block) -> Result<(), NoMemory>
-        requires resource { kind_of_record self.now ≡ kinds.Resource }
-        ensures opened { OnOk result (OpensBlock self.now block.new) }
-        ensures memory { OnErr result (has_texts self.now ≡ true) }
+        requires resource { kind_of_record (record_seen self.now) ≡ kinds.Resource }
+        ensures opened { OnOk result (OpensBlock (record_seen self.now) block.new) }
+        ensures memory { OnErr result (has_texts (record_seen self.now) ≡ true) }
     {
-        if let RecordLine::Resource(resource) = &self.found {
+        if let CheckedLine::Resource(resource) = self {
             return write_resource(block, alloc, resource);
         }
         Ok(())
@@ -142,13 +139,13 @@ impl<'l> CheckedLine<'l> {
     #[inline(always)]
     pub fn append_to(&self, alloc: Global, block: &mut Block) -> Result<(), NoMemory>
         requires room { 1 + length block.old.works + length block.old.usages < 64 }
-        ensures added { OnOk result (block.new ≡ with_member block.old self.now) }
+        ensures added { OnOk result (block.new ≡ with_member block.old (record_seen self.now)) }
         ensures refused { OnErr result (block.new ≡ block.old) }
-        ensures memory { OnErr result (has_texts self.now ≡ true) }
+        ensures memory { OnErr result (has_texts (record_seen self.now) ≡ true) }
     {
-        match &self.found {
-            RecordLine::Work(work) => write_work(block, alloc, work),
-            RecordLine::Usage(usage) => write_usage(block, alloc, usage),
+        match self {
+            CheckedLine::Work(work) => write_work(block, alloc, work),
+            CheckedLine::Usage(usage) => write_usage(block, alloc, usage),
             _ => Ok(()),
         }
     }
@@ -179,115 +176,20 @@ fn has_many_cells(line: &str, whole: &Rest<'_>) -> bool
     whole.may_have_more(MOST_CELLS) && counts_many_cells(line)
 }
 
-/// Checks the cells of a kind's columns. Returns the line's record, not yet copied, or the first fault.
+/// Checks the cells of a kind's columns. Returns the line's record, not yet copied, or the first fault. Each arm
+/// returns by itself, so that the caller, into which this is inlined, need not match the kind again.
 #[inline(always)]
 fn check_row<'l>(row: &Row<'l>, kind: Kind) -> Result<CheckedLine<'l>, RecordFault>
-    ensures { result ≡ record_by_row row.now kind }
+    ensures { found_by result ≡ record_by_row row.now kind }
 {
-    let found = match kind {
-        Kind::Head => RecordLine::Head(check_head(row)?),
-        Kind::Summary => RecordLine::Summary(check_summary(row)?),
-        Kind::Resource => RecordLine::Resource(check_resource(row)?),
-        Kind::Work => RecordLine::Work(check_work(row)?),
-        Kind::Usage => RecordLine::Usage(check_usage(row)?),
-        Kind::Foot => RecordLine::Foot(check_foot(row)?),
-        Kind::Skipped => RecordLine::Skipped,
-    };
-    Ok(CheckedLine { found })
-}
-
-/// A line whose record type the layout has: its kind, and the cells of the kind's columns, not yet
-/// checked. Contracts see it as the result of the check: its record, or its first fault.
-#[derive(Drop)]
-pub struct TypedLine<'l> {
-    row: Row<'l>,
-    kind: Kind,
-}
-
-impl<'l> Model for TypedLine<'l> {
-    ghost use Rattle.std.specs.Prelude.{Result};
-    ghost use Rattle.dsr_events.specs.declared.record.Record.{Record as RecordValue};
-    ghost use Rattle.dsr_records.specs.declared.fault.RecordFault.{RecordFault as FaultValue};
-    ghost use Rattle.dsr_records.specs.meaning.Values.{record_by_row};
-
-    ghost Value = { Result RecordValue FaultValue };
-
-    ghost view = { λ t. record_by_row t.row t.kind };
-}
-
-impl<'l> TypedLine<'l> {
-    /// A typed line of a skipped record, to be overwritten by `find`.
-    #[inline(always)]
-    pub fn new() -> TypedLine<'l>
-        ensures { result ≡ Ok records.Skipped }
-    {
-        TypedLine {
-            row: Row::new(),
-            kind: Kind::Skipped,
-        }
-    }
-
-    /// Finds the kind of a line by a layout, and the cells of its columns. Nothing is allocated.
-    ///
-    /// # Errors
-    ///
-    /// `Many`: the line has more than 64 cells. `Unknown`: the layout does not have its record type. After either, the typed
-    /// line is as it was before.
-    #[inline(always)]
-    pub fn find(&mut self, layout: &Layout, line: &'l str) -> Result<(), RecordFault>
-        ensures { MatchResult result (λ _. self.new ≡ record_of layout.now line.now)
-            (λ fault. (record_of layout.now line.now ≡ Err fault) × (self.new ≡ self.old)) }
-    {
-        let whole = Rest::of(line);
-        if has_many_cells(line, &whole) {
-            return Err(RecordFault::Many);
-        }
-        let (name, after) = whole.first_cell();
-        match layout.role(name) {
-            Some(role) => {
-                self.take(line, after, role);
-                Ok(())
-            }
-            None if layout.skips(name) => {
-                self.kind = Kind::Skipped;
-                self.row.clear();
-                Ok(())
-            }
-            None => Err(RecordFault::Unknown),
-        }
-    }
-
-    /// Takes the cells of a line's columns, by the layout line of its record type and the rest of the line after it.
-    #[inline(always)]
-    fn take(&mut self, line: &'l str, after: Option<Rest<'l>>, role: &RoleLine)
-        requires { cells_left after ≡ drop 1 (cells line.now) }
-        ensures { self.new ≡ record_by_row
-            (map (cell_in (cells line.now)) role.now.positions) role.now.kind }
-    {
-        self.kind = role.kind;
-        self.row.clear();
-        self.row.take(line, after, &role.positions);
-    }
-
-    /// The kind of the line's record type.
-    #[inline(always)]
-    pub fn kind(&self) -> Kind
-        ensures { IfOk self.now (λ r. result ≡ kind_of_record r) }
-    {
-        self.kind
-    }
-
-    /// Checks the cells. Returns the line's record, not yet copied, or its first fault. Nothing is allocated.
-    ///
-    /// # Errors
-    ///
-    /// `Missing` and `Bad`: the first such column, in the order of the columns. `Uneven`: a work has
-    /// different numbers of parties and shares.
-    #[inline(always)]
-    pub fn check(&self) -> Result<CheckedLine<'l>, RecordFault>
-        ensures { result ≡ self.now }
-    {
-        check_row(&self.row, self.kind)
+    match kind {
+        Kind::Head => return Ok(CheckedLine::Head(check_head(row)?)),
+        Kind::Summary => return Ok(CheckedLine::Summary(check_summary(row)?)),
+        Kind::Resource => return Ok(CheckedLine::Resource(check_resource(row)?)),
+        Kind::Work => return Ok(CheckedLine::Work(check_work(row)?)),
+        Kind::Usage => return Ok(CheckedLine::Usage(check_usage(row)?)),
+        Kind::Foot => return Ok(CheckedLine::Foot(check_foot(row)?)),
+        Kind::Skipped => Ok(CheckedLine::Skipped),
     }
 }
 
@@ -298,12 +200,24 @@ impl<'l> TypedLine<'l> {
 /// `Many`: the line has more than 64 cells. `Unknown`: the layout does not have its record type.
 /// `Missing` and `Bad`: the first such column, in the order of the columns. `Uneven`: a work
 /// has different numbers of parties and shares.
+#[inline(always)]
 pub fn check_line<'l>(layout: &Layout, line: &'l str) -> Result<CheckedLine<'l>, RecordFault>
-    ensures { result ≡ record_of layout.now line.now }
+    ensures { found_by result ≡ record_of layout.now line.now }
 {
-    let mut typed = TypedLine::new();
-    typed.find(layout, line)?;
-    typed.check()
+    let whole = Rest::of(line);
+    if has_many_cells(line, &whole) {
+        return Err(RecordFault::Many);
+    }
+    let (name, after) = whole.first_cell();
+    match layout.role(name) {
+        Some(role) => {
+            let mut row = Row::new();
+            row.take(line, after, &role.positions);
+            check_row(&row, role.kind)
+        }
+        None if layout.skips(name) => Ok(CheckedLine::Skipped),
+        None => Err(RecordFault::Unknown),
+    }
 }
 
 /// The kind of a line by a layout, or its first fault.

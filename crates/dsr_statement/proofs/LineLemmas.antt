@@ -6,7 +6,9 @@ use Rattle.std.specs.List.{flat_map}
 use Rattle.std.proofs.lemmas.List.{append-nil, take_all, take_more, length-take-le}
 use Rattle.std.proofs.lemmas.Grind.{flat_map-append}
 use Rattle.dsr_ledger.specs.declared.report.FileLine.{FileLine}
-use Rattle.dsr_statement.specs.meaning.Statement.{file_line, file_lines}
+use Rattle.dsr_ledger.specs.declared.report.LedgerLine.{LedgerLine}
+use Rattle.dsr_ledger.specs.declared.report.PartyLine.{PartyLine}
+use Rattle.dsr_statement.specs.meaning.Statement.{file_line, file_lines, ledger_lines, party_line, sums_line, unclaimed_line}
 use Rattle.dsr_io.specs.meaning.Written.{Written}
 use Rattle.dsr_statement.specs.inner.Pieces.{Puts}
 use Rattle.dsr_statement.specs.declared.pieces.Pieces.{Pieces}
@@ -40,6 +42,12 @@ more f xs i x d less is before now =
 pub all : {W : Type 0} {told : W → Written} {p q : Pieces W} {X : Type 0} (f : X → List ℕ) (xs : List X) (i : ℕ) → length xs ≤ i
     → Puts told p q (flat_map f (take i xs)) → Puts told p q (flat_map f xs)
 all f xs i end puts = turn puts (ap (flat_map f) (take_all i xs end))
+
+-- the lines of a ledger line, from a line that has no parties
+pub own_lines : (head l : LedgerLine) (ps : List PartyLine) → head ≡ record l { parties = [] } → ps ≡ l.parties
+    → sums_line head ++ (flat_map (party_line head) ps ++ unclaimed_line head) ≡ ledger_lines l
+unfolding ledger_lines party_line sums_line unclaimed_line
+own_lines head l ps e f = λ i. sums_line (e i) ++ (flat_map (party_line (e i)) (f i) ++ unclaimed_line (e i))
 
 -- the line of one more file
 pub file_lines_more : (place : ℕ) (files : List FileLine) (f : FileLine)

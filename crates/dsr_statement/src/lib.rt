@@ -1,10 +1,9 @@
 //! The statement of a report: its bytes, how they are written, and whether it has remarks.
 //!
 //! 1. `room`: allocates all memory that writing the statement needs, before its first byte is written.
-//! 2. `write`: puts the statement, by `lines`, `cells`, `key` and `names`, into `pieces`. `ledger_put` puts the lines of the
-//!    ledger as they are given.
+//! 2. `write`: puts the statement, by `lines`, `cells`, `key` and `names`, into `pieces`.
 //! 3. `pieces`: writes what is put to an [`Outlet`] of dsr_io, in pieces of up to 64 KiB, and flushes it at the end. What
-//!    waits is in a `slice_buffer`, into which `copying` copies each cell.
+//!    waits is in a `slice_buffer`.
 //! 4. `remarks`: whether the statement has remarks (`verdict`).
 //!
 //! **Example**, compiled and proved in `crates/dsr_tests/src/collecting.rt`:
@@ -29,9 +28,7 @@
 #![tactic(auto)]
 
 mod cells;
-mod copying;
 mod key;
-mod ledger_put;
 mod lines;
 mod names;
 mod pieces;

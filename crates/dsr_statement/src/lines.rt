@@ -15,7 +15,9 @@ use crate::pieces::Pieces;
 use crate::slice_buffer::SliceBuffer;
 use dsr_events::{Column, Outcome};
 use dsr_io::Outlet;
-use dsr_ledger::{Difference, FileLine, LentLine, LentParty, Reject, ReportKey};
+use dsr_ledger::{
+    Difference, FileLine, LedgerLine, LentLine, LentParty, PartyLine, Reject, ReportKey,
+};
 
 /// Puts the first line. `days` has the cells of the report's days.
 pub(crate) fn put_head<W: Outlet>(out: &mut Pieces<'_, W>, key: &Option<ReportKey>, days: &[u8])
@@ -125,7 +127,7 @@ fn put_usages<W: Outlet>(out: &mut Pieces<'_, W>, stated: i64, found: i128)
 }
 
 /// Puts the lines of a ledger line: its sums, its parties, and the unclaimed amount. The cells of
-/// the key, with which each of them begins, are written into `room` once.
+/// the key, with which each of them begins, are written into `room` once. Nothing is put once the outlet has failed.
 pub(crate) fn put_ledger<W: Outlet>(
     out: &mut Pieces<'_, W>,
     room: &mut SliceBuffer<'_>,
@@ -133,10 +135,56 @@ pub(crate) fn put_ledger<W: Outlet>(
 )
     ensures { Puts W.told out.old out.new (ledger_lines line.now) }
 {
+    if out.drop_if_failed() {
+        return;
+    }
     let key = laid_key(room, line);
     put_sums(out, key, line);
     put_parties(out, key, line);
     put_unclaimed(out, key, line)
+}
+
+/// Puts the lines of a ledger line of a report. The cells of its key are written into `room` once.
+pub(crate) fn put_own_ledger<W: Outlet>(
+    out: &mut Pieces<'_, W>,
+    room: &mut SliceBuffer<'_>,
+    line: &LedgerLine,
+)
+    ensures { Puts W.told out.old out.new (ledger_lines line.now) }
+{
+    let lent = LentLine {
+        isrc: &line.isrc,
+        territory: &line.territory,
+        use_type: &line.use_type,
+        currency: &line.currency,
+        usages: line.usages,
+        amount: line.amount,
+        unclaimed: line.unclaimed,
+        parties: &[],
+    };
+    let key = laid_key(room, &lent);
+    put_sums(out, key, &lent);
+    put_own_parties(out, key, &lent, line.parties.as_slice());
+    put_unclaimed(out, key, &lent)
+}
+
+/// Puts the lines of a key's parties. `key` has the key's cells, if they fit.
+fn put_own_parties<W: Outlet>(
+    out: &mut Pieces<'_, W>,
+    key: Option<&[u8]>,
+    line: &LentLine<'_>,
+    parties: &[PartyLine],
+)
+    requires { IfSome key (λ k. k.now ≡ tabbed (key_cells line.now)) }
+    ensures { Puts W.told out.old out.new (flat_map (party_line line.now) parties.now) }
+{
+    for party in parties {
+        let lent = LentParty {
+            party: &party.party,
+            amount: party.amount,
+        };
+        put_party(out, key, line, &lent);
+    }
 }
 
 /// Puts the line of a key's sums. `key` has the key's cells, if they fit.

@@ -1,7 +1,6 @@
 //! A buffer of bytes in a slice.
 ghost use Rattle.std.specs.Prelude.{◌≡◌, ◌++◌, [], if◌then◌else◌};
 
-use crate::copying::copy_cell;
 use std::marker::Model;
 
 /// Bytes in the front of a slice, to which more are appended while there is room. Contracts see the bytes.
@@ -38,7 +37,7 @@ impl<'a> SliceBuffer<'a> {
             return false;
         }
         let end = self.count + bytes.len();
-        copy_cell(&mut self.room[self.count..end], bytes);
+        self.room[self.count..end].copy_from_slice(bytes);
         self.count = end;
         true
     }

@@ -1,21 +1,23 @@
 //! The statement of a report.
-ghost use Rattle.std.specs.Prelude.{◌≡◌, ◌≤◌, length, take, IfSome, OnOk, IfOk, IfErr};
+ghost use Rattle.std.specs.Prelude.{◌≡◌, ◌≤◌, [], List, length, take, IfSome, OnOk, IfOk, IfErr};
 ghost use Rattle.std.specs.List.{flat_map};
-ghost use Rattle.dsr_statement.specs.meaning.Statement.{statement_of, file_lines, missing_line, difference_line, reject_line};
+ghost use Rattle.dsr_statement.specs.meaning.Statement.{statement_of, file_lines, missing_line, difference_line, ledger_lines, reject_line};
 ghost use Rattle.dsr_ledger.specs.declared.report.Report.{Report as ReportValue};
-ghost use Rattle.dsr_ledger.specs.inner.Lent.{IsReady, IsLent};
+ghost use Rattle.dsr_ledger.specs.declared.report.LedgerLine.{LedgerLine as LedgerLineValue};
+ghost use Rattle.dsr_ledger.specs.inner.Lent.{AreGiven, IsReady, IsLent};
 ghost use Rattle.dsr_io.specs.meaning.Written.{IsFlushed, IsCut};
 ghost use Rattle.dsr_statement.specs.inner.Pieces.{Puts};
 ghost use Rattle.dsr_statement.specs.inner.Laid.{day_cells};
 
-use crate::ledger_put::LedgerPut;
-use crate::lines::{put_difference, put_file, put_head, put_missing, put_reject};
+use crate::lines::{
+    put_difference, put_file, put_head, put_ledger, put_missing, put_own_ledger, put_reject,
+};
 use crate::pieces::Pieces;
 use crate::room::Room;
 use crate::slice_buffer::SliceBuffer;
 use dsr_cells::NoMemory;
 use dsr_io::{Outlet, ToWrite};
-use dsr_ledger::{Difference, FileLine, LentReport, Reject, Report};
+use dsr_ledger::{Difference, FileLine, LedgerLine, LentLedger, LentReport, Reject, Report};
 use std::alloc::Global;
 
 /// The bytes of the statement.
@@ -26,16 +28,39 @@ use std::alloc::Global;
 pub fn statement(alloc: Global, report: &Report) -> Result<Vec<u8>, NoMemory>
     ensures { IfOk result (λ v. v.items ≡ statement_of report.now) }
 {
-    let mut lent = LentReport::of(alloc, report)?;
-    let room = Room::new(alloc, lent.key)?;
+    let room = Room::new(alloc, &report.key)?;
     let mut out = ToWrite::new(Vec::new(alloc));
-    match write_statement(room, &mut lent, &mut out) {
+    match write_report(room, report, &mut out) {
         Ok(()) => Ok(out.into_writer()),
         Err(_written) => Err(NoMemory),
     }
 }
 
-/// Writes the statement in pieces, and then flushes.
+/// Writes the statement of a report in pieces, and then flushes. The error is how many of its bytes were written.
+fn write_report<W: Outlet>(room: Room, report: &Report, out: &mut W) -> Result<(), u64>
+    requires { IfSome report.now.key (λ k. room.days.items ≡ day_cells k) }
+    ensures { OnOk result (IsFlushed (statement_of report.now) (W.told out.old) (W.told out.new)) }
+{
+    let Room {
+        days,
+        mut key,
+        mut waiting,
+    } = room;
+    let mut pieces = Pieces::new(out, waiting.as_mut_slice());
+    let mut key = SliceBuffer::new(key.as_mut_slice());
+    put_head(&mut pieces, &report.key, &days);
+    put_files(&mut pieces, report.files.as_slice());
+    put_missing_files(&mut pieces, report.missing.as_slice());
+    put_differences(&mut pieces, report.differences.as_slice());
+    put_lines(&mut pieces, &mut key, report.ledger.as_slice());
+    put_rejects(&mut pieces, report.rejects.as_slice());
+    let answer = pieces.finish();
+    // Ends the borrow of the outlet, so that the clause can say what it took.
+    pieces.into_outlet();
+    answer
+}
+
+/// Writes the statement of a lent report in pieces, and then flushes.
 ///
 /// # Errors
 ///
@@ -47,7 +72,6 @@ pub fn write_statement<W: Outlet>(
 ) -> Result<(), u64>
     requires days { IfSome report.old.key.now (λ k. room.days.items ≡ day_cells k) }
     requires ready { IsReady report.old.ledger }
-    ensures same { (r : ReportValue) → IsLent report.old r → IsLent report.new r }
     ensures whole { (r : ReportValue) → IsLent report.old r → OnOk result
         (IsFlushed (statement_of r) (W.told out.old) (W.told out.new)) }
     ensures part { (r : ReportValue) → IsLent report.old r → IfErr result (λ n. (n ≤ length (statement_of r))
@@ -58,15 +82,9 @@ pub fn write_statement<W: Outlet>(
         mut key,
         mut waiting,
     } = room;
-    let mut put = LedgerPut {
-        out: Pieces::new(out, waiting.as_mut_slice()),
-        key: SliceBuffer::new(key.as_mut_slice()),
-    };
-    put_statement(&mut put, &days, report);
-    let LedgerPut {
-        out: mut pieces,
-        ..
-    } = put;
+    let mut pieces = Pieces::new(out, waiting.as_mut_slice());
+    let mut key = SliceBuffer::new(key.as_mut_slice());
+    put_statement(&mut pieces, &mut key, &days, report);
     let answer = pieces.finish();
     // Ends the borrow of the outlet, so that the clauses can say what it took.
     pieces.into_outlet();
@@ -74,18 +92,46 @@ pub fn write_statement<W: Outlet>(
 }
 
 /// Puts the statement. `days` has the cells of the report's days.
-fn put_statement<W: Outlet>(put: &mut LedgerPut<'_, W>, days: &[u8], report: &mut LentReport<'_>)
+fn put_statement<W: Outlet>(
+    out: &mut Pieces<'_, W>,
+    key: &mut SliceBuffer<'_>,
+    days: &[u8],
+    report: &mut LentReport<'_>,
+)
     requires days { IfSome report.old.key.now (λ k. days.now ≡ day_cells k) }
     requires ready { IsReady report.old.ledger }
-    ensures same { (r : ReportValue) → IsLent report.old r → IsLent report.new r }
-    ensures put { (r : ReportValue) → IsLent report.old r → Puts W.told put.old.out put.new.out (statement_of r) }
+    ensures { (r : ReportValue) → IsLent report.old r → Puts W.told out.old out.new (statement_of r) }
 {
-    put_head(&mut put.out, report.key, days);
-    put_files(&mut put.out, report.files);
-    put_missing_files(&mut put.out, report.missing);
-    put_differences(&mut put.out, report.differences);
-    report.ledger.give(put);
-    put_rejects(&mut put.out, report.rejects);
+    put_head(out, report.key, days);
+    put_files(out, report.files);
+    put_missing_files(out, report.missing);
+    put_differences(out, report.differences);
+    put_lent_lines(out, key, &mut report.ledger);
+    put_rejects(out, report.rejects);
+}
+
+/// Puts the lines of a ledger that is lent.
+fn put_lent_lines<W: Outlet>(
+    out: &mut Pieces<'_, W>,
+    key: &mut SliceBuffer<'_>,
+    lent: &mut LentLedger<'_>,
+)
+    requires { IsReady lent.old }
+    ensures { (all : List LedgerLineValue) → AreGiven lent.old all []
+        → Puts W.told out.old out.new (flat_map ledger_lines all) }
+{
+    while let Some(line) = lent.next() {
+        put_ledger(out, key, &lent.whole(&line));
+    }
+}
+
+/// Puts the lines of a report's ledger.
+fn put_lines<W: Outlet>(out: &mut Pieces<'_, W>, key: &mut SliceBuffer<'_>, lines: &[LedgerLine])
+    ensures { Puts W.told out.old out.new (flat_map ledger_lines lines.now) }
+{
+    for line in lines {
+        put_own_ledger(out, key, line);
+    }
 }
 
 /// Puts the lines of the files.

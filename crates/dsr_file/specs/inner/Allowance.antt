@@ -1,7 +1,7 @@
 -- How many events may come without a further byte.
 use Rattle.std.specs.Prelude.{ℕ, Bool, true, false}
-use Rattle.dsr_file.specs.declared.reader.phase.Phase.{Phase}
-use Rattle.dsr_file.specs.declared.reader.phase.Phase.TheVariants.{Reading, Waiting, Done}
+use Rattle.dsr_file.specs.declared.phase.Phase.{Phase}
+use Rattle.dsr_file.specs.declared.phase.Phase.TheVariants.{Reading, Waiting, Done}
 
 -- how many events may have come beyond the number of bytes used
 abbrev pub allowance : Phase → ℕ

@@ -56,7 +56,3 @@ LineSteps ls l NoMemory closed g = TakesMemory ls l
 abbrev pub IsRecord : Record → Type 0
 IsRecord Skipped = ⊥
 IsRecord _ = Unit {0}
-
--- the same for a record that has no early fault
-abbrev pub RecordSteps : List Reading → Record → Step → Option EventPart → Grammar → Type 0
-RecordSteps ls r step closed g = early_fault (records ls) r ≡ None → IsRecord r → LineSteps ls (Holds r) step closed g

@@ -10,7 +10,7 @@ use Rattle.dsr_file.specs.declared.reader.FileReader.{FileReader}
 use Rattle.dsr_events.specs.meaning.Placed.{Placed}
 use Rattle.dsr_file.specs.meaning.Texts.{placed}
 use Rattle.dsr_file.specs.inner.Advances.{Advances}
-use Rattle.dsr_file.specs.inner.Standing.{Stands, AtLine, AtAnswer, AtCut, AtEnd}
+use Rattle.dsr_file.specs.inner.Standing.{Stands, AtAnswer, AtCut, AtEnd}
 
 -- the new reader represents what the old one did
 abbrev pub StandsAs : FileReader → FileReader → Type 0
@@ -24,11 +24,6 @@ UsesBytes old new used part = Advances old new used (placed old.place (option_to
 abbrev pub AppliesCut : FileReader → FileReader → Cut → List ℕ → Option EventPart → Type 0
 AppliesCut old new cut used part = (layout : LayoutTable) (b : List ℕ) (es : List Placed) → AtCut layout old cut b used es
     → Stands layout new (b ++ used) (es ++ placed old.place (option_to_list part))
-
--- this line is taken, and what it closed, if anything, is given
-abbrev pub TakesLine : FileReader → FileReader → List ℕ → Option EventPart → Type 0
-TakesLine old new line part = (layout : LayoutTable) (b : List ℕ) (es : List Placed) → AtLine layout old line b es
-    → Stands layout new b (es ++ placed old.place (option_to_list part))
 
 -- the result of the line of this number, which closed this, is applied, and this event, if any, is given
 abbrev pub AppliesStep : FileReader → FileReader → ℕ → Step → Option EventPart → Option EventPart → Type 0

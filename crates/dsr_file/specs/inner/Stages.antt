@@ -55,13 +55,6 @@ IsMember (the.Work w) = Unit {0}
 IsMember (the.Usage u) = Unit {0}
 IsMember _ = ⊥
 
--- a record that does not belong to a block
-abbrev pub IsOther : Record → Type 0
-IsOther (the.Resource r) = ⊥
-IsOther (the.Work w) = ⊥
-IsOther (the.Usage u) = ⊥
-IsOther _ = Unit {0}
-
 -- there is room for the record, and no summary has its identifier
 abbrev pub IsFree : Stage → Record → Type 0
 IsFree stage (the.Work w) = HasRoom stage

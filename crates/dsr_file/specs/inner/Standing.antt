@@ -4,8 +4,8 @@ use Rattle.dsr_records.specs.meaning.Records.{LayoutTable}
 use Rattle.dsr_events.specs.declared.fault.Ending.{Ending}
 use Rattle.dsr_events.specs.declared.fault.Outcome.{Outcome}
 use Rattle.dsr_events.specs.declared.event.EventPart.{EventPart}
-use Rattle.dsr_file.specs.declared.reader.phase.Phase.{Phase}
-use Rattle.dsr_file.specs.declared.reader.phase.Phase.TheVariants.{Reading, Waiting, Done}
+use Rattle.dsr_file.specs.declared.phase.Phase.{Phase}
+use Rattle.dsr_file.specs.declared.phase.Phase.TheVariants.{Reading, Waiting, Done}
 use Rattle.dsr_file.specs.declared.reader.FileReader.{FileReader}
 use Rattle.dsr_events.specs.meaning.Placed.{Placed}
 use Rattle.dsr_events.specs.meaning.Orderly.{has_ended}
@@ -67,16 +67,18 @@ pub record SameText (old new : FileReader) : Type 0 where
   pub given : new.given ≡ old.given
   pub ending : new.ending ≡ old.ending
 
--- a line is complete and is not taken yet
-pub record AtLine (layout : LayoutTable) (r : FileReader) (line : List ℕ) (bytes : List ℕ) (es : List Placed) : Type 0 where
-  pub whole : List (List ℕ)
-  pub cuts : CutsTo [] false bytes (whole ++ line ∷ [])
+-- the lines of these whole pieces are taken, the events given are theirs, and the text has this ending, if any
+pub record Taken (layout : LayoutTable) (r : FileReader) (whole : List (List ℕ)) (ending : Option Ending) (bytes : List ℕ) (es : List Placed) : Type 0 where
   pub keeps : Keeps r.grammar (map (reading layout) whole)
   pub events_are : es ≡ placed 0 (events_of (records (map (reading layout) whole)))
   pub layout_is : r.layout ≡ layout
   pub given_is : r.given ≡ length bytes
   pub place_is : r.place ≡ length es
-  pub open_is : r.ending ≡ None
+  pub ending_is : r.ending ≡ ending
+
+-- a line is complete and is not taken yet
+abbrev pub AtLine : LayoutTable → FileReader → List ℕ → List ℕ → List Placed → Type 0
+AtLine layout r line bytes es = (whole : List (List ℕ)) × CutsTo [] false bytes (whole ++ line ∷ []) × Taken layout r whole None bytes es
 
 -- the last line had this result, and closed this
 pub record AtAnswer (layout : LayoutTable) (r : FileReader) (number : ℕ) (step : Step) (closed : Option EventPart) (bytes : List ℕ)
@@ -101,23 +103,10 @@ EndsAfter place None o e r = (r.phase ≡ Done o) × (e ≡ ended place o)
 EndsAfter place (Some part) o e r = (r.phase ≡ Waiting o) × (e ≡ record { place = place; part = part })
 
 -- the cutter has used these bytes and returned this
-pub record AtCut (layout : LayoutTable) (r : FileReader) (cut : Cut) (bytes used : List ℕ) (es : List Placed) : Type 0 where
-  pub whole : List (List ℕ)
-  pub cuts : CutSteps bytes used whole cut r.cutter
-  pub keeps : Keeps r.grammar (map (reading layout) whole)
-  pub events_are : es ≡ placed 0 (events_of (records (map (reading layout) whole)))
-  pub layout_is : r.layout ≡ layout
-  pub given_is : r.given ≡ length (bytes ++ used)
-  pub place_is : r.place ≡ length es
-  pub open_is : r.ending ≡ None
+abbrev pub AtCut : LayoutTable → FileReader → Cut → List ℕ → List ℕ → List Placed → Type 0
+AtCut layout r cut bytes used es = (whole : List (List ℕ)) × CutSteps bytes used whole cut r.cutter × Taken layout r whole None (bytes ++ used) es
 
 -- all complete lines are taken, and the text ends
-pub record AtEnd (layout : LayoutTable) (r : FileReader) (ending : Ending) (bytes : List ℕ) (es : List Placed) : Type 0 where
-  pub whole : List (List ℕ)
-  pub cuts : CutsTo r.cutter.bytes.items r.cutter.fresh bytes whole
-  pub keeps : Keeps r.grammar (map (reading layout) whole)
-  pub events_are : es ≡ placed 0 (events_of (records (map (reading layout) whole)))
-  pub layout_is : r.layout ≡ layout
-  pub given_is : r.given ≡ length bytes
-  pub place_is : r.place ≡ length es
-  pub ending_is : r.ending ≡ Some ending
+abbrev pub AtEnd : LayoutTable → FileReader → Ending → List ℕ → List Placed → Type 0
+AtEnd layout r ending bytes es =
+    (whole : List (List ℕ)) × CutsTo r.cutter.bytes.items r.cutter.fresh bytes whole × Taken layout r whole (Some ending) bytes es

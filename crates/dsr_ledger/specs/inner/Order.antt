@@ -1,12 +1,10 @@
 -- Bookings whose sums fit into 128 bits.
-use Rattle.std.specs.Prelude.{◌≡◌, ℕ, Option, ◌≤◌, ◌<◌, ◌^◌, List, length, unsigned_abs}
+use Rattle.std.specs.Prelude.{◌≤◌, ◌<◌, ◌^◌, List, length, unsigned_abs}
 use Rattle.std.specs.List.{AllByRecursion}
 use Rattle.dsr_ledger.specs.meaning.Limits.{whole_share, amount_bound}
-use Rattle.dsr_ledger.specs.declared.ledger.line.Line.{Line}
 use Rattle.dsr_ledger.specs.declared.ledger.recordings.Ledger.{Ledger}
 use Rattle.dsr_ledger.specs.meaning.Bookings.{Booking}
 use Rattle.dsr_ledger.specs.meaning.Verdicts.{share_total}
-use Rattle.dsr_ledger.specs.inner.Tallies.{line_tally, tally_of}
 use Rattle.dsr_ledger.specs.inner.Stands.{LedgerStands}
 
 -- the usages of a booking are at most 2^63 and its amount is below 10^22 units, either way, and the shares of its works
@@ -20,12 +18,6 @@ pub record IsSmall (b : Booking) : Type 0 where
 pub record AreSmall (bs : List Booking) : Type 0 where
   pub few : length bs ≤ 2 ^ 49
   pub each : AllByRecursion IsSmall bs
-
--- the tally of a line is that of some small bookings
-pub record IsOfSmall (seat : List ℕ → Option ℕ) (line : Line) : Type 0 where
-  pub bookings : List Booking
-  pub tally : line_tally seat line ≡ tally_of bookings
-  pub small : AreSmall bookings
 
 -- the ledger represents some small bookings
 pub record AreOfSmall (ledger : Ledger) : Type 0 where

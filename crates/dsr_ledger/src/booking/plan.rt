@@ -11,7 +11,7 @@ ghost use Rattle.dsr_ledger.specs.inner.Lined.{AreLined};
 use crate::file::summaries::Summaries;
 use crate::ledger::parts::SeatShare;
 use crate::ledger::recordings::Ledger;
-use crate::narrow::narrow;
+use crate::wide::narrow;
 use dsr_cells::{Isrc, NoMemory};
 use dsr_events::Work;
 use std::alloc::Global;

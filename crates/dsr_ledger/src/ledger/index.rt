@@ -56,7 +56,7 @@ fn behind<T>(items: &[T]) -> &[T]
 }
 
 /// The place of a number among items whose numbers ascend.
-fn search<T: Numbered>(items: &[T], number: u32) -> Option<usize>
+fn search_rising<T: Numbered>(items: &[T], number: u32) -> Option<usize>
     requires { Rise (map T.number_of items.now) }
     ensures { result ≡ place_in (map T.number_of items.now) number }
 {
@@ -119,7 +119,7 @@ fn search_all<T: Numbered>(items: &[T], number: u32) -> Option<usize>
     if let Some(place) = first_place(items, number) {
         return Some(place);
     }
-    let place = search(behind(items), number)?;
+    let place = search_rising(behind(items), number)?;
     Some(place + FEW)
 }
 

@@ -11,8 +11,8 @@ ghost use Rattle.dsr_ledger.specs.declared.ledger.recording.Recording.{Recording
 use crate::ledger::parts::SeatShare;
 use crate::ledger::recording::Recording;
 use crate::ledger::summary_key::SummaryKey;
-use crate::narrow::narrow;
 use crate::seeded::Seeded;
+use crate::wide::narrow;
 use dsr_cells::{Isrc, NoMemory, Text};
 use dsr_events::Usage;
 use indexmap::{IndexMap, IndexSet};

@@ -1,11 +1,16 @@
 //! Copies of lines that are lent.
-ghost use Rattle.std.specs.Prelude.{◌≡◌, ◌++◌, ◌∷◌, [], false, IfOk, OnOk};
+ghost use Rattle.std.specs.Prelude.{◌≡◌, IfOk, List};
+ghost use Rattle.dsr_ledger.specs.meaning.Bookings.{Booking};
+ghost use Rattle.dsr_ledger.specs.meaning.Ledger.{ledger};
+ghost use Rattle.dsr_ledger.specs.inner.Order.{AreOfSmall};
+ghost use Rattle.dsr_ledger.specs.inner.Stands.{LedgerStands};
 
 use crate::append::append;
+use crate::ledger::recordings::Ledger;
+use crate::lent::ledger::LentLedger;
 use crate::lent::line::LentLine;
 use crate::lent::party::LentParty;
 use crate::report::{LedgerLine, LedgerLines, Parties, PartyLine};
-use crate::taking::TakeLines;
 use dsr_cells::{Items, NoMemory, Text};
 use std::alloc::Global;
 
@@ -43,44 +48,17 @@ fn copy_line(alloc: Global, lent: &LentLine<'_>) -> Result<LedgerLine, NoMemory>
     })
 }
 
-/// The copies of the lines that were taken.
-#[derive(Drop)]
-pub struct Copies {
-    alloc: Global,
-    pub lines: LedgerLines,
-    /// Whether memory was refused for one of them.
-    pub refused: bool,
-}
-
-impl Copies {
-    /// No copies.
-    pub fn new(alloc: Global) -> Copies
-        ensures lines { result.lines ≡ [] }
-        ensures refused { result.refused ≡ false }
-    {
-        Copies {
-            alloc,
-            lines: Items::new(alloc),
-            refused: false,
-        }
+/// Copies of the lines of a ledger.
+pub fn copied_lines(alloc: Global, books: &Ledger) -> Result<LedgerLines, NoMemory>
+    requires { ∥ AreOfSmall books.now ∥₁ }
+    ensures { (bs : List Booking) → LedgerStands books.now bs
+        → IfOk result (λ lines. lines ≡ ledger bs) }
+{
+    let mut lent = LentLedger::of(alloc, books)?;
+    let mut lines = Items::new(alloc);
+    while let Some(line) = lent.next() {
+        let copy = copy_line(alloc, &lent.whole(&line))?;
+        append(&mut lines, copy)?;
     }
-
-    /// Appends a copy of a line.
-    fn push(&mut self, line: &LentLine<'_>) -> Result<(), NoMemory>
-        ensures { OnOk result (self.new.lines ≡ self.old.lines ++ line.now ∷ []) }
-    {
-        let copy = copy_line(self.alloc, line)?;
-        append(&mut self.lines, copy)
-    }
-}
-
-impl TakeLines for Copies {
-    ghost use Rattle.std.specs.Prelude.{◌≡◌, ◌++◌, false};
-
-    /// If no memory is refused, these lines were appended.
-    ghost took = { λ start now lines. now.refused ≡ false → now.lines ≡ start.lines ++ lines };
-
-    fn take_line(&mut self, line: &LentLine<'_>) {
-        self.refused = self.refused || self.push(line).is_err();
-    }
+    Ok(lines)
 }

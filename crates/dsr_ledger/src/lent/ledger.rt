@@ -1,36 +1,178 @@
-//! A ledger whose lines are lent.
-ghost use Rattle.dsr_ledger.specs.inner.Taking.{Takes};
+//! The lines of a ledger, one after another.
+ghost use Rattle.std.specs.Prelude.{◌≡◌, ◌+◌, ◌<◌, ◌≤◌, ◌-ℤ◌, ◌^◌, IfOk, length, sum_by, unsigned_abs, vec_capacity};
+ghost use Rattle.dsr_ledger.specs.meaning.Sums.{int_sum_by};
+ghost use Rattle.dsr_ledger.specs.inner.Order.{AreOfSmall};
 
-use crate::assemble::ledger::BookedLines;
-use crate::lent::reported::ReportedLines;
-use crate::taking::TakeLines;
+use crate::ledger::line::Line;
+use crate::ledger::recording::Recording;
+use crate::ledger::recordings::Ledger;
+use crate::ledger::summary_key::SummaryKey;
+use crate::lent::line::LentLine;
+use crate::lent::listed::{lines_by_key, parties_by_name};
+use crate::lent::party::LentParty;
+use crate::lent::recordings::sorted_recordings;
+use dsr_cells::{Isrc, NoMemory, Text};
+use std::alloc::Global;
+use std::vec::IntoIter;
 
 /// The lines of a ledger, by the bytes of ISRC, territory, use type and currency. They are given one after another, and
-/// giving them allocates nothing.
+/// giving them allocates nothing: there is room for as many lines as there are summary keys, and for all parties.
+pub struct LentLedger<'a> {
+    books: &'a Ledger,
+    /// The recordings that come after the one at hand, in order.
+    recordings: IntoIter<(&'a Isrc, &'a Recording)>,
+    at_hand: Option<(&'a Isrc, &'a Recording)>,
+    /// The lines of the recording at hand that have a booking, in the order of their summary keys.
+    lines: Vec<(&'a SummaryKey, &'a Line)>,
+    /// How many of them were given.
+    given: usize,
+    /// The parties of the line that was given last.
+    parties: Vec<LentParty<'a>>,
+    ghost lines_fit: { length books.now.summary_keys.keys ≤ vec_capacity lines },
+    ghost parties_fit: { length books.now.parties.keys ≤ vec_capacity parties },
+}
+
+/// Written out, so that dropping one is a call: a derived drop is proved anew wherever it happens.
+impl Drop for LentLedger<'_> {
+    fn drop(self) {
+        let LentLedger {
+            books: _,
+            recordings: _,
+            at_hand: _,
+            lines: _,
+            given: _,
+            parties: _,
+        } = self;
+    }
+}
+
+/// A line of a recording with its summary key.
 #[derive(Drop)]
-pub enum LentLedger<'a> {
-    /// Those of books.
-    Booked(BookedLines<'a>),
-    /// Those of a report.
-    Reported(ReportedLines<'a>),
+struct FoundLine<'a> {
+    isrc: &'a Isrc,
+    recording: &'a Recording,
+    key: &'a SummaryKey,
+    line: &'a Line,
+}
+
+/// An amount minus the amounts of the parties.
+fn unclaimed(amount: i128, parties: &[LentParty<'_>]) -> i128
+    requires { unsigned_abs amount + sum_by (λ p. unsigned_abs p.amount) parties.now < 2 ^ 127 }
+    ensures { result ≡ amount -ℤ int_sum_by (λ p. p.amount) parties.now }
+{
+    let mut left = amount;
+    for line in parties {
+        left -= line.amount;
+    }
+    left
 }
 
 impl<'a> LentLedger<'a> {
-    ghost use Rattle.std.specs.Prelude.{List};
+    ghost use Rattle.std.specs.Prelude.{◌++◌, ◌∷◌, [], IfNone, IfSome, List};
     ghost use Rattle.dsr_ledger.specs.declared.report.LedgerLine.{LedgerLine as LedgerLineValue};
-    ghost use Rattle.dsr_ledger.specs.inner.Lent.{IsReady, LinesLent};
+    ghost use Rattle.dsr_ledger.specs.meaning.Bookings.{Booking};
+    ghost use Rattle.dsr_ledger.specs.meaning.Keys.{Key};
+    ghost use Rattle.dsr_ledger.specs.meaning.Ledger.{ledger};
+    ghost use Rattle.dsr_ledger.specs.inner.Stands.{LedgerStands};
+    ghost use Rattle.dsr_ledger.specs.inner.Lent.{AreBefore, AreGiven, HaveGiven, IsBookedLine};
+    ghost use Rattle.dsr_ledger.specs.inner.Lent.{IsReady, found_key, most_left, whole_line};
 
-    /// Gives the lines, in their order. This allocates nothing.
-    pub fn give<T: TakeLines>(&mut self, taker: &mut T)
+    /// The lines of this ledger.
+    ///
+    /// # Errors
+    ///
+    /// `NoMemory`: out of memory for giving them.
+    pub(crate) fn of(alloc: Global, books: &'a Ledger) -> Result<LentLedger<'a>, NoMemory>
+        requires { ∥ AreOfSmall books.now ∥₁ }
+        ensures ready { IfOk result IsReady }
+        ensures none_given { (bs : List Booking) → LedgerStands books.now bs
+            → IfOk result (λ from. AreGiven from (ledger bs) []) }
+    {
+        Ok(LentLedger {
+            books,
+            recordings: sorted_recordings(alloc, &books.recordings)?.into_iter(),
+            at_hand: None,
+            lines: Vec::with_capacity(alloc, books.summary_keys.len())?,
+            given: 0,
+            parties: Vec::with_capacity(alloc, books.parties.len())?,
+        })
+    }
+
+    /// The next line that has a booking. This allocates nothing.
+    fn next_line(&mut self) -> Option<FoundLine<'a>>
+        requires { IsReady self.old }
+        ensures books { self.new.books ≡ self.old.books }
+        ensures line { (keys : List Key) → HaveGiven self.old keys
+            → IfSome result (λ found. HaveGiven self.new (keys ++ found_key found ∷ [])) }
+        ensures booked { IfSome result (λ found. IsBookedLine self.old.books.now found.isrc.now
+            found.recording.now found.key.now found.line.now) }
+        ensures all { (keys : List Key) → HaveGiven self.old keys
+            → IfNone result (HaveGiven self.new keys × AreBefore self.old.books.now [] keys) }
+        ensures fewer { IfSome result (λ _. most_left self.new < most_left self.old) }
+    {
+        while self.given >= self.lines.len() {
+            let (isrc, recording) = self.recordings.next()?;
+            let keys = self.books.summary_keys.as_slice();
+            lines_by_key(keys, recording.lines.as_slice(), &mut self.lines);
+            self.at_hand = Some((isrc, recording));
+            self.given = 0;
+        }
+        let (isrc, recording) = self.at_hand?;
+        let (key, line) = self.lines[self.given];
+        self.given += 1;
+        Some(FoundLine {
+            isrc,
+            recording,
+            key,
+            line,
+        })
+    }
+
+    /// The next line, without its parties, which `whole` adds. This allocates nothing.
+    pub fn next(&mut self) -> Option<LentLine<'a>>
         requires { IsReady self.old }
         ensures ready { IsReady self.new }
-        ensures same { (lines : List LedgerLineValue) → LinesLent self.old lines → LinesLent self.new lines }
-        ensures lines { (lines : List LedgerLineValue) → LinesLent self.old lines
-            → Takes T.took taker.old taker.new lines }
+        ensures line { (all given : List LedgerLineValue) → AreGiven self.old all given
+            → IfSome result (λ line. AreGiven self.new all (given ++ whole_line self.new line ∷ [])) }
+        ensures all { (all given : List LedgerLineValue) → AreGiven self.old all given
+            → IfNone result (given ≡ all) }
+        ensures fewer { IfSome result (λ _. most_left self.new < most_left self.old) }
     {
-        match self {
-            LentLedger::Booked(lines) => lines.give(taker),
-            LentLedger::Reported(lines) => lines.give(taker),
+        let found = self.next_line()?;
+        let names = self.books.parties.as_slice();
+        let numbers = found.recording.seats.as_slice();
+        parties_by_name(
+            names,
+            numbers,
+            found.line.parts.as_slice(),
+            &mut self.parties,
+        );
+        let amount = found.line.sums.amount.get();
+        Some(LentLine {
+            isrc: found.isrc,
+            territory: &found.key.territory,
+            use_type: &found.key.use_type,
+            currency: &found.key.currency,
+            usages: found.line.sums.usages.get(),
+            amount,
+            unclaimed: unclaimed(amount, self.parties.as_slice()),
+            parties: &[],
+        })
+    }
+
+    /// The line that was given last, with its parties.
+    pub fn whole<'b>(&'b self, line: &LentLine<'b>) -> LentLine<'b>
+        ensures { result ≡ whole_line self.now line.now }
+    {
+        LentLine {
+            isrc: line.isrc,
+            territory: line.territory,
+            use_type: line.use_type,
+            currency: line.currency,
+            usages: line.usages,
+            amount: line.amount,
+            unclaimed: line.unclaimed,
+            parties: self.parties.as_slice(),
         }
     }
 }

@@ -1,5 +1,5 @@
 -- Lines of the usual form, which are read quickly.
-use Rattle.std.specs.Prelude.{◌≡◌, ◌≢◌, ◌<◌, ◌+◌, ◌-◌, ◌*◌, ◌^◌, ◌||◌, ◌==◌, not, ℕ, Bool, true, List, ◌++◌, ◌≤◌, Ok, length, map, take, slice_index}
+use Rattle.std.specs.Prelude.{◌≡◌, ◌≢◌, ◌<◌, ◌+◌, ◌-◌, ◌*◌, ◌^◌, ◌||◌, ◌==◌, not, ℕ, Bool, true, List, ◌++◌, ◌≤◌, Ok, IsUtf8, nat_le, length, map, take, slice_index}
 use Rattle.std.specs.Char.{is_ascii_digit}
 use Rattle.std.specs.Int.Bits.{bit_xor}
 use Rattle.std.specs.Int.{is_in_range}
@@ -36,9 +36,13 @@ IsFilledUp places digits n = (is_digits places digits ≡ true) × (n ≡ digits
 abbrev pub is_printable : ℕ → Bool
 is_printable b = is_in_range 32 126 b
 
--- printable ASCII or a TAB
+-- printable ASCII or past ASCII
+abbrev pub is_shown : ℕ → Bool
+is_shown b = is_printable b || nat_le 128 b
+
+-- no control character but a TAB
 abbrev pub is_plain : ℕ → Bool
-is_plain b = is_printable b || (b == 9)
+is_plain b = is_shown b || (b == 9)
 
 -- bit k is set if byte k is not printable ASCII
 abbrev pub odd_bits : List ℕ → ℕ
@@ -51,21 +55,24 @@ pub record BeginsWithType (page name : List ℕ) : Type 0 where
   pub printable : list_all is_printable name ≡ true
   pub begins : slice_index name 0 ≢ 35
 
--- these are the cells of a page up to an offset, at which the next one begins; up to there it is printable ASCII and TABs, and
--- it is not a comment
+-- these are the cells of a page up to an offset, at which the next one begins; up to there it is a text without control
+-- characters but TABs, and it is not a comment
 pub record IsFront (page seen : List ℕ) (at : ℕ) (front : List (List ℕ)) : Type 0 where
   pub same : seen ≡ page
   pub some : 0 < at
   pub begins : slice_index page 0 ≢ 35
   pub plain : list_all is_plain (take at page) ≡ true
+  pub utf8 : IsUtf8 (take at page)
   pub cuts : (n : ℕ) → at ≤ n → n ≤ length page → cells (take n page) ≡ front ++ cells (chunk at (n - at) page)
 
--- a page begins with a line of this length, fewer than 128 bytes of printable ASCII and TABs, which is not a comment
+-- a page begins with a line of this length, fewer than 128 bytes of a text without control characters but TABs, which is not
+-- a comment
 pub record BeginsWithLine (page : List ℕ) (size : ℕ) : Type 0 where
   pub some : 0 < size
   pub few : size < 128
   pub within : size < length page
   pub plain : list_all is_plain (take size page) ≡ true
+  pub utf8 : IsUtf8 (take size page)
   pub begins : slice_index page 0 ≢ 35
   pub ends : slice_index page size ≡ 10
 

@@ -16,7 +16,7 @@ use std::marker::Model;
 
 /// A head whose texts are borrowed from its line. Contracts see it as the head.
 #[derive(Drop)]
-pub(crate) struct HeadLine<'l> {
+pub struct HeadLine<'l> {
     message_id: &'l str,
     file_number: u32,
     number_of_files: u32,
@@ -66,7 +66,11 @@ pub(crate) fn check_head<'l>(row: &Row<'l>) -> Result<HeadLine<'l>, RecordFault>
 
 impl<'l> HeadLine<'l> {
     /// The head, with its texts copied.
-    pub(crate) fn copy(&self, alloc: Global) -> Result<Head, NoMemory>
+    ///
+    /// # Errors
+    ///
+    /// `NoMemory`: out of memory for the head's texts.
+    pub fn copy(&self, alloc: Global) -> Result<Head, NoMemory>
         ensures { IfOk result (λ r. r ≡ self.now) }
     {
         Ok(Head {

@@ -15,7 +15,7 @@ use std::marker::Model;
 
 /// A resource whose texts and list cells are borrowed from its line. Contracts see it as the resource.
 #[derive(Drop)]
-pub(crate) struct ResourceLine<'l> {
+pub struct ResourceLine<'l> {
     pub(crate) block_id: &'l str,
     pub(crate) isrc: &'l str,
     pub(crate) titles: &'l str,

@@ -16,7 +16,7 @@ use std::marker::Model;
 
 /// A summary whose texts are borrowed from its line. Contracts see it as the summary.
 #[derive(Drop)]
-pub(crate) struct SummaryLine<'l> {
+pub struct SummaryLine<'l> {
     pub(crate) id: &'l str,
     territory: &'l str,
     use_type: &'l str,
@@ -58,7 +58,11 @@ pub(crate) fn check_summary<'l>(row: &Row<'l>) -> Result<SummaryLine<'l>, Record
 
 impl<'l> SummaryLine<'l> {
     /// The summary, with its texts copied.
-    pub(crate) fn copy(&self, alloc: Global) -> Result<Summary, NoMemory>
+    ///
+    /// # Errors
+    ///
+    /// `NoMemory`: out of memory for the summary's texts.
+    pub fn copy(&self, alloc: Global) -> Result<Summary, NoMemory>
         ensures { IfOk result (λ r. r ≡ self.now) }
     {
         Ok(Summary {

@@ -15,7 +15,7 @@ use std::marker::Model;
 
 /// A usage whose texts are borrowed from its line. Contracts see it as the usage.
 #[derive(Drop)]
-pub(crate) struct UsageLine<'l> {
+pub struct UsageLine<'l> {
     pub(crate) block_id: &'l str,
     pub(crate) summary_id: &'l str,
     pub(crate) usages: i64,

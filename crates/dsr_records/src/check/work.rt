@@ -19,7 +19,7 @@ use std::marker::Model;
 
 /// A work whose texts and list cells are borrowed from its line. Contracts see it as the work.
 #[derive(Drop)]
-pub(crate) struct WorkLine<'l> {
+pub struct WorkLine<'l> {
     pub(crate) block_id: &'l str,
     pub(crate) work_id: &'l str,
     pub(crate) title: &'l str,

@@ -1,10 +1,11 @@
-//! The cells of a line of printable ASCII, found by one look at 64 bytes of a page.
-ghost use Rattle.std.specs.Prelude.{◌≡◌, ◌+◌, ◌-◌, ◌<◌, ◌≤◌, ◌∷◌, [], ◌++◌, IfSome, IsTrue, List, ℕ, length, true};
+//! The cells of a line, found by one look at 64 bytes of a page.
+ghost use Rattle.std.specs.Prelude.{◌≡◌, ◌+◌, ◌-◌, ◌<◌, ◌≤◌, ◌∷◌, [], ◌++◌, IfSome, IsTrue, IsUtf8, List, ℕ, length, slice_index, true};
 ghost use Rattle.std.specs.List.{list_all};
 ghost use Rattle.std.specs.Simd.Lanes.{chunk};
 ghost use Rattle.dsr_cells.specs.meaning.Texts.{is_identifier_text};
-ghost use Rattle.dsr_records.specs.inner.Usual.{BeginsWithType, IsFront, IsLineOf, is_printable, odd_bits};
+ghost use Rattle.dsr_records.specs.inner.Usual.{BeginsWithType, IsFront, IsLineOf, is_printable, is_shown, odd_bits};
 
+use dsr_texts::text_of;
 use std::simd::prelude::*;
 use std::str;
 
@@ -28,7 +29,7 @@ fn odd_of_64(page: &[u8], at: usize) -> u64
         .to_bitmask()
 }
 
-/// A cell of a page, which has 32 bytes or more behind it.
+/// A cell of printable ASCII of a page, which has 32 bytes or more behind it.
 #[derive(Clone, Copy)]
 pub(crate) struct Cell<'p> {
     pub(crate) page: &'p [u8],
@@ -120,6 +121,42 @@ impl<'p> Cells<'p> {
         Some(self.odd.trailing_zeros() as usize)
     }
 
+    /// What is left behind the byte at an offset, which was looked at.
+    #[inline(always)]
+    fn behind(self, end: usize) -> Cells<'p>
+        requires from { self.at ≤ end }
+        requires within { end < self.end }
+        ensures page { result.page ≡ self.entry.page }
+        ensures at { result.at ≡ end + 1 }
+        ensures end { result.end ≡ self.entry.end }
+    {
+        Cells {
+            page: self.page,
+            at: end + 1,
+            end: self.end,
+            odd: (self.odd >> (end - self.at)) >> 1,
+        }
+    }
+
+    /// The next cell, if it is printable ASCII and this byte ends it.
+    #[inline(always)]
+    fn cell_before(self, mark: u8) -> Option<Cell<'p>>
+        ensures page { IfSome result (λ c. c.page ≡ self.entry.page) }
+        ensures at { IfSome result (λ c. c.at ≡ self.entry.at) }
+        ensures within { IfSome result (λ c. c.at + c.size < self.entry.end) }
+        ensures mark { IfSome result (λ c. slice_index c.page.now (c.at + c.size) ≡ mark) }
+    {
+        let size = self.run()?;
+        if self.page[self.at + size] != mark {
+            return None;
+        }
+        Some(Cell {
+            page: self.page,
+            at: self.at,
+            size,
+        })
+    }
+
     /// The next cell, if a TAB ends it, and what is left behind the TAB.
     #[inline(always)]
     pub(crate) fn next(self) -> Option<(Cell<'p>, Cells<'p>)>
@@ -127,22 +164,8 @@ impl<'p> Cells<'p> {
             → IsFront page self.entry.page.now self.entry.at front
             → IsFront page c.1.page.now c.1.at (front ++ chunk c.0.at c.0.size c.0.page.now ∷ [])) }
     {
-        let size = self.run()?;
-        if self.page[self.at + size] != b'\t' {
-            return None;
-        }
-        let left = Cells {
-            page: self.page,
-            at: self.at + size + 1,
-            end: self.end,
-            odd: (self.odd >> size) >> 1,
-        };
-        let cell = Cell {
-            page: self.page,
-            at: self.at,
-            size,
-        };
-        Some((cell, left))
+        let cell = self.cell_before(b'\t')?;
+        Some((cell, self.behind(self.at + cell.size)))
     }
 
     /// The last cell, if a line feed ends it, and the length of the line.
@@ -152,15 +175,69 @@ impl<'p> Cells<'p> {
             → IsFront page self.entry.page.now self.entry.at front
             → IsLineOf page c.1 (front ++ chunk c.0.at c.0.size c.0.page.now ∷ [])) }
     {
-        let size = self.run()?;
-        if self.page[self.at + size] != b'\n' {
+        let cell = self.cell_before(b'\n')?;
+        Some((cell, self.at + cell.size))
+    }
+
+    /// The offset of the first byte that is neither printable ASCII nor past ASCII.
+    #[inline(always)]
+    fn text_end(self) -> Option<usize>
+        ensures within { IfSome result (λ e. (self.entry.at ≤ e) × (e < self.entry.end)) }
+        ensures shown { IfSome result (λ e.
+            list_all is_shown (chunk self.entry.at (e - self.entry.at) self.entry.page.now) ≡ true) }
+    {
+        let mut left = self;
+        loop {
+            let end = left.at + left.run()?;
+            if self.page[end] < 128 {
+                return Some(end);
+            }
+            left = left.behind(end);
+        }
+    }
+
+    /// The text up to an offset, if it is UTF-8.
+    #[inline(always)]
+    fn text_to(self, end: usize) -> Option<&'p str>
+        requires from { self.at ≤ end }
+        requires within { end < self.end }
+        ensures { IfSome result (λ t. (t.now ≡ chunk self.entry.at (end - self.entry.at) self.entry.page.now)
+            × IsUtf8 t.now) }
+    {
+        let bytes = &self.page[self.at..end];
+        match self.run() {
+            Some(size) if self.at + size == end => {
+                Some(unsafe { str::from_utf8_unchecked(bytes) })
+            }
+            _ => text_of(bytes),
+        }
+    }
+
+    /// The next text, if a TAB ends it, and what is left behind the TAB.
+    #[inline(always)]
+    pub(crate) fn next_text(self) -> Option<(&'p str, Cells<'p>)>
+        ensures { IfSome result (λ c. (page : List ℕ) (front : List (List ℕ))
+            → IsFront page self.entry.page.now self.entry.at front
+            → IsFront page c.1.page.now c.1.at (front ++ c.0.now ∷ [])) }
+    {
+        let end = self.text_end()?;
+        if self.page[end] != b'\t' {
             return None;
         }
-        let cell = Cell {
-            page: self.page,
-            at: self.at,
-            size,
-        };
-        Some((cell, self.at + size))
+        Some((self.text_to(end)?, self.behind(end)))
+    }
+
+    /// The last text, if a line feed ends it, and the length of the line.
+    #[inline(always)]
+    pub(crate) fn last_text(self) -> Option<(&'p str, usize)>
+        ensures { IfSome result (λ c. (page : List ℕ) (front : List (List ℕ))
+            → IsFront page self.entry.page.now self.entry.at front
+            → IsLineOf page c.1 (front ++ c.0.now ∷ [])) }
+    {
+        let end = self.text_end()?;
+        if self.page[end] != b'\n' {
+            return None;
+        }
+        Some((self.text_to(end)?, end))
     }
 }

@@ -92,11 +92,7 @@ fn late_digit(page: &[u8], at: usize, is_there: bool) -> u64
     ensures digit { result ≡ (if is_there then bit_xor (slice_index page.now at) 48 else 0) }
     ensures bound { result < 256 }
 {
-    if is_there {
-        u64::from(page[at] ^ 48)
-    } else {
-        0
-    }
+    u64::from(page[at] ^ 48) * u64::from(is_there)
 }
 
 /// The number that 1 to 10 decimals at an offset of a page spell, in units of 10^-10.

@@ -28,16 +28,16 @@ pub(crate) fn usual_resource(page: &[u8]) -> Option<(ResourceLine<'_>, usize)>
     }
     let (block_id, rest) = Cells::behind_type(page).next()?;
     let (isrc, rest) = rest.next()?;
-    let (titles, rest) = rest.next()?;
-    let (artists, size) = rest.last()?;
+    let (titles, rest) = rest.next_text()?;
+    let (artists, size) = rest.last_text()?;
     if !block_id.is_identifier() {
         return None;
     }
     let line = ResourceLine {
         block_id: block_id.text(),
         isrc: isrc.text(),
-        titles: titles.text(),
-        artists: artists.text(),
+        titles,
+        artists,
     };
     Some((line, size))
 }

@@ -31,24 +31,23 @@ pub(crate) fn usual_work(page: &[u8]) -> Option<(WorkLine<'_>, usize)>
     }
     let (block_id, rest) = Cells::behind_type(page).next()?;
     let (work_id, rest) = rest.next()?;
-    let (title, rest) = rest.next()?;
-    let (parties, rest) = rest.look()?.next()?;
+    let (title, rest) = rest.next_text()?;
+    let (parties, rest) = rest.look()?.next_text()?;
     let (shares, size) = rest.last()?;
     if !block_id.is_identifier() {
         return None;
     }
-    let party_cell = parties.text();
     let share_cell = shares.text();
     let mut first_shares = ArrayVec::new();
     let count = count_shares(share_cell, &mut first_shares)?;
-    if count_values(party_cell) != count {
+    if count_values(parties) != count {
         return None;
     }
     let line = WorkLine {
         block_id: block_id.text(),
         work_id: work_id.text(),
-        title: title.text(),
-        parties: party_cell,
+        title,
+        parties,
         shares: share_cell,
         first_shares,
     };

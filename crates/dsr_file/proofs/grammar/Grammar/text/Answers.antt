@@ -1,5 +1,6 @@
-use Rattle.std.proofs.Common.{◌∙◌, sym}
-use Rattle.dsr_file.specs.meaning.Readings.{file_fault}
+use Rattle.std.proofs.Common.{◌∙◌, ap, sym}
+use Rattle.dsr_records.specs.inner.Checked.{found_by}
+use Rattle.dsr_file.specs.meaning.Readings.{file_fault, of_record}
 use Rattle.dsr_file.proofs.TestLemmas.{of_utf8_skipped, of_utf8_record, faulty_steps, own_not_count}
 use Rattle.dsr_file.proofs.grammar.Grammar.text.Goals as goal
 
@@ -11,8 +12,8 @@ returns-then-is_skipped-clause-steps c =
 pub returns-in-Err-clause-steps : goal.returns-in-Err-clause-steps
 returns-in-Err-clause-steps c = λ ls k.
     rw (
-      of_utf8_record c.args.layout.now c.args.text.now _ (sym c.is_skipped.ensures ∙ c.if-is_skipped.false)
-          (sym c.in-Err.ensures.0),
+      of_utf8_record c.args.layout.now c.args.text.now (found_by c.check_line.result) (sym c.is_skipped.ensures ∙ c.if-is_skipped.false) c.check_line.ensures
+          ∙ ap (λ r. of_record (found_by r)) c.in-Err.is,
       c.file_fault.ensures,
       c.requires.none,
     )
@@ -20,4 +21,5 @@ returns-in-Err-clause-steps c = λ ls k.
 
 pub returns-in-Ok-clause-steps : goal.returns-in-Ok-clause-steps
 returns-in-Ok-clause-steps c = λ ls k.
-    rw (of_utf8_record c.args.layout.now c.args.text.now _ (sym c.is_skipped.ensures ∙ c.if-is_skipped.false) c.in-Ok.ensures) (c.typed.ensures.steps ls k)
+    rw (of_utf8_record c.args.layout.now c.args.text.now (found_by c.check_line.result) (sym c.is_skipped.ensures ∙ c.if-is_skipped.false) c.check_line.ensures
+    ∙ ap (λ r. of_record (found_by r)) c.in-Ok.is) (c.checked.ensures.steps ls k)

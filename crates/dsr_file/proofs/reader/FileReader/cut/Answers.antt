@@ -1,10 +1,32 @@
-use Rattle.dsr_file.proofs.StandLemmas.{at_kept, at_here}
+use Rattle.std.proofs.Common.{◌++◌, refl, subst, sym, List}
+use Rattle.std.specs.Option.{option_to_list}
+use Rattle.dsr_file.specs.inner.Cutting.{CutSteps, FitsCut}
+use Rattle.dsr_file.specs.inner.Grammars.{Keeps, LineSteps}
+use Rattle.dsr_file.specs.inner.Standing.{Stands}
+use Rattle.dsr_file.specs.meaning.Readings.{Reading, reading}
+use Rattle.dsr_file.specs.meaning.Texts.{placed}
+use Rattle.dsr_file.proofs.StandLemmas.{line_taken, long_stands}
 use Rattle.dsr_file.proofs.reader.FileReader.cut.Goals as goal
 
 pub returns-in-Kept-clause-stands : goal.returns-in-Kept-clause-stands
-returns-in-Kept-clause-stands c =
-    λ layout b es a. c.kept_line.ensures.stands layout _ es (at_kept layout c.args.self.now b c.args.used.now es c.args.cut a c.in-Kept.is)
+returns-in-Kept-clause-stands c = λ layout b es a.
+    c.answer.ensures.stands layout _ es
+    (line_taken layout c.args.self.now _ _ es c.args.self.now.cutter.bytes.items c.line-step.result _
+    (a.0, subst (λ x. CutSteps b c.args.used.now a.0 x c.args.self.now.cutter) c.in-Kept.is a.1, a.2)
+    (subst (λ x. (ls : List Reading) → Keeps c.args.self.now.grammar ls
+    → LineSteps ls (reading c.args.self.now.layout x) c.line-step.result c.line-step.new.closed c.line-step.new.self) c.line.ensures.value
+    c.line-step.ensures.steps) c.clear.ensures.bytes c.clear.ensures.fresh refl refl refl refl)
 
 pub returns-in-Here-clause-stands : goal.returns-in-Here-clause-stands
-returns-in-Here-clause-stands c =
-    λ layout b es a. c.line.ensures.stands layout _ es (at_here layout c.args.self.now b c.args.used.now es c.args.cut a c.in-Here.is)
+returns-in-Here-clause-stands c = λ layout b es a.
+    let fits = subst (λ x. FitsCut x c.args.used.now c.args.self.now.cutter) c.in-Here.is c.requires.here in
+    c.answer-in-Here.ensures.stands layout _ es
+    (line_taken layout c.args.self.now _ _ es _ c.line-step-in-Here.result _
+    (a.0, subst (λ x. CutSteps b c.args.used.now a.0 x c.args.self.now.cutter) c.in-Here.is a.1, a.2)
+    c.line-step-in-Here.ensures.steps fits.1 fits.2 refl refl refl refl)
+
+pub returns-in-Long-clause-stands : goal.returns-in-Long-clause-stands
+returns-in-Long-clause-stands c = λ layout b es a.
+    let end = c.close_with.ensures in
+    subst (λ o. Stands layout c.close_with.new.self (b ++ c.args.used.now) (es ++ placed c.args.self.now.place (option_to_list o))) (sym end.part)
+    (long_stands layout c.args.self.now c.close_with.new.self c.args.cut b c.args.used.now es _ a c.in-Long.is refl end.same end.place end.done)

@@ -1,4 +1,4 @@
-use Rattle.std.proofs.Common.{rules, arith}
+use Rattle.std.proofs.Common.{◌∙◌, sym, rules, arith}
 use Rattle.std.proofs.lemmas.Grind.{common_steps}
 use Rattle.dsr_file.proofs.reader.FileReader.finish.Goals as goal
 
@@ -19,3 +19,7 @@ returns-in-Done-clause-progress c = search rules
 
 pub returns-in-Waiting-clause-stands : goal.returns-in-Waiting-clause-stands
 returns-in-Waiting-clause-stands c = grind (arith, common_steps)
+
+pub returns-in-Reading-clause-stands : goal.returns-in-Reading-clause-stands
+returns-in-Reading-clause-stands c = λ layout b es s.
+    c.finish_lines.ensures.stands layout b es (c.set_ending.ensures.reading (sym c.set_ending.ensures.phase ∙ c.in-Reading.is) layout b es s)

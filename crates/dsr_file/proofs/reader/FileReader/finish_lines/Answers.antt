@@ -3,4 +3,4 @@ use Rattle.dsr_file.specs.inner.Standing.{AtEnd}
 use Rattle.dsr_file.proofs.reader.FileReader.finish_lines.Goals as goal
 
 pub returns-in-Whole-clause-stands : goal.returns-in-Whole-clause-stands
-returns-in-Whole-clause-stands c = λ layout b es a. c.finish_whole.ensures.stands layout b es (subst (λ x. AtEnd layout c.args.self.now x b es) c.in-Whole.is a)
+returns-in-Whole-clause-stands c = λ layout b es a. c.last_line.ensures.stands layout b es (subst (λ x. AtEnd layout c.args.self.now x b es) c.in-Whole.is a)

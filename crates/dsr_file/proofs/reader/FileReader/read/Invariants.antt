@@ -1,7 +1,7 @@
 use Rattle.std.proofs.Common.{◌≡◌, ◌≤◌, ◌+◌, ◌-◌, ◌++◌, List, ℕ, length, take, None}
 use Rattle.dsr_records.specs.meaning.Records.{LayoutTable}
 use Rattle.dsr_events.specs.meaning.Placed.{Placed}
-use Rattle.dsr_file.specs.declared.reader.phase.Phase.TheVariants.{Reading}
+use Rattle.dsr_file.specs.declared.phase.Phase.TheVariants.{Reading}
 use Rattle.dsr_file.specs.inner.Standing.{Stands}
 use Rattle.dsr_file.proofs.reader.FileReader.read.Given as goal
 

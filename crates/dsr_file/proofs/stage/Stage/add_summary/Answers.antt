@@ -9,7 +9,8 @@ use Rattle.dsr_file.proofs.stage.Stage.add_summary.Goals as goal
 
 pub invariant_of-opening : goal.invariant_of-opening
 invariant_of-opening c =
-    let new = subst (λ x. IsNew x c.args.summary.id) c.in-Front.is c.requires in
-    pushed HasDistinctIds c.push.result c.args.summary c.push.new.self _ _ c.push.ensures.pushed
-    (distinct_push c.opening.inside.summaries c.args.summary c.opening.invariant
-    (subst (λ ss. list_any (λ t. bytes_eq t.id c.args.summary.id) ss ≡ false) (sym (ap (λ o. o.summaries) c.opening.view_is)) new)) c.opening.invariant
+    let s = c.in_ok-summary.summary in
+    let new = subst (λ x. IsNew x s.id) c.in-Front.is (subst (λ t. IsNew c.args.self.now t.id) (sym c.in_ok-summary.ensures) c.requires) in
+    pushed HasDistinctIds c.push.result s c.push.new.self _ _ c.push.ensures.pushed
+    (distinct_push c.opening.inside.summaries s c.opening.invariant
+    (subst (λ ss. list_any (λ t. bytes_eq t.id s.id) ss ≡ false) (sym (ap (λ o. o.summaries) c.opening.view_is)) new)) c.opening.invariant

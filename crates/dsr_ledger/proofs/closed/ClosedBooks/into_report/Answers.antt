@@ -1,8 +1,8 @@
-use Rattle.dsr_ledger.proofs.Common.{report_of}
+use Rattle.dsr_ledger.proofs.Common.{bookings, report_of}
 use Rattle.dsr_ledger.proofs.closed.ClosedBooks.into_report.Goals as goal
 
 pub returns : goal.returns
 unfolding report_of
 returns c = λ files h.
-    let copied = c.in-Ok.ensures files h in
+    let copied = c.in-Ok.ensures (bookings files) h.ledger in
     λ i. record { key = h.key i; files = h.lines i; missing = h.missing i; differences = h.differences i; ledger = copied i; rejects = h.rejects i }

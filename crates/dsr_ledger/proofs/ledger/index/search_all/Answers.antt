@@ -4,8 +4,8 @@ use Rattle.dsr_ledger.proofs.Common.{rules, ◌≡◌, None, Some, map, sym, ap,
 use Rattle.dsr_ledger.proofs.IndexLemmas.{found_first, found_later}
 use Rattle.dsr_ledger.proofs.ledger.index.search_all.Goals as goal
 
-pub search-requires : goal.search-requires
-search-requires g c =
+pub search_rising-requires : goal.search_rising-requires
+search_rising-requires g c =
     let number = g.T.Numbered.number_of in
     subst Rise (drop-map number 16 c.args.items.now ∙ sym (ap (map number) c.behind.ensures)) c.requires
 

@@ -13,6 +13,6 @@ returns c =
     record {
       line = row.line;
       spells =
-          rw (c.text.ensures, c.text-2.ensures, c.text-3.ensures, c.text-4.ensures)
+          rw (c.text.ensures, c.text-2.ensures)
           (resource_of_cells (take c.in_ok-artists.size c.args.page.now) _ _ _ _ row.are (c.if-not-is_identifier.ensures refl));
     }

@@ -20,7 +20,7 @@ returns c =
     record {
       line = row.line;
       spells =
-          rw (c.text.ensures, c.text-2.ensures, c.text-3.ensures, c.text-party_cell.ensures, c.text-share_cell.ensures)
+          rw (c.text.ensures, c.text-2.ensures, c.text-share_cell.ensures)
           (work_of_cells (take c.in_ok-shares.size c.args.page.now) _ _ _ _ _ row.are (c.if-not-is_identifier.ensures refl)
-          (rw c.text-share_cell.ensures at lists.0) (rw (c.text-party_cell.ensures, c.text-share_cell.ensures) at lists.1));
+          (rw c.text-share_cell.ensures at lists.0) (rw c.text-share_cell.ensures at lists.1));
     }

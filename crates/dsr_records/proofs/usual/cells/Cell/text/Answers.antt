@@ -1,8 +1,7 @@
 use Rattle.std.proofs.Common.{arith, subst, ◌≡◌, ◌+◌, ◌-◌, take, drop}
 use Rattle.std.specs.Str.{IsUtf8}
 use Rattle.std.specs.Simd.Lanes.{chunk}
-use Rattle.std.proofs.lemmas.Str.{IsUtf8-from_ascii}
-use Rattle.dsr_records.proofs.UsualCells.{printable_ascii}
+use Rattle.dsr_records.proofs.UsualCells.{printable_utf8}
 use Rattle.dsr_records.proofs.usual.cells.Cell.text.Goals as goal
 
 pub from_utf8_unchecked-requires : goal.from_utf8_unchecked-requires
@@ -11,4 +10,4 @@ from_utf8_unchecked-requires c =
     let size = c.args.self.size in
     let same : size ≡ at + size - at = omega arith in
     subst (λ n. IsUtf8 (take n (drop at c.args.self.page.now))) same
-    (IsUtf8-from_ascii (chunk at size c.args.self.page.now) (printable_ascii (chunk at size c.args.self.page.now) c.args.self.printable))
+    (printable_utf8 (chunk at size c.args.self.page.now) c.args.self.printable)

@@ -1,14 +1,18 @@
-use Rattle.std.proofs.Common.{arith}
+use Rattle.std.proofs.Common.{arith, ◌≡◌, true}
+use Rattle.std.specs.List.{list_all}
+use Rattle.std.specs.Simd.Lanes.{chunk}
+use Rattle.dsr_records.specs.inner.Usual.{is_printable}
+use Rattle.dsr_records.proofs.UsualCells.{printable_utf8, shown_all}
 use Rattle.dsr_records.proofs.UsualLines.{last_of_line}
 use Rattle.dsr_records.proofs.usual.cells.Cells.last.Goals as goal
-
-pub invariant_of-cell : goal.invariant_of-cell
-invariant_of-cell c =
-    record { behind = omega (arith, c.in_ok-size.ensures.within, c.args.self.behind); printable = c.in_ok-size.ensures.printable }
 
 pub returns : goal.returns
 returns c page front is =
     let s = c.args.self in
-    let within = c.in_ok-size.ensures.within in
-    last_of_line s.page.now s.at c.in_ok-size.size (omega (arith, within, s.behind)) c.in_ok-size.ensures.printable page front is
-    (omega (arith, within, s.near)) (omega (arith, c.if-self-size-ne10.false))
+    let cell = c.in_ok-cell.cell in
+    let e = c.in_ok-cell.ensures in
+    let text = chunk s.at cell.size s.page.now in
+    let printable : list_all is_printable text ≡ true = rw (e.page, e.at) at cell.printable in
+    rw (e.page, e.at)
+    (last_of_line s.page.now s.at cell.size (omega (arith, e.within, s.behind)) (shown_all text printable) (printable_utf8 text printable) page front is
+    (omega (arith, e.within, s.near)) (rw (e.page, e.at) at e.mark))
