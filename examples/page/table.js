@@ -10,13 +10,13 @@ const PRINTED = 1000;            // rows that are printed of a longer table
 const UNITS = 10n ** 10n;
 
 const pause = () => new Promise(done => setTimeout(done));
+let until = 0;                   // when the browser gets its turn
 
 /**
  * Calls `step` with 0, 1, .. below `count`, and lets the browser work between them, where the time is looked at after every
- * so many; false if it became stale before the end.
+ * so many; false if it became stale before the end. Calls that follow on one another share a slice of work.
  */
 async function slices(count, step, isStale = () => false, every = 128) {
-  let until = performance.now() + SLICE;
   for (let at = 0; at < count; at++) {
     step(at);
     if (at % every === every - 1 && performance.now() > until) {
