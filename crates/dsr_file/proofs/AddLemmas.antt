@@ -17,7 +17,8 @@ use Rattle.dsr_file.specs.meaning.Parts.{closed, summaries, events_of}
 use Rattle.dsr_file.specs.meaning.Faults.{fault_if, fault_of, early_fault, count_fault}
 use Rattle.dsr_records.specs.meaning.Records.{or_else}
 use Rattle.dsr_file.specs.meaning.Texts.{counts_fault}
-use Rattle.dsr_file.specs.inner.Stages.{KeepsStage, stage_after, given_by}
+use Rattle.dsr_file.specs.declared.stage.Stage.{Stage}
+use Rattle.dsr_file.specs.inner.Stages.{KeepsStage, IsMember, stage_after, given_by}
 use Rattle.dsr_file.specs.inner.Counting.{foot_in, summary_count, block_count}
 use Rattle.dsr_file.specs.inner.Grammars.{Keeps, kept_count_fault, IsRecord}
 use Rattle.dsr_file.proofs.StepLemmas.{Steps, step_record, summaries-append}
@@ -91,6 +92,22 @@ count_faults g (Resource r) f e = cc
 count_faults g (Work w) f e = cc
 count_faults g (Usage u) f e = cc
 count_faults g Skipped f e = cc
+
+-- a work or a usage closes nothing, and no count but that of the records changes by it
+pub record Plain (stage : Stage) (item : Record) : Type 0 where
+  pub given : None ≡ given_by stage item
+  pub real : IsRecord item
+  pub summaries : summary_count item ≡ 0
+  pub foot : foot_in item ≡ None
+
+pub plain_member : (stage : Stage) (item : Record) → IsMember item → Plain stage item
+plain_member stage (Work w) m = record { given = refl; real = tt; summaries = refl; foot = refl }
+plain_member stage (Usage u) m = record { given = refl; real = tt; summaries = refl; foot = refl }
+plain_member stage (Head h) m = absurd m
+plain_member stage (Summary s) m = absurd m
+plain_member stage (Resource r) m = absurd m
+plain_member stage (Foot f) m = absurd m
+plain_member stage Skipped m = absurd m
 
 module _ (old new : Grammar) (ls : List Reading) (item : Record) (part : Option EventPart) (k : Keeps old ls) (e : early_fault (records ls) item ≡ None)
     (i : IsRecord item) (a : Adds old new item part) where

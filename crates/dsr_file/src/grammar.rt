@@ -42,7 +42,7 @@ impl Grammar {
     ghost use Rattle.dsr_file.specs.meaning.Readings.{Reading, SkippedLine, Holds, reading, of_utf8};
     ghost use Rattle.dsr_events.specs.declared.record.Record.TheVariants as the;
     ghost use Rattle.dsr_file.specs.inner.Grammars.{Keeps, LineSteps, IsRecord, kept_count_fault};
-    ghost use Rattle.dsr_file.specs.inner.Stages.{column_at};
+    ghost use Rattle.dsr_file.specs.inner.Stages.{column_at, IsMember};
     ghost use Rattle.dsr_file.specs.meaning.Texts.{outcome_at};
 
     /// A grammar that has taken no line.
@@ -120,6 +120,25 @@ impl Grammar {
         self.skipped_records += 1;
     }
 
+    /// Takes a work or a usage, which closes nothing.
+    #[inline(always)]
+    fn member(&mut self, alloc: Global, line: CheckedLine<'_>) -> Step
+        requires lines { self.old.lines < 2 ^ 40 - 1 }
+        requires member { IsMember (record_seen line) }
+        ensures steps { (ls : List Reading) → Keeps self.old ls
+            → LineSteps ls (Holds (record_seen line.entry)) result None self.new }
+        ensures counts { self.new.lines ≤ self.old.lines + 1 }
+    {
+        if let Some(fault) = self.stage.fault(line.kind(), line.id()) {
+            return Step::Faulty(fault);
+        }
+        let Ok(()) = self.stage.add_member(alloc, &line) else {
+            return Step::NoMemory;
+        };
+        self.count(0, 0);
+        Step::Good
+    }
+
     /// Takes a record that is not of a skipped type; `closed` becomes what it closes.
     #[inline(always)]
     fn record(&mut self, alloc: Global, line: CheckedLine<'_>, closed: &mut Closed) -> Step
@@ -142,8 +161,20 @@ impl Grammar {
         }
     }
 
-    /// Takes a line whose cells have no fault; `closed` becomes what the line closes. `record` is inlined here once for each kind
-    /// that blocks are made of, so that it need not match the kind again.
+    /// The same as `record`, not inlined, for the few lines of a file that are in no block.
+    #[inline(never)]
+    fn record_apart(&mut self, alloc: Global, line: CheckedLine<'_>, closed: &mut Closed) -> Step
+        requires lines { self.old.lines < 2 ^ 40 - 1 }
+        requires none { closed.old ≡ None }
+        ensures steps { (ls : List Reading) → Keeps self.old ls → IsRecord (record_seen line.entry)
+            → LineSteps ls (Holds (record_seen line.entry)) result closed.new self.new }
+        ensures counts { self.new.lines ≤ self.old.lines + 1 }
+    {
+        self.record(alloc, line, closed)
+    }
+
+    /// Takes a line whose cells have no fault; `closed` becomes what the line closes. What is inlined here, once for each kind
+    /// that blocks are made of, need not match the kind again.
     #[inline(always)]
     pub(crate) fn checked(
         &mut self,
@@ -158,8 +189,8 @@ impl Grammar {
         ensures counts { self.new.lines ≤ self.old.lines + 1 }
     {
         match line {
-            CheckedLine::Usage(usage) => self.record(alloc, CheckedLine::Usage(usage), closed),
-            CheckedLine::Work(work) => self.record(alloc, CheckedLine::Work(work), closed),
+            CheckedLine::Usage(usage) => self.member(alloc, CheckedLine::Usage(usage)),
+            CheckedLine::Work(work) => self.member(alloc, CheckedLine::Work(work)),
             CheckedLine::Resource(resource) => {
                 self.record(alloc, CheckedLine::Resource(resource), closed)
             }
@@ -167,7 +198,7 @@ impl Grammar {
                 self.skip_record();
                 Step::Good
             }
-            line => self.record(alloc, line, closed),
+            line => self.record_apart(alloc, line, closed),
         }
     }
 
