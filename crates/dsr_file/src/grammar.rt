@@ -129,8 +129,8 @@ impl Grammar {
             → LineSteps ls (Holds (record_seen line.entry)) result None self.new }
         ensures counts { self.new.lines ≤ self.old.lines + 1 }
     {
-        if let Some(fault) = self.stage.fault(line.kind(), line.id()) {
-            return Step::Faulty(fault);
+        if let Some(wrong) = self.stage.fault(line.kind(), line.id()) {
+            return Step::Faulty(wrong);
         }
         let Ok(()) = self.stage.add_member(alloc, &line) else {
             return Step::NoMemory;
