@@ -10,17 +10,16 @@ ghost use Rattle.dsr_ledger.specs.inner.Recordings.{tally_at};
 ghost use Rattle.dsr_ledger.specs.inner.FileSteps.{IsNumberedFile, IsSameFile, TakesBlock};
 ghost use Rattle.dsr_ledger.specs.inner.Stands.{FileStands, Took};
 
+pub mod ids;
+pub mod open;
 pub mod summaries;
 
-use crate::booking::apply::add_usages;
-use crate::booking::plan::Plan;
-use crate::counting::count_usages;
-use crate::file::summaries::Summaries;
-use crate::ids::{Ids, number_of};
-use crate::judge::judge;
-use crate::ledger::recordings::Ledger;
+use crate::booking::{Plan, add_usages};
+use crate::file::ids::{Ids, number_of};
+use crate::file::summaries::{Summaries, count_usages};
+use crate::ledger::Ledger;
 use crate::report::Reject;
-use crate::verdict::{Reason, Standing, Verdict};
+use crate::verdict::{Reason, Standing, Verdict, judge};
 use dsr_cells::{Isrc, NoMemory};
 use dsr_events::{Block, Opening, Outcome};
 use std::alloc::Global;

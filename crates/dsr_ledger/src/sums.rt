@@ -1,9 +1,46 @@
-//! Sums over usages.
+//! Sums over usages, and the numbers of 128 bits in which they are kept.
 ghost use Rattle.std.specs.Prelude.{◌≡◌, ◌+ℤ◌, pos};
 ghost use Rattle.dsr_ledger.specs.inner.Ranges.{IsInRange, SumsFit};
 
-use crate::wide::Wide;
 use dsr_events::Usage;
+use std::marker::Model;
+
+/// A number of 128 bits that is aligned like one of 64 bits, so that a struct with one takes less memory. Contracts see
+/// it as the number.
+#[derive(Default, Drop)]
+pub struct Wide {
+    high: i64,
+    low: u64,
+}
+
+impl Model for Wide {
+    ghost use Rattle.std.specs.Prelude.{ℤ, ◌+ℤ◌, ◌*ℤ◌, ◌^◌, pos};
+
+    ghost Value = { ℤ };
+
+    ghost view = { λ wide. wide.high *ℤ pos (2 ^ 64) +ℤ pos wide.low };
+}
+
+impl Wide {
+    /// This number.
+    #[inline(always)]
+    pub fn of(number: i128) -> Wide
+        ensures { result ≡ number }
+    {
+        Wide {
+            high: number.div_euclid(1 << 64) as i64,
+            low: number.rem_euclid(1 << 64) as u64,
+        }
+    }
+
+    /// The number.
+    #[inline(always)]
+    pub fn get(&self) -> i128
+        ensures { result ≡ self.now }
+    {
+        (i128::from(self.high) << 64) + i128::from(self.low)
+    }
+}
 
 /// The sums of the usages and of the amounts, in units.
 #[derive(Drop)]

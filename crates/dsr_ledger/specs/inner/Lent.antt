@@ -10,11 +10,11 @@ use Rattle.std.specs.declared.cmp.Ordering.TheVariants.{Less}
 use Rattle.indexmap.specs.IndexMap.{get}
 use Rattle.dsr_ledger.specs.declared.ledger.line.Line.{Line}
 use Rattle.dsr_ledger.specs.declared.ledger.recording.Recording.{Recording}
-use Rattle.dsr_ledger.specs.declared.ledger.recordings.Ledger.{Ledger}
+use Rattle.dsr_ledger.specs.declared.ledger.Ledger.{Ledger}
 use Rattle.dsr_ledger.specs.declared.ledger.summary_key.SummaryKey.{SummaryKey}
-use Rattle.dsr_ledger.specs.declared.lent.ledger.FoundLine.{FoundLine}
-use Rattle.dsr_ledger.specs.declared.lent.ledger.LentLedger.{LentLedger}
-use Rattle.dsr_ledger.specs.declared.lent.report.LentReport.{LentReport}
+use Rattle.dsr_ledger.specs.declared.lent.FoundLine.{FoundLine}
+use Rattle.dsr_ledger.specs.declared.lent.LentLedger.{LentLedger}
+use Rattle.dsr_ledger.specs.declared.lent.LentReport.{LentReport}
 use Rattle.dsr_ledger.specs.declared.report.LedgerLine.{LedgerLine}
 use Rattle.dsr_ledger.specs.declared.report.Report.{Report}
 use Rattle.dsr_ledger.specs.meaning.Bookings.{Booking, key_under}

@@ -2,7 +2,7 @@
 use Rattle.std.specs.Prelude.{◌≤◌, ◌<◌, ◌^◌, List, length, unsigned_abs}
 use Rattle.std.specs.List.{AllByRecursion}
 use Rattle.dsr_ledger.specs.meaning.Limits.{whole_share, amount_bound}
-use Rattle.dsr_ledger.specs.declared.ledger.recordings.Ledger.{Ledger}
+use Rattle.dsr_ledger.specs.declared.ledger.Ledger.{Ledger}
 use Rattle.dsr_ledger.specs.meaning.Bookings.{Booking}
 use Rattle.dsr_ledger.specs.meaning.Verdicts.{share_total}
 use Rattle.dsr_ledger.specs.inner.Stands.{LedgerStands}

@@ -2,8 +2,8 @@
 use Rattle.std.specs.Prelude.{◌≡◌, ℕ, List, Option, Some, map}
 use Rattle.dsr_events.specs.declared.record.Usage.{Usage}
 use Rattle.dsr_events.specs.meaning.Works.{WorkParts}
-use Rattle.dsr_ledger.specs.declared.booking.plan.Plan.{Plan}
-use Rattle.dsr_ledger.specs.declared.ledger.recordings.Ledger.{Ledger}
+use Rattle.dsr_ledger.specs.declared.booking.Plan.{Plan}
+use Rattle.dsr_ledger.specs.declared.ledger.Ledger.{Ledger}
 use Rattle.dsr_ledger.specs.declared.file.summaries.Summaries.{Summaries}
 use Rattle.dsr_ledger.specs.declared.ledger.summary_key.SummaryKey.{SummaryKey}
 use Rattle.dsr_ledger.specs.inner.Lined.{AreLined}

@@ -7,7 +7,7 @@ use Rattle.indexmap.specs.IndexMap.{get, index_of}
 use Rattle.dsr_ledger.specs.meaning.Keys.{Key}
 use Rattle.dsr_ledger.specs.declared.ledger.summary_key.SummaryKey.{SummaryKey}
 use Rattle.dsr_ledger.specs.declared.ledger.recording.Recording.{Recording}
-use Rattle.dsr_ledger.specs.declared.ledger.recordings.Ledger.{Ledger}
+use Rattle.dsr_ledger.specs.declared.ledger.Ledger.{Ledger}
 use Rattle.dsr_ledger.specs.declared.ledger.parts.SeatShare.{SeatShare}
 use Rattle.dsr_ledger.specs.inner.Numbered.{Grows, place_by}
 use Rattle.dsr_ledger.specs.inner.Seated.{AreSeated}

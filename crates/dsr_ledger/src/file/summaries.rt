@@ -1,11 +1,12 @@
 //! The state of a file's summaries.
-ghost use Rattle.std.specs.Prelude.{◌≡◌};
+ghost use Rattle.std.specs.Prelude.{◌≡◌, ℕ, List, [], ◌∷◌, option_map, length};
+ghost use Rattle.std.specs.List.{AllByRecursion};
+ghost use Rattle.std.specs.Option.{ForSome};
 ghost use Rattle.dsr_ledger.specs.inner.Ranges.{IsInRange, SumsFit};
-ghost use Rattle.dsr_ledger.specs.inner.Summaries.{state_plus, nothing_found};
+ghost use Rattle.dsr_ledger.specs.inner.Summaries.{state_plus, nothing_found, state_at, state_with, StateFits};
 
-use crate::hints::Hints;
-use crate::seeded::Seeded;
-use crate::sums::Sums;
+use crate::index::{Hints, Seeded};
+use crate::sums::{Sums, check_range};
 use dsr_cells::{NoMemory, Text};
 use dsr_events::{Summary, Usage};
 use indexmap::IndexMap;
@@ -60,10 +61,10 @@ fn summary_group(id: &Text) -> usize {
 }
 
 impl Summaries {
-    ghost use Rattle.std.specs.Prelude.{[], ◌∷◌, ◌<◌, ℕ, List, IfSome, IfOk, OnOk, None, Some, option_map};
-    ghost use Rattle.std.specs.Option.{ForSome, option_or};
+    ghost use Rattle.std.specs.Prelude.{◌<◌, IfSome, IfOk, OnOk, None, Some};
+    ghost use Rattle.std.specs.Option.{option_or};
     ghost use Rattle.indexmap.specs.IndexMap.{index_map_len};
-    ghost use Rattle.dsr_ledger.specs.inner.Summaries.{state_at, sums_at, state_with, number_at, index_at, StateFits};
+    ghost use Rattle.dsr_ledger.specs.inner.Summaries.{sums_at, number_at, index_at};
     ghost use Rattle.dsr_ledger.specs.inner.Openings.{named};
 
     /// No summaries.
@@ -177,5 +178,31 @@ impl Summaries {
     {
         let (_, state) = self.states.pair_mut(number);
         state.count(usage);
+    }
+}
+
+/// Adds a usage to the summary that it names, and to no other.
+#[tactic(auto, using(crate::proofs::StateLemmas::uncounted))]
+fn count_one(summaries: &mut Summaries, usage: &Usage)
+    requires { (id : List ℕ) → ForSome (state_at summaries.old id) (StateFits 1) }
+    ensures range { IsInRange usage.now }
+    ensures summaries { (id : List ℕ) → state_at summaries.new id ≡ option_map
+        (state_with id (usage.now ∷ [])) (state_at summaries.old id) }
+{
+    check_range(usage);
+    if let Some(number) = summaries.index(&usage.summary_id) {
+        summaries.count(number, usage);
+    }
+}
+
+/// Adds usages to the summaries that they name, and to no others.
+pub fn count_usages(summaries: &mut Summaries, usages: &[Usage])
+    requires { (id : List ℕ) → ForSome (state_at summaries.old id) (StateFits (length usages.now)) }
+    ensures range { AllByRecursion IsInRange usages.now }
+    ensures summaries { (id : List ℕ) → state_at summaries.new id ≡ option_map
+        (state_with id usages.now) (state_at summaries.old id) }
+{
+    for usage in usages {
+        count_one(summaries, usage);
     }
 }

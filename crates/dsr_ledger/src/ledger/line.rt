@@ -7,7 +7,7 @@ ghost use Rattle.dsr_ledger.specs.inner.Ranges.{IsInRange};
 ghost use Rattle.dsr_ledger.specs.inner.Seated.{HaveSeats, HaveParts};
 ghost use Rattle.dsr_ledger.specs.inner.Tallies.{no_tally, line_tally, tally_with, TallyFits};
 
-use crate::ledger::index::Numbered;
+use crate::index::Numbered;
 use crate::ledger::parts::{Parts, SeatShare};
 use crate::sums::Sums;
 use dsr_events::Usage;

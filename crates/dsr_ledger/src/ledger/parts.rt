@@ -11,9 +11,8 @@ ghost use Rattle.dsr_ledger.specs.inner.Owed.{nothing_owed, owed_with, owed_kept
 ghost use Rattle.dsr_ledger.specs.meaning.Parts.{part_of};
 ghost use Rattle.dsr_ledger.specs.inner.Seated.{HaveSeats, HasPart, HaveParts, AreSeatsBelow};
 
-use crate::ledger::index::{Index, Numbered};
-use crate::seeded::Seeded;
-use crate::wide::Wide;
+use crate::index::{Index, Numbered, Seeded};
+use crate::sums::Wide;
 use dsr_cells::{Amount, NoMemory};
 use smallvec::SmallVec;
 use std::alloc::Global;

@@ -8,12 +8,10 @@ ghost use Rattle.dsr_ledger.specs.inner.Numbered.{AreApart, place_in};
 ghost use Rattle.dsr_ledger.specs.inner.Seats.{seat_numbers};
 ghost use Rattle.dsr_ledger.specs.inner.Tallies.{line_in, line_keys, AreWithin};
 
-use crate::hints::Hints;
-use crate::ledger::index::Index;
+use crate::index::{Hints, Index, Seeded};
 use crate::ledger::line::Line;
 use crate::ledger::parts::{SeatShare, widen};
 use crate::ledger::seats::Seats;
-use crate::seeded::Seeded;
 use dsr_cells::NoMemory;
 use dsr_events::Usage;
 use std::alloc::Global;

@@ -4,8 +4,7 @@ ghost use Rattle.std.proofs.Props.{props};
 ghost use Rattle.dsr_ledger.specs.inner.Indexes.{AreIndexed};
 ghost use Rattle.dsr_ledger.specs.inner.Numbered.{place_in, AreApart};
 
-use crate::ledger::index::Index;
-use crate::seeded::Seeded;
+use crate::index::{Index, Seeded};
 use dsr_cells::NoMemory;
 use smallvec::SmallVec;
 use std::alloc::Global;
