@@ -12,8 +12,7 @@ ghost use Rattle.dsr_ledger.specs.meaning.Verdicts.{share_total};
 ghost use Rattle.dsr_ledger.specs.inner.Recordings.{tally_at, seat_at, recording_number, KeepsSeats, KeepsLines, SameNumbers};
 ghost use Rattle.dsr_ledger.specs.inner.Seated.{shares_of, AreSeated, SeatedMore};
 ghost use Rattle.dsr_ledger.specs.inner.Summaries.{index_at, AreNumbered, state_at, state_with, StateFits};
-ghost use Rattle.dsr_ledger.specs.inner.Lined.{AreLined};
-ghost use Rattle.dsr_ledger.specs.inner.Plans.{IsPlanned};
+ghost use Rattle.dsr_ledger.specs.inner.Plans.{AreLined, IsPlanned};
 ghost use Rattle.dsr_ledger.specs.inner.Ranges.{IsInRange};
 ghost use Rattle.dsr_ledger.specs.inner.Tallies.{tally_plus, key_tally, TallyFits};
 
@@ -28,15 +27,15 @@ use std::alloc::Global;
 /// The plan of a block's additions. The lists are filled anew for each block; until then they and the recording are those of
 /// an earlier block, perhaps of another file, and serve as hints.
 #[derive(Drop)]
-pub struct Plan {
+pub(crate) struct Plan {
     /// The numbers of the usages' summaries.
-    pub summaries: Vec<usize>,
+    pub(crate) summaries: Vec<usize>,
     /// The number of the recording; 0 before the first block.
-    pub recording: usize,
+    pub(crate) recording: usize,
     /// The shares of all works, concatenated.
-    pub shares: Vec<SeatShare>,
+    shares: Vec<SeatShare>,
     /// The lines of the usages.
-    pub lines: Vec<usize>,
+    lines: Vec<usize>,
 }
 
 /// The seat after that of the last share, which is mostly that of the next party.
@@ -139,7 +138,7 @@ fn plan_lines(
 
 impl Plan {
     /// Empty lists.
-    pub fn new(alloc: Global) -> Plan {
+    pub(crate) fn new(alloc: Global) -> Plan {
         Plan {
             summaries: Vec::new(alloc),
             recording: 0,
@@ -150,7 +149,7 @@ impl Plan {
 
     /// Plans a block of a recording with these works, whose usages' summaries are already in `self.summaries`. No sum of a
     /// key or a summary changes.
-    pub fn fill(
+    pub(crate) fn fill(
         &mut self,
         ledger: &mut Ledger,
         alloc: Global,
@@ -212,7 +211,12 @@ fn add_usage(ledger: &mut Ledger, summaries: &mut Summaries, plan: &Plan, i: usi
 
 /// Adds the usages of a block to their summaries and to their lines, and to no others.
 #[inline(never)]
-pub fn add_usages(ledger: &mut Ledger, summaries: &mut Summaries, plan: &Plan, usages: &[Usage])
+pub(crate) fn add_usages(
+    ledger: &mut Ledger,
+    summaries: &mut Summaries,
+    plan: &Plan,
+    usages: &[Usage],
+)
     requires planned { (isrc : List ℕ) × (works : List WorkParts)
         × (key_of : List ℕ → Option SummaryKey)
         × IsPlanned ledger.old summaries.old key_of isrc works usages.now plan.now

@@ -17,14 +17,14 @@ use std::alloc::Global;
 
 /// The files that were opened, and the ledger.
 #[derive(Drop)]
-pub struct Kept {
-    pub files: Vec<FileBooks>,
-    pub ledger: Ledger,
+pub(crate) struct Kept {
+    pub(crate) files: Vec<FileBooks>,
+    pub(crate) ledger: Ledger,
 }
 
 impl Kept {
     /// File k, if it was opened.
-    pub fn file(&self, k: u32) -> Option<&FileBooks>
+    pub(crate) fn file(&self, k: u32) -> Option<&FileBooks>
         ensures { option_map (λ f. f.now) result ≡ slice_get self.now.files.items k }
     {
         self.files.get(k as usize)

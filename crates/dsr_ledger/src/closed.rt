@@ -21,13 +21,13 @@ use std::collections::BTreeSet;
 
 /// Books whose files have all ended: their report, but for the lines of the ledger, and the ledger.
 pub struct ClosedBooks {
-    pub(crate) alloc: Global,
-    pub(crate) key: Option<ReportKey>,
-    pub(crate) files: FileLines,
-    pub(crate) missing: Numbers,
-    pub(crate) differences: Differences,
-    pub(crate) rejects: Rejects,
-    pub(crate) ledger: Ledger,
+    alloc: Global,
+    key: Option<ReportKey>,
+    files: FileLines,
+    missing: Numbers,
+    differences: Differences,
+    rejects: Rejects,
+    ledger: Ledger,
     ghost small: { ∥ AreOfSmall ledger ∥₁ },
 }
 

@@ -9,7 +9,7 @@ ghost use Rattle.dsr_ledger.specs.meaning.Files.{first_head};
 ghost use Rattle.dsr_ledger.specs.meaning.Reports.{key_of};
 ghost use Rattle.dsr_ledger.specs.inner.Assembly.{line_kept, is_number_kept, not_in, sums_or_zeros, difference_to, differences_to, differences_kept};
 ghost use Rattle.dsr_ledger.specs.inner.Summaries.{sums_at};
-ghost use Rattle.dsr_ledger.specs.inner.Openings.{openings_of};
+ghost use Rattle.dsr_ledger.specs.inner.Stands.{openings_of};
 
 use crate::file::FileBooks;
 use crate::file::summaries::Summaries;
@@ -40,7 +40,7 @@ fn file_line(file: &FileBooks) -> FileLine
 }
 
 /// The lines of the files, in their order.
-pub fn file_lines(alloc: Global, files: &[FileBooks]) -> Result<FileLines, NoMemory>
+pub(crate) fn file_lines(alloc: Global, files: &[FileBooks]) -> Result<FileLines, NoMemory>
     ensures { IfOk result (λ lines. lines ≡ map line_kept files.now) }
 {
     let mut lines = Items::new(alloc);
@@ -62,7 +62,7 @@ fn add_number(numbers: &mut BTreeSet<u32>, file: &FileBooks) -> Result<(), NoMem
 }
 
 /// The numbers of the files whose standing is Ours.
-pub fn own_numbers(alloc: Global, files: &[FileBooks]) -> Result<BTreeSet<u32>, NoMemory>
+pub(crate) fn own_numbers(alloc: Global, files: &[FileBooks]) -> Result<BTreeSet<u32>, NoMemory>
     ensures { IfOk result (λ s. (n : ℕ) → contains nat_cmp s n ≡ list_any
         (is_number_kept n) files.now) }
 {
@@ -98,7 +98,7 @@ fn absent_numbers(alloc: Global, last: u32, numbers: &BTreeSet<u32>) -> Result<N
 }
 
 /// The missing numbers of a report, ascending; none if it has no key.
-pub fn missing_numbers(
+pub(crate) fn missing_numbers(
     alloc: Global,
     key: &Option<ReportKey>,
     numbers: &BTreeSet<u32>,
@@ -190,7 +190,11 @@ fn add_differences(
 }
 
 /// Adds the differences of a file. Only a file of the report that ended whole has any.
-fn add_file(differences: &mut Differences, alloc: Global, file: &FileBooks) -> Result<(), NoMemory>
+fn add_file_differences(
+    differences: &mut Differences,
+    alloc: Global,
+    file: &FileBooks,
+) -> Result<(), NoMemory>
     ensures { OnOk result (differences.new ≡ differences.old ++ differences_kept file.now) }
 {
     match (file.standing, file.outcome, &file.opening) {
@@ -203,12 +207,12 @@ fn add_file(differences: &mut Differences, alloc: Global, file: &FileBooks) -> R
 }
 
 /// The differences of the files, by file and then in file order.
-pub fn differences_of(alloc: Global, files: &[FileBooks]) -> Result<Differences, NoMemory>
+pub(crate) fn differences_of(alloc: Global, files: &[FileBooks]) -> Result<Differences, NoMemory>
     ensures { IfOk result (λ l. l ≡ flat_map differences_kept files.now) }
 {
     let mut differences = Items::new(alloc);
     for file in files {
-        add_file(&mut differences, alloc, file)?;
+        add_file_differences(&mut differences, alloc, file)?;
     }
     Ok(differences)
 }
@@ -247,7 +251,7 @@ fn add_rejects(rejects: &mut Rejects, more: Vec<Reject>) -> Result<(), NoMemory>
 }
 
 /// The key of the first file that has an opening, and the rejected blocks by file and then in file order.
-pub fn key_and_rejects(
+pub(crate) fn key_and_rejects(
     alloc: Global,
     files: Vec<FileBooks>,
 ) -> Result<(Option<ReportKey>, Rejects), NoMemory>

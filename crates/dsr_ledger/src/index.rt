@@ -10,10 +10,10 @@ use std::alloc::Global;
 use std::hash::{BuildHasher, FoldHasher, Hasher};
 
 /// This many first items of a list are found by a linear search.
-pub const FEW: usize = 16;
+const FEW: usize = 16;
 
 /// An item that is found by its number.
-pub trait Numbered {
+pub(crate) trait Numbered {
     ghost number_of: { Self → ℕ };
 
     /// Its number.
@@ -33,8 +33,8 @@ impl Numbered for u32 {
 /// an item is found by a linear search of the first few and a binary search of the others. The first
 /// number that does not ascend makes a set of the numbers of all items, in their order.
 #[derive(Drop)]
-pub struct Index {
-    pub numbers: Option<Box<IndexSet<u32, Seeded>>>,
+pub(crate) struct Index {
+    numbers: Option<Box<IndexSet<u32, Seeded>>>,
 }
 
 /// The place of a number among the first few items.
@@ -124,7 +124,7 @@ fn search_all<T: Numbered>(items: &[T], number: u32) -> Option<usize>
 
 impl Index {
     /// No items.
-    pub fn new() -> Index
+    pub(crate) fn new() -> Index
         ensures { AreIndexed [] result }
     {
         Index { numbers: None }
@@ -132,7 +132,7 @@ impl Index {
 
     /// The place of a number in a list. Callers mostly find the place by a hint, so this is not inlined.
     #[inline(never)]
-    pub fn search<T: Numbered>(&self, items: &[T], number: u32) -> Option<usize>
+    pub(crate) fn search<T: Numbered>(&self, items: &[T], number: u32) -> Option<usize>
         requires { AreIndexed (map T.number_of items.now) self.now }
         ensures { result ≡ place_in (map T.number_of items.now) number }
     {
@@ -143,7 +143,7 @@ impl Index {
     }
 
     /// The place of a number in a list. The item at `hint` is tried first.
-    pub fn find<T: Numbered>(&self, items: &[T], number: u32, hint: usize) -> Option<usize>
+    pub(crate) fn find<T: Numbered>(&self, items: &[T], number: u32, hint: usize) -> Option<usize>
         requires apart { AreApart (map T.number_of items.now) }
         requires indexed { AreIndexed (map T.number_of items.now) self.now }
         ensures { result ≡ place_in (map T.number_of items.now) number }
@@ -157,7 +157,7 @@ impl Index {
     }
 
     /// Adds the number of the item that comes after those of a list, none of which has it.
-    pub fn add<T: Numbered>(
+    pub(crate) fn add<T: Numbered>(
         &mut self,
         alloc: Global,
         seeded: Seeded,
@@ -185,19 +185,19 @@ impl Index {
 /// For each of `N` groups of items, the place of the item of the group that was added last, modulo 256. A hint may be
 /// wrong: it is checked where it is used, and the right one saves a search.
 #[derive(Clone, Copy)]
-pub struct Hints<const N: usize> {
+pub(crate) struct Hints<const N: usize> {
     places: [u8; N],
 }
 
 impl<const N: usize> Hints<N> {
     /// Every hint is 0.
-    pub fn new() -> Hints<N> {
+    pub(crate) fn new() -> Hints<N> {
         Hints { places: [0; N] }
     }
 
     /// The hint of a group.
     #[inline(always)]
-    pub fn get(&self, group: usize) -> usize {
+    pub(crate) fn get(&self, group: usize) -> usize {
         match self.places.get(group) {
             Some(place) => *place as usize,
             None => 0,
@@ -205,7 +205,7 @@ impl<const N: usize> Hints<N> {
     }
 
     /// Notes that an item of a group is at this place.
-    pub fn set(&mut self, group: usize, place: usize) {
+    pub(crate) fn set(&mut self, group: usize, place: usize) {
         if let Some(hint) = self.places.get_mut(group) {
             *hint = (place % 256) as u8;
         }
@@ -214,13 +214,13 @@ impl<const N: usize> Hints<N> {
 
 /// Builds hashers from a seed, so that whoever chooses the keys cannot make them collide.
 #[derive(Clone, Copy)]
-pub struct Seeded {
+pub(crate) struct Seeded {
     first: FoldHasher,
 }
 
 impl Seeded {
     /// Hashers with this seed.
-    pub fn with_seed(seed: u64) -> Seeded {
+    pub(crate) fn with_seed(seed: u64) -> Seeded {
         let mut first = FoldHasher::default();
         first.write_u64(seed);
         Seeded { first }
@@ -238,7 +238,7 @@ impl BuildHasher for Seeded {
 }
 
 /// The number in 32 bits. One past 32 bits is reported as `NoMemory`.
-pub fn narrow(number: usize) -> Result<u32, NoMemory>
+pub(crate) fn narrow(number: usize) -> Result<u32, NoMemory>
     ensures { IfOk result (λ same. same ≡ number) }
 {
     match u32::try_from(number) {

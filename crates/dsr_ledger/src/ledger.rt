@@ -4,15 +4,15 @@ ghost use Rattle.std.specs.Str.{bytes_eq};
 ghost use Rattle.indexmap.specs.IndexMap.{get};
 ghost use Rattle.dsr_ledger.specs.meaning.Limits.{amount_bound};
 ghost use Rattle.dsr_ledger.specs.inner.Numbered.{AreBelow};
-ghost use Rattle.dsr_ledger.specs.inner.Seats.{seat_numbers};
+ghost use Rattle.dsr_ledger.specs.inner.Seated.{seat_numbers};
 ghost use Rattle.dsr_ledger.specs.inner.Tallies.{line_keys};
 ghost use Rattle.dsr_ledger.specs.declared.ledger.recording.Recording.{Recording};
 
-pub mod line;
-pub mod parts;
-pub mod recording;
-pub mod seats;
-pub mod summary_key;
+pub(crate) mod line;
+pub(crate) mod parts;
+pub(crate) mod recording;
+pub(crate) mod seats;
+pub(crate) mod summary_key;
 
 use crate::index::{Seeded, narrow};
 use crate::ledger::parts::SeatShare;
@@ -24,25 +24,15 @@ use indexmap::{IndexMap, IndexSet};
 use std::alloc::Global;
 
 /// Each party, each summary key and each recording once. Each kind is numbered in order of arrival.
-pub struct Ledger {
-    pub parties: IndexSet<Text, Seeded>,
-    pub summary_keys: IndexSet<SummaryKey, Seeded>,
-    pub recordings: IndexMap<Isrc, Recording, Seeded>,
+#[derive(Drop)]
+pub(crate) struct Ledger {
+    pub(crate) parties: IndexSet<Text, Seeded>,
+    pub(crate) summary_keys: IndexSet<SummaryKey, Seeded>,
+    pub(crate) recordings: IndexMap<Isrc, Recording, Seeded>,
     ghost seated: { (isrc : List ℕ) (r : Recording) → get bytes_eq recordings isrc ≡ Some r
         → AreBelow (length parties.keys) (seat_numbers r.seats) },
     ghost keyed: { (isrc : List ℕ) (r : Recording) → get bytes_eq recordings isrc ≡ Some r
         → AreBelow (length summary_keys.keys) (line_keys r.lines.items) },
-}
-
-/// Written out, so that dropping one is a call: a derived drop is proved anew wherever it happens.
-impl Drop for Ledger {
-    fn drop(self) {
-        let Ledger {
-            parties: _,
-            summary_keys: _,
-            recordings: _,
-        } = self;
-    }
 }
 
 impl Ledger {
@@ -57,7 +47,7 @@ impl Ledger {
     ghost use Rattle.dsr_ledger.specs.inner.Recordings.{party_number, key_number, recording_number, tally_at, seat_at, line_at, IsWideAt, KeepsKeys, KeepsSeats, KeepsLines, SameNumbers, IsLineOf};
 
     /// No recordings.
-    pub fn new(alloc: Global, seeded: Seeded) -> Ledger
+    pub(crate) fn new(alloc: Global, seeded: Seeded) -> Ledger
         ensures { (q : Key) → tally_at result q ≡ no_tally }
     {
         Ledger {
@@ -79,7 +69,7 @@ impl Ledger {
     }
 
     /// The ISRC whose block came after one of recording `last` before, which is mostly that of the next block.
-    pub fn expected_isrc(&self, last: usize) -> Option<Isrc> {
+    pub(crate) fn expected_isrc(&self, last: usize) -> Option<Isrc> {
         let (_, isrc) = self.expected(last)?;
         Some(isrc)
     }
@@ -111,7 +101,7 @@ impl Ledger {
     /// The number of a recording, which is added if it is new, with room for this many lines. The sums of each key are
     /// unchanged. The recording whose block came after one of `last` before is tried first: the files of a report
     /// often have their recordings in the same order.
-    pub fn recording(
+    pub(crate) fn recording(
         &mut self,
         alloc: Global,
         isrc: Isrc,
@@ -184,7 +174,7 @@ impl Ledger {
 
     /// The seat of a party in a recording, which is given one if it has none. The sums of each key
     /// are unchanged. The seat `hint` is tried first.
-    pub fn seat(
+    pub(crate) fn seat(
         &mut self,
         alloc: Global,
         recording: usize,
@@ -206,7 +196,7 @@ impl Ledger {
     }
 
     /// The number of a summary key, which is given one if it has none. A number past 32 bits is reported as `NoMemory`.
-    pub fn summary_key(&mut self, key: SummaryKey) -> Result<u32, NoMemory>
+    pub(crate) fn summary_key(&mut self, key: SummaryKey) -> Result<u32, NoMemory>
         ensures keeps { KeepsKeys self.old self.new }
         ensures there { IfOk result (λ number. key_number self.new key ≡ Some number) }
     {
@@ -224,7 +214,7 @@ impl Ledger {
 
     /// The line of the summary key with this number in a recording, which is added if there is none, and has a part for
     /// the seat of each share. The sums of each key are unchanged. If the recording has many lines, `next` is tried first.
-    pub fn line(
+    pub(crate) fn line(
         &mut self,
         alloc: Global,
         recording: usize,
@@ -248,7 +238,7 @@ impl Ledger {
     }
 
     /// Adds a usage and its parts to a line, and to no other. This allocates nothing.
-    pub fn add(&mut self, recording: usize, line: usize, usage: &Usage, shares: &[SeatShare])
+    pub(crate) fn add(&mut self, recording: usize, line: usize, usage: &Usage, shares: &[SeatShare])
         requires { (isrc : List ℕ) × (key : SummaryKey) × (es : List (List ℕ × ℕ))
             × IsLineOf self.old isrc key es recording line shares.now
             × TallyFits 1 (tally_at self.old (key_under isrc key)) × (parts_size (map (part_of usage.now.amount) es) ≤ amount_bound) }

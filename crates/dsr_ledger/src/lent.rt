@@ -5,7 +5,7 @@ ghost use Rattle.std.specs.Prelude.{◌≡◌, ◌+◌, ◌<◌, ◌≤◌, ◌-
 ghost use Rattle.dsr_ledger.specs.meaning.Sums.{int_sum_by};
 ghost use Rattle.dsr_ledger.specs.inner.Order.{AreOfSmall};
 
-pub mod copies;
+pub(crate) mod copies;
 mod listed;
 
 use crate::ledger::Ledger;
@@ -89,6 +89,7 @@ pub struct LentLedger<'a> {
     parties: Vec<LentParty<'a>>,
     ghost lines_fit: { length books.now.summary_keys.keys ≤ vec_capacity lines },
     ghost parties_fit: { length books.now.parties.keys ≤ vec_capacity parties },
+    ghost small: { ∥ AreOfSmall books.now ∥₁ },
 }
 
 /// Written out, so that dropping one is a call: a derived drop is proved anew wherever it happens.

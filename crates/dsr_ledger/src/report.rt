@@ -140,7 +140,7 @@ impl Drop for Report {
 }
 
 /// Appends an item. If memory is refused, the item is dropped and the list is unchanged.
-pub fn append<T: Drop>(items: &mut Items<T>, item: T) -> Result<(), NoMemory>
+pub(crate) fn append<T: Drop>(items: &mut Items<T>, item: T) -> Result<(), NoMemory>
     ensures { MatchResult result (λ _. items.new ≡ items.old ++ item ∷ [])
         (λ _. items.new ≡ items.old) }
 {

@@ -101,7 +101,7 @@ fn shares_over(works: &[Work]) -> bool
 /// The recording of a block that is booked, or why it is rejected. If it is booked, `numbers` has
 /// the numbers of the summaries that its usages name; before, it has those of an earlier block. An ISRC that is `hint` is
 /// read quicker.
-pub fn judge(
+pub(crate) fn judge(
     standing: Standing,
     seen: bool,
     summaries: &Summaries,

@@ -13,35 +13,23 @@ use std::alloc::Global;
 
 /// The identifiers of a file's blocks. In most files they are decimal numbers, each the one after that before it: these are
 /// one range. Others are a list while they rise, and the first that does not begins a set.
-pub struct Ids {
+#[derive(Drop)]
+pub(crate) struct Ids {
     /// The numbers from this one on, up to `end`, are identifiers.
-    pub first: u64,
+    first: u64,
     /// The number after the last one.
-    pub end: u64,
+    end: u64,
     /// The others before the first of `rest`, each of a higher rank than the one before it.
-    pub run: Vec<Text>,
+    run: Vec<Text>,
     /// None of these has a higher rank.
-    pub top: u64,
+    top: u64,
     /// All others.
-    pub rest: IndexSet<Text, Seeded>,
+    rest: IndexSet<Text, Seeded>,
     ghost rise: { (n : ℕ) → top < n → Rise (map rank_of run.items ++ n ∷ []) },
 }
 
-/// Written out, so that dropping one is a call: a derived drop is proved anew wherever it happens.
-impl Drop for Ids {
-    fn drop(self) {
-        let Ids {
-            first: _,
-            end: _,
-            run: _,
-            top: _,
-            rest: _,
-        } = self;
-    }
-}
-
 /// The number that an identifier is: 1 to 12 digits, without leading zeros.
-pub fn number_of(id: &Text) -> Option<u64>
+pub(crate) fn number_of(id: &Text) -> Option<u64>
     ensures number { result ≡ number_of_id id.now }
     ensures bound { IfSome result (λ n. n < 10 ^ 12) }
 {
@@ -104,7 +92,7 @@ impl Ids {
     ghost use Rattle.dsr_ledger.specs.inner.Ids.{is_between, is_in, HasRoom};
 
     /// No identifiers.
-    pub fn new(alloc: Global, seeded: Seeded) -> Ids
+    pub(crate) fn new(alloc: Global, seeded: Seeded) -> Ids
         ensures { (q : List ℕ) → is_in result q ≡ false }
     {
         Ids {
@@ -145,7 +133,7 @@ impl Ids {
     }
 
     /// Whether an identifier is in the set. `number` is its number.
-    pub fn has(&self, id: &Text, number: Option<u64>) -> bool
+    pub(crate) fn has(&self, id: &Text, number: Option<u64>) -> bool
         requires { number ≡ number_of_id id.now }
         ensures { result ≡ is_in self.now id.now }
     {
@@ -155,7 +143,7 @@ impl Ids {
     }
 
     /// Reserves memory for one more identifier.
-    pub fn reserve(&mut self) -> Result<(), NoMemory>
+    pub(crate) fn reserve(&mut self) -> Result<(), NoMemory>
         ensures same { (q : List ℕ) → is_in self.new q ≡ is_in self.old q }
         ensures room { OnOk result (HasRoom self.new) }
     {
@@ -186,7 +174,7 @@ impl Ids {
     }
 
     /// Adds an identifier. `number` is its number. This allocates nothing.
-    pub fn add(&mut self, id: Text, number: Option<u64>)
+    pub(crate) fn add(&mut self, id: Text, number: Option<u64>)
         requires number { number ≡ number_of_id id }
         requires bound { IfSome number (λ n. n < 10 ^ 12) }
         requires room { HasRoom self.old }

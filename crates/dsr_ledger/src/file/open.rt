@@ -7,8 +7,7 @@ ghost use Rattle.dsr_ledger.specs.meaning.Bookings.{summary_key_named, summary_k
 ghost use Rattle.dsr_ledger.specs.inner.FileSteps.{IsNumberedFile};
 ghost use Rattle.dsr_ledger.specs.inner.Recordings.{KeepsKeys, key_number};
 ghost use Rattle.dsr_ledger.specs.inner.Summaries.{sums_at, found_in, AreNumbered};
-ghost use Rattle.dsr_ledger.specs.inner.Stands.{FileStands};
-ghost use Rattle.dsr_ledger.specs.inner.Openings.{openings_of};
+ghost use Rattle.dsr_ledger.specs.inner.Stands.{FileStands, openings_of};
 
 use crate::file::FileBooks;
 use crate::file::ids::Ids;
@@ -137,7 +136,7 @@ fn states_for(
 }
 
 /// The state of a file that is opened after these.
-pub fn open_after(
+pub(crate) fn open_after(
     files: &[FileBooks],
     ledger: &mut Ledger,
     alloc: Global,

@@ -46,7 +46,7 @@ fn copy_line(alloc: Global, lent: &LentLine<'_>) -> Result<LedgerLine, NoMemory>
 }
 
 /// Copies of the lines of a ledger.
-pub fn copied_lines(alloc: Global, books: &Ledger) -> Result<LedgerLines, NoMemory>
+pub(crate) fn copied_lines(alloc: Global, books: &Ledger) -> Result<LedgerLines, NoMemory>
     requires { ∥ AreOfSmall books.now ∥₁ }
     ensures { (bs : List Booking) → LedgerStands books.now bs
         → IfOk result (λ lines. lines ≡ ledger bs) }

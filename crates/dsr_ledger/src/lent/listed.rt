@@ -34,7 +34,7 @@ fn by_isrc(one: &(&Isrc, &Recording), other: &(&Isrc, &Recording)) -> Ordering
 
 /// The recordings in order, with their ISRCs. The recordings themselves stay in the order of arrival, in which
 /// their memory is given back much faster.
-pub fn sorted_recordings<'a>(
+pub(crate) fn sorted_recordings<'a>(
     alloc: Global,
     recordings: &'a IndexMap<Isrc, Recording, Seeded>,
 ) -> Result<Vec<(&'a Isrc, &'a Recording)>, NoMemory>
@@ -65,7 +65,7 @@ fn by_name(one: &LentParty<'_>, other: &LentParty<'_>) -> Ordering
 
 /// Fills a list with the lines that have a booking, in the order of their summary keys, with these keys. This allocates
 /// nothing.
-pub fn lines_by_key<'a>(
+pub(crate) fn lines_by_key<'a>(
     keys: &'a [SummaryKey],
     lines: &'a [Line],
     listed: &mut Vec<(&'a SummaryKey, &'a Line)>,
@@ -89,7 +89,7 @@ pub fn lines_by_key<'a>(
 
 /// Fills a list with the parties that have a part, in the byte order of their names. `numbers` has the number of the
 /// party at each seat. This allocates nothing.
-pub fn parties_by_name<'a>(
+pub(crate) fn parties_by_name<'a>(
     names: &'a [Text],
     numbers: &[u32],
     parts: &[SeatPart],

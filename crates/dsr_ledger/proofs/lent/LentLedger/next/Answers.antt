@@ -29,7 +29,7 @@ unclaimed-requires c =
     (owed_is books f.isrc.now f.recording.now f.key.now f.line.now c.in_ok-found.ensures.booked _ _ _
     c.as_slice.ensures.value names c.as_slice-numbers.ensures.value bs stand) in
     subst (λ n. n < 2 ^ 127) (λ i. unsigned_abs (sym same i) + sum_by (λ p. unsigned_abs p.amount) c.as_slice-2.result.now)
-    (sums_fit books f.isrc.now f.recording.now f.key.now f.line.now c.in_ok-found.ensures.booked c.as_slice-2.result.now parties c.requires.1.small)
+    (sums_fit books f.isrc.now f.recording.now f.key.now f.line.now c.in_ok-found.ensures.booked c.as_slice-2.result.now parties c.args.self.now.small)
 
 pub returns-clause-line : goal.returns-clause-line
 returns-clause-line c = λ all given h.
@@ -40,7 +40,7 @@ returns-clause-line c = λ all given h.
     let names = c.as_slice-names.ensures.keys ∙ ap (λ b. b.now.parties.keys) c.next_line.ensures.books in
     let have = c.in_ok-found.ensures.line h.keys h.have in
     one_given books f.isrc.now f.recording.now f.key.now f.line.now is c.args.self.now _ all given _ h refl c.next_line.ensures.books
-    (record { before = have.before; at_hand = have.at_hand; small = have.small }) (λ bs stand.
+    (record { before = have.before; at_hand = have.at_hand }) (λ bs stand.
     whole_is books f.isrc.now f.recording.now f.key.now f.line.now is bs stand _
     (c.parties_by_name.ensures.listed (at_key (key_under f.isrc.now f.key.now) bs)
     (owed_is books f.isrc.now f.recording.now f.key.now f.line.now is _ _ _ c.as_slice.ensures.value names c.as_slice-numbers.ensures.value bs stand))
