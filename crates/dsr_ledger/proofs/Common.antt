@@ -18,7 +18,7 @@ pub use Rattle.std.proofs.lemmas.List.Quantifiers.{position-Some}
 pub use Rattle.std.proofs.lemmas.List.Sorted.{All-permutation, Contains-permutation, IsPermutation-map, answers_always}
 pub use Rattle.std.proofs.lemmas.List.Sums.{count_by-le-length, fails_before_first, length-filter, position_or_len_is, prefix_len-le-length, sum_by-append, sum_by-cons, sum_by-le, sum_by-le-sum_by, sum_by_more_le}
 pub use Rattle.std.proofs.lemmas.Map.Entries.{lookup_from_place}
-pub use Rattle.std.proofs.lemmas.Map.Keys.{IsDistinct-IsPermutation, IsDistinct-from_apart, IsDistinct-from_sorted, IsDistinct-push, Less-from_sorted, apart_from_distinct, sorted_from_all_adjacent}
+pub use Rattle.std.proofs.lemmas.Map.Keys.{IsDistinct-IsPermutation, IsDistinct-from_apart, IsDistinct-from_sorted, IsDistinct-push, apart_from_distinct, sorted_from_all_adjacent}
 pub use Rattle.std.proofs.lemmas.Map.Lookups.{exact_bytes}
 pub use Rattle.std.proofs.lemmas.Map.Text.{is_eq-slice_cmp}
 pub use Rattle.std.proofs.lemmas.Map.Views.{Contains-keys_from_lookup, any-filter_same, list_any-from_Contains}
@@ -58,15 +58,15 @@ pub use Rattle.indexmap.specs.IndexSet.{insert_key}
 pub use Rattle.dsr_ledger.specs.declared.file.FileBooks.{FileBooks}
 pub use Rattle.dsr_ledger.specs.declared.file.summaries.Summaries.{Summaries}
 pub use Rattle.dsr_ledger.specs.declared.file.summaries.SummaryState.{SummaryState}
-pub use Rattle.dsr_ledger.specs.declared.ids.Ids.{Ids}
-pub use Rattle.dsr_ledger.specs.declared.kept.Kept.{Kept}
+pub use Rattle.dsr_ledger.specs.declared.file.ids.Ids.{Ids}
+pub use Rattle.dsr_ledger.specs.declared.books.Kept.{Kept}
 pub use Rattle.dsr_ledger.specs.declared.ledger.line.Line.{Line}
 pub use Rattle.dsr_ledger.specs.declared.ledger.parts.SeatPart.{SeatPart}
 pub use Rattle.dsr_ledger.specs.declared.ledger.parts.SeatShare.{SeatShare}
 pub use Rattle.dsr_ledger.specs.declared.ledger.recording.Recording.{Recording}
-pub use Rattle.dsr_ledger.specs.declared.ledger.recordings.Ledger.{Ledger}
+pub use Rattle.dsr_ledger.specs.declared.ledger.Ledger.{Ledger}
 pub use Rattle.dsr_ledger.specs.declared.ledger.summary_key.SummaryKey.{SummaryKey}
-pub use Rattle.dsr_ledger.specs.declared.lent.ledger.LentLedger.{LentLedger}
+pub use Rattle.dsr_ledger.specs.declared.lent.LentLedger.{LentLedger}
 pub use Rattle.dsr_ledger.specs.declared.report.LedgerLine.{LedgerLine}
 pub use Rattle.dsr_ledger.specs.declared.report.PartyLine.{PartyLine}
 pub use Rattle.dsr_ledger.specs.declared.sums.Sums.{Sums}
@@ -79,20 +79,17 @@ pub use Rattle.dsr_ledger.specs.inner.FileSteps.{IsBlockInRange, IsNumberedFile,
 pub use Rattle.dsr_ledger.specs.inner.IdRanks.{number_of_id, rank_of, with_byte}
 pub use Rattle.dsr_ledger.specs.inner.Ids.{is_between, is_in}
 pub use Rattle.dsr_ledger.specs.inner.Indexes.{AreIndexed, Rise}
-pub use Rattle.dsr_ledger.specs.inner.Lined.{AreLined, IsLined}
 pub use Rattle.dsr_ledger.specs.inner.Lent.{AreBefore, AreGiven, HaveGiven, IsBookedLine, booked_lines, keys_under, lines_left, most_left}
 pub use Rattle.dsr_ledger.specs.inner.Listed.{AreDistinctBelow, AreListed, key_in, lent, line_for, numbered_by, party_in}
 pub use Rattle.dsr_ledger.specs.inner.Numbered.{AreApart, AreBelow, Grows, IsNumbered, IsWithNumber, place_by, place_in, read_at}
-pub use Rattle.dsr_ledger.specs.inner.Openings.{named, openings_of}
 pub use Rattle.dsr_ledger.specs.inner.Order.{AreOfSmall, AreSmall, IsSmall}
 pub use Rattle.dsr_ledger.specs.inner.Owed.{Owed, PartsGrow, nothing_owed, owed_at_place, owed_for, owed_in, owed_kept, owed_of, owed_plus, owed_with, part_in, part_seats, parts_size}
-pub use Rattle.dsr_ledger.specs.inner.Plans.{IsPlanned}
+pub use Rattle.dsr_ledger.specs.inner.Plans.{AreLined, IsLined, IsPlanned}
 pub use Rattle.dsr_ledger.specs.inner.Ranges.{IsInRange, SumsFit}
 pub use Rattle.dsr_ledger.specs.inner.Recordings.{IsLineOf, IsWideAt, KeepsKeys, KeepsLines, KeepsSeats, SameNumbers, key_number, line_at, party_number, recording_number, recording_tally, seat_at, seat_of, tally_at}
-pub use Rattle.dsr_ledger.specs.inner.Seated.{AreSeated, AreSeatsBelow, HasPart, HaveParts, HaveSeats, IsSeated, SeatedMore, shares_of}
-pub use Rattle.dsr_ledger.specs.inner.Seats.{seat_numbers}
-pub use Rattle.dsr_ledger.specs.inner.Stands.{FileStands, FilesStand, LedgerStands, Took}
-pub use Rattle.dsr_ledger.specs.inner.Summaries.{AreNumbered, StateFits, found_in, index_at, is_known, no_sums, nothing_found, number_at, state_at, state_plus, state_with, sums_at, sums_with}
+pub use Rattle.dsr_ledger.specs.inner.Seated.{AreSeated, AreSeatsBelow, HasPart, HaveParts, HaveSeats, IsSeated, SeatedMore, seat_numbers, shares_of}
+pub use Rattle.dsr_ledger.specs.inner.Stands.{FileStands, FilesStand, LedgerStands, Took, openings_of}
+pub use Rattle.dsr_ledger.specs.inner.Summaries.{AreNumbered, StateFits, found_in, index_at, is_known, named, no_sums, nothing_found, number_at, state_at, state_plus, state_with, sums_at, sums_with}
 pub use Rattle.dsr_ledger.specs.inner.SummaryKeys.{summary_key_cmp, summary_key_eq, summary_key_in}
 pub use Rattle.dsr_ledger.specs.inner.Tallies.{AreWithin, IsWide, LinesGrow, Tally, TallyFits, key_tally, line_in, line_keys, line_tally, lines_tally, no_tally, tally_of, tally_plus, tally_with}
 pub use Rattle.dsr_ledger.specs.meaning.Bookings.{Booking, booked_under, bookings, filed_bookings, key_under, summary_key_named, summary_key_of, usage_bookings, verdict_bookings}

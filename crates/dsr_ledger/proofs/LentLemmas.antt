@@ -4,7 +4,7 @@ use Rattle.std.specs.Option.{MatchOption}
 use Rattle.std.specs.Vec.Iter.{into_iter_items}
 use Rattle.dsr_ledger.proofs.ListedLemmas.{few_below}
 use Rattle.dsr_ledger.proofs.PartyLemmas.{line_fits, unclaimed_is}
-use Rattle.dsr_ledger.proofs.ReportLemmas.{before_step, booked_append, line_given, line_stands, lines_are, next_left, none_before, none_left, seats_below, small_at}
+use Rattle.dsr_ledger.proofs.ReportLemmas.{before_step, booked_append, line_given, line_stands, lines_are, none_before, none_left, seats_below, small_at}
 
 module _ (from : LentLedger) (keys : List Key) (have : HaveGiven from keys) where
   -- the next recording is one of the ledger
@@ -32,7 +32,6 @@ module _ (from : LentLedger) (keys : List Key) (have : HaveGiven from keys) wher
             (keys ++ keys_under (sym hand i) (lent (drop (sym none i) to.lines.items)))) now;
         at_hand = subst (λ (X : Type 0). X) (λ i. MatchOption (sym hand i) (length to.lines.items ≤ to.given)
             (λ y. All (λ e. IsBookedLine (sym same i).now y.0.now y.1.now e.0 e.1) (lent to.lines.items))) mine;
-        small = subst (λ b. ∥ AreOfSmall b.now ∥₁) (sym same) have.small;
       }
 
   -- the next line at hand
@@ -48,38 +47,16 @@ module _ (from : LentLedger) (keys : List Key) (have : HaveGiven from keys) wher
         subst (λ y. IsBookedLine from.books.now x.0.now x.1.now y.0 y.1) (get_or-map f from.lines.items from.given e (f e) below ∙ ap f (sym is))
         (mine from.given (f e) (subst (λ n. from.given < n) (sym (length-map from.lines.items f)) below))
 
-    pub line_taken : (to : LentLedger) → to.books ≡ from.books → to.recordings ≡ from.recordings → to.at_hand ≡ Some x → to.lines ≡ from.lines
-        → to.given ≡ from.given + 1 → HaveGiven to (keys ++ key_under x.0.now e.0.now ∷ [])
-    line_taken to same rest still lines one =
-        let key = key_under x.0.now e.0.now in
-        let all = ap (λ o. keys ++ keys_under o (lines_left from)) hand ∙ next_left x from.lines.items from.given e keys below is in
-        let now = subst (AreBefore from.books.now (lent (into_iter_items from.recordings))) all have.before in
-        record {
-          before = subst (λ (X : Type 0). X) (λ i. AreBefore (sym same i).now (lent (into_iter_items (sym rest i)))
-              ((keys ++ key ∷ []) ++ keys_under (sym still i) (lent (drop (sym one i) (sym lines i).items)))) now;
-          at_hand = subst (λ (X : Type 0). X) (λ i. MatchOption (sym still i) (length to.lines.items ≤ to.given)
-              (λ y. All (λ z. IsBookedLine (sym same i).now y.0.now y.1.now z.0 z.1) (lent (sym lines i).items))) mine;
-          small = subst (λ b. ∥ AreOfSmall b.now ∥₁) (sym same) have.small;
-        }
-
--- no line comes
-pub none_come : (from : LentLedger) (keys : List Key) → HaveGiven from keys → length from.lines.items ≤ from.given → into_iter_items from.recordings ≡ []
-    → AreBefore from.books.now [] keys
-none_come from keys have past none =
-    let all = ap (λ l. keys ++ l) (none_left from.at_hand from.lines.items from.given past) ∙ append-nil keys in
-    subst (λ (X : Type 0). X) (λ i. AreBefore from.books.now (lent (none i)) (all i)) have.before
-
 -- before a line is given
 pub none_given : (to : LentLedger) (list : List (Bor (List ℕ) × Bor Recording)) → AreListed text_cmp (get bytes_eq to.books.now.recordings) (lent list)
-    → into_iter_items to.recordings ≡ list → to.at_hand ≡ None → length to.lines.items ≤ to.given → ∥ AreOfSmall to.books.now ∥₁ → HaveGiven to []
-none_given to list listed all none past small =
+    → into_iter_items to.recordings ≡ list → to.at_hand ≡ None → length to.lines.items ≤ to.given → HaveGiven to []
+none_given to list listed all none past =
     let books = to.books.now in
     record {
       before = subst (λ (X : Type 0). X) (λ i. AreBefore books (lent (sym all i)) (keys_under (sym none i) (lines_left to)))
           (none_before books (lent list) listed);
       at_hand = subst (λ o. MatchOption o (length to.lines.items ≤ to.given) (λ x. All (λ e. IsBookedLine books x.0.now x.1.now e.0 e.1) (lent to.lines.items)))
           (sym none) past;
-      small = small;
     }
 
 -- a line of a recording that has a booking

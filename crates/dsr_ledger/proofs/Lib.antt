@@ -13,7 +13,6 @@ pub mod IdsLemmas
 pub mod FilesLemmas
 pub mod CallerLemmas
 pub mod BooksLemmas
-pub mod ResultLemmas
 pub mod EachLemmas
 pub mod StateLemmas
 pub mod BookingLemmas

@@ -47,11 +47,6 @@ module _ {K : Type 0} (same : K → K → Bool) (decides : (a b : K) → Decides
   numbers_agree number m k q n x h is e = grind (arith, nat_tests, decides k q, h.apart k q n)
 
   module _ {V W : Type 0} (read : V → W) (none : W) where
-    -- what is read of a value by its key
-    pub read_here : (number : K → Option ℕ) (k : K) (vs : List V) (i : ℕ) (v : V) → IsNumbered number (length vs) → number k ≡ Some i → v ≡ get_or vs i v
-        → read_at read none vs (number k) ≡ read v
-    read_here number k vs i v h at is = ap (read_at read none vs) at ∙ grind (arith, gets, h.below k i at)
-
     -- a value that is changed at a key: what is read there changes so, and the other keys read as before
     pub read_changed : (f : W → W) (number : K → Option ℕ) (k : K) (vs : List V) (i : ℕ) (v w : V) → IsNumbered number (length vs) → number k ≡ Some i
         → v ≡ get_or vs i v → read w ≡ f (read v) → (q : K) → read_at read none (set vs i w) (number q)

@@ -1,13 +1,10 @@
 -- The parts of a line: one more part, and parts by shares.
-use Rattle.dsr_ledger.proofs.Common.{◌≡◌, ℕ, ◌+◌, ◌<◌, ◌≤◌, List, [], ◌∷◌, ◌++◌, length, take, refl, ap, subst, ◌∙◌, arith, ℤ, Option, None, Some, map, slice_get, unsigned_abs, get_or-map, length-map, take-map, sum_by_more_le, get_or_from_slice_get, slice_get_within, SeatPart, SeatShare, IsNumbered, Grows, place_by, owed_kept, nothing_owed, part_in, part_seats, parts_size, PartsGrow, Part, part_of, rounded, HasPart, HaveParts, AreSeatsBelow}
+use Rattle.dsr_ledger.proofs.Common.{◌≡◌, ℕ, ◌+◌, ◌<◌, ◌≤◌, List, [], ◌∷◌, ◌++◌, length, take, ap, subst, ◌∙◌, arith, ℤ, Option, None, Some, map, slice_get, unsigned_abs, get_or-map, length-map, take-map, sum_by_more_le, get_or_from_slice_get, slice_get_within, SeatPart, SeatShare, IsNumbered, Grows, place_by, owed_kept, nothing_owed, part_in, part_seats, parts_size, PartsGrow, Part, part_of, rounded, HasPart, HaveParts, AreSeatsBelow}
 use Rattle.dsr_ledger.proofs.NumberedLemmas.{items_grow, items_pushed, by_numbered}
 use Rattle.dsr_ledger.proofs.EachLemmas.{each_weaker}
 
 abbrev pub seat_of_part : SeatPart → ℕ
 seat_of_part p = p.seat
-
-pub parts_stay : (ps : List SeatPart) → PartsGrow ps ps
-parts_stay ps = record { owed = λ seat. refl; places = λ s i e. e }
 
 pub parts_twice : (a b c : List SeatPart) → PartsGrow a b → PartsGrow b c → PartsGrow a c
 parts_twice a b c g h = record { owed = λ seat. h.owed seat ∙ g.owed seat; places = λ s i e. h.places s i (g.places s i e) }

@@ -108,7 +108,7 @@ sizes bs =
 -- subtracting the parties' amounts one by one does not overflow
 pub line_fits : (bs : List Booking) → AreSmall bs → unsigned_abs (amount_sum bs) + sum_by (λ p. unsigned_abs p.amount) (party_lines bs) < 2 ^ 127
 line_fits bs h =
-    let amount = abs-int_sum_by (λ (b : Booking). b.usage.amount) (10 ^ 22) bs (each_weaker IsSmall _ (λ b s. omega (arith, s.amount)) bs h.each) in
+    let amount = abs-int_sum_by (λ (b : Booking). b.usage.amount) (10 ^ 22) bs (each_weaker IsSmall _ (λ b s. omega (arith, s.0.amount)) bs h.each) in
     omega (arith, h.few, small_parts bs h.each, sizes bs)
 
 -- the sum of the first lines and one more

@@ -1,12 +1,11 @@
 -- The plan of one usage of a block.
 use Rattle.dsr_ledger.proofs.Common.{◌≡◌, ℕ, ◌<◌, List, [], length, get_or, sym, ap, ◌∙◌, arith, cond, subst, Option, Some, map, option_map, slice_get, flat_map, get_or_from_slice_get, slice_get_within, WorkParts, SeatShare, part_of, work_parts, AreSeated, shares_of, Usage, Summaries, Ledger, SummaryKey, IsLined, IsPlanned, seat_at, IsWideAt, IsLineOf, index_at, state_with, ints, SummaryState, Key, key_eq, key_under, Tally, tally_with}
-use Rattle.dsr_ledger.specs.declared.booking.plan.Plan.{Plan}
+use Rattle.dsr_ledger.specs.declared.booking.Plan.{Plan}
 use Rattle.dsr_ledger.proofs.SeatedLemmas.{parts_of_shares, value_at, zip_step}
 
 -- the summary and the line of usage i
 pub record StepOf (ledger : Ledger) (summaries : Summaries) (place : List ℕ → Option SummaryKey) (isrc : List ℕ) (works : List WorkParts) (i : ℕ) (u : Usage)
     (plan : Plan) : Type 0 where
-  pub summary_below : i < length plan.summaries.items
   pub line_below : i < length plan.lines.items
   pub summary : ℕ
   pub summary_is : index_at summaries u.summary_id ≡ Some summary
@@ -26,7 +25,6 @@ step_of ledger summaries place isrc works us i u plan h at =
     let v = value_at (λ (x : Usage). index_at summaries x.summary_id) us plan.summaries.items h.counted i u at in
     let z = zip_step (λ (x : Usage) n. IsLined ledger isrc plan.shares.items (place x.summary_id) n) us plan.lines.items i u h.lined at in
     record {
-      summary_below = slice_get_within plan.summaries.items i v.0 v.1;
       line_below = slice_get_within plan.lines.items i z.other z.there;
       summary = v.0;
       summary_is = v.2;

@@ -1,5 +1,5 @@
 -- The lines of the report, recording after recording.
-use Rattle.dsr_ledger.proofs.Common.{◌≡◌, List, [], ◌++◌, append_assoc, sym, subst, ℕ, zero, suc, ◌+◌, ◌<◌, ◌≤◌, drop, drop_all, get_or, Bool, true, cond, ◌∷◌, ◌⊎◌, inl, inr, ⊎_elim, length, refl, ap, ◌∙◌, arith, LedgerLine, Option, None, Some, slice_get, map, filter, option_map_or, AllByRecursion, Contains, IsStrictlySortedBy, Bor, bytes_eq, tied_itself, nat_list_cmp_total, keys_of, ordering_then, Ordering, Less, drop_more, Contains-append_left, Contains-append_right, filter-append, map-append, recursion_from_All, map-map, get, Key, text_cmp, key_cmp, Line, SummaryKey, Recording, Ledger, summary_key_cmp, summary_key_in, place_by, Booking, key_under, is_at_key, at_key, line_of, ledger, tally_at, recording_tally, party_number, key_number, seat_of, seat_numbers, part_seats, no_tally, line_tally, line_keys, key_tally, LedgerStands, IsSmall, AreSmall, AreBelow, AreBefore, AreListed, IsBookedLine, booked_lines, keys_under, key_in, line_for, lent}
+use Rattle.dsr_ledger.proofs.Common.{◌≡◌, List, [], ◌++◌, sym, subst, ℕ, zero, suc, ◌+◌, ◌<◌, ◌≤◌, drop, drop_all, get_or, Bool, true, cond, ◌∷◌, ◌⊎◌, inl, inr, ⊎_elim, length, refl, ap, ◌∙◌, arith, LedgerLine, Option, None, Some, slice_get, map, filter, option_map_or, AllByRecursion, Contains, IsStrictlySortedBy, Bor, bytes_eq, tied_itself, nat_list_cmp_total, keys_of, ordering_then, Ordering, Less, Contains-append_left, Contains-append_right, filter-append, map-append, recursion_from_All, map-map, get, Key, text_cmp, key_cmp, Line, SummaryKey, Recording, Ledger, summary_key_cmp, summary_key_in, place_by, Booking, key_under, is_at_key, at_key, line_of, ledger, tally_at, recording_tally, party_number, key_number, seat_of, seat_numbers, part_seats, no_tally, line_tally, line_keys, key_tally, LedgerStands, IsSmall, AreSmall, AreBelow, AreBefore, AreListed, IsBookedLine, booked_lines, keys_under, key_in, line_for, lent}
 use Rattle.dsr_ledger.proofs.KeyLemmas.{key_total, key_exact}
 use Rattle.dsr_ledger.proofs.EachLemmas.{some_if, contains_map, each_append, each_filter, each_map, each_of, each_weaker, fewer}
 use Rattle.dsr_ledger.proofs.ListedLemmas.{kept_in, kept_out}
@@ -148,11 +148,3 @@ pub none_left : (o : Option (Bor (List ℕ) × Bor Recording)) (es : List (Bor S
     → keys_under o (lent (drop n es)) ≡ []
 none_left None es n past = refl
 none_left (Some x) es n past = ap (λ l. map (key_under x.0.now) (keys_of (lent l))) (drop_all n es past)
-
--- the next line at hand
-pub next_left : (x : Bor (List ℕ) × Bor Recording) (es : List (Bor SummaryKey × Bor Line)) (n : ℕ) (e : Bor SummaryKey × Bor Line) (keys : List Key)
-    → n < length es → e ≡ get_or es n e → keys ++ keys_under (Some x) (lent (drop n es))
-    ≡ (keys ++ key_under x.0.now e.0.now ∷ []) ++ keys_under (Some x) (lent (drop (n + 1) es))
-next_left x es n e keys below is =
-    ap (λ l. keys ++ map (key_under x.0.now) (keys_of (lent l))) (drop_more es n e below ∙ ap (λ y. y ∷ drop (n + 1) es) (sym is))
-    ∙ sym (append_assoc keys (key_under x.0.now e.0.now ∷ []) (keys_under (Some x) (lent (drop (n + 1) es))))

@@ -58,7 +58,7 @@ bookings_whole files =
 
 pub each_small : (works : List WorkParts) → share_total works ≤ 1000000 → (us : List Usage) → AllByRecursion IsInRange us
     → AllByRecursion (OfUsage IsSmall works) us
-each_small works h = each_weaker IsInRange (OfUsage IsSmall works) (λ u r key. record { usages = r.usages; amount = r.amount; whole = h })
+each_small works h = each_weaker IsInRange (OfUsage IsSmall works) (λ u r key. (r, h))
 
 -- the bookings of a block, of a file and of all files
 small_judged : (stands : Standing) (summaries : List Summary) (earlier blocks : List BlockParts) → AllByRecursion IsBlockInRange blocks

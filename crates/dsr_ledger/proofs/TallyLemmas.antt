@@ -35,7 +35,7 @@ pub small_parts : (bs : List Booking) → AllByRecursion IsSmall bs → parts_si
 small_parts [] h = omega arith
 small_parts (b ∷ bs) h =
     let cut = sum_by-append (λ (x : Part). unsigned_abs (rounded x)) (parts_of b) (all_parts bs) in
-    omega (arith, small_parts bs h.1, parts_within b.usage.amount b.works h.0.whole, h.0.amount)
+    omega (arith, small_parts bs h.1, parts_within b.usage.amount b.works h.0.1, h.0.0.amount)
 
 -- no more is claimed than amounts that are not negative
 pub unclaimed_not_negative : (bs : List Booking) → AllByRecursion (λ b. pos 0 ≤ℤ b.usage.amount) bs → AllByRecursion (λ b. share_total b.works ≤ 1000000) bs
@@ -143,8 +143,8 @@ pub tally_fits_after : (t : Tally) (bs : List Booking) (q : Key) (n m : ℕ) →
     → TallyFits m (tally_plus t (key_tally bs q))
 tally_fits_after t bs q n m room small h =
     let own = at_key q bs in let less = fewer (is_at_key q) bs in let kept = each_filter IsSmall (is_at_key q) bs small in
-    let su = abs-int_sum_by (λ (b : Booking). b.usage.usages) (2 ^ 63) own (each_weaker IsSmall _ (λ b s. s.usages) own kept) in
-    let sa = abs-int_sum_by (λ (b : Booking). b.usage.amount) (10 ^ 22) own (each_weaker IsSmall _ (λ b s. let a = s.amount in omega arith) own kept) in
+    let su = abs-int_sum_by (λ (b : Booking). b.usage.usages) (2 ^ 63) own (each_weaker IsSmall _ (λ b s. s.0.usages) own kept) in
+    let sa = abs-int_sum_by (λ (b : Booking). b.usage.amount) (10 ^ 22) own (each_weaker IsSmall _ (λ b s. let a = s.0.amount in omega arith) own kept) in
     record {
       usages = omega (arith, ints, h.usages);
       amount = omega (arith, ints, h.amount);

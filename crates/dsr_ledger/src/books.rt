@@ -1,20 +1,35 @@
 //! The books of a report.
-ghost use Rattle.std.specs.Prelude.{◌≤◌, length};
+ghost use Rattle.std.specs.Prelude.{◌≡◌, ◌≤◌, length, option_map, slice_get};
 ghost use Rattle.dsr_ledger.specs.meaning.Limits.{most_files};
 ghost use Rattle.dsr_ledger.specs.inner.Books.{IsReached};
 
-use crate::assemble::close;
-use crate::booking::plan::Plan;
+use crate::booking::Plan;
 use crate::closed::ClosedBooks;
-use crate::kept::Kept;
-use crate::ledger::recordings::Ledger;
-use crate::open::open_after;
+use crate::file::FileBooks;
+use crate::file::open::open_after;
+use crate::index::Seeded;
+use crate::ledger::Ledger;
 use crate::report::Report;
-use crate::seeded::Seeded;
 use crate::verdict::{Standing, Verdict};
 use dsr_cells::NoMemory;
 use dsr_events::{Block, Opening, Outcome};
 use std::alloc::Global;
+
+/// The files that were opened, and the ledger.
+#[derive(Drop)]
+pub(crate) struct Kept {
+    pub(crate) files: Vec<FileBooks>,
+    pub(crate) ledger: Ledger,
+}
+
+impl Kept {
+    /// File k, if it was opened.
+    pub(crate) fn file(&self, k: u32) -> Option<&FileBooks>
+        ensures { option_map (λ f. f.now) result ≡ slice_get self.now.files.items k }
+    {
+        self.files.get(k as usize)
+    }
+}
 
 /// The books of a report: they take the openings, blocks and outcomes of its files, and make its
 /// report. Files are numbered from 0.
@@ -43,7 +58,7 @@ impl Drop for Books {
 }
 
 impl Books {
-    ghost use Rattle.std.specs.Prelude.{◌≡◌, ◌<◌, List, [], ◌∷◌, ◌++◌, Option, map, length, IfOk, IsOk, MatchResult};
+    ghost use Rattle.std.specs.Prelude.{◌<◌, List, [], ◌∷◌, ◌++◌, Option, map, IfOk, IsOk, MatchResult};
     ghost use Rattle.dsr_ledger.specs.meaning.Files.{File, standing, opened, with_block, with_outcome};
     ghost use Rattle.dsr_ledger.specs.meaning.Verdicts.{verdict_in};
     ghost use Rattle.dsr_ledger.specs.inner.Books.{has_opening_in, ended_in, blocks_in};
@@ -211,7 +226,7 @@ impl Books {
             kept,
             plan: _,
         } = self;
-        close(alloc, kept)
+        ClosedBooks::of(alloc, kept)
     }
 
     /// The report of the files, which have all ended. The texts of its key and its rejects are moved

@@ -1,23 +1,33 @@
-//! Books whose files have all ended.
+//! Books whose files have all ended, from the state of the books.
+ghost use Rattle.std.specs.Prelude.{◌≡◌, ◌≤◌, ℕ, IfOk, length, map};
+ghost use Rattle.std.specs.List.{flat_map, list_any};
+ghost use Rattle.std.specs.BTreeSet.{contains};
+ghost use Rattle.std.specs.Ordering.{nat_cmp};
+ghost use Rattle.dsr_ledger.specs.meaning.Limits.{most_files};
 ghost use Rattle.dsr_ledger.specs.inner.Order.{AreOfSmall};
+ghost use Rattle.dsr_ledger.specs.inner.Assembly.{line_kept, is_number_kept, differences_kept};
+ghost use Rattle.dsr_ledger.specs.inner.Books.{IsReached, Stands};
 
-use crate::ledger::recordings::Ledger;
+use crate::books::Kept;
+use crate::file::FileBooks;
+use crate::findings::{differences_of, file_lines, key_and_rejects, missing_numbers, own_numbers};
+use crate::ledger::Ledger;
 use crate::lent::copies::copied_lines;
-use crate::lent::ledger::LentLedger;
-use crate::lent::report::LentReport;
+use crate::lent::{LentLedger, LentReport};
 use crate::report::{Differences, FileLines, Numbers, Rejects, Report, ReportKey};
 use dsr_cells::NoMemory;
 use std::alloc::Global;
+use std::collections::BTreeSet;
 
 /// Books whose files have all ended: their report, but for the lines of the ledger, and the ledger.
 pub struct ClosedBooks {
-    pub(crate) alloc: Global,
-    pub(crate) key: Option<ReportKey>,
-    pub(crate) files: FileLines,
-    pub(crate) missing: Numbers,
-    pub(crate) differences: Differences,
-    pub(crate) rejects: Rejects,
-    pub(crate) ledger: Ledger,
+    alloc: Global,
+    key: Option<ReportKey>,
+    files: FileLines,
+    missing: Numbers,
+    differences: Differences,
+    rejects: Rejects,
+    ledger: Ledger,
     ghost small: { ∥ AreOfSmall ledger ∥₁ },
 }
 
@@ -36,12 +46,79 @@ impl Drop for ClosedBooks {
     }
 }
 
+/// What the report takes from the files before they are moved.
+#[derive(Drop)]
+struct Told {
+    lines: FileLines,
+    numbers: BTreeSet<u32>,
+    differences: Differences,
+}
+
+/// What the report takes from these files before they are moved.
+fn told_of(alloc: Global, files: &[FileBooks]) -> Result<Told, NoMemory>
+    ensures lines { IfOk result (λ told. told.lines ≡ map line_kept files.now) }
+    ensures own { IfOk result (λ told. (n : ℕ)
+        → contains nat_cmp told.numbers n ≡ list_any (is_number_kept n) files.now) }
+    ensures differences { IfOk result (λ told. told.differences
+        ≡ flat_map differences_kept files.now) }
+{
+    Ok(Told {
+        lines: file_lines(alloc, files)?,
+        numbers: own_numbers(alloc, files)?,
+        differences: differences_of(alloc, files)?,
+    })
+}
+
 impl ClosedBooks {
-    ghost use Rattle.std.specs.Prelude.{◌≡◌, IfOk, List};
-    ghost use Rattle.dsr_ledger.specs.inner.Closed.{AreClosed};
+    ghost use Rattle.std.specs.Prelude.{List};
     ghost use Rattle.dsr_ledger.specs.meaning.Files.{File};
-    ghost use Rattle.dsr_ledger.specs.inner.Lent.{IsReady, IsLent};
     ghost use Rattle.dsr_ledger.specs.meaning.Reports.{report_of};
+    ghost use Rattle.dsr_ledger.specs.inner.Closed.{AreClosed};
+    ghost use Rattle.dsr_ledger.specs.inner.Lent.{IsReady, IsLent};
+
+    /// Closes the books of the files: makes the parts of the report other than the lines of the ledger.
+    pub(crate) fn of(alloc: Global, kept: Kept) -> Result<ClosedBooks, NoMemory>
+        requires reached { ∥ IsReached kept ∥₁ }
+        requires few { length kept.files.items ≤ most_files }
+        ensures { (files : List File) → Stands kept files
+            → IfOk result (λ books. AreClosed books files) }
+    {
+        let Kept { files, ledger } = kept;
+        let Ok(told) = told_of(alloc, files.as_slice()) else {
+            drop(files);
+            drop(ledger);
+            return Err(NoMemory);
+        };
+        let Ok((key, rejects)) = key_and_rejects(alloc, files) else {
+            drop(told);
+            drop(ledger);
+            return Err(NoMemory);
+        };
+        let Told {
+            lines,
+            numbers,
+            differences,
+        } = told;
+        let missing = missing_numbers(alloc, &key, &numbers);
+        drop(numbers);
+        let Ok(missing) = missing else {
+            drop(key);
+            drop(rejects);
+            drop(lines);
+            drop(differences);
+            drop(ledger);
+            return Err(NoMemory);
+        };
+        Ok(ClosedBooks {
+            alloc,
+            key,
+            files: lines,
+            missing,
+            differences,
+            rejects,
+            ledger,
+        })
+    }
 
     /// The report of the files. The texts of its ledger are those of the books.
     ///

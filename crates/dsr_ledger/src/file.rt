@@ -10,35 +10,34 @@ ghost use Rattle.dsr_ledger.specs.inner.Recordings.{tally_at};
 ghost use Rattle.dsr_ledger.specs.inner.FileSteps.{IsNumberedFile, IsSameFile, TakesBlock};
 ghost use Rattle.dsr_ledger.specs.inner.Stands.{FileStands, Took};
 
-pub mod summaries;
+pub(crate) mod ids;
+pub(crate) mod open;
+pub(crate) mod summaries;
 
-use crate::booking::apply::add_usages;
-use crate::booking::plan::Plan;
-use crate::counting::count_usages;
-use crate::file::summaries::Summaries;
-use crate::ids::{Ids, number_of};
-use crate::judge::judge;
-use crate::ledger::recordings::Ledger;
+use crate::booking::{Plan, add_usages};
+use crate::file::ids::{Ids, number_of};
+use crate::file::summaries::{Summaries, count_usages};
+use crate::ledger::Ledger;
 use crate::report::Reject;
-use crate::verdict::{Reason, Standing, Verdict};
+use crate::verdict::{Reason, Standing, Verdict, judge};
 use dsr_cells::{Isrc, NoMemory};
 use dsr_events::{Block, Opening, Outcome};
 use std::alloc::Global;
 
 /// The books' state of a file.
 #[derive(Drop)]
-pub struct FileBooks {
+pub(crate) struct FileBooks {
     /// Its place in the order given, from 1.
-    pub place: u32,
-    pub opening: Option<Opening>,
-    pub standing: Standing,
+    pub(crate) place: u32,
+    pub(crate) opening: Option<Opening>,
+    pub(crate) standing: Standing,
     /// The number of blocks taken.
-    pub blocks: u64,
+    pub(crate) blocks: u64,
     /// The identifiers of all blocks, booked or rejected.
-    pub ids: Ids,
-    pub summaries: Summaries,
-    pub rejects: Vec<Reject>,
-    pub outcome: Option<Outcome>,
+    pub(crate) ids: Ids,
+    pub(crate) summaries: Summaries,
+    pub(crate) rejects: Vec<Reject>,
+    pub(crate) outcome: Option<Outcome>,
 }
 
 impl FileBooks {
@@ -149,7 +148,7 @@ impl FileBooks {
 
     /// Takes a block and returns its verdict. If memory is refused, nothing that a report shows has
     /// changed.
-    pub fn book(
+    pub(crate) fn book(
         &mut self,
         ledger: &mut Ledger,
         plan: &mut Plan,

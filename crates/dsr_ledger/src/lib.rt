@@ -3,25 +3,21 @@
 //!
 //! The path of a block, and the module of each stage:
 //!
-//! 1. `books` has the public functions. A file is opened by its first event (`open`), which decides
-//!    its standing after the files before it (`verdict`, [`Standing`]) and numbers the keys of its
-//!    summaries in the ledger. `file` is the state of a file, `kept` the state of all files with the
-//!    ledger.
-//! 2. `judge` gives the verdict of a block: whether it counts, and if not, why (`verdict`,
-//!    [`Reason`]). `ids` has the identifiers of the blocks before it, `file/summaries` the file's
-//!    summaries, in file order. `counting` adds the usages of a rejected block to their sums.
-//! 3. `booking/plan` finds the recording, the seats of its parties, and for each usage a line of
-//!    the recording and its parts, and allocates all memory. `booking/apply` adds, and allocates
-//!    none.
-//! 4. `ledger` stores each party, summary key (`ledger/summary_key`) and recording once, interned in
-//!    maps with seeded hashers (`seeded`). A recording owns its seats and lines (`ledger/recording`,
-//!    `seats`, `line`), a line its sums and parts (`sums`, `parts`), whose numbers are `wide`. A long
-//!    list whose numbers do not rise has an index of them (`ledger/index`); in a short one, `hints`
-//!    have the probable places of lines and summaries. Numbers are kept in 32 bits (`wide`).
-//! 5. `assemble` closes the books (`closed`): it makes the parts of the `report` that say how the files
-//!    did (`file_lines`, `missing`, `differences`, `rejects`), item by item (`append`). Closed books give the lines of the
-//!    ledger one after another (`lent/ledger`), in the order of the recordings (`lent/recordings`) and of the summary keys
-//!    (`lent/listed`). Giving them allocates nothing. They borrow their texts (`lent`); a report has copies of them.
+//! 1. `books` has the public functions, and the state of all files with the ledger. A file is opened by its first
+//!    event (`file/open`), which decides its standing after the files before it ([`Standing`]) and numbers the keys of
+//!    its summaries in the ledger. `file` is the state of a file.
+//! 2. `verdict` gives the verdict of a block: whether it counts, and if not, why ([`Reason`]). `file/ids` has the
+//!    identifiers of the blocks before it, `file/summaries` the file's summaries, in file order; it adds the usages of a
+//!    rejected block to their sums.
+//! 3. `booking` books a block. Its plan finds the recording, the seats of its parties, and for each usage a line of the
+//!    recording and its parts, and allocates all memory. Its additions allocate none.
+//! 4. `ledger` stores each party, summary key (`ledger/summary_key`) and recording once, interned in maps with seeded
+//!    hashers. A recording owns its seats and lines (`ledger/recording`, `seats`, `line`), a line its `sums` and parts
+//!    (`ledger/parts`). `index` finds an item of a list: a long list whose numbers do not rise has an index of them; in a
+//!    short one, hints are the probable places of lines and summaries. Numbers of items are kept in 32 bits.
+//! 5. `closed` closes the books: it makes the parts of the `report` that say how the files did (`findings`). Closed books
+//!    give the lines of the ledger one after another (`lent`), in the order of the recordings and of the summary keys
+//!    (`lent/listed`). Giving them allocates nothing. They borrow their texts; a report has copies of them (`lent/copies`).
 //!
 //! **Example**, compiled and proved in `crates/dsr_tests/src/books/example.rt`:
 //!
@@ -109,37 +105,22 @@
 //! counts; `src/books.rt` has the public functions.
 #![tactic(auto)]
 
-mod append;
-mod assemble;
 mod booking;
 mod books;
 mod closed;
-mod counting;
-mod differences;
 mod file;
-mod file_lines;
-mod hints;
-mod ids;
-mod judge;
-mod kept;
+mod findings;
+mod index;
 pub mod laws;
 mod ledger;
 mod lent;
-mod missing;
-mod open;
-mod rejects;
 mod report;
-mod seeded;
 mod sums;
 mod verdict;
-mod wide;
 
 pub use books::Books;
 pub use closed::ClosedBooks;
-pub use lent::ledger::LentLedger;
-pub use lent::line::LentLine;
-pub use lent::party::LentParty;
-pub use lent::report::LentReport;
+pub use lent::{LentLedger, LentLine, LentParty, LentReport};
 pub use report::{
     Difference, Differences, FileLine, FileLines, LedgerLine, LedgerLines, Numbers, Parties,
     PartyLine, Reject, Rejects, Report, ReportKey,

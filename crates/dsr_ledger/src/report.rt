@@ -1,6 +1,8 @@
 //! The report that the books make.
+ghost use Rattle.std.specs.Prelude.{◌≡◌, ◌++◌, ◌∷◌, [], MatchResult};
+
 use crate::verdict::{Reason, Standing};
-use dsr_cells::{Day, InlineItems, Isrc, Items, Text};
+use dsr_cells::{Day, InlineItems, Isrc, Items, NoMemory, Text};
 use dsr_events::Outcome;
 
 /// The key of a report.
@@ -134,5 +136,19 @@ impl Drop for Report {
             ledger: _,
             rejects: _,
         } = self;
+    }
+}
+
+/// Appends an item. If memory is refused, the item is dropped and the list is unchanged.
+pub(crate) fn append<T: Drop>(items: &mut Items<T>, item: T) -> Result<(), NoMemory>
+    ensures { MatchResult result (λ _. items.new ≡ items.old ++ item ∷ [])
+        (λ _. items.new ≡ items.old) }
+{
+    match items.push(item) {
+        Ok(()) => Ok(()),
+        Err(refused) => {
+            drop(refused);
+            Err(NoMemory)
+        }
     }
 }

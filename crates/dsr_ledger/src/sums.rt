@@ -1,20 +1,57 @@
-//! Sums over usages.
+//! Sums over usages, and the numbers of 128 bits in which they are kept.
 ghost use Rattle.std.specs.Prelude.{◌≡◌, ◌+ℤ◌, pos};
 ghost use Rattle.dsr_ledger.specs.inner.Ranges.{IsInRange, SumsFit};
 
-use crate::wide::Wide;
 use dsr_events::Usage;
+use std::marker::Model;
+
+/// A number of 128 bits that is aligned like one of 64 bits, so that a struct with one takes less memory. Contracts see
+/// it as the number.
+#[derive(Default, Drop)]
+pub(crate) struct Wide {
+    high: i64,
+    low: u64,
+}
+
+impl Model for Wide {
+    ghost use Rattle.std.specs.Prelude.{ℤ, ◌+ℤ◌, ◌*ℤ◌, ◌^◌, pos};
+
+    ghost Value = { ℤ };
+
+    ghost view = { λ wide. wide.high *ℤ pos (2 ^ 64) +ℤ pos wide.low };
+}
+
+impl Wide {
+    /// This number.
+    #[inline(always)]
+    pub(crate) fn of(number: i128) -> Wide
+        ensures { result ≡ number }
+    {
+        Wide {
+            high: number.div_euclid(1 << 64) as i64,
+            low: number.rem_euclid(1 << 64) as u64,
+        }
+    }
+
+    /// The number.
+    #[inline(always)]
+    pub(crate) fn get(&self) -> i128
+        ensures { result ≡ self.now }
+    {
+        (i128::from(self.high) << 64) + i128::from(self.low)
+    }
+}
 
 /// The sums of the usages and of the amounts, in units.
 #[derive(Drop)]
-pub struct Sums {
-    pub usages: Wide,
-    pub amount: Wide,
+pub(crate) struct Sums {
+    pub(crate) usages: Wide,
+    pub(crate) amount: Wide,
 }
 
 impl Sums {
     /// The sums of no usages.
-    pub fn new() -> Sums
+    pub(crate) fn new() -> Sums
         ensures { result ≡ record { usages = pos 0; amount = pos 0 } }
     {
         Sums {
@@ -24,7 +61,7 @@ impl Sums {
     }
 
     /// The same sums.
-    pub fn copy(&self) -> Sums
+    pub(crate) fn copy(&self) -> Sums
         ensures { result ≡ self.now }
     {
         Sums {
@@ -34,7 +71,7 @@ impl Sums {
     }
 
     /// Adds a usage.
-    pub fn add(&mut self, usage: &Usage)
+    pub(crate) fn add(&mut self, usage: &Usage)
         requires { SumsFit 1 self.old }
         ensures usages { self.new.usages ≡ self.old.usages +ℤ usage.now.usages }
         ensures amount { self.new.amount ≡ self.old.amount +ℤ usage.now.amount }
@@ -46,7 +83,7 @@ impl Sums {
 }
 
 /// Shows that every usage is in range, by its types.
-pub fn check_range(usage: &Usage)
+pub(crate) fn check_range(usage: &Usage)
     ensures { IsInRange usage.now }
 {
     let _usages = usage.usages;

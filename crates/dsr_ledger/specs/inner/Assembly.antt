@@ -1,5 +1,5 @@
 -- The parts of the report that are made of the files' states.
-use Rattle.std.specs.Prelude.{ℕ, pos, Bool, not, ◌&&◌, Option, None, Some, List, [], filter, map, option_map, if◌then◌else◌}
+use Rattle.std.specs.Prelude.{ℕ, Bool, not, ◌&&◌, Option, None, Some, List, [], filter, map, option_map, if◌then◌else◌}
 use Rattle.std.specs.List.{range_with_len}
 use Rattle.std.specs.BTreeSet.{BTreeSet, contains}
 use Rattle.std.specs.Ordering.{nat_cmp}
@@ -12,7 +12,7 @@ use Rattle.dsr_ledger.specs.declared.report.FileLine.{FileLine}
 use Rattle.dsr_ledger.specs.declared.report.Difference.{Difference}
 use Rattle.dsr_ledger.specs.meaning.Files.{summaries_of}
 use Rattle.dsr_ledger.specs.meaning.Findings.{is_ours, ended_whole, differs, has_number}
-use Rattle.dsr_ledger.specs.inner.Summaries.{sums_at}
+use Rattle.dsr_ledger.specs.inner.Summaries.{no_sums, sums_at}
 use Rattle.dsr_ledger.specs.meaning.Reports.{outcome_of}
 
 -- the report's line of a file
@@ -35,7 +35,7 @@ not_in (Some key) numbers = filter (λ n. not (contains nat_cmp numbers n)) (ran
 
 -- the sums of a summary's state; zeros if there is none
 abbrev pub sums_or_zeros : Option Sums → Sums
-sums_or_zeros None = record { usages = pos 0; amount = pos 0 }
+sums_or_zeros None = no_sums
 sums_or_zeros (Some s) = s
 
 -- the usages and the amount that a summary states, with these sums as those found

@@ -3,7 +3,7 @@ use Rattle.std.specs.Prelude.{ℕ, ◌≤◌, Bool, false, is_some, List, [], le
 use Rattle.std.specs.Option.{option_map_or}
 use Rattle.std.specs.List.{AllByRecursion}
 use Rattle.dsr_ledger.specs.meaning.Limits.{most_blocks}
-use Rattle.dsr_ledger.specs.declared.kept.Kept.{Kept}
+use Rattle.dsr_ledger.specs.declared.books.Kept.{Kept}
 use Rattle.dsr_ledger.specs.meaning.Files.{File}
 use Rattle.dsr_ledger.specs.meaning.Bookings.{bookings}
 use Rattle.dsr_ledger.specs.inner.FileSteps.{IsBlockInRange, IsNumberedFile}

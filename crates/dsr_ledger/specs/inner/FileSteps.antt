@@ -13,7 +13,7 @@ use Rattle.dsr_ledger.specs.inner.Ranges.{IsInRange}
 use Rattle.dsr_ledger.specs.inner.Summaries.{state_at, state_with, AreNumbered}
 use Rattle.dsr_ledger.specs.inner.Tallies.{tally_plus, key_tally}
 use Rattle.dsr_ledger.specs.inner.Recordings.{tally_at}
-use Rattle.dsr_ledger.specs.declared.ledger.recordings.Ledger.{Ledger}
+use Rattle.dsr_ledger.specs.declared.ledger.Ledger.{Ledger}
 use Rattle.dsr_ledger.specs.meaning.Keys.{Key}
 
 -- each summary of the file has the number of its key in the ledger

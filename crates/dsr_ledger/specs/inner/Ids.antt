@@ -3,7 +3,7 @@ use Rattle.std.specs.Prelude.{ℕ, ◌<◌, Bool, false, List, ◌||◌, ◌&&�
 use Rattle.std.specs.List.{list_any}
 use Rattle.std.specs.Str.{bytes_eq}
 use Rattle.indexmap.specs.IndexSet.{contains, spare}
-use Rattle.dsr_ledger.specs.declared.ids.Ids.{Ids}
+use Rattle.dsr_ledger.specs.declared.file.ids.Ids.{Ids}
 use Rattle.dsr_ledger.specs.inner.IdRanks.{number_of_id}
 
 -- a number, if there is one, is one of those from the first up to the end

@@ -1,6 +1,6 @@
 -- The index of a list of numbers.
 use Rattle.std.specs.Prelude.{◌≡◌, ℕ, ◌<◌, List, MatchOption, length, drop, slice_index}
-use Rattle.dsr_ledger.specs.declared.ledger.index.Index.{Index}
+use Rattle.dsr_ledger.specs.declared.index.Index.{Index}
 
 -- the numbers ascend strictly
 abbrev pub Rise : List ℕ → Type 0

@@ -10,17 +10,16 @@ use Rattle.std.specs.declared.cmp.Ordering.TheVariants.{Less}
 use Rattle.indexmap.specs.IndexMap.{get}
 use Rattle.dsr_ledger.specs.declared.ledger.line.Line.{Line}
 use Rattle.dsr_ledger.specs.declared.ledger.recording.Recording.{Recording}
-use Rattle.dsr_ledger.specs.declared.ledger.recordings.Ledger.{Ledger}
+use Rattle.dsr_ledger.specs.declared.ledger.Ledger.{Ledger}
 use Rattle.dsr_ledger.specs.declared.ledger.summary_key.SummaryKey.{SummaryKey}
-use Rattle.dsr_ledger.specs.declared.lent.ledger.FoundLine.{FoundLine}
-use Rattle.dsr_ledger.specs.declared.lent.ledger.LentLedger.{LentLedger}
-use Rattle.dsr_ledger.specs.declared.lent.report.LentReport.{LentReport}
+use Rattle.dsr_ledger.specs.declared.lent.FoundLine.{FoundLine}
+use Rattle.dsr_ledger.specs.declared.lent.LentLedger.{LentLedger}
+use Rattle.dsr_ledger.specs.declared.lent.LentReport.{LentReport}
 use Rattle.dsr_ledger.specs.declared.report.LedgerLine.{LedgerLine}
 use Rattle.dsr_ledger.specs.declared.report.Report.{Report}
 use Rattle.dsr_ledger.specs.meaning.Bookings.{Booking, key_under}
 use Rattle.dsr_ledger.specs.meaning.Keys.{Key, text_cmp, key_cmp}
 use Rattle.dsr_ledger.specs.meaning.Ledger.{at_key, ledger, line_of}
-use Rattle.dsr_ledger.specs.inner.Order.{AreOfSmall}
 use Rattle.dsr_ledger.specs.inner.Recordings.{tally_at}
 use Rattle.dsr_ledger.specs.inner.Stands.{LedgerStands}
 use Rattle.dsr_ledger.specs.inner.Listed.{line_for, lent}
@@ -53,7 +52,6 @@ pub record HaveGiven (from : LentLedger) (keys : List Key) : Type 0 where
   pub before : AreBefore from.books.now (lent (into_iter_items from.recordings)) (keys ++ keys_under from.at_hand (lines_left from))
   pub at_hand : MatchOption from.at_hand (length from.lines.items ≤ from.given)
       (λ x. All (λ e. IsBookedLine from.books.now x.0.now x.1.now e.0 e.1) (lent from.lines.items))
-  pub small : ∥ AreOfSmall from.books.now ∥₁
 
 -- the key of a line that was found
 abbrev pub found_key : FoundLine → Key

@@ -7,11 +7,10 @@ use Rattle.indexmap.specs.IndexMap.{get, index_of}
 use Rattle.dsr_ledger.specs.meaning.Keys.{Key}
 use Rattle.dsr_ledger.specs.declared.ledger.summary_key.SummaryKey.{SummaryKey}
 use Rattle.dsr_ledger.specs.declared.ledger.recording.Recording.{Recording}
-use Rattle.dsr_ledger.specs.declared.ledger.recordings.Ledger.{Ledger}
+use Rattle.dsr_ledger.specs.declared.ledger.Ledger.{Ledger}
 use Rattle.dsr_ledger.specs.declared.ledger.parts.SeatShare.{SeatShare}
 use Rattle.dsr_ledger.specs.inner.Numbered.{Grows, place_by}
-use Rattle.dsr_ledger.specs.inner.Seated.{AreSeated}
-use Rattle.dsr_ledger.specs.inner.Seats.{seat_numbers}
+use Rattle.dsr_ledger.specs.inner.Seated.{AreSeated, seat_numbers}
 use Rattle.dsr_ledger.specs.inner.SummaryKeys.{summary_key_eq, summary_key_in}
 use Rattle.dsr_ledger.specs.inner.Tallies.{Tally, no_tally, lines_tally, line_keys, IsWide}
 

@@ -1,11 +1,16 @@
--- The shares of works at the seats of their parties.
+-- The seats of a recording's parties, and the shares of works at them.
 use Rattle.std.specs.Prelude.{◌≡◌, ℕ, ◌<◌, List, ◌++◌, Option, Some}
 use Rattle.std.specs.List.{flat_map, zip, AllByRecursion, AllZip}
 use Rattle.dsr_events.specs.meaning.Works.{WorkParts}
 use Rattle.dsr_ledger.specs.declared.ledger.parts.SeatPart.{SeatPart}
 use Rattle.dsr_ledger.specs.declared.ledger.parts.SeatShare.{SeatShare}
+use Rattle.dsr_ledger.specs.declared.ledger.seats.Seats.{Seats}
 use Rattle.dsr_ledger.specs.inner.Numbered.{IsNumbered}
 use Rattle.dsr_ledger.specs.inner.Owed.{part_in}
+
+-- the numbers of the parties, each at its seat
+abbrev pub seat_numbers : Seats → List ℕ
+seat_numbers seats = seats.numbers.items
 
 -- each party of the works, with its share in millionths
 abbrev pub shares_of : List WorkParts → List (List ℕ × ℕ)

@@ -1,10 +1,10 @@
 -- The state of the books represents a list of files.
-use Rattle.std.specs.Prelude.{◌≡◌, ℕ, Option, List, length}
+use Rattle.std.specs.Prelude.{◌≡◌, ℕ, Option, List, length, map}
 use Rattle.std.specs.List.{list_any, AllZip}
 use Rattle.dsr_events.specs.meaning.Blocks.{BlockParts}
 use Rattle.dsr_events.specs.meaning.Openings.{OpeningParts}
 use Rattle.dsr_ledger.specs.meaning.Keys.{Key}
-use Rattle.dsr_ledger.specs.declared.ledger.recordings.Ledger.{Ledger}
+use Rattle.dsr_ledger.specs.declared.ledger.Ledger.{Ledger}
 use Rattle.dsr_ledger.specs.declared.file.FileBooks.{FileBooks}
 use Rattle.dsr_ledger.specs.declared.verdict.Verdict.{Verdict}
 use Rattle.dsr_ledger.specs.meaning.Files.{File, Filed, filed_after, summaries_of, with_one}
@@ -16,6 +16,10 @@ use Rattle.dsr_ledger.specs.inner.Summaries.{sums_at, found_in}
 use Rattle.dsr_ledger.specs.inner.Tallies.{tally_plus, key_tally}
 use Rattle.dsr_ledger.specs.inner.Recordings.{tally_at}
 use Rattle.dsr_ledger.specs.inner.FileSteps.{IsBlockInRange}
+
+-- the openings of these files
+abbrev pub openings_of : List FileBooks → List (Option OpeningParts)
+openings_of fs = map (λ f. f.opening) fs
 
 -- the state of a file represents it
 pub record FileStands (f : FileBooks) (d : Filed) : Type 0 where

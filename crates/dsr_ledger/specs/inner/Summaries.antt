@@ -1,5 +1,5 @@
 -- The state of a file's summaries.
-use Rattle.std.specs.Prelude.{◌≡◌, ℕ, pos, ◌+ℤ◌, Bool, is_some, List, Option, Some, option_map, find}
+use Rattle.std.specs.Prelude.{◌≡◌, ℕ, pos, ◌+ℤ◌, Bool, is_some, List, Option, None, Some, option_map, find, if◌then◌else◌}
 use Rattle.std.specs.Str.{bytes_eq}
 use Rattle.indexmap.specs.IndexMap.{get, index_of}
 use Rattle.dsr_events.specs.declared.record.Summary.{Summary}
@@ -7,7 +7,7 @@ use Rattle.dsr_events.specs.declared.record.Usage.{Usage}
 use Rattle.dsr_ledger.specs.declared.sums.Sums.{Sums}
 use Rattle.dsr_ledger.specs.declared.file.summaries.SummaryState.{SummaryState}
 use Rattle.dsr_ledger.specs.declared.file.summaries.Summaries.{Summaries}
-use Rattle.dsr_ledger.specs.declared.ledger.recordings.Ledger.{Ledger}
+use Rattle.dsr_ledger.specs.declared.ledger.Ledger.{Ledger}
 use Rattle.dsr_ledger.specs.declared.ledger.summary_key.SummaryKey.{SummaryKey}
 use Rattle.dsr_ledger.specs.meaning.Sums.{int_sum_by}
 use Rattle.dsr_ledger.specs.meaning.Findings.{naming}
@@ -69,3 +69,7 @@ found_in summaries us id = option_map (λ s. sums_with id us no_sums) (find (λ 
 -- n more usages in range can be added within 128 bits
 abbrev pub StateFits : ℕ → SummaryState → Type 0
 StateFits n s = SumsFit n s.sums
+
+-- the summary, if it has this identifier
+abbrev pub named : List ℕ → Summary → Option Summary
+named id s = if bytes_eq id s.id then Some s else None

@@ -1,11 +1,12 @@
 //! The state of a file's summaries.
-ghost use Rattle.std.specs.Prelude.{◌≡◌};
+ghost use Rattle.std.specs.Prelude.{◌≡◌, ℕ, List, [], ◌∷◌, option_map, length};
+ghost use Rattle.std.specs.List.{AllByRecursion};
+ghost use Rattle.std.specs.Option.{ForSome};
 ghost use Rattle.dsr_ledger.specs.inner.Ranges.{IsInRange, SumsFit};
-ghost use Rattle.dsr_ledger.specs.inner.Summaries.{state_plus, nothing_found};
+ghost use Rattle.dsr_ledger.specs.inner.Summaries.{state_plus, nothing_found, state_at, state_with, StateFits};
 
-use crate::hints::Hints;
-use crate::seeded::Seeded;
-use crate::sums::Sums;
+use crate::index::{Hints, Seeded};
+use crate::sums::{Sums, check_range};
 use dsr_cells::{NoMemory, Text};
 use dsr_events::{Summary, Usage};
 use indexmap::IndexMap;
@@ -16,10 +17,10 @@ const SUMMARY_GROUPS: usize = 64;
 
 /// The state of a summary: the key under which its usages count, and the sums of the usages that name it.
 #[derive(Drop)]
-pub struct SummaryState {
+struct SummaryState {
     /// The number of the key in the ledger.
-    pub key: u32,
-    pub sums: Sums,
+    key: u32,
+    sums: Sums,
 }
 
 impl SummaryState {
@@ -45,9 +46,9 @@ impl SummaryState {
 
 /// A file's summaries by their identifiers, numbered in file order.
 #[derive(Drop)]
-pub struct Summaries {
-    pub states: IndexMap<Text, SummaryState, Seeded>,
-    pub hints: Hints<SUMMARY_GROUPS>,
+pub(crate) struct Summaries {
+    states: IndexMap<Text, SummaryState, Seeded>,
+    hints: Hints<SUMMARY_GROUPS>,
 }
 
 /// The group of hints of an identifier. Identifiers that end with different numbers are mostly in different groups.
@@ -60,14 +61,13 @@ fn summary_group(id: &Text) -> usize {
 }
 
 impl Summaries {
-    ghost use Rattle.std.specs.Prelude.{[], ◌∷◌, ◌<◌, ℕ, List, IfSome, IfOk, OnOk, None, Some, option_map};
-    ghost use Rattle.std.specs.Option.{ForSome, option_or};
+    ghost use Rattle.std.specs.Prelude.{◌<◌, IfSome, IfOk, OnOk, None, Some};
+    ghost use Rattle.std.specs.Option.{option_or};
     ghost use Rattle.indexmap.specs.IndexMap.{index_map_len};
-    ghost use Rattle.dsr_ledger.specs.inner.Summaries.{state_at, sums_at, state_with, number_at, index_at, StateFits};
-    ghost use Rattle.dsr_ledger.specs.inner.Openings.{named};
+    ghost use Rattle.dsr_ledger.specs.inner.Summaries.{sums_at, number_at, index_at, named};
 
     /// No summaries.
-    pub fn new(alloc: Global, seeded: Seeded) -> Summaries
+    pub(crate) fn new(alloc: Global, seeded: Seeded) -> Summaries
         ensures { (q : List ℕ) → state_at result q ≡ None }
     {
         Summaries {
@@ -77,7 +77,11 @@ impl Summaries {
     }
 
     /// No summaries, with room for `many`.
-    pub fn with_room(alloc: Global, seeded: Seeded, many: usize) -> Result<Summaries, NoMemory>
+    pub(crate) fn with_room(
+        alloc: Global,
+        seeded: Seeded,
+        many: usize,
+    ) -> Result<Summaries, NoMemory>
         ensures { IfOk result (λ m. (q : List ℕ) → state_at m q ≡ None) }
     {
         Ok(Summaries {
@@ -98,7 +102,7 @@ impl Summaries {
     }
 
     /// The number of a summary.
-    pub fn index(&self, id: &Text) -> Option<usize>
+    pub(crate) fn index(&self, id: &Text) -> Option<usize>
         ensures { result ≡ index_at self.now id.now }
     {
         self.states.get_index_of(id)
@@ -115,7 +119,7 @@ impl Summaries {
     }
 
     /// The number of a summary. Of many summaries, the one at `next`, which may be any number, is tried first.
-    pub fn index_near(&self, id: &Text, next: usize) -> Option<usize>
+    pub(crate) fn index_near(&self, id: &Text, next: usize) -> Option<usize>
         ensures { result ≡ index_at self.now id.now }
     {
         if let Some(number) = self.hinted(self.hint(id, next), id) {
@@ -125,13 +129,13 @@ impl Summaries {
     }
 
     /// The number after that of a summary; 0 after the last one.
-    pub fn next(&self, number: usize) -> usize {
+    pub(crate) fn next(&self, number: usize) -> usize {
         let next = number.wrapping_add(1);
         if next < self.states.len() { next } else { 0 }
     }
 
     /// The sums of the usages that name a summary.
-    pub fn sums(&self, id: &Text) -> Option<&Sums>
+    pub(crate) fn sums(&self, id: &Text) -> Option<&Sums>
         ensures { option_map (λ sums. sums.now) result ≡ sums_at self.now id.now }
     {
         match self.states.get(id) {
@@ -141,7 +145,7 @@ impl Summaries {
     }
 
     /// The number of the key of the summary with this number.
-    pub fn key(&self, number: usize) -> u32
+    pub(crate) fn key(&self, number: usize) -> u32
         requires { number < index_map_len self.now.states }
         ensures { (id : List ℕ) → index_at self.now id ≡ Some number
             → number_at self.now id ≡ Some result }
@@ -151,7 +155,7 @@ impl Summaries {
 
     /// Adds a summary before any usage, unless its identifier is there. Its key has the number `key`. The states of the
     /// others are unchanged.
-    pub fn add(&mut self, alloc: Global, summary: &Summary, key: u32) -> Result<(), NoMemory>
+    pub(crate) fn add(&mut self, alloc: Global, summary: &Summary, key: u32) -> Result<(), NoMemory>
         ensures { OnOk result ((q : List ℕ)
             → state_at self.new q ≡ option_or (state_at self.old q)
             (option_map (λ s. nothing_found key) (named q summary.now))) }
@@ -167,7 +171,7 @@ impl Summaries {
     }
 
     /// Adds a usage to the summary that it names, which has this number, and to no other.
-    pub fn count(&mut self, number: usize, usage: &Usage)
+    pub(crate) fn count(&mut self, number: usize, usage: &Usage)
         requires there { index_at self.old usage.now.summary_id ≡ Some number }
         requires fits { ForSome (state_at self.old usage.now.summary_id) (StateFits 1) }
         ensures range { IsInRange usage.now }
@@ -177,5 +181,31 @@ impl Summaries {
     {
         let (_, state) = self.states.pair_mut(number);
         state.count(usage);
+    }
+}
+
+/// Adds a usage to the summary that it names, and to no other.
+#[tactic(auto, using(crate::proofs::StateLemmas::uncounted))]
+fn count_one(summaries: &mut Summaries, usage: &Usage)
+    requires { (id : List ℕ) → ForSome (state_at summaries.old id) (StateFits 1) }
+    ensures range { IsInRange usage.now }
+    ensures summaries { (id : List ℕ) → state_at summaries.new id ≡ option_map
+        (state_with id (usage.now ∷ [])) (state_at summaries.old id) }
+{
+    check_range(usage);
+    if let Some(number) = summaries.index(&usage.summary_id) {
+        summaries.count(number, usage);
+    }
+}
+
+/// Adds usages to the summaries that they name, and to no others.
+pub(crate) fn count_usages(summaries: &mut Summaries, usages: &[Usage])
+    requires { (id : List ℕ) → ForSome (state_at summaries.old id) (StateFits (length usages.now)) }
+    ensures range { AllByRecursion IsInRange usages.now }
+    ensures summaries { (id : List ℕ) → state_at summaries.new id ≡ option_map
+        (state_with id usages.now) (state_at summaries.old id) }
+{
+    for usage in usages {
+        count_one(summaries, usage);
     }
 }

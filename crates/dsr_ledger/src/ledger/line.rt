@@ -7,7 +7,7 @@ ghost use Rattle.dsr_ledger.specs.inner.Ranges.{IsInRange};
 ghost use Rattle.dsr_ledger.specs.inner.Seated.{HaveSeats, HaveParts};
 ghost use Rattle.dsr_ledger.specs.inner.Tallies.{no_tally, line_tally, tally_with, TallyFits};
 
-use crate::ledger::index::Numbered;
+use crate::index::Numbered;
 use crate::ledger::parts::{Parts, SeatShare};
 use crate::sums::Sums;
 use dsr_events::Usage;
@@ -16,11 +16,11 @@ use std::alloc::Global;
 /// A line: the number of its summary key, whether it has a booked usage, the sums of these, and the
 /// parties' parts of them. The widest fields come first, so that a line takes 120 bytes.
 #[derive(Drop)]
-pub struct Line {
-    pub sums: Sums,
-    pub parts: Parts,
-    pub key: u32,
-    pub is_booked: bool,
+pub(crate) struct Line {
+    pub(crate) sums: Sums,
+    pub(crate) parts: Parts,
+    pub(crate) key: u32,
+    pub(crate) is_booked: bool,
 }
 
 impl Numbered for Line {
@@ -33,7 +33,7 @@ impl Numbered for Line {
 
 impl Line {
     /// A line with no usages.
-    pub fn new(alloc: Global, key: u32) -> Line
+    pub(crate) fn new(alloc: Global, key: u32) -> Line
         ensures key { result.key ≡ key }
         ensures parts { result.parts.items.items ≡ [] }
         ensures tally { (seat : List ℕ → Option ℕ) → line_tally seat result ≡ no_tally }
@@ -47,7 +47,7 @@ impl Line {
     }
 
     /// Adds a usage, and its parts to the seats of their parties.
-    pub fn add(&mut self, usage: &Usage, shares: &[SeatShare])
+    pub(crate) fn add(&mut self, usage: &Usage, shares: &[SeatShare])
         requires wide { HaveParts shares.now self.old.parts.items.items }
         requires fits { (n : ℕ) × (seat : List ℕ → Option ℕ) × (es : List (List ℕ × ℕ))
             × HaveSeats seat n shares.now es × TallyFits 1 (line_tally seat self.old)

@@ -11,9 +11,8 @@ ghost use Rattle.dsr_ledger.specs.inner.Owed.{nothing_owed, owed_with, owed_kept
 ghost use Rattle.dsr_ledger.specs.meaning.Parts.{part_of};
 ghost use Rattle.dsr_ledger.specs.inner.Seated.{HaveSeats, HasPart, HaveParts, AreSeatsBelow};
 
-use crate::ledger::index::{Index, Numbered};
-use crate::seeded::Seeded;
-use crate::wide::Wide;
+use crate::index::{Index, Numbered, Seeded};
+use crate::sums::Wide;
 use dsr_cells::{Amount, NoMemory};
 use smallvec::SmallVec;
 use std::alloc::Global;
@@ -23,23 +22,23 @@ const FEW_PARTS: usize = 2;
 
 /// A party's share of a work, at the seat of the party.
 #[derive(Clone, Copy, PartialEq, Eq, Drop)]
-pub struct SeatShare {
-    pub seat: u32,
+pub(crate) struct SeatShare {
+    pub(crate) seat: u32,
     /// In millionths.
-    pub share: u32,
+    pub(crate) share: u32,
 }
 
 /// What a line owes the party at a seat: whether the party has a part, and the sum of its parts.
 #[derive(Default, Drop)]
-pub struct SeatPart {
-    pub seat: u32,
-    pub has_part: bool,
-    pub amount: Wide,
+pub(crate) struct SeatPart {
+    pub(crate) seat: u32,
+    pub(crate) has_part: bool,
+    pub(crate) amount: Wide,
 }
 
 impl SeatPart {
     /// No part so far.
-    pub fn new(seat: u32) -> SeatPart
+    fn new(seat: u32) -> SeatPart
         ensures seat { result.seat ≡ seat }
         ensures owed { owed_kept result ≡ nothing_owed }
     {
@@ -51,7 +50,7 @@ impl SeatPart {
     }
 
     /// Adds a part.
-    pub fn add(&mut self, amount: i128)
+    fn add(&mut self, amount: i128)
         requires { FitsSigned w128 (self.old.amount +ℤ amount) }
         ensures seat { self.new.seat ≡ self.old.seat }
         ensures owed { owed_kept self.new ≡ owed_with amount (owed_kept self.old) }
@@ -71,10 +70,10 @@ impl Numbered for SeatPart {
 
 /// The parts of a line, one for each seat that has one, in the order in which they were added.
 #[derive(Drop)]
-pub struct Parts {
-    pub items: SmallVec<SeatPart, FEW_PARTS>,
+pub(crate) struct Parts {
+    pub(crate) items: SmallVec<SeatPart, FEW_PARTS>,
     /// By the seats.
-    pub index: Index,
+    index: Index,
     ghost apart: { AreApart (part_seats items.items) },
     ghost indexed: { AreIndexed (part_seats items.items) index } by { Prim.hlevel props },
 }
@@ -169,7 +168,7 @@ fn add_parts(parts: &mut [SeatPart], index: &Index, amount: Amount, shares: &[Se
 
 impl Parts {
     /// No parts.
-    pub fn new(alloc: Global) -> Parts
+    pub(crate) fn new(alloc: Global) -> Parts
         ensures { result.items.items ≡ [] }
     {
         Parts {
@@ -179,7 +178,7 @@ impl Parts {
     }
 
     /// The parts, in the order in which they were added.
-    pub fn as_slice(&self) -> &[SeatPart]
+    pub(crate) fn as_slice(&self) -> &[SeatPart]
         ensures value { result.now ≡ self.now.items.items }
         ensures apart { AreApart (part_seats self.now.items.items) }
     {
@@ -187,7 +186,7 @@ impl Parts {
     }
 
     /// How many seats have a part.
-    pub fn len(&self) -> usize
+    pub(crate) fn len(&self) -> usize
         ensures { result ≡ length self.now.items.items }
     {
         self.items.len()
@@ -231,7 +230,7 @@ impl Parts {
     }
 
     /// Adds the shares of an amount, each to the part of its seat.
-    pub fn add(&mut self, amount: Amount, shares: &[SeatShare])
+    pub(crate) fn add(&mut self, amount: Amount, shares: &[SeatShare])
         requires wide { HaveParts shares.now self.old.items.items }
         requires fits { (n : ℕ) × (seat : List ℕ → Option ℕ) × (es : List (List ℕ × ℕ))
             × HaveSeats seat n shares.now es × (parts_size (map (part_of amount) es) ≤ amount_bound)
@@ -246,7 +245,7 @@ impl Parts {
 }
 
 /// Gives the seat of each share a part. What is owed is unchanged.
-pub fn widen(
+pub(crate) fn widen(
     parts: &mut Parts,
     alloc: Global,
     seeded: Seeded,

@@ -5,15 +5,13 @@ ghost use Rattle.std.proofs.Props.{props};
 ghost use Rattle.dsr_ledger.specs.meaning.Limits.{amount_bound};
 ghost use Rattle.dsr_ledger.specs.inner.Indexes.{AreIndexed};
 ghost use Rattle.dsr_ledger.specs.inner.Numbered.{AreApart, place_in};
-ghost use Rattle.dsr_ledger.specs.inner.Seats.{seat_numbers};
+ghost use Rattle.dsr_ledger.specs.inner.Seated.{seat_numbers};
 ghost use Rattle.dsr_ledger.specs.inner.Tallies.{line_in, line_keys, AreWithin};
 
-use crate::hints::Hints;
-use crate::ledger::index::Index;
+use crate::index::{Hints, Index, Seeded};
 use crate::ledger::line::Line;
 use crate::ledger::parts::{SeatShare, widen};
 use crate::ledger::seats::Seats;
-use crate::seeded::Seeded;
 use dsr_cells::NoMemory;
 use dsr_events::Usage;
 use std::alloc::Global;
@@ -23,31 +21,19 @@ const LINE_GROUPS: usize = 16;
 
 /// The parties of a recording, each at its seat, and its lines: one for each summary key, in the order
 /// in which they were added.
-pub struct Recording {
-    pub seats: Seats,
-    pub lines: Vec<Line>,
+#[derive(Drop)]
+pub(crate) struct Recording {
+    pub(crate) seats: Seats,
+    pub(crate) lines: Vec<Line>,
     /// By the numbers of the lines' summary keys.
-    pub index: Index,
-    pub hints: Hints<LINE_GROUPS>,
+    index: Index,
+    hints: Hints<LINE_GROUPS>,
     /// The number of the recording whose block came next, when a block of this one last came before another. It may be
     /// any number.
-    pub next: u32,
+    pub(crate) next: u32,
     ghost apart: { AreApart (line_keys lines.items) },
     ghost indexed: { AreIndexed (line_keys lines.items) index } by { Prim.hlevel props },
     ghost within: { AreWithin (length (seat_numbers seats)) lines.items },
-}
-
-/// Written out, so that dropping one is a call: a derived drop is proved anew wherever it happens.
-impl Drop for Recording {
-    fn drop(self) {
-        let Recording {
-            seats: _,
-            lines: _,
-            index: _,
-            hints: _,
-            next: _,
-        } = self;
-    }
 }
 
 /// The group of hints of a summary key.
@@ -75,7 +61,7 @@ impl Recording {
     ghost use Rattle.dsr_ledger.specs.inner.Tallies.{lines_tally, tally_with, LinesGrow, IsWide, TallyFits};
 
     /// No parties and no lines, with room for this many lines.
-    pub fn with_room(alloc: Global, lines: usize) -> Result<Recording, NoMemory>
+    pub(crate) fn with_room(alloc: Global, lines: usize) -> Result<Recording, NoMemory>
         ensures seats { IfOk result (λ r. seat_numbers r.seats ≡ []) }
         ensures lines { IfOk result (λ r. r.lines.items ≡ []) }
     {
@@ -89,7 +75,7 @@ impl Recording {
     }
 
     /// Notes that a block of the recording with this number came after one of this recording.
-    pub fn set_next(&mut self, next: u32)
+    pub(crate) fn set_next(&mut self, next: u32)
         ensures seats { self.new.seats ≡ self.old.seats }
         ensures lines { self.new.lines ≡ self.old.lines }
     {
@@ -97,7 +83,12 @@ impl Recording {
     }
 
     /// The seat of a party, which is given one if it has none. The lines are unchanged.
-    pub fn seat(&mut self, alloc: Global, seeded: Seeded, party: u32) -> Result<usize, NoMemory>
+    pub(crate) fn seat(
+        &mut self,
+        alloc: Global,
+        seeded: Seeded,
+        party: u32,
+    ) -> Result<usize, NoMemory>
         ensures lines { self.new.lines ≡ self.old.lines }
         ensures more { IsWithNumber (seat_numbers self.old.seats)
             (seat_numbers self.new.seats) party }
@@ -189,7 +180,7 @@ impl Recording {
     }
 
     /// The same, and the line has a part for the seat of each share.
-    pub fn line(
+    pub(crate) fn line(
         &mut self,
         alloc: Global,
         seeded: Seeded,
@@ -211,7 +202,7 @@ impl Recording {
     }
 
     /// Adds a usage and its parts to a line, and to no other.
-    pub fn add(&mut self, number: usize, usage: &Usage, shares: &[SeatShare])
+    pub(crate) fn add(&mut self, number: usize, usage: &Usage, shares: &[SeatShare])
         requires wide { IsWide shares.now self.old.lines.items number }
         requires fits { (n : ℕ) × (seat : List ℕ → Option ℕ) × (es : List (List ℕ × ℕ)) × (key : ℕ)
             × HaveSeats seat n shares.now es × (line_in self.old.lines.items key ≡ Some number)

@@ -4,8 +4,7 @@ ghost use Rattle.std.proofs.Props.{props};
 ghost use Rattle.dsr_ledger.specs.inner.Indexes.{AreIndexed};
 ghost use Rattle.dsr_ledger.specs.inner.Numbered.{place_in, AreApart};
 
-use crate::ledger::index::Index;
-use crate::seeded::Seeded;
+use crate::index::{Index, Seeded};
 use dsr_cells::NoMemory;
 use smallvec::SmallVec;
 use std::alloc::Global;
@@ -15,10 +14,10 @@ const FEW_SEATS: usize = 2;
 
 /// The numbers of a recording's parties, each once, at its seat, in the order of their first use.
 #[derive(Drop)]
-pub struct Seats {
-    pub numbers: SmallVec<u32, FEW_SEATS>,
+pub(crate) struct Seats {
+    numbers: SmallVec<u32, FEW_SEATS>,
     /// By the numbers of the parties.
-    pub index: Index,
+    index: Index,
     ghost apart: { AreApart numbers.items },
     ghost indexed: { AreIndexed numbers.items index } by { Prim.hlevel props },
 }
@@ -26,10 +25,10 @@ pub struct Seats {
 impl Seats {
     ghost use Rattle.std.specs.Prelude.{[], ◌∷◌, ◌++◌, None};
     ghost use Rattle.dsr_ledger.specs.inner.Numbered.{IsWithNumber};
-    ghost use Rattle.dsr_ledger.specs.inner.Seats.{seat_numbers};
+    ghost use Rattle.dsr_ledger.specs.inner.Seated.{seat_numbers};
 
     /// No parties.
-    pub fn new(alloc: Global) -> Seats
+    pub(crate) fn new(alloc: Global) -> Seats
         ensures { seat_numbers result ≡ [] }
     {
         Seats {
@@ -39,7 +38,7 @@ impl Seats {
     }
 
     /// The numbers of the parties, each at its seat.
-    pub fn as_slice(&self) -> &[u32]
+    pub(crate) fn as_slice(&self) -> &[u32]
         ensures value { result.now ≡ seat_numbers self.now }
         ensures apart { AreApart (seat_numbers self.now) }
     {
@@ -47,7 +46,7 @@ impl Seats {
     }
 
     /// How many seats there are.
-    pub fn len(&self) -> usize
+    pub(crate) fn len(&self) -> usize
         ensures { result ≡ length (seat_numbers self.now) }
     {
         self.numbers.len()
@@ -74,7 +73,12 @@ impl Seats {
     }
 
     /// The seat of a party, which is given one if it has none.
-    pub fn seat(&mut self, alloc: Global, seeded: Seeded, party: u32) -> Result<usize, NoMemory>
+    pub(crate) fn seat(
+        &mut self,
+        alloc: Global,
+        seeded: Seeded,
+        party: u32,
+    ) -> Result<usize, NoMemory>
         ensures more { IsWithNumber (seat_numbers self.old) (seat_numbers self.new) party }
         ensures there { IfOk result (λ seat. place_in (seat_numbers self.new) party ≡ Some seat) }
     {

@@ -8,15 +8,15 @@ use std::alloc::Global;
 
 /// The key that a summary gives to its usages: a ledger line's key without the recording.
 #[derive(PartialEq, Eq, PartialOrd, Ord, Hash, Drop)]
-pub struct SummaryKey {
-    pub territory: Text,
-    pub use_type: Text,
-    pub currency: Text,
+pub(crate) struct SummaryKey {
+    pub(crate) territory: Text,
+    pub(crate) use_type: Text,
+    pub(crate) currency: Text,
 }
 
 impl SummaryKey {
     /// The key of a summary.
-    pub fn of(alloc: Global, summary: &Summary) -> Result<SummaryKey, NoMemory>
+    pub(crate) fn of(alloc: Global, summary: &Summary) -> Result<SummaryKey, NoMemory>
         ensures { IfOk result (λ key. key ≡ summary_key_of summary.now) }
     {
         Ok(SummaryKey {

@@ -5,12 +5,9 @@ ghost use Rattle.dsr_ledger.specs.meaning.Ledger.{ledger};
 ghost use Rattle.dsr_ledger.specs.inner.Order.{AreOfSmall};
 ghost use Rattle.dsr_ledger.specs.inner.Stands.{LedgerStands};
 
-use crate::append::append;
-use crate::ledger::recordings::Ledger;
-use crate::lent::ledger::LentLedger;
-use crate::lent::line::LentLine;
-use crate::lent::party::LentParty;
-use crate::report::{LedgerLine, LedgerLines, Parties, PartyLine};
+use crate::ledger::Ledger;
+use crate::lent::{LentLedger, LentLine, LentParty};
+use crate::report::{LedgerLine, LedgerLines, Parties, PartyLine, append};
 use dsr_cells::{Items, NoMemory, Text};
 use std::alloc::Global;
 
@@ -49,7 +46,7 @@ fn copy_line(alloc: Global, lent: &LentLine<'_>) -> Result<LedgerLine, NoMemory>
 }
 
 /// Copies of the lines of a ledger.
-pub fn copied_lines(alloc: Global, books: &Ledger) -> Result<LedgerLines, NoMemory>
+pub(crate) fn copied_lines(alloc: Global, books: &Ledger) -> Result<LedgerLines, NoMemory>
     requires { ∥ AreOfSmall books.now ∥₁ }
     ensures { (bs : List Booking) → LedgerStands books.now bs
         → IfOk result (λ lines. lines ≡ ledger bs) }

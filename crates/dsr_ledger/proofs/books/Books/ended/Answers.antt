@@ -1,4 +1,4 @@
-use Rattle.dsr_ledger.proofs.Common.{ap, ◌∙◌, is_some, false, option_map_or, rules}
+use Rattle.dsr_ledger.proofs.Common.{ap, ◌∙◌, is_some, false, option_map_or}
 use Rattle.dsr_ledger.proofs.CallerLemmas.{ended_told}
 use Rattle.dsr_ledger.proofs.books.Books.ended.Goals as goal
 
@@ -9,6 +9,3 @@ returns-in-Some-clause-stands c =
 pub returns-in-None-clause-stands : goal.returns-in-None-clause-stands
 returns-in-None-clause-stands c =
     λ files h. ap (λ o. option_map_or (λ f. is_some f.outcome) o false) c.in-None.ensures ∙ ended_told c.args.self.now.kept files h c.args.k
-
-pub returns-in-Some-clause-value : goal.returns-in-Some-clause-value
-returns-in-Some-clause-value c = search rules

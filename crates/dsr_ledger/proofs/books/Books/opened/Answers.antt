@@ -6,6 +6,3 @@ pub returns-clause-stands : goal.returns-clause-stands
 returns-clause-stands c = λ files h.
     let long : c.len.result ≡ length c.args.self.now.kept.files.items = search rules in
     long ∙ length-stand 1 [] c.args.self.now.kept.files.items files h.each
-
-pub returns-clause-value : goal.returns-clause-value
-returns-clause-value c = search rules
