@@ -3,8 +3,7 @@ use Rattle.std.proofs.lemmas.Grind.{common_steps}
 use mathlib.Core.List.{map-append}
 use Rattle.dsr_cells.specs.meaning.Cells.{cells}
 use Rattle.dsr_records.specs.inner.Rows.{behind, cells_left}
-use Rattle.dsr_records.proofs.Drops.{drop_next}
-use Rattle.dsr_records.proofs.Following.{taken_more}
+use Rattle.dsr_records.proofs.Following.{drop_next, taken_more}
 use Rattle.dsr_records.proofs.row.Row.take_unseen.Goals as goal
 
 pub loop-next-preserved : goal.loop-next-preserved
