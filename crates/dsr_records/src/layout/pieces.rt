@@ -20,6 +20,7 @@ fn without_byte_order_mark(bytes: &[u8]) -> &[u8]
 }
 
 /// The index of the line feed that ends the first piece, if there is one.
+#[tactic(auto, using(crate::proofs::Cuts::pieces_at, crate::proofs::Cuts::pieces_last))]
 fn first_end(bytes: &[u8]) -> Option<usize>
     requires { 0 < length bytes.now }
     ensures cuts { MatchOption result (pieces_left bytes.now ≡ bytes.now ∷ [])

@@ -161,6 +161,7 @@ impl Layout {
     /// # Errors
     ///
     /// The first faulty line, and its fault.
+    #[tactic(auto, using(crate::proofs::Cuts::few_lines))]
     pub fn read(bytes: &[u8]) -> Result<Layout, LayoutError>
         ensures { result ≡ layout_of bytes.now }
     {

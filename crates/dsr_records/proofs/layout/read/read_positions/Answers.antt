@@ -1,5 +1,4 @@
-use Rattle.std.proofs.Common.{sym, ap, get_or, arith}
-use Rattle.std.proofs.lemmas.Grind.{common_steps}
+use Rattle.std.proofs.Common.{sym, ap, get_or}
 use Rattle.std.specs.Option.{option_and_then}
 use Rattle.dsr_events.specs.declared.kinds.Column.TheVariants.{MessageId}
 use Rattle.dsr_records.specs.meaning.Layouts.{position_of}
@@ -11,12 +10,3 @@ returns-in_err-cell c =
     rw c.from_residual.ensures
     (sym (placed_fault c.args.line.now c.args.columns.now c.loop-i.i MessageId c.loop-i.positions.items c.loop-i-test.true
     (ap (option_and_then (position_of (get_or c.args.columns.now c.loop-i.i MessageId))) (sym c.in_err-cell.ensures)) c.loop-i.invariant))
-
-pub returns-in_err-read_position : goal.returns-in_err-read_position
-returns-in_err-read_position c = grind (arith, common_steps)
-
-pub loop-i-preserved : goal.loop-i-preserved
-loop-i-preserved c = grind (arith, common_steps)
-
-pub returns : goal.returns
-returns c = grind (arith, common_steps)

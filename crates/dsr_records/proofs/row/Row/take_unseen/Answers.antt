@@ -1,5 +1,4 @@
 use Rattle.std.proofs.Common.{arith, ◌≡◌, ◌∙◌, ◌+◌, ◌++◌, ◌∷◌, [], Some, ap, sym, map, drop}
-use Rattle.std.proofs.lemmas.Grind.{common_steps}
 use mathlib.Core.List.{map-append}
 use Rattle.dsr_cells.specs.meaning.Cells.{cells}
 use Rattle.dsr_records.specs.inner.Rows.{behind, cells_left}
@@ -19,6 +18,3 @@ loop-next-preserved c =
       sym (drop_next line (next + 1) cell.now _ here),
       omega (arith, c.loop-next-test.true),
     )
-
-pub push-requires : goal.push-requires
-push-requires c = grind (arith, common_steps)
