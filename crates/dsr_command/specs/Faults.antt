@@ -6,9 +6,9 @@ use Rattle.dsr_intake.specs.declared.errors.RunError.{RunError}
 use Rattle.dsr_intake.specs.declared.errors.RunError.TheVariants as run
 use Rattle.dsr_statement.specs.declared.verdict.Status.{Status}
 use Rattle.dsr_statement.specs.declared.verdict.Status.TheVariants.{Clean, Remarks}
-use Rattle.dsr_records.specs.declared.layout_fault.LayoutError.{LayoutError}
-use Rattle.dsr_records.specs.declared.layout_fault.LayoutFault.{LayoutFault}
-use Rattle.dsr_records.specs.declared.layout_fault.LayoutFault.TheVariants as layout
+use Rattle.dsr_records.specs.declared.fault.LayoutError.{LayoutError}
+use Rattle.dsr_records.specs.declared.fault.LayoutFault.{LayoutFault}
+use Rattle.dsr_records.specs.declared.fault.LayoutFault.TheVariants as layout
 use Rattle.dsr_command.specs.declared.layout_file.LayoutReadError.{LayoutReadError}
 use Rattle.dsr_command.specs.declared.layout_file.LayoutReadError.TheVariants.{Read, Bad, Memory}
 use Rattle.dsr_command.specs.declared.inputs.OpenError.{OpenError}

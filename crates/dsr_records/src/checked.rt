@@ -1,6 +1,6 @@
 //! Checking lines, and copying the records of lines without a fault.
-ghost use Rattle.std.specs.Prelude.{◌≡◌, ◌+◌, ◌<◌, true, length, map};
-ghost use Rattle.std.specs.Prelude.{Ok, Err, IfOk, IfSome, OnOk, OnErr, MatchResult, nat_lt, drop, take};
+ghost use Rattle.std.specs.Prelude.{◌≡◌, ◌+◌, ◌<◌, true, length};
+ghost use Rattle.std.specs.Prelude.{Ok, Err, IfOk, IfSome, OnOk, OnErr, nat_lt, take};
 ghost use Rattle.std.specs.Option.{option_map};
 ghost use Rattle.dsr_cells.specs.meaning.Cells.{cells};
 ghost use Rattle.dsr_events.specs.meaning.Blocks.{OpensBlock, with_member};
@@ -20,7 +20,6 @@ use crate::layout::Layout;
 use crate::rest::Rest;
 use crate::row::Row;
 use crate::usual::{usual_resource, usual_usage, usual_work};
-use crate::write::{write_resource, write_usage, write_work};
 use dsr_cells::{NoMemory, count_cells};
 use dsr_events::{Block, Foot, Kind, Record};
 use std::alloc::Global;
@@ -125,7 +124,7 @@ impl<'l> CheckedLine<'l> {
         ensures memory { OnErr result (has_texts (record_seen self.now) ≡ true) }
     {
         if let CheckedLine::Resource(resource) = self {
-            return write_resource(block, alloc, resource);
+            return resource.open_block(alloc, block);
         }
         Ok(())
     }
@@ -144,8 +143,8 @@ impl<'l> CheckedLine<'l> {
         ensures memory { OnErr result (has_texts (record_seen self.now) ≡ true) }
     {
         match self {
-            CheckedLine::Work(work) => write_work(block, alloc, work),
-            CheckedLine::Usage(usage) => write_usage(block, alloc, usage),
+            CheckedLine::Work(work) => work.append_to(alloc, block),
+            CheckedLine::Usage(usage) => usage.append_to(alloc, block),
             _ => Ok(()),
         }
     }
@@ -164,7 +163,7 @@ fn counts_many_cells(line: &str) -> bool
 
 /// Whether a line has more than 64 cells. A line of fewer than 64 bytes has not, and for most longer ones
 /// the TABs among the first 64 bytes show that they have not.
-#[tactic(auto, using(crate::proofs::Tabs::few_cells))]
+#[tactic(auto, using(crate::proofs::LineChecks::few_cells))]
 #[inline(always)]
 fn has_many_cells(line: &str, whole: &Rest<'_>) -> bool
     requires { whole.now.text.now ≡ line.now }

@@ -15,6 +15,7 @@ fn find_tab(bytes: &[u8]) -> Option<usize>
 }
 
 /// The index of the first TAB, or the length if there is none; not inlined, since it is rarely called.
+#[tactic(auto, using(crate::proofs::FirstCells::place_found, crate::proofs::FirstCells::none_found))]
 #[cold]
 #[inline(never)]
 fn first_tab(bytes: &[u8]) -> usize
@@ -78,6 +79,7 @@ impl<'l> Rest<'l> {
     }
 
     /// A whole text, given the TABs of its first 64 bytes.
+    #[tactic(auto, using(crate::proofs::Marks::known_first))]
     #[inline(always)]
     fn with(text: &'l str, tabs: u64) -> Rest<'l>
         requires { tabs ≡ tab_bits (take 64 text.now) }
@@ -101,6 +103,7 @@ impl<'l> Rest<'l> {
     }
 
     /// The first cell, and the rest after the TAB that ends it, if there is one.
+    #[tactic(auto, using(crate::proofs::Marks::only_cell_known))]
     #[inline(always)]
     pub(crate) fn first_cell(self) -> (&'l str, Option<Rest<'l>>)
         ensures { cells self.entry.text.now ≡ result.0.now ∷ cells_left result.1 }
@@ -146,6 +149,7 @@ impl<'l> Rest<'l> {
     }
 
     /// The first cell, if all bytes were searched and there is no TAB: it is the only one.
+    #[tactic(auto, using(crate::proofs::Marks::only_cell_known))]
     #[inline(always)]
     pub(crate) fn only_cell(self) -> Option<&'l str>
         ensures { IfSome result (λ cell. cells self.entry.text.now ≡ cell.now ∷ []) }

@@ -43,11 +43,14 @@ pub all : {W : Type 0} {told : W → Written} {p q : Pieces W} {X : Type 0} (f :
     → Puts told p q (flat_map f (take i xs)) → Puts told p q (flat_map f xs)
 all f xs i end puts = turn puts (ap (flat_map f) (take_all i xs end))
 
--- the lines of a ledger line, from a line that has no parties
-pub own_lines : (head l : LedgerLine) (ps : List PartyLine) → head ≡ record l { parties = [] } → ps ≡ l.parties
-    → sums_line head ++ (flat_map (party_line head) ps ++ unclaimed_line head) ≡ ledger_lines l
+-- the lines of a ledger line whose parties are put in two parts
+pub two_parts : (l : LedgerLine) (ps : List PartyLine)
+    → sums_line l ++ (flat_map (party_line l) l.parties ++ (flat_map (party_line l) ps ++ unclaimed_line l))
+    ≡ ledger_lines (record l { parties = l.parties ++ ps })
 unfolding ledger_lines party_line sums_line unclaimed_line
-own_lines head l ps e f = λ i. sums_line (e i) ++ (flat_map (party_line (e i)) (f i) ++ unclaimed_line (e i))
+two_parts l ps =
+    ap (λ lines. sums_line l ++ lines) (sym (append_assoc (flat_map (party_line l) l.parties) (flat_map (party_line l) ps) (unclaimed_line l))
+    ∙ ap (λ lines. lines ++ unclaimed_line l) (sym (flat_map-append (party_line l) l.parties ps)))
 
 -- the line of one more file
 pub file_lines_more : (place : ℕ) (files : List FileLine) (f : FileLine)

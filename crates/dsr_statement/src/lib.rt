@@ -4,7 +4,7 @@
 //! 2. `write`: puts the statement, by `lines`, `cells`, `key` and `names`, into `pieces`.
 //! 3. `pieces`: writes what is put to an [`Outlet`] of dsr_io, in pieces of up to 64 KiB, and flushes it at the end. What
 //!    waits is in a `slice_buffer`.
-//! 4. `remarks`: whether the statement has remarks (`verdict`).
+//! 4. `remarks`: the status of a report, whose statement has remarks or not (`verdict`).
 //!
 //! **Example**, compiled and proved in `crates/dsr_tests/src/collecting.rt`:
 //!

@@ -1,6 +1,5 @@
 //! The lines of a statement.
-ghost use Rattle.std.specs.Prelude.{◌≡◌, ◌∷◌, [], IfSome};
-ghost use Rattle.std.specs.Fmt.{signed_decimal};
+ghost use Rattle.std.specs.Prelude.{◌≡◌, ◌∷◌, ◌++◌, [], IfSome};
 ghost use Rattle.std.specs.List.{flat_map};
 ghost use Rattle.dsr_statement.specs.meaning.Statement.{tabbed, head_line, report_line, number_cell, outcome_cells, column_cells};
 ghost use Rattle.dsr_statement.specs.meaning.Statement.{key_cells, file_line, missing_line, difference_line, ledger_lines};
@@ -112,28 +111,23 @@ pub(crate) fn put_difference<W: Outlet>(out: &mut Pieces<'_, W>, difference: &Di
     out.put(b"SUMMARY");
     put_number(out, u64::from(difference.file));
     put_text(out, difference.summary_id.as_str().as_bytes());
-    put_usages(out, difference.stated_usages, difference.found_usages);
+    put_signed(out, i128::from(difference.stated_usages));
+    put_signed(out, difference.found_usages);
     put_amount(out, difference.stated_amount);
     put_last_amount(out, difference.found_amount);
 }
 
-/// Puts the usages that a summary states, and those that were found for it.
-fn put_usages<W: Outlet>(out: &mut Pieces<'_, W>, stated: i64, found: i128)
-    ensures { Puts W.told out.old out.new
-        (tabbed (signed_decimal stated ∷ signed_decimal found ∷ [])) }
-{
-    put_signed(out, i128::from(stated));
-    put_signed(out, found)
-}
-
-/// Puts the lines of a ledger line: its sums, its parties, and the unclaimed amount. The cells of
-/// the key, with which each of them begins, are written into `room` once. Nothing is put once the outlet has failed.
+/// Puts the lines of a ledger line: its sums, its parties, then those of a report's line (`own`), and the unclaimed amount.
+/// The cells of the key, with which each of them begins, are written into `room` once. Nothing is put once the outlet has
+/// failed.
 pub(crate) fn put_ledger<W: Outlet>(
     out: &mut Pieces<'_, W>,
     room: &mut SliceBuffer<'_>,
     line: &LentLine<'_>,
+    own: &[PartyLine],
 )
-    ensures { Puts W.told out.old out.new (ledger_lines line.now) }
+    ensures { Puts W.told out.old out.new
+        (ledger_lines (record line.now { parties = line.now.parties ++ own.now })) }
 {
     if out.drop_if_failed() {
         return;
@@ -141,10 +135,11 @@ pub(crate) fn put_ledger<W: Outlet>(
     let key = laid_key(room, line);
     put_sums(out, key, line);
     put_parties(out, key, line);
+    put_own_parties(out, key, line, own);
     put_unclaimed(out, key, line)
 }
 
-/// Puts the lines of a ledger line of a report. The cells of its key are written into `room` once.
+/// Puts the lines of a ledger line of a report.
 pub(crate) fn put_own_ledger<W: Outlet>(
     out: &mut Pieces<'_, W>,
     room: &mut SliceBuffer<'_>,
@@ -162,13 +157,10 @@ pub(crate) fn put_own_ledger<W: Outlet>(
         unclaimed: line.unclaimed,
         parties: &[],
     };
-    let key = laid_key(room, &lent);
-    put_sums(out, key, &lent);
-    put_own_parties(out, key, &lent, line.parties.as_slice());
-    put_unclaimed(out, key, &lent)
+    put_ledger(out, room, &lent, line.parties.as_slice())
 }
 
-/// Puts the lines of a key's parties. `key` has the key's cells, if they fit.
+/// Puts the lines of the parties of a report's line. `key` has the key's cells, if they fit.
 fn put_own_parties<W: Outlet>(
     out: &mut Pieces<'_, W>,
     key: Option<&[u8]>,

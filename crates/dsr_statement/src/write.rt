@@ -121,7 +121,7 @@ fn put_lent_lines<W: Outlet>(
         → Puts W.told out.old out.new (flat_map ledger_lines all) }
 {
     while let Some(line) = lent.next() {
-        put_ledger(out, key, &lent.whole(&line));
+        put_ledger(out, key, &lent.whole(&line), &[]);
     }
 }
 

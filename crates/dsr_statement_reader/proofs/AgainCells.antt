@@ -7,7 +7,6 @@ use Rattle.std.specs.Char.{is_ascii_digit}
 use Rattle.std.specs.Fmt.{decimal, signed_decimal}
 use Rattle.std.proofs.lemmas.Bool.{and_parts, and_from, lt-ltb, eq-eqb, ne_eqb}
 use Rattle.std.proofs.lemmas.Bool.Decides.{nat_tests}
-use Rattle.std.proofs.lemmas.Fmt.{decimal_is_IsNumeral_wide}
 use Rattle.std.proofs.lemmas.List.Folds.{list_all-append}
 use Rattle.dsr_cells.specs.meaning.Numbers.{digits_sum}
 use Rattle.dsr_cells.specs.meaning.Texts.{is_run_of}
@@ -16,14 +15,11 @@ use Rattle.dsr_cells.proofs.Spelled.{all_digits, zeros_digits, zeros_spelled, sp
 use Rattle.dsr_statement_reader.specs.meaning.Spellings.{not_zero, signed_in, usages_in, units_in, amount_in, number_in}
 use Rattle.dsr_statement_reader.specs.meaning.Statements.{is_plain, are_usages, is_amount}
 use Rattle.dsr_statement_reader.proofs.Signs.{signed_plain, signed_minus, units_cut}
-use Rattle.dsr_statement_reader.proofs.Digits.{number_again}
+use Rattle.dsr_statement_reader.proofs.Digits.{number_again, some_digits}
 use Rattle.dsr_statement_reader.proofs.CellTexts.{signed_text, as_signed_decimal, units_text, as_written}
 
 pub below_limit : (n limit : ℕ) → nat_lt n limit ≡ true → n < limit
 below_limit n limit h = grind (arith, nat_tests)
-
-some_digits : (n : ℕ) → n < 10 ^ 64 → 0 < length (decimal n)
-some_digits n h = (decimal_is_IsNumeral_wide n h).0.0
 
 -- a text that begins with a digit has no minus sign
 no_minus : (front more rest : List ℕ) → list_all is_ascii_digit front ≡ true → 0 < length front → front ++ more ≢ 45 ∷ rest

@@ -42,8 +42,8 @@ use Rattle.dsr_statement.specs.meaning.Names.{standing_name, reason_name}
 use Rattle.dsr_statement.specs.meaning.Statement.{days_in, line, amount_cell, report_line, number_cell, column_cells, outcome_cells, file_line, missing_line, difference_line, sums_line, party_line, unclaimed_line, reject_line}
 use Rattle.dsr_statement_reader.specs.declared.line.StatementLine.{StatementLine}
 use Rattle.dsr_statement_reader.specs.declared.line.StatementLine.TheVariants as lines
-use Rattle.dsr_statement_reader.specs.declared.kind.LineKind.{LineKind}
-use Rattle.dsr_statement_reader.specs.declared.kind.LineKind.TheVariants as kinds
+use Rattle.dsr_statement_reader.specs.declared.line.LineKind.{LineKind}
+use Rattle.dsr_statement_reader.specs.declared.line.LineKind.TheVariants as kinds
 use Rattle.dsr_statement_reader.specs.meaning.Spellings.{number_in, is_period, text_if, file_number_in, standing_in, reason_in, column_in, fault_in, outcome_in, key_in}
 use Rattle.dsr_statement_reader.specs.meaning.Lines.{text_of_line}
 use Rattle.dsr_statement_reader.specs.meaning.Readings.{report_in, file_in, missing_in, difference_in, ledger_in, party_in, unclaimed_in, reject_in, spelled, kind_name, kind_in, has_cells, has_file_cells, line_of_cells, line_of, most_bytes}
@@ -51,7 +51,7 @@ use Rattle.dsr_statement_reader.specs.meaning.Statements.{is_plain, are_usages, 
 use Rattle.dsr_statement_reader.proofs.Digits.{number_again}
 use Rattle.dsr_statement_reader.proofs.CellTexts.{period_days}
 use Rattle.dsr_statement_reader.proofs.LineTexts.{line_text}
-use Rattle.dsr_statement_reader.proofs.AgainCells.{below_limit, usages_again, amount_again, all_weaker, plain_append, decimal_plain, padded_plain, usages_plain, amount_plain}
+use Rattle.dsr_statement_reader.proofs.AgainCells.{below_limit, usages_again, amount_again, all_weaker, plain_append, decimal_plain, digits_plain, padded_plain, usages_plain, amount_plain}
 
 number64 : (n : ℕ) → nat_lt n (2 ^ 64) ≡ true → number_in (2 ^ 64) (decimal n) ≡ Some n
 number64 n h = number_again (2 ^ 64) n (below_limit n (2 ^ 64) h) (lit≤ tt)
@@ -84,9 +84,6 @@ capital_plain b h = grind (arith, nat_tests)
 capital_or_digit_plain : (b : ℕ) → is_capital_or_digit b ≡ true → (not (eqb b 9) && not (eqb b 10)) ≡ true
 capital_or_digit_plain b h = grind (arith, nat_tests)
 
-digit_plain : (b : ℕ) → is_ascii_digit b ≡ true → (not (eqb b 9) && not (eqb b 10)) ≡ true
-digit_plain b h = grind (arith, nat_tests)
-
 pub identifier_plain : (most : ℕ) (text : List ℕ) → is_identifier_text most text ≡ true → is_plain text ≡ true
 identifier_plain most text h =
     passes_plain (is_in_range 32 126) printable_plain text (and_parts (list_all (is_in_range 32 126) text) (is_in_range 1 most (length text)) h).0
@@ -109,7 +106,7 @@ isrc_plain text h =
     let b = (and_parts (list_all is_capital_or_digit (take 3 (drop 2 text))) (eqb (length (take 3 (drop 2 text))) 3) one.1).0 in
     let c = (and_parts (list_all is_ascii_digit (drop 5 text)) (eqb (length (drop 5 text)) 7) two.1).0 in
     parts_plain text (passes_plain is_ascii_uppercase capital_plain (take 2 text) a)
-    (passes_plain is_capital_or_digit capital_or_digit_plain (take 3 (drop 2 text)) b) (passes_plain is_ascii_digit digit_plain (drop 5 text) c)
+    (passes_plain is_capital_or_digit capital_or_digit_plain (take 3 (drop 2 text)) b) (digits_plain (drop 5 text) c)
 
 and_all : (c : List ℕ) (cs : List (List ℕ)) → is_plain c ≡ true → list_all is_plain cs ≡ true → list_all is_plain (c ∷ cs) ≡ true
 and_all c cs p q = and_from (is_plain c) (list_all is_plain cs) p q

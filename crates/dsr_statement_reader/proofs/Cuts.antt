@@ -1,8 +1,8 @@
 -- A text cut in two at a byte.
-use Rattle.std.proofs.Common.{arith, ◌≡◌, ◌≢◌, ◌+◌, ◌-◌, ◌<◌, ◌≤◌, ℕ, suc, List, [], ◌∷◌, ◌++◌, length, length-append, get_or, take, drop, ap, sym, ◌∙◌, Some, None, true≢false, eqb, not, map}
+use Rattle.std.proofs.Common.{arith, ◌≡◌, ◌≢◌, ◌+◌, ◌-◌, ◌<◌, ◌≤◌, ℕ, suc, List, [], ◌∷◌, ◌++◌, length, get_or, take, drop, ap, sym, ◌∙◌, Some, None, true≢false, eqb, not, map}
 use Rattle.std.proofs.lemmas.List.{length-take, get_or-take, take-append-drop}
 use Rattle.std.proofs.lemmas.Bool.Decides.{nat_tests}
-use Rattle.std.proofs.Math.Seq.{drop-cons, get_or-append_seam}
+use Rattle.std.proofs.Math.Seq.{drop-cons}
 use Rattle.std.specs.List.{prefix_len}
 use Rattle.std.specs.Simd.Lanes.{chunk, mask_l}
 use Rattle.std.specs.Int.Count.{count_trailing_zeros}
@@ -10,7 +10,6 @@ use Rattle.std.proofs.lemmas.Simd.{trailing_mask_l, leading_from_mask_l, length-
 use Rattle.memchr.specs.Find.{IsFirstByte, is_byte}
 use Rattle.dsr_cells.specs.meaning.Cells.{cells}
 use Rattle.dsr_cells.proofs.Splits.{pieces_first, pieces_plain}
-use Rattle.dsr_statement_reader.specs.inner.Cuts.{HasNoPoint}
 
 -- a text is what comes before a byte, the byte, and what follows
 pub cut_at : (text : List ℕ) (place byte : ℕ) → place < length text → get_or text place 0 ≡ byte → text ≡ take place text ++ byte ∷ drop (place + 1) text
@@ -54,10 +53,3 @@ run_found xs run room counted short =
       },
       ap (λ n. eqb (get_or xs n 0) 9) (sym here) ∙ run_in_chunk_stops (λ b. eqb b 9) xs 0 16 run 0 room counted short,
     )
-
--- the point that ten bytes follow is the eleventh byte from the end
-pub no_point : (text : List ℕ) → (11 ≤ length text → get_or text (length text - 11) 0 ≢ 46) → HasNoPoint text
-no_point text none whole decimals cut ten =
-    let long : length text ≡ length whole + 11 = omega (arith, ap length cut, length-append whole (46 ∷ decimals), ten) in
-    let at : length text - 11 ≡ length whole = omega arith in
-    none (omega arith) (ap (λ n. get_or text n 0) at ∙ ap (λ t. get_or t (length whole) 0) cut ∙ get_or-append_seam whole 46 decimals 0)

@@ -61,7 +61,7 @@ padded_same text digits some few =
     same_digits (padded_number k n) text (zeros_digits (k - length (decimal n)) (decimal n) (all_digits n wide)) digits long
     (zeros_spelled (k - length (decimal n)) (decimal n) ∙ spelled n wide)
 
-some_digits : (n : ℕ) → n < 10 ^ 64 → 0 < length (decimal n)
+pub some_digits : (n : ℕ) → n < 10 ^ 64 → 0 < length (decimal n)
 some_digits n h = (decimal_is_IsNumeral_wide n h).0.0
 
 -- no zeros before a text without a leading zero

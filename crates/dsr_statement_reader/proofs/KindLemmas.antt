@@ -1,5 +1,5 @@
 -- The lines of a kind by their cells.
-use Rattle.std.proofs.Common.{arith, ◌≡◌, ◌≢◌, ◌<◌, ◌≤◌, ◌-◌, ℕ, List, [], ◌∷◌, length, drop, refl, false, Ok, Err, Option, Some, None, take, true, nat_eq, inl, inr}
+use Rattle.std.proofs.Common.{arith, ◌≡◌, ◌≢◌, ◌<◌, ◌≤◌, ◌-◌, ℕ, List, [], ◌∷◌, length, drop, refl, false, Ok, Err, Option, Some, None, take, nat_eq, inl, inr}
 use Rattle.std.specs.Prelude.{slice_index_or}
 use Rattle.std.proofs.lemmas.Bool.{ne_eqb, le-ltb, cases_Bool}
 use Rattle.std.proofs.lemmas.Str.{IsUtf8-from_is_utf8, is_utf8-from_IsUtf8}
@@ -8,11 +8,11 @@ use Rattle.std.proofs.lemmas.List.Splits.{length-slice_split}
 use Rattle.dsr_cells.specs.meaning.Cells.{cells}
 use Rattle.std.proofs.lemmas.List.{length-drop, length-take}
 use Rattle.dsr_statement_reader.specs.declared.line.StatementLine.TheVariants as lines
-use Rattle.dsr_statement_reader.specs.declared.kind.LineKind.{LineKind}
-use Rattle.dsr_statement_reader.specs.declared.kind.LineKind.TheVariants as kinds
+use Rattle.dsr_statement_reader.specs.declared.line.LineKind.{LineKind}
+use Rattle.dsr_statement_reader.specs.declared.line.LineKind.TheVariants as kinds
 use Rattle.dsr_statement_reader.specs.declared.fault.StatementFault.TheVariants as faults
 use Rattle.dsr_statement_reader.specs.meaning.Spellings.{outcome_in}
-use Rattle.dsr_statement_reader.specs.meaning.Readings.{line_of, line_of_kind, line_of_cells, kind_in, or_fault, has_file_cells, report_in, missing_in, difference_in, ledger_in, party_in, unclaimed_in, reject_in, file_in}
+use Rattle.dsr_statement_reader.specs.meaning.Readings.{line_of, line_of_kind, line_of_cells, kind_in, or_fault, report_in, missing_in, difference_in, ledger_in, party_in, unclaimed_in, reject_in}
 
 other : (row : List (List ℕ)) (n : ℕ) → 0 < length row → length row ≢ n → 0 < n → length (drop 1 row) ≢ n - 1
 other row n some ne pos e = ne (omega (arith, e, length-drop 1 row))
@@ -122,32 +122,7 @@ line_of_bytes bytes short broken = elim (cases_Bool (is_utf8 bytes)) [
   | inr f ↦ rw (le-ltb _ _ short, f) refl
 ]
 
--- the cells of a line of a file
-pub file_cells : (row : List (List ℕ)) → 6 ≤ length row → has_file_cells (drop 1 row) ≡ true → line_of_kind (drop 1 row) (Some kinds.File)
-    ≡ or_fault faults.Spelling (file_in (slice_index_or row 1 []) (slice_index_or row 2 []) (slice_index_or row 3 []) (slice_index_or row 4 []) (drop 5 row))
-file_cells (name ∷ a ∷ b ∷ c ∷ d ∷ e ∷ more) h fits = rw fits refl
-file_cells _ h fits = absurd (omega arith)
-
-pub few_file_cells : (row : List (List ℕ)) → 0 < length row → length row < 6 → line_of_kind (drop 1 row) (Some kinds.File) ≡ Err faults.Cells
-few_file_cells (name ∷ []) some h = refl
-few_file_cells (name ∷ a ∷ []) some h = refl
-few_file_cells (name ∷ a ∷ b ∷ []) some h = refl
-few_file_cells (name ∷ a ∷ b ∷ c ∷ []) some h = refl
-few_file_cells (name ∷ a ∷ b ∷ c ∷ d ∷ []) some h = refl
-few_file_cells _ some h = absurd (omega arith)
-
-pub no_file_cells : (row : List (List ℕ)) → has_file_cells (drop 1 row) ≡ false → line_of_kind (drop 1 row) (Some kinds.File) ≡ Err faults.Cells
-no_file_cells row h = rw h refl
-
 -- the cells of how a file ended
-pub one_left : (row : List (List ℕ)) → length row ≡ 6 → drop 5 row ≡ slice_index_or row 5 [] ∷ []
-one_left (a ∷ b ∷ c ∷ d ∷ e ∷ f ∷ []) h = refl
-one_left _ h = absurd (omega arith)
-
-pub three_left : (row : List (List ℕ)) → length row ≡ 8 → drop 5 row ≡ slice_index_or row 5 [] ∷ slice_index_or row 6 [] ∷ slice_index_or row 7 [] ∷ []
-three_left (a ∷ b ∷ c ∷ d ∷ e ∷ f ∷ g ∷ h ∷ []) n = refl
-three_left _ n = absurd (omega arith)
-
 pub four_left : (row : List (List ℕ)) → length row ≡ 9
     → drop 5 row ≡ slice_index_or row 5 [] ∷ slice_index_or row 6 [] ∷ slice_index_or row 7 [] ∷ slice_index_or row 8 [] ∷ []
 four_left (a ∷ b ∷ c ∷ d ∷ e ∷ f ∷ g ∷ h ∷ i ∷ []) n = refl

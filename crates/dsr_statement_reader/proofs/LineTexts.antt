@@ -32,8 +32,8 @@ use Rattle.dsr_statement.specs.meaning.Names.{standing_name, reason_name}
 use Rattle.dsr_statement.specs.meaning.Statement.{tabbed, line, amount_cell, report_line, number_cell, column_cells, outcome_cells, file_line, missing_line, difference_line, sums_line, party_line, unclaimed_line, reject_line}
 use Rattle.dsr_statement_reader.specs.declared.line.StatementLine.{StatementLine}
 use Rattle.dsr_statement_reader.specs.declared.line.StatementLine.TheVariants as lines
-use Rattle.dsr_statement_reader.specs.declared.kind.LineKind.{LineKind}
-use Rattle.dsr_statement_reader.specs.declared.kind.LineKind.TheVariants as kinds
+use Rattle.dsr_statement_reader.specs.declared.line.LineKind.{LineKind}
+use Rattle.dsr_statement_reader.specs.declared.line.LineKind.TheVariants as kinds
 use Rattle.dsr_statement_reader.specs.declared.fault.StatementFault.{StatementFault}
 use Rattle.dsr_statement_reader.specs.declared.fault.StatementFault.TheVariants as faults
 use Rattle.dsr_statement_reader.specs.meaning.Spellings.{◌>>=◌, usages_in, amount_in, number_in, named, is_period, text_if, file_number_in, standing_in, standings_in_order, reason_in, reasons_in_order, column_in, columns_in_order, fault_in, plain_faults, outcome_in, key_in}

@@ -3,7 +3,7 @@ ghost use Rattle.std.specs.Prelude.{◌≡◌};
 ghost use Rattle.std.specs.Option.{option_map};
 ghost use Rattle.std.specs.Ordering.{int_eq};
 ghost use Rattle.dsr_cells.specs.meaning.Texts.{is_identifier_text, is_isrc_text};
-ghost use Rattle.dsr_statement_reader.specs.meaning.Spellings.{text_if, file_number_in, key_in, is_period};
+ghost use Rattle.dsr_statement_reader.specs.meaning.Spellings.{text_if, key_in, is_period};
 ghost use Rattle.dsr_statement_reader.specs.meaning.Readings.{report_in, missing_in, difference_in, ledger_in, party_in, unclaimed_in, reject_in};
 
 use crate::line::{ReadDifference, ReadKey, ReadParty, ReadReject, ReadReport, StatementLine};

@@ -4,8 +4,7 @@ ghost use Rattle.dsr_statement_reader.specs.meaning.Spellings.{file_number_in, o
 ghost use Rattle.dsr_statement_reader.specs.meaning.Readings.{has_file_cells, file_in, line_of_kind};
 
 use crate::fault::StatementFault;
-use crate::kind::LineKind;
-use crate::line::StatementLine;
+use crate::line::{LineKind, StatementLine};
 use crate::names::{column_named, fault_named, standing_named};
 use crate::number::{read_u32, read_u64};
 use crate::row::Row;

@@ -1,7 +1,7 @@
 //! Reading a statement: its lines, one after another, exactly as dsr_statement writes them. Nothing is repaired.
 //!
 //! 1. `row` cuts a line at its TABs (`cut`). `number` reads the numbers, usages and amounts that cells spell, and `names` the names
-//!    of lines (`kind`), standings, faults, columns and reasons. `cells` and `file` make the lines (`line`) of cells, which
+//!    of kinds of line, standings, faults, columns and reasons. `cells` and `file` make the lines (`line`) of cells, which
 //!    borrow their texts.
 //! 2. `reading` reads the line that a text spells, whatever stands before it, or its fault (`fault`).
 //! 3. `reader` has the public functions: it keeps of the lines that were read what the next one depends on (`last`, `left`), and
@@ -35,7 +35,6 @@ mod cells;
 mod cut;
 mod fault;
 mod file;
-mod kind;
 mod last;
 pub mod laws;
 mod left;

@@ -4,7 +4,7 @@ ghost use Rattle.dsr_statement_reader.specs.meaning.Spellings.{standing_in, reas
 ghost use Rattle.dsr_events.specs.meaning.Names.{name_of};
 ghost use Rattle.dsr_statement_reader.specs.meaning.Readings.{kind_in};
 
-use crate::kind::LineKind;
+use crate::line::LineKind;
 use dsr_events::{Column, FileFault};
 use dsr_ledger::{Reason, Standing};
 

@@ -1,5 +1,5 @@
 //! The line that a text spells, whatever stands before it.
-ghost use Rattle.std.specs.Prelude.{◌≡◌, ◌<◌, length, drop, take, Some};
+ghost use Rattle.std.specs.Prelude.{◌≡◌, ◌<◌, length, drop, Some};
 ghost use Rattle.dsr_cells.specs.meaning.Cells.{cells};
 ghost use Rattle.dsr_statement_reader.specs.meaning.Readings.{line_of, line_of_cells, line_of_kind};
 
@@ -9,8 +9,7 @@ use crate::cells::{
 };
 use crate::fault::StatementFault;
 use crate::file::file_row;
-use crate::kind::LineKind;
-use crate::line::StatementLine;
+use crate::line::{LineKind, StatementLine};
 use crate::names::kind_named;
 use crate::row::Row;
 use dsr_texts::text_of;

@@ -1,5 +1,5 @@
 //! The cells of a line.
-ghost use Rattle.std.specs.Prelude.{◌≡◌, ◌<◌, ◌++◌, ◌∷◌, [], length, take, slice_index_or};
+ghost use Rattle.std.specs.Prelude.{◌≡◌, ◌<◌, [], length, take, slice_index_or};
 ghost use Rattle.dsr_cells.specs.meaning.Cells.{cells};
 
 use crate::cut::first_cell;

@@ -1,20 +1,16 @@
 -- The entries of a book in the order of its accounts.
-use Rattle.dsr_ledger.proofs.Common.{◌≡◌, ◌+◌, sorted_from_all_adjacent, apart_from_distinct, List, [], ◌∷◌, Bool, true, false, cond, rules, refl, sym, ◌∙◌, ap, subst, get_or, None, Some, filter, map, ◌||◌, list_any, AllByRecursion, Contains, IsDistinct, IsStrictlySortedBy, eq_by_cmp, keys_of, recursion_from_All, lookup_from_place, IndexMap, IsUnique, get, keys, arith, slice_get-get_or}
+use Rattle.dsr_ledger.proofs.Common.{◌≡◌, ◌+◌, sorted_from_all_adjacent, apart_from_distinct, List, [], ◌∷◌, true, cond, rules, refl, sym, ◌∙◌, ap, subst, get_or, None, Some, filter, map, ◌||◌, list_any, AllByRecursion, Contains, IsDistinct, IsStrictlySortedBy, eq_by_cmp, keys_of, recursion_from_All, lookup_from_place, IndexMap, IsUnique, get, keys, arith, slice_get-get_or}
 use Rattle.std.specs.List.Sorted.{IsSorted}
 use Rattle.std.proofs.lemmas.Map.Views.{Contains-keys_from_lookup}
 use Rattle.std.specs.Prelude.{IsSome}
 use Rattle.dsr_ledger.proofs.OrderLemmas.{in_order_is}
+use Rattle.dsr_statement_reader.proofs.CellTexts.{if_some}
 use Rattle.dsr_sums.specs.declared.account.Account.{Account}
 use Rattle.dsr_sums.specs.declared.sums.Sums.{Sums}
 use Rattle.dsr_sums.specs.inner.Books.{is_posted_to, entry_of}
 use Rattle.dsr_sums.specs.meaning.Accounts.{account_eq, account_cmp}
 use Rattle.dsr_sums.specs.meaning.Postings.{Posting, balance, balances}
 use Rattle.dsr_sums.proofs.AccountLemmas.{same_account, account_total, account_ties, account_exact, account_equivalence}
-
--- an entry that there is
-there : {X : Type 0} (b : Bool) (x y : X) → cond b (Some x) None ≡ Some y → (b ≡ true) × (x ≡ y)
-there true x y e = (refl, grind arith)
-there false x y e = absurd (grind arith)
 
 posted_is : (ps : List Posting) (q : Account) → is_posted_to ps q ≡ list_any (eq_by_cmp account_cmp q) (map (λ p. p.account) ps)
 posted_is [] q = refl
@@ -36,7 +32,7 @@ module _ {S : Type 0} (m : IndexMap Account Sums S) (ps : List Posting) (held : 
   own : AllByRecursion (λ e. (is_posted_to ps e.0 ≡ true) × (balance ps e.0 ≡ e.1)) m.entries
   own = recursion_from_All (λ e. (is_posted_to ps e.0 ≡ true) × (balance ps e.0 ≡ e.1)) m.entries (λ i d below.
       let e = get_or m.entries i d in
-      there (is_posted_to ps e.0) (balance ps e.0) e.1 (
+      if_some (is_posted_to ps e.0) (balance ps e.0) e.1 (
       sym (held e.0) ∙ lookup_from_place account_equivalence m.entries i e.0 e.1 unique (slice_get-get_or m.entries i d below)))
 
   all_kept : (es : List (Account × Sums)) → AllByRecursion (λ e. (is_posted_to ps e.0 ≡ true) × (balance ps e.0 ≡ e.1)) es

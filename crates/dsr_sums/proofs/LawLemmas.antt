@@ -19,9 +19,9 @@ use Rattle.dsr_statement_reader.specs.declared.line.StatementLine.TheVariants as
 use Rattle.dsr_statement_reader.specs.meaning.Readings.{Refusal, adds_up, follows, is_placed, left_of, may_end, of_latest, party_follows, placed, reading_of, unclaimed_follows}
 use Rattle.dsr_statement_reader.specs.meaning.Statements.{AreInPlace}
 use Rattle.dsr_sums.specs.declared.account.Account.{Account}
-use Rattle.dsr_sums.specs.declared.error.TotalsError.{TotalsError}
-use Rattle.dsr_sums.specs.declared.role.Role.{Role}
-use Rattle.dsr_sums.specs.declared.role.Role.TheVariants.{Given, Paid}
+use Rattle.dsr_sums.specs.declared.answer.TotalsError.{TotalsError}
+use Rattle.dsr_sums.specs.declared.reports.Role.{Role}
+use Rattle.dsr_sums.specs.declared.reports.Role.TheVariants.{Given, Paid}
 use Rattle.dsr_sums.specs.declared.sums.Sums.{Sums}
 use Rattle.dsr_sums.specs.meaning.Accounts.{account_eq, currency_account}
 use Rattle.dsr_sums.specs.meaning.Answers.{StatementText, accepted, and_then, joined, statement_of, statement_with, statements_after, unless}

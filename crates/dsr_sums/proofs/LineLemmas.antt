@@ -8,7 +8,7 @@ use Rattle.dsr_ledger.specs.declared.report.PartyLine.{PartyLine}
 use Rattle.dsr_statement_reader.specs.declared.line.StatementLine.TheVariants as lines
 use Rattle.dsr_sums.specs.declared.account.Account.{Account}
 use Rattle.dsr_sums.specs.declared.book.Book.{Book}
-use Rattle.dsr_sums.specs.declared.role.Role.{Role}
+use Rattle.dsr_sums.specs.declared.reports.Role.{Role}
 use Rattle.dsr_sums.specs.declared.totals.Totals.{Totals}
 use Rattle.dsr_sums.specs.inner.Books.{HoldsPostings, AddsPosting, AddsLine}
 use Rattle.dsr_sums.specs.meaning.Accounts.{currency_account, market_account, party_account}
@@ -62,14 +62,6 @@ module _ (old new : Totals) (role : Role) (key : Key) where
         markets = subst (λ book. HoldsPostings book (flat_map to_market (bs ++ b ∷ []))) (sym same_markets) (stays to_market bs b old.markets refl held.markets);
         parties = subst (λ book. HoldsPostings book (flat_map to_party (bs ++ b ∷ []))) (sym same_parties) (stays to_party bs b old.parties refl held.parties);
       }
-
--- a line that posts nothing
-pub nothing_added : (totals : Totals) (b : Booked) → to_currency b ≡ [] → to_market b ≡ [] → to_party b ≡ [] → AddsLine totals totals b
-nothing_added totals b currency market party bs held = record {
-  currencies = stays to_currency bs b totals.currencies currency held.currencies;
-  markets = stays to_market bs b totals.markets market held.markets;
-  parties = stays to_party bs b totals.parties party held.parties;
-}
 
 both_true : (a b : Bool) → (a && b) ≡ true → (a ≡ true) × (b ≡ true)
 both_true true b h = (refl, h)

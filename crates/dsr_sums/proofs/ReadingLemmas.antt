@@ -19,7 +19,7 @@ use Rattle.dsr_sums.specs.declared.reading.ReadingError.TheVariants as errors
 use Rattle.dsr_sums.specs.inner.Readings.{pieces, HasNoLineFeed, with_lines, AreLinesOf, refusal, IsRefusedAt, IsRefusedIn, Reads, TakesLine, TakesLines}
 use Rattle.dsr_sums.specs.inner.Books.{HoldsLines}
 use Rattle.dsr_sums.specs.declared.reading.Reading.{Reading}
-use Rattle.dsr_sums.specs.declared.role.Role.{Role}
+use Rattle.dsr_sums.specs.declared.reports.Role.{Role}
 use Rattle.dsr_sums.specs.declared.totals.Totals.{Totals}
 use Rattle.dsr_sums.specs.meaning.Totals.{Booked, booked}
 use Rattle.dsr_sums.specs.meaning.Statements.{key_of_line, key_of_lines, either, is_remark, first_remark}

@@ -5,10 +5,10 @@ use Rattle.std.proofs.lemmas.List.{map-append}
 use Rattle.std.specs.Prelude.{map, option_map, Option, Some, None}
 use Rattle.dsr_io.specs.meaning.Told.{Told}
 use Rattle.dsr_statement_reader.specs.meaning.Readings.{Refusal}
-use Rattle.dsr_sums.specs.declared.error.TotalsError.{TotalsError}
-use Rattle.dsr_sums.specs.declared.error.TotalsError.TheVariants.{Refused, OutOfRange, Memory}
+use Rattle.dsr_sums.specs.declared.answer.TotalsError.{TotalsError}
+use Rattle.dsr_sums.specs.declared.answer.TotalsError.TheVariants.{Refused, OutOfRange, Memory}
 use Rattle.dsr_sums.specs.declared.answer.Totaling.{Totaling}
-use Rattle.dsr_sums.specs.declared.role.Role.{Role}
+use Rattle.dsr_sums.specs.declared.reports.Role.{Role}
 use Rattle.dsr_statement_reader.specs.declared.fault.StatementFault.{StatementFault}
 use Rattle.dsr_sums.specs.inner.Readings.{IsReadFrom, refusal, text_with}
 use Rattle.std.specs.List.{flat_map}

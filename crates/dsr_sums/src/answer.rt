@@ -6,16 +6,26 @@ ghost use Rattle.dsr_sums.specs.meaning.Totals.{are_in_range};
 ghost use Rattle.dsr_sums.specs.inner.Totaling.{HoldsStatements, IsNoTextOf, sorted_text, error_of, ReadsNext};
 ghost use Rattle.dsr_sums.specs.meaning.Sources.{role_of, HasTotals, HasNoTotals};
 
-use crate::error::TotalsError;
 use crate::reading::{ReadingError, read_statement};
-use crate::reports::{StatementReport, push_report, refusal_after};
-use crate::role::Role;
+use crate::reports::{Role, StatementReport, push_report, refusal_after};
 use crate::seeded::Seeded;
 use crate::text::{SumsLine, put_book, put_statements};
 use crate::totals::Totals;
 use dsr_cells::NoMemory;
 use dsr_io::Source;
+use dsr_statement_reader::StatementFault;
 use std::alloc::Global;
+
+/// Why there are no totals.
+#[derive(Debug, Clone, Copy, PartialEq, Eq)]
+pub enum TotalsError {
+    /// A statement is refused: its place among all, from 0, the number of the line, from 1, and the fault.
+    Refused(usize, u64, StatementFault),
+    /// A sum leaves the range of 128 bits.
+    OutOfRange,
+    /// Memory was refused.
+    Memory,
+}
 
 /// Statements that were read, and what they add up to.
 #[derive(Drop)]

@@ -1,6 +1,6 @@
 //! A book: the sums of each account.
 use crate::account::Account;
-use crate::role::Role;
+use crate::reports::Role;
 use crate::seeded::Seeded;
 use crate::sums::Sums;
 use dsr_cells::NoMemory;

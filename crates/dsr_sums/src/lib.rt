@@ -2,11 +2,12 @@
 //!
 //! 1. `reading` cuts a source into lines, and reads the lines of a statement by dsr_statement_reader.
 //! 2. `totals` adds each line to the accounts (`account`) of its currency, its market and its party, in three books (`book`),
-//!    which keep the sums of each account (`sums`). What was paid is subtracted (`role`). A sum that leaves the range of 128
-//!    bits is remembered, and nothing more is added. `seeded` has the hashers of the books.
-//! 3. `reports` has the reports of the statements that were read, and refuses a statement for those before it.
+//!    which keep the sums of each account (`sums`). What was paid is subtracted. A sum that leaves the range of 128 bits is
+//!    remembered, and nothing more is added. `seeded` has the hashers of the books.
+//! 3. `reports` has the reports of the statements that were read, which were given or paid, and refuses a statement for those
+//!    before it.
 //! 4. [`add_up`] (`answer`) reads one statement after another, and makes the text of their totals (`text`), or says why there
-//!    is none ([`TotalsError`], in `error`).
+//!    is none ([`TotalsError`]).
 //! 5. [`laws`] has the law of totals.
 //!
 //! **Example**, compiled and proved in `crates/dsr_sums/src/tests.rt`:
@@ -33,18 +34,15 @@
 mod account;
 mod answer;
 mod book;
-mod error;
 pub mod laws;
 mod reading;
 mod reports;
-mod role;
 mod seeded;
 mod sums;
 mod text;
 mod totals;
 
-pub use answer::add_up;
-pub use error::TotalsError;
+pub use answer::{TotalsError, add_up};
 
 #[cfg(test)]
 mod tests;

@@ -5,8 +5,7 @@ ghost use Rattle.dsr_statement.specs.meaning.Status.{is_clean_file};
 ghost use Rattle.dsr_sums.specs.meaning.Statements.{is_remark, key_of_line, either};
 ghost use Rattle.dsr_sums.specs.inner.Readings.{Reads, TakesLine, TakesLines, HasNoLineFeed, IsRefusedAt, IsRefusedIn, FinishesAt, IsReadFrom};
 
-use crate::reports::StatementReport;
-use crate::role::Role;
+use crate::reports::{Role, StatementReport};
 use crate::totals::Totals;
 use dsr_cells::{NoMemory, Text};
 use dsr_events::Outcome;

@@ -2,10 +2,18 @@
 ghost use Rattle.std.specs.Prelude.{◌≡◌, ◌∷◌, ◌++◌, [], OnOk, option_map};
 ghost use Rattle.dsr_sums.specs.meaning.Statements.{is_same_report, has_report, fault_after, line_and_fault, role_eq};
 
-use crate::role::Role;
 use dsr_cells::NoMemory;
 use dsr_ledger::ReportKey;
 use dsr_statement_reader::StatementFault;
+
+/// What a statement stands for.
+#[derive(Clone, Copy, PartialEq, Eq)]
+pub enum Role {
+    /// Its amounts are owed.
+    Given,
+    /// Its amounts were paid: they are subtracted.
+    Paid,
+}
 
 /// The report of a statement.
 #[derive(Drop)]

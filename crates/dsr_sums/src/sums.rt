@@ -2,7 +2,7 @@
 ghost use Rattle.std.specs.Prelude.{◌≡◌, ◌+ℤ◌, true, false, MatchOption};
 ghost use Rattle.dsr_sums.specs.meaning.Postings.{signed, is_in_range};
 
-use crate::role::Role;
+use crate::reports::Role;
 
 /// The sums of an account, or the numbers of a line that are added to them. Those that an account has not are 0.
 #[derive(Clone, Copy, PartialEq, Eq)]

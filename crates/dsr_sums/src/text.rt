@@ -1,5 +1,5 @@
 //! The text of the totals.
-ghost use Rattle.std.specs.Prelude.{◌≡◌, ◌∷◌, ◌++◌, [], OnOk, codes, decimal, if◌then◌else◌};
+ghost use Rattle.std.specs.Prelude.{◌≡◌, ◌∷◌, ◌++◌, OnOk, codes, decimal, if◌then◌else◌};
 ghost use Rattle.std.specs.Fmt.{signed_decimal};
 ghost use Rattle.std.specs.List.{flat_map};
 ghost use Rattle.dsr_cells.specs.meaning.Written.{written_day};
@@ -10,8 +10,7 @@ ghost use Rattle.dsr_sums.specs.inner.SumsLines.{sums_line};
 
 use crate::account::Account;
 use crate::book::Book;
-use crate::reports::{StatementReport, has, is_role};
-use crate::role::Role;
+use crate::reports::{Role, StatementReport, has, is_role};
 use crate::sums::Sums;
 use dsr_cells::{Day, NoMemory, write_amount, write_day};
 use itoa::Buffer;

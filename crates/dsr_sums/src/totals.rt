@@ -3,7 +3,7 @@ ghost use Rattle.std.specs.Prelude.{◌≡◌, ◌&&◌, [], true, List, OnOk};
 
 use crate::account::Account;
 use crate::book::Book;
-use crate::role::Role;
+use crate::reports::Role;
 use crate::seeded::Seeded;
 use crate::sums::Sums;
 use dsr_cells::NoMemory;

@@ -3,8 +3,8 @@ use Rattle.std.specs.Prelude.{ℕ, List, [], ◌∷◌, ◌++◌, codes, decimal
 use Rattle.dsr_command.specs.Faults.{line_of}
 use Rattle.dsr_statement_reader.specs.declared.fault.StatementFault.{StatementFault}
 use Rattle.dsr_statement_reader.specs.declared.fault.StatementFault.TheVariants as fault
-use Rattle.dsr_sums.specs.declared.error.TotalsError.{TotalsError}
-use Rattle.dsr_sums.specs.declared.error.TotalsError.TheVariants.{Refused, OutOfRange, Memory}
+use Rattle.dsr_sums.specs.declared.answer.TotalsError.{TotalsError}
+use Rattle.dsr_sums.specs.declared.answer.TotalsError.TheVariants.{Refused, OutOfRange, Memory}
 
 -- the name of the program
 abbrev pub dsr_totals : List ℕ

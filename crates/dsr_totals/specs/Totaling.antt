@@ -7,8 +7,8 @@ use Rattle.dsr_command.specs.NewFiles.{cannot_replace_line}
 use Rattle.dsr_command.specs.Printing.{IsTold}
 use Rattle.dsr_io.specs.meaning.Told.{Told}
 use Rattle.dsr_io.specs.meaning.Written.{Written, IsFlushed, IsCut}
-use Rattle.dsr_sums.specs.declared.error.TotalsError.{TotalsError}
-use Rattle.dsr_sums.specs.declared.error.TotalsError.TheVariants.{Refused, OutOfRange, Memory}
+use Rattle.dsr_sums.specs.declared.answer.TotalsError.{TotalsError}
+use Rattle.dsr_sums.specs.declared.answer.TotalsError.TheVariants.{Refused, OutOfRange, Memory}
 use Rattle.dsr_sums.specs.meaning.Sources.{HasTotals, HasNoTotals}
 use Rattle.dsr_totals.specs.declared.command.Asked.{Asked}
 use Rattle.dsr_totals.specs.declared.totaling.WriteError.{WriteError}

@@ -13,10 +13,10 @@ use Rattle.dsr_cells.specs.meaning.Texts.{is_text_of}
 use Rattle.dsr_events.specs.declared.kinds.Column.{Column}
 use Rattle.dsr_events.specs.declared.kinds.Kind.{Kind}
 use Rattle.dsr_events.specs.declared.kinds.Kind.TheVariants.{Head, Summary, Resource, Work, Usage, Foot, Skipped}
-use Rattle.dsr_records.specs.declared.layout_fault.LayoutFault.{LayoutFault}
-use Rattle.dsr_records.specs.declared.layout_fault.LayoutFault.TheVariants.{Large, LongLine, NotUtf8, UnknownRole, BadType, RoleTwice, TypeTwice, BadPosition}
-use Rattle.dsr_records.specs.declared.layout_fault.LayoutFault.TheVariants.{ManySkips, MissingRole}
-use Rattle.dsr_records.specs.declared.layout_fault.LayoutError.{LayoutError}
+use Rattle.dsr_records.specs.declared.fault.LayoutFault.{LayoutFault}
+use Rattle.dsr_records.specs.declared.fault.LayoutFault.TheVariants.{Large, LongLine, NotUtf8, UnknownRole, BadType, RoleTwice, TypeTwice, BadPosition}
+use Rattle.dsr_records.specs.declared.fault.LayoutFault.TheVariants.{ManySkips, MissingRole}
+use Rattle.dsr_records.specs.declared.fault.LayoutError.{LayoutError}
 use Rattle.dsr_records.specs.meaning.Records.{LayoutTable, RoleLine, is_skipped}
 use Rattle.dsr_records.specs.meaning.Tables.{columns_of, may_be_empty}
 

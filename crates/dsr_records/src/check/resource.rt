@@ -2,13 +2,14 @@
 ghost use Rattle.std.specs.Prelude.{◌≡◌, Ok, Err, MatchResult, IfOk, OnOk};
 ghost use Rattle.dsr_events.specs.declared.kinds.Kind.TheVariants as kinds;
 ghost use Rattle.dsr_events.specs.declared.record.Record.TheVariants as records;
+ghost use Rattle.dsr_events.specs.meaning.Blocks.{OpensBlock};
 ghost use Rattle.dsr_records.specs.meaning.Values.{record_by_row};
 
 use crate::fault::RecordFault;
 use crate::row::Row;
 use crate::spelled::read_identifier;
 use dsr_cells::{NoMemory, read_texts_into};
-use dsr_events::{Column, Resource};
+use dsr_events::{Block, Column, Resource};
 use std::alloc::Global;
 use std::default::MadeWith;
 use std::marker::Model;
@@ -70,5 +71,16 @@ impl<'l> ResourceLine<'l> {
         resource.isrc.assign(alloc, self.isrc)?;
         read_texts_into(alloc, self.titles, &mut resource.titles)?;
         read_texts_into(alloc, self.artists, &mut resource.artists)
+    }
+
+    /// Writes a new block of the resource, without works and usages, over another one. If memory is refused, the block may have
+    /// any value.
+    pub(crate) fn open_block(&self, alloc: Global, block: &mut Block) -> Result<(), NoMemory>
+        ensures { OnOk result (OpensBlock (records.Resource self.now) block.new) }
+    {
+        block.works.restart();
+        block.usages.restart();
+        block.id.assign(alloc, self.block_id)?;
+        self.write(alloc, &mut block.resource)
     }
 }

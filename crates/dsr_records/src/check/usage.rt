@@ -1,14 +1,15 @@
 //! SU01: a usage of a block's resource.
-ghost use Rattle.std.specs.Prelude.{◌≡◌, Ok, Err, MatchResult, IfOk, OnOk};
+ghost use Rattle.std.specs.Prelude.{◌≡◌, ◌<◌, ◌+◌, Ok, Err, MatchResult, IfOk, OnOk, OnErr, length};
 ghost use Rattle.dsr_events.specs.declared.kinds.Kind.TheVariants as kinds;
 ghost use Rattle.dsr_events.specs.declared.record.Record.TheVariants as records;
+ghost use Rattle.dsr_events.specs.meaning.Blocks.{with_member};
 ghost use Rattle.dsr_records.specs.meaning.Values.{record_by_row};
 
 use crate::fault::RecordFault;
 use crate::row::Row;
 use crate::spelled::{read_amount, read_identifier, read_usage_count};
 use dsr_cells::{Amount, NoMemory};
-use dsr_events::{Column, Usage};
+use dsr_events::{Block, Column, Usage};
 use std::alloc::Global;
 use std::default::MadeWith;
 use std::marker::Model;
@@ -69,5 +70,20 @@ impl<'l> UsageLine<'l> {
         usage.usages = self.usages;
         usage.amount = self.amount;
         Ok(())
+    }
+
+    /// Appends the usage to a block of fewer than 64 records. If memory is refused, the block is unchanged.
+    #[inline(always)]
+    pub(crate) fn append_to(&self, alloc: Global, block: &mut Block) -> Result<(), NoMemory>
+        requires { 1 + length block.old.works + length block.old.usages < 64 }
+        ensures added { OnOk result (block.new ≡ with_member block.old (records.Usage self.now)) }
+        ensures refused { OnErr result (block.new ≡ block.old) }
+    {
+        let next = block.usages.next()?;
+        if self.write(alloc, next).is_ok() {
+            return Ok(());
+        }
+        block.usages.shorten();
+        Err(NoMemory)
     }
 }

@@ -1,7 +1,8 @@
 //! MW01: a work of a block.
-ghost use Rattle.std.specs.Prelude.{◌≡◌, Ok, Err, MatchResult, IfOk, OnOk, OnErr, [], true};
+ghost use Rattle.std.specs.Prelude.{◌≡◌, ◌<◌, ◌+◌, Ok, Err, MatchResult, IfOk, OnOk, OnErr, [], true, length};
 ghost use Rattle.dsr_events.specs.declared.kinds.Kind.TheVariants as kinds;
 ghost use Rattle.dsr_events.specs.declared.record.Record.TheVariants as records;
+ghost use Rattle.dsr_events.specs.meaning.Blocks.{with_member};
 ghost use Rattle.dsr_records.specs.meaning.Values.{record_by_row, shares_of, values_of};
 ghost use Rattle.std.specs.List.{list_all};
 ghost use Rattle.dsr_cells.specs.meaning.Values.{raw_parts};
@@ -12,7 +13,7 @@ use crate::row::Row;
 use crate::spelled::{FirstShares, read_identifier, read_share_count};
 use arrayvec::ArrayVec;
 use dsr_cells::{NoMemory, Share, Shares, Texts, count_values, read_texts_into, values};
-use dsr_events::{Column, Work};
+use dsr_events::{Block, Column, Work};
 use std::alloc::Global;
 use std::default::MadeWith;
 use std::marker::Model;
@@ -149,5 +150,19 @@ impl<'l> WorkLine<'l> {
         work.work_id.assign(alloc, self.work_id)?;
         work.title.assign(alloc, self.title)?;
         self.write_parties(alloc, &mut work.parties, &mut work.shares)
+    }
+
+    /// Appends the work to a block of fewer than 64 records. If memory is refused, the block is unchanged.
+    pub(crate) fn append_to(&self, alloc: Global, block: &mut Block) -> Result<(), NoMemory>
+        requires { 1 + length block.old.works + length block.old.usages < 64 }
+        ensures added { OnOk result (block.new ≡ with_member block.old (records.Work self.now)) }
+        ensures refused { OnErr result (block.new ≡ block.old) }
+    {
+        let next = block.works.next()?;
+        if self.write(alloc, next).is_ok() {
+            return Ok(());
+        }
+        block.works.shorten();
+        Err(NoMemory)
     }
 }

@@ -5,15 +5,13 @@ ghost use Rattle.std.specs.Simd.Lanes.{chunk};
 ghost use Rattle.dsr_cells.specs.meaning.Texts.{is_identifier_text};
 ghost use Rattle.dsr_records.specs.inner.Usual.{BeginsWithType, IsFront, IsLineOf, is_printable, is_shown, odd_bits};
 
+use crate::usual::PAGE;
 use dsr_texts::text_of;
 use std::simd::prelude::*;
 use std::str;
 
 /// The number of bytes that are looked at together.
 const LOOK: usize = 64;
-
-/// The number of bytes that a page must have: those behind the bytes that are looked at are read too.
-pub(crate) const PAGE: usize = 96;
 
 /// The last offset of a page from which on bytes are looked at.
 const LAST_LOOK: usize = 64;

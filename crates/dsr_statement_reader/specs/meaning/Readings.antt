@@ -11,8 +11,8 @@ use Rattle.dsr_ledger.specs.meaning.Keys.{Key, key_eq, key_cmp, text_cmp}
 use Rattle.dsr_ledger.specs.declared.report.ReportKey.{ReportKey}
 use Rattle.dsr_statement_reader.specs.declared.line.StatementLine.{StatementLine}
 use Rattle.dsr_statement_reader.specs.declared.line.StatementLine.TheVariants as lines
-use Rattle.dsr_statement_reader.specs.declared.kind.LineKind.{LineKind}
-use Rattle.dsr_statement_reader.specs.declared.kind.LineKind.TheVariants as kinds
+use Rattle.dsr_statement_reader.specs.declared.line.LineKind.{LineKind}
+use Rattle.dsr_statement_reader.specs.declared.line.LineKind.TheVariants as kinds
 use Rattle.dsr_statement_reader.specs.declared.fault.StatementFault.{StatementFault}
 use Rattle.dsr_statement_reader.specs.declared.fault.StatementFault.TheVariants as faults
 use Rattle.dsr_statement_reader.specs.meaning.Spellings.{number_in, usages_in, amount_in, text_if, file_number_in, standing_in, reason_in, outcome_in, key_in, is_period, named, ◌>>=◌}

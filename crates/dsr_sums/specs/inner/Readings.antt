@@ -11,7 +11,7 @@ use Rattle.dsr_sums.specs.declared.reading.Reading.{Reading}
 use Rattle.dsr_sums.specs.declared.reading.ReadingError.{ReadingError}
 use Rattle.dsr_sums.specs.declared.reading.ReadingError.TheVariants as errors
 use Rattle.dsr_sums.specs.declared.reports.StatementReport.{StatementReport}
-use Rattle.dsr_sums.specs.declared.role.Role.{Role}
+use Rattle.dsr_sums.specs.declared.reports.Role.{Role}
 use Rattle.dsr_sums.specs.declared.totals.Totals.{Totals}
 use Rattle.dsr_sums.specs.meaning.Answers.{StatementText, statement_with, statement_in}
 use Rattle.dsr_sums.specs.meaning.Sources.{Gave}

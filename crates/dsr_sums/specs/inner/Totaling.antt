@@ -4,12 +4,12 @@ use Rattle.std.specs.List.{flat_map}
 use Rattle.dsr_io.specs.meaning.Told.{Told}
 use Rattle.dsr_statement_reader.specs.meaning.Readings.{Refusal}
 use Rattle.dsr_sums.specs.declared.answer.Totaling.{Totaling}
-use Rattle.dsr_sums.specs.declared.error.TotalsError.{TotalsError}
-use Rattle.dsr_sums.specs.declared.error.TotalsError.TheVariants as totals_errors
+use Rattle.dsr_sums.specs.declared.answer.TotalsError.{TotalsError}
+use Rattle.dsr_sums.specs.declared.answer.TotalsError.TheVariants as totals_errors
 use Rattle.dsr_sums.specs.declared.reading.ReadingError.{ReadingError}
 use Rattle.dsr_sums.specs.declared.reading.ReadingError.TheVariants as errors
 use Rattle.dsr_sums.specs.declared.reports.StatementReport.{StatementReport}
-use Rattle.dsr_sums.specs.declared.role.Role.{Role}
+use Rattle.dsr_sums.specs.declared.reports.Role.{Role}
 use Rattle.dsr_sums.specs.declared.totals.Totals.{Totals}
 use Rattle.dsr_sums.specs.meaning.Answers.{StatementText, accepted, statement_in, statements_after, totals_of}
 use Rattle.dsr_sums.specs.meaning.Sources.{Gave, GaveEach}

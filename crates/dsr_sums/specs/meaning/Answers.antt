@@ -4,9 +4,9 @@ use Rattle.dsr_ledger.specs.declared.report.ReportKey.{ReportKey}
 use Rattle.dsr_statement_reader.specs.declared.fault.StatementFault.TheVariants as faults
 use Rattle.dsr_statement_reader.specs.declared.line.StatementLine.{StatementLine}
 use Rattle.dsr_statement_reader.specs.meaning.Readings.{Refusal, reading_of}
-use Rattle.dsr_sums.specs.declared.error.TotalsError.{TotalsError}
-use Rattle.dsr_sums.specs.declared.error.TotalsError.TheVariants.{Refused, OutOfRange}
-use Rattle.dsr_sums.specs.declared.role.Role.{Role}
+use Rattle.dsr_sums.specs.declared.answer.TotalsError.{TotalsError}
+use Rattle.dsr_sums.specs.declared.answer.TotalsError.TheVariants.{Refused, OutOfRange}
+use Rattle.dsr_sums.specs.declared.reports.Role.{Role}
 use Rattle.dsr_sums.specs.meaning.Totals.{are_in_range}
 use Rattle.dsr_sums.specs.meaning.Statements.{Statement, at_first_line, booked_lines, fault_after, first_remark, key_of_lines, reports_of, totals_text}
 

@@ -3,8 +3,8 @@ use Rattle.std.specs.Prelude.{◌^◌, ℤ, pos, negsuc, ◌-ℤ◌, Bool, true,
 use Rattle.dsr_ledger.specs.meaning.Keys.{in_order}
 use Rattle.dsr_ledger.specs.meaning.Sums.{int_sum_by}
 use Rattle.dsr_sums.specs.declared.account.Account.{Account}
-use Rattle.dsr_sums.specs.declared.role.Role.{Role}
-use Rattle.dsr_sums.specs.declared.role.Role.TheVariants.{Given, Paid}
+use Rattle.dsr_sums.specs.declared.reports.Role.{Role}
+use Rattle.dsr_sums.specs.declared.reports.Role.TheVariants.{Given, Paid}
 use Rattle.dsr_sums.specs.declared.sums.Sums.{Sums}
 use Rattle.dsr_sums.specs.meaning.Accounts.{account_eq, account_cmp}
 

@@ -3,10 +3,10 @@ use Rattle.std.specs.Prelude.{◌≡◌, ◌⊎◌, ℕ, suc, ◌++◌, nat_lt, 
 use Rattle.std.specs.Io.KnownBytes.{Consumes, IsAtEnd}
 use Rattle.dsr_io.specs.meaning.Told.{Told}
 use Rattle.dsr_statement_reader.specs.meaning.Readings.{reading_of}
-use Rattle.dsr_sums.specs.declared.error.TotalsError.{TotalsError}
-use Rattle.dsr_sums.specs.declared.error.TotalsError.TheVariants.{Refused, OutOfRange, Memory}
-use Rattle.dsr_sums.specs.declared.role.Role.{Role}
-use Rattle.dsr_sums.specs.declared.role.Role.TheVariants.{Given, Paid}
+use Rattle.dsr_sums.specs.declared.answer.TotalsError.{TotalsError}
+use Rattle.dsr_sums.specs.declared.answer.TotalsError.TheVariants.{Refused, OutOfRange, Memory}
+use Rattle.dsr_sums.specs.declared.reports.Role.{Role}
+use Rattle.dsr_sums.specs.declared.reports.Role.TheVariants.{Given, Paid}
 use Rattle.dsr_sums.specs.meaning.Answers.{StatementText, totals}
 
 -- a text is the same whatever follows it: it has a fault

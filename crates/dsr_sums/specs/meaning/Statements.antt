@@ -13,8 +13,8 @@ use Rattle.dsr_statement_reader.specs.declared.fault.StatementFault.{StatementFa
 use Rattle.dsr_statement_reader.specs.declared.fault.StatementFault.TheVariants as faults
 use Rattle.dsr_statement_reader.specs.meaning.Readings.{Refusal}
 use Rattle.dsr_sums.specs.declared.reports.StatementReport.{StatementReport}
-use Rattle.dsr_sums.specs.declared.role.Role.{Role}
-use Rattle.dsr_sums.specs.declared.role.Role.TheVariants.{Given, Paid}
+use Rattle.dsr_sums.specs.declared.reports.Role.{Role}
+use Rattle.dsr_sums.specs.declared.reports.Role.TheVariants.{Given, Paid}
 use Rattle.dsr_sums.specs.meaning.Totals.{Booked, booked, sums_text}
 
 -- a statement that was read whole: its report, and its lines

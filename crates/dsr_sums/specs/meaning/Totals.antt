@@ -6,7 +6,7 @@ use Rattle.dsr_statement.specs.meaning.Statement.{line, amount_cell}
 use Rattle.dsr_statement_reader.specs.declared.line.StatementLine.{StatementLine}
 use Rattle.dsr_statement_reader.specs.declared.line.StatementLine.TheVariants as lines
 use Rattle.dsr_sums.specs.declared.account.Account.{Account}
-use Rattle.dsr_sums.specs.declared.role.Role.{Role}
+use Rattle.dsr_sums.specs.declared.reports.Role.{Role}
 use Rattle.dsr_sums.specs.declared.sums.Sums.{Sums}
 use Rattle.dsr_sums.specs.meaning.Accounts.{currency_account, market_account, party_account}
 use Rattle.dsr_sums.specs.meaning.Postings.{Posting, posting, balances, are_summable}

@@ -1,11 +1,12 @@
-use Rattle.std.proofs.Common.{◌≡◌, [], rules, to_z, of_z}
+use Rattle.std.proofs.Common.{◌≡◌, rules, to_z, of_z}
 use Rattle.std.specs.Int.{w128}
-use Rattle.dsr_statement.proofs.LineLemmas.{own_lines, then, turn}
+use Rattle.dsr_statement.specs.meaning.Statement.{ledger_lines}
+use Rattle.dsr_statement.proofs.LineLemmas.{turn}
 use Rattle.dsr_statement.proofs.lines.put_own_ledger.Goals as goal
 
 pub returns : goal.returns
 returns g c =
     let l = c.args.line.now in let usages : to_z w128 (of_z w128 l.usages) ≡ l.usages = search rules in
     let amount : to_z w128 (of_z w128 l.amount) ≡ l.amount = search rules in let left : to_z w128 (of_z w128 l.unclaimed) ≡ l.unclaimed = search rules in
-    turn (then c.put_sums.ensures (then c.put_own_parties.ensures c.put_unclaimed.ensures))
-    (own_lines _ l _ (λ i. record l { usages = usages i; amount = amount i; unclaimed = left i; parties = [] }) c.as_slice.ensures)
+    turn c.put_ledger.ensures
+    (λ i. ledger_lines (record l { usages = usages i; amount = amount i; unclaimed = left i; parties = c.as_slice.ensures i }))

@@ -1,5 +1,6 @@
 use Rattle.std.proofs.Common.{[], ◌∷◌, ◌++◌, ap}
 use Rattle.std.specs.List.{flat_map}
+use Rattle.std.proofs.lemmas.List.{append-nil}
 use Rattle.dsr_statement.specs.meaning.Statement.{ledger_lines}
 use Rattle.dsr_statement.proofs.LineLemmas.{nothing, one_more, turn}
 use Rattle.dsr_statement.proofs.write.put_lent_lines.Goals as goal
@@ -12,7 +13,8 @@ loop-line-preserved g c = record {
   ready = c.next.ensures.ready;
   put = λ all h.
       let so_far = c.loop-line.invariant.put all h in
-      let line = turn c.put_ledger.ensures (ap ledger_lines c.whole.ensures) in
+      let whole = c.whole.ensures in
+      let line = turn c.put_ledger.ensures (λ i. ledger_lines (record (whole i) { parties = append-nil (whole i).parties i })) in
       (so_far.0 ++ _ ∷ [], c.in-Some.ensures.line all so_far.0 so_far.1, one_more ledger_lines so_far.0 _ so_far.2 line);
 }
 

@@ -1,5 +1,5 @@
 use Rattle.std.proofs.Common.{sym, ◌∙◌, ap, slice_get}
-use Rattle.dsr_records.proofs.Drops.{slice_get_none, slice_get_first, drop_next}
+use Rattle.dsr_records.proofs.Following.{slice_get_none, slice_get_first, drop_next}
 use Rattle.dsr_records.proofs.cursor.Cursor.cell.Goals as goal
 
 pub returns-in_err-rest_from-clause-value : goal.returns-in_err-rest_from-clause-value

@@ -1,5 +1,5 @@
 use Rattle.std.proofs.Common.{arith, ◌≡◌, ◌<◌, sym, ◌∙◌, ap, drop, slice_get}
-use Rattle.dsr_records.proofs.Drops.{slice_get_first, drop_next}
+use Rattle.dsr_records.proofs.Following.{slice_get_first, drop_next}
 use Rattle.dsr_records.proofs.cursor.Cursor.cell_here.Goals as goal
 
 pub stand_at-requires : goal.stand_at-requires

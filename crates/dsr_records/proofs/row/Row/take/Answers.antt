@@ -1,5 +1,4 @@
 use Rattle.std.proofs.Common.{arith, ◌≡◌, ◌∙◌, ◌++◌, ◌-◌, ap, sym, map, take, drop, length}
-use Rattle.std.proofs.lemmas.Grind.{common_steps}
 use mathlib.Core.List.{map-append}
 use Rattle.std.proofs.lemmas.List.{length-drop, take-append-drop, take_all}
 use Rattle.dsr_cells.specs.meaning.Cells.{cells}
@@ -17,9 +16,3 @@ returns-then-done-places c =
     take_all (length places - done) (drop done places) (omega (arith, length-drop done places)) ∙ ap (drop done) c.as_slice-places.ensures.value in
     c.take_others.ensures ∙ ap (λ row. row ++ map cell rest) c.take_first-done.ensures.taken ∙ sym (map-append cell (take done all) rest)
     ∙ ap (map cell) (ap (λ t. take done all ++ t) whole ∙ take-append-drop done all)
-
-pub take_others-requires : goal.take_others-requires
-take_others-requires c = grind (arith, common_steps)
-
-pub returns-else-done-places : goal.returns-else-done-places
-returns-else-done-places c = grind (arith, common_steps)

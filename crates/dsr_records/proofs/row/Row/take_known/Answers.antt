@@ -1,10 +1,8 @@
 use Rattle.std.proofs.Common.{arith, ◌≡◌, ◌∙◌, ◌+◌, ◌++◌, ◌∷◌, [], Some, ap, sym, map, drop}
-use Rattle.std.proofs.lemmas.Grind.{common_steps}
 use mathlib.Core.List.{map-append}
 use Rattle.dsr_cells.specs.meaning.Cells.{cells}
 use Rattle.dsr_records.specs.inner.Rows.{behind}
-use Rattle.dsr_records.proofs.Drops.{drop_next}
-use Rattle.dsr_records.proofs.Following.{taken_more}
+use Rattle.dsr_records.proofs.Following.{drop_next, taken_more}
 use Rattle.dsr_records.proofs.row.Row.take_known.Goals as goal
 
 pub loop-next-preserved : goal.loop-next-preserved
@@ -19,6 +17,3 @@ loop-next-preserved c =
       sym (drop_next line (next + 1) cell.now _ here),
       omega (arith, c.loop-next-test.true),
     )
-
-pub push-requires : goal.push-requires
-push-requires c = grind (arith, common_steps)

@@ -1,5 +1,4 @@
-use Rattle.std.proofs.Common.{◌≡◌, ◌∙◌, ◌+◌, ◌++◌, ◌∷◌, [], Some, ap, sym, map, drop, arith}
-use Rattle.std.proofs.lemmas.Grind.{common_steps}
+use Rattle.std.proofs.Common.{◌≡◌, ◌∙◌, ◌+◌, ◌++◌, ◌∷◌, [], Some, ap, sym, map, drop}
 use mathlib.Core.List.{map-append}
 use Rattle.dsr_cells.specs.meaning.Cells.{cells}
 use Rattle.dsr_records.specs.inner.Rows.{behind}
@@ -14,6 +13,3 @@ returns-clause-taken c = λ _.
     ap (map behind) c.push.ensures.items ∙ map-append behind c.self.inside.cells.items (Some cell ∷ [])
     ∙ ap (λ row. row ++ (Some cell.now ∷ [])) (c.self.view_is ∙ c.requires.before)
     ∙ taken_more line c.args.positions.now c.args.done cell.now [] c.requires.in_order c.requires.some here
-
-pub push-requires : goal.push-requires
-push-requires c = grind (arith, common_steps)

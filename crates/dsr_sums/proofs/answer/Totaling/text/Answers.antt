@@ -1,5 +1,5 @@
 use Rattle.std.proofs.Common.{ap, sym, ◌∙◌, cond, Ok, Err}
-use Rattle.dsr_sums.specs.declared.error.TotalsError.TheVariants.{OutOfRange}
+use Rattle.dsr_sums.specs.declared.answer.TotalsError.TheVariants.{OutOfRange}
 use Rattle.dsr_sums.specs.meaning.Statements.{booked_lines, totals_text}
 use Rattle.dsr_sums.proofs.answer.Totaling.text.Goals as goal
 

@@ -2,7 +2,7 @@ use Rattle.std.proofs.Common.{◌≡◌, ap, sym, ◌∙◌, ◌&&◌, true, Fit
 use Rattle.std.proofs.lemmas.Int.{to_z-of_z}
 use Rattle.std.specs.Int.{w128}
 use Rattle.std.specs.Prelude.{ℤ, ◌+ℤ◌}
-use Rattle.dsr_sums.specs.declared.role.Role.{Role}
+use Rattle.dsr_sums.specs.declared.reports.Role.{Role}
 use Rattle.dsr_sums.specs.meaning.Postings.{is_in_range, signed}
 use Rattle.dsr_sums.proofs.sums.Sums.plus.Goals as goal
 

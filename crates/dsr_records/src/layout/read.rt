@@ -1,0 +1,228 @@
+//! Reading a layout from its text.
+ghost use Rattle.std.specs.Prelude.{◌≡◌, ◌<◌, ◌≤◌, length, Ok, Err, MatchResult, Some, None, slice_get, if◌then◌else◌};
+ghost use Rattle.std.specs.List.{list_all};
+ghost use Rattle.std.specs.Option.{option_map};
+ghost use Rattle.std.specs.Str.{is_utf8};
+ghost use Rattle.dsr_cells.specs.meaning.Cells.{cells};
+ghost use Rattle.dsr_cells.specs.meaning.Lines.{without_return};
+ghost use Rattle.dsr_records.specs.meaning.Layouts.{empty_layout, is_type_text, is_type_byte, kind_named, position_of, positions_from, with_line, with_text, with_piece, with_lines, layout_of, cell_at, is_left_out};
+
+use crate::column::{MOST_COLUMNS, column_may_be_empty, columns};
+use crate::cursor::Cursor;
+use crate::fault::{LayoutError, LayoutFault};
+use crate::layout::line::{RoleLine, TypeName};
+use crate::layout::pieces::{Pieces, lines};
+use crate::layout::positions::Positions;
+use crate::layout::{Layout, place};
+use crate::rest::Rest;
+use arrayvec::ArrayVec;
+use dsr_cells::read_number;
+use dsr_events::{Column, Kind};
+use dsr_texts::text_of;
+
+/// The maximum number of bytes of a layout.
+const MOST_BYTES: usize = 65536;
+
+/// The maximum length of a line of a layout in bytes, without its line feed.
+const LINE_LIMIT: usize = 8192;
+
+/// The greatest position of a column.
+const LAST_POSITION: u64 = 63;
+
+/// The cell of a line at an index, from 0, if the line has it.
+fn cell(line: &str, i: u8) -> Option<&str>
+    ensures { option_map (λ c. c.now) result ≡ slice_get (cells line.now) i }
+{
+    Cursor::at(line, Rest::of(line)).cell(i)
+}
+
+/// The kind that a role's name stands for.
+fn read_kind_name(name: &str) -> Option<Kind>
+    ensures { result ≡ kind_named name.now }
+{
+    match name {
+        "HEAD" => Some(Kind::Head),
+        "SY" => Some(Kind::Summary),
+        "AS" => Some(Kind::Resource),
+        "MW" => Some(Kind::Work),
+        "SU" => Some(Kind::Usage),
+        "FOOT" => Some(Kind::Foot),
+        "SKIP" => Some(Kind::Skipped),
+        _ => None,
+    }
+}
+
+/// Whether a text is a record type: 1 to 16 letters, digits or dots.
+fn is_type(name: &str) -> bool
+    ensures { result ≡ is_type_text name.now }
+{
+    all_of_type(name.as_bytes()) && 1 <= name.len() && name.len() <= 16
+}
+
+/// Whether each byte is a letter, a digit or a dot.
+fn all_of_type(bytes: &[u8]) -> bool
+    ensures { result ≡ list_all is_type_byte bytes.now }
+{
+    bytes
+        .iter()
+        .all(|byte| byte.is_ascii_alphanumeric() || *byte == b'.')
+}
+
+/// The position of a column; Some(None) for a hyphen if the column may be empty.
+fn read_position(column: Column, text: &str) -> Option<Option<u8>>
+    ensures { result ≡ position_of column text.now }
+{
+    if text == "-" && column_may_be_empty(column) {
+        return Some(None);
+    }
+    let position = read_number(text)?;
+    if position < 1 || position > LAST_POSITION {
+        return None;
+    }
+    Some(Some(position as u8))
+}
+
+/// The positions of the columns, from cell 2 of a layout line.
+fn read_positions(line: &str, columns: &[Column]) -> Option<ArrayVec<Option<u8>, MOST_COLUMNS>>
+    requires { length columns.now ≤ 7 }
+    ensures { option_map (λ p. p.items) result ≡ positions_from line.now columns.now 2 }
+{
+    let mut positions = ArrayVec::new();
+    for (i, column) in columns.iter().enumerate() {
+        positions.push(read_position(*column, cell(line, i as u8 + 2)?)?);
+    }
+    Some(positions)
+}
+
+impl Layout {
+    /// Adds a line for a kind, or for a record type to be skipped.
+    fn add_line(&mut self, kind: Kind, line: &str) -> Result<(), LayoutFault>
+        ensures { MatchResult result (λ _. with_line self.old kind
+            (cell_at line.now 1) line.now ≡ Ok self.new)
+            (λ fault. with_line self.old kind (cell_at line.now 1) line.now ≡ Err fault) }
+    {
+        let name = cell(line, 1).unwrap_or("");
+        let is_role = place(kind) < 6;
+        if !is_type(name) {
+            return Err(LayoutFault::BadType);
+        }
+        if is_role && self.has_kind(kind) {
+            return Err(LayoutFault::RoleTwice);
+        }
+        if self.has_type(name) {
+            return Err(LayoutFault::TypeTwice);
+        }
+        if !is_role {
+            return self.add_skipped(name);
+        }
+        match read_positions(line, columns(kind)) {
+            Some(positions) => {
+                self.add_role(RoleLine {
+                    kind,
+                    name: TypeName::new(name),
+                    positions: Positions::of(positions),
+                });
+                Ok(())
+            }
+            None => Err(LayoutFault::BadPosition),
+        }
+    }
+
+    /// Adds a line of text. An empty line and one that begins with `#` change nothing.
+    fn add_text(&mut self, line: &str) -> Result<(), LayoutFault>
+        ensures { MatchResult result (λ _. with_text self.old line.now ≡ Ok self.new)
+            (λ fault. with_text self.old line.now ≡ Err fault) }
+    {
+        if is_comment(line) {
+            return Ok(());
+        }
+        match read_kind_name(cell(line, 0).unwrap_or("")) {
+            Some(kind) => self.add_line(kind, line),
+            None => Err(LayoutFault::UnknownRole),
+        }
+    }
+
+    /// Adds a line, given as bytes.
+    fn add_piece(&mut self, piece: &[u8]) -> Result<(), LayoutFault>
+        ensures { MatchResult result (λ _. with_piece self.old piece.now ≡ Ok self.new)
+            (λ fault. with_piece self.old piece.now ≡ Err fault) }
+    {
+        if piece.len() > LINE_LIMIT {
+            return Err(LayoutFault::LongLine);
+        }
+        match read_text(piece) {
+            Some(text) => self.add_text(text),
+            None => Err(LayoutFault::NotUtf8),
+        }
+    }
+
+    /// The layout that the lines of a text spell, or its first fault.
+    ///
+    /// # Errors
+    ///
+    /// The first faulty line, and its fault.
+    #[tactic(auto, using(crate::proofs::Cuts::few_lines))]
+    pub fn read(bytes: &[u8]) -> Result<Layout, LayoutError>
+        ensures { result ≡ layout_of bytes.now }
+    {
+        if bytes.len() > MOST_BYTES {
+            return Err(LayoutError {
+                line: 1,
+                fault: LayoutFault::Large,
+            });
+        }
+        read_pieces(lines(bytes))
+    }
+}
+
+/// Whether a line is ignored: an empty one, or one that begins with `#`.
+fn is_comment(line: &str) -> bool
+    ensures { result ≡ is_left_out line.now }
+{
+    line.is_empty() || line.as_bytes()[0] == b'#'
+}
+
+/// The text without a carriage return at its end.
+fn strip_return(text: &str) -> &str
+    ensures { result.now ≡ without_return text.now }
+{
+    let last = text.len().saturating_sub(1);
+    if last < text.len() && text.as_bytes()[last] == b'\r' {
+        &text[..last]
+    } else {
+        text
+    }
+}
+
+/// The text of a piece without a carriage return at its end, if it is UTF-8.
+fn read_text(piece: &[u8]) -> Option<&str>
+    ensures { option_map (λ t. t.now) result
+        ≡ (if is_utf8 piece.now then Some (without_return piece.now) else None) }
+{
+    match text_of(piece) {
+        Some(text) => Some(strip_return(text)),
+        None => None,
+    }
+}
+
+/// The layout that the pieces of a text spell.
+fn read_pieces(pieces: Pieces<'_>) -> Result<Layout, LayoutError>
+    requires { length pieces ≤ 65537 }
+    ensures { result ≡ with_lines 1 pieces.entry empty_layout }
+{
+    let mut layout = Layout::empty();
+    let mut line = 1;
+    for piece in pieces {
+        if let Err(fault) = layout.add_piece(piece) {
+            return Err(LayoutError { line, fault });
+        }
+        line += 1;
+    }
+    if !layout.is_whole() {
+        return Err(LayoutError {
+            line,
+            fault: LayoutFault::MissingRole,
+        });
+    }
+    Ok(layout)
+}
