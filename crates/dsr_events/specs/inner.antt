@@ -1,3 +1,4 @@
 -- Boxed blocks, and laws of the definitions of `meaning`.
 pub mod OrderlyLaws
 pub mod Boxes
+pub mod Lending

@@ -14,8 +14,8 @@
 //!    has how far it has come.
 //! 5. [`read_file`] (`reading`) reads a [`Source`] of dsr_io, which counts its reads, to its end or to
 //!    the limit on reads, and puts the events into a [`Sink`] (`sink`), by the loop in `feeding`. A closed
-//!    block is exchanged for an old one of the sink ([`Sink::put_block`]), so that it is not moved and
-//!    the next one seldom needs new memory.
+//!    block goes to the sink by its address, for an old one ([`Sink::put_block`]), so that it is not
+//!    moved and the next one seldom needs new memory.
 //! 6. [`whole_events`] (`whole`) gives all events of a text at once, in an [`EventList`] of dsr_events.
 //!
 //! **Example**, compiled and proved in `crates/dsr_reader_tests/src/examples/file.rt`;

@@ -1,21 +1,17 @@
 //! Batches: the events that go through a relay as one message.
 //!
-//! The memory of a batch, an array of 32 slots, is reused: the feed fills it, and the tap gives it back. An event
-//! overwrites the stale one in its slot, so that nothing is allocated for it. A block is exchanged for a stale one,
-//! and the reader writes the next one into its memory. So that there is a stale one from the beginning, each slot has
-//! the event of an empty block before a batch is filled for the first time.
-ghost use Rattle.std.specs.Prelude.{◌≡◌, ◌<◌, ◌^◌, ◌∷◌, ◌++◌, [], ℕ, List, true, false, MatchOption, MatchResult, IfOk};
-ghost use Rattle.dsr_events.specs.meaning.Blocks.{BlockParts};
+//! The memory of a batch is reused: the feed fills it, and the tap gives it back. The block of a reader goes in by its
+//! address, and a stale block of the batch goes back to the reader, which writes the next one into its memory.
+ghost use Rattle.std.specs.Prelude.{◌≡◌, ◌<◌, ◌^◌, List, ◌∷◌, ◌++◌, [], length, slice_get, MatchOption, MatchResult, IfSome, IfOk};
 ghost use Rattle.dsr_events.specs.meaning.Placed.{Placed, block_event};
 
 use crate::slots::Slots;
 use dsr_cells::NoMemory;
-use dsr_events::{Block, Event, EventPart};
+use dsr_events::{BoxedBlock, Event, EventPart};
 use std::alloc::Global;
 use std::marker::Model;
-use std::mem;
 
-/// The stale events in a batch's memory are freed once more than this many bytes were counted for them.
+/// The stale blocks in a batch's memory are freed once more than this many bytes were counted for them.
 const MOST_STALE: usize = 256 * 1024;
 
 /// The bytes counted for each round besides those noted: those of one read, which may not be noted yet.
@@ -23,15 +19,10 @@ const MOST_UNNOTED: usize = 4096;
 
 /// The events of one message of a relay, and their memory. Contracts see those that were not taken out.
 pub struct Batch {
-    /// The events and, from index `count`, stale ones: of earlier rounds, or of empty blocks.
     slots: Slots,
-    /// The number of events, including those that were taken out.
-    count: usize,
-    /// The number of events that were taken out from the front. Each left a placeholder.
-    out: usize,
     /// The bytes of the file that were noted while the batch was filled.
     bytes: usize,
-    /// The bytes counted for earlier rounds, since the slots last had the events of empty blocks.
+    /// The bytes counted for earlier rounds, since the slots last had no stale blocks.
     stale: usize,
 }
 
@@ -40,8 +31,6 @@ impl Drop for Batch {
     fn drop(self) {
         let Batch {
             slots: _,
-            count: _,
-            out: _,
             bytes: _,
             stale: _,
         } = self;
@@ -49,14 +38,12 @@ impl Drop for Batch {
 }
 
 impl Model for Batch {
-    ghost use Rattle.std.specs.Prelude.{◌≤◌, List, length, take, drop};
+    ghost use Rattle.std.specs.Prelude.{List};
     ghost use Rattle.dsr_events.specs.meaning.Placed.{Placed};
 
     ghost Value = { List Placed };
 
-    ghost view = { λ b. drop b.out (take b.count b.slots) };
-
-    ghost invariant = { λ b. (b.out ≤ b.count) × (b.count ≤ length b.slots) };
+    ghost view = { λ b. b.slots };
 }
 
 impl Batch {
@@ -66,8 +53,6 @@ impl Batch {
     {
         Batch {
             slots: Slots::none(alloc),
-            count: 0,
-            out: 0,
             bytes: 0,
             stale: 0,
         }
@@ -83,8 +68,6 @@ impl Batch {
     {
         Ok(Batch {
             slots: Slots::reserved(alloc)?,
-            count: 0,
-            out: 0,
             bytes: 0,
             stale: 0,
         })
@@ -95,11 +78,34 @@ impl Batch {
         self.slots.has_memory()
     }
 
-    /// The events, in order.
-    pub fn events(&self) -> &[Event]
-        ensures { result.now ≡ self.now }
+    /// The number of events.
+    #[inline(always)]
+    pub fn len(&self) -> usize
+        ensures { result ≡ length self.now }
     {
-        &self.slots.events()[..self.count][self.out..]
+        self.slots.len()
+    }
+
+    /// The place and the content of the event at index `i`, from 0.
+    #[inline(always)]
+    pub fn event(&self, i: usize) -> (u64, &EventPart)
+        requires { i < length self.now }
+        ensures event { slice_get self.now i
+            ≡ Some (record { place = result.0; part = result.1.now }) }
+        ensures small { result.0 < 2 ^ 37 }
+    {
+        self.slots.event(i)
+    }
+
+    /// The place and the content of the last event; None if there is none.
+    pub fn last(&self) -> Option<(u64, &EventPart)>
+        ensures last { MatchOption result (self.now ≡ [])
+            (λ e. (front : List Placed)
+            × (self.now ≡ front ++ record { place = e.0; part = e.1.now } ∷ [])) }
+        ensures small { IfSome result (λ e. e.0 < 2 ^ 37) }
+    {
+        let i = self.len().checked_sub(1)?;
+        Some(self.event(i))
     }
 
     /// Notes that this many bytes of the file were read.
@@ -114,35 +120,27 @@ impl Batch {
         self.bytes
     }
 
-    /// Appends an event, over the stale one in its slot. If there is no slot for it, the event is returned.
+    /// Appends an event. If there is no room for it, it is returned.
     pub(crate) fn push(&mut self, event: Event) -> Result<(), Event>
         ensures { MatchResult result (λ _. self.new ≡ self.old ++ event ∷ [])
             (λ back. (back ≡ event) × (self.new ≡ self.old)) }
     {
-        if self.count >= self.slots.len() {
-            return Err(event);
-        }
-        self.slots.put(self.count, event);
-        self.count += 1;
-        Ok(())
+        self.slots.push(event)
     }
 
-    /// Appends the event of a block with this place, if its slot has a stale block, and returns whether it did. The two
-    /// blocks are swapped. Otherwise nothing changes.
+    /// Appends the event of a block with this place. Returns a stale block, if there is one. If there is no room for the
+    /// event, the block is returned.
     #[inline(always)]
-    pub(crate) fn push_block(&mut self, place: u64, block: &mut Block) -> bool
+    pub(crate) fn push_block(
+        &mut self,
+        place: u64,
+        block: BoxedBlock,
+    ) -> Result<Option<BoxedBlock>, BoxedBlock>
         requires { place < 2 ^ 37 }
-        ensures added { result ≡ true → self.new ≡ self.old ++ block_event place block.old ∷ [] }
-        ensures kept { result ≡ false → (self.new ≡ self.old) × (block.new ≡ block.old) }
+        ensures { MatchResult result (λ _. self.new ≡ self.old ++ block_event place block ∷ [])
+            (λ back. (back ≡ block) × (self.new ≡ self.old)) }
     {
-        if self.count >= self.slots.len() {
-            return false;
-        }
-        if !self.slots.put_block(self.count, place, block) {
-            return false;
-        }
-        self.count += 1;
-        true
+        self.slots.push_block(place, block)
     }
 
     /// Takes out the first event; None if there is none.
@@ -150,12 +148,7 @@ impl Batch {
         ensures { MatchOption result ((self.old ≡ []) × (self.new ≡ []))
             (λ e. self.old ≡ e ∷ self.new) }
     {
-        if self.out == self.count {
-            return None;
-        }
-        let event = self.slots.take(self.out);
-        self.out += 1;
-        Some(event)
+        self.slots.take_first()
     }
 
     /// Takes out the last event; None if there is none.
@@ -163,31 +156,11 @@ impl Batch {
         ensures { MatchOption result ((self.old ≡ []) × (self.new ≡ []))
             (λ e. self.old ≡ self.new ++ e ∷ []) }
     {
-        if self.out == self.count {
-            return None;
-        }
-        self.count -= 1;
-        Some(self.slots.take(self.count))
+        self.slots.take_last()
     }
 
-    /// Takes out the last event, which is that of a block, and makes it the value of `block`.
-    #[cold]
-    #[inline(never)]
-    pub(crate) fn take_last_block(&mut self, block: &mut Block)
-        ensures { (events : List Placed) (place : ℕ) (last : BlockParts)
-            → self.old ≡ events ++ block_event place last ∷ []
-            → (self.new ≡ events) × (block.new ≡ last) }
-    {
-        if let Some(mut event) = self.take_last() {
-            if let EventPart::Block(last) = &mut event.part {
-                mem::swap(block, last);
-            }
-            drop(event);
-        }
-    }
-
-    /// Makes the events stale, to be overwritten. Stale events are freed once they may take too much memory.
-    pub(crate) fn restart(&mut self, alloc: Global)
+    /// Makes the blocks stale. Stale blocks are freed once they may take too much memory.
+    pub(crate) fn restart(&mut self)
         ensures { self.new ≡ [] }
     {
         self.stale = self
@@ -195,11 +168,11 @@ impl Batch {
             .saturating_add(self.bytes)
             .saturating_add(MOST_UNNOTED);
         self.bytes = 0;
-        self.count = 0;
-        self.out = 0;
-        if self.stale > MOST_STALE || self.slots.len() == 0 {
+        if self.stale > MOST_STALE {
             self.stale = 0;
-            self.slots.renew(alloc);
+            self.slots.free();
+        } else {
+            self.slots.restart();
         }
     }
 }

@@ -97,7 +97,7 @@ impl Supply {
         ensures { result ≡ [] }
     {
         let mut batch = self.find(rt);
-        batch.restart(self.alloc);
+        batch.restart();
         batch
     }
 
