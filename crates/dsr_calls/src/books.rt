@@ -1,12 +1,30 @@
 //! Books, and the events of their files that were not handed in yet.
+ghost use Rattle.std.specs.Prelude.{◌≡◌, true};
+ghost use Rattle.dsr_ledger.specs.inner.BooksWords.{AllEnded};
+
 use crate::answers::{no_memory, say};
-use crate::closing::all_ended;
 use dsr_cells::NoMemory;
 use dsr_events::{EventList, EventPart, Opening, Outcome};
 use dsr_ledger::{Books, Report, Standing, Verdict};
 use dsr_records::Block;
 use std::alloc::Global;
 use std::io::{self, Print};
+
+/// Whether all files are opened and ended.
+fn all_ended(books: &Books) -> bool
+    ensures { result ≡ true → AllEnded books.now }
+{
+    let files = books.files();
+    if books.opened() != files {
+        return false;
+    }
+    for k in 0..files {
+        if !books.ended(k) {
+            return false;
+        }
+    }
+    true
+}
 
 /// The first event of a list, if it is Opened.
 fn take_opening(events: &mut EventList) -> Option<Opening> {

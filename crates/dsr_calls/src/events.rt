@@ -1,6 +1,5 @@
 //! Printing events, and all events of the text of the session.
-use crate::answers::say;
-use crate::names::ending_named;
+use crate::answers::{ending_named, say};
 use dsr_events::{Ending, Event, EventList, EventPart, Outcome};
 use dsr_file::whole_events;
 use dsr_records::Layout;

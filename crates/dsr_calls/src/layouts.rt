@@ -1,6 +1,5 @@
 //! The calls that make a layout. The layout becomes that of the session.
-use crate::answers::say;
-use crate::names::layout_fault_name;
+use crate::answers::{layout_fault_name, say};
 use dsr_records::Layout;
 use std::io::{self, Print};
 

@@ -6,7 +6,7 @@
 //! name of a call, or one of those below. The argument is the rest of the line, TABs included; where a call has a number
 //! too, that comes first, with a TAB behind it. In an argument `\t`, `\n`, `\r`, `\\` and `\xHH` stand for one byte, and
 //! `\{N}` repeats the byte before it until it stands N times (`argument`). What a call answers is printed behind its word
-//! (`answers`; `names` has the names of kinds and faults).
+//! (`answers`).
 //!
 //! Files and layouts are made of the text of the `session`: `text` sets it to the argument, `line` appends the argument and
 //! a line feed, `part` the argument alone, and `lines N` a line N times, with 1, 2 and so on in place of `@`.
@@ -21,7 +21,7 @@
 //!    and again until no event comes, and prints the events.
 //! 5. `reports`: `Books::new N` makes books (`books`), and their other calls are made on those. `Books::open_next ENDING`
 //!    opens a file by the events of the text, `open_without_opening` one without an opening; `Books::book K` books all blocks
-//!    of file K, from 0; `Books::into_report` prints whether all files are ended (`closing`), and keeps their report.
+//!    of file K, from 0; `Books::into_report` prints whether all files are ended and keeps their report.
 //!    `report ENDING` makes that of the text as the only file. `statement`, `status` and `differences` tell the report.
 //!    `cut FROM TO ENDING` prints the statement of the first FROM bytes of the text, and for which other numbers up to TO it
 //!    is another one; `most_blocks FROM TO ENDING` the most blocks that are taken.
@@ -33,11 +33,9 @@ mod answers;
 mod argument;
 mod books;
 mod cells;
-mod closing;
 mod ends;
 mod events;
 mod layouts;
-mod names;
 mod reading;
 mod records;
 mod relays;

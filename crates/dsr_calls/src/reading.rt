@@ -2,10 +2,9 @@
 ghost use Rattle.std.specs.Prelude.{◌≡◌, ◌+◌, ◌≤◌, ◌^◌, None, true, false, length};
 ghost use Rattle.dsr_file.specs.inner.Standing.{bytes_used, ending_told};
 
-use crate::answers::{no_memory, say};
+use crate::answers::{ending_named, no_memory, say};
 use crate::argument::numbered;
 use crate::events::print_event;
-use crate::names::ending_named;
 use dsr_file::FileReader;
 use dsr_records::Layout;
 use std::alloc::Global;

@@ -1,6 +1,5 @@
 //! The calls of dsr_records on a line, by the layout of the session.
-use crate::answers::{quote, say};
-use crate::names::{fault_name, kind_name};
+use crate::answers::{fault_name, kind_name, quote, say};
 use dsr_cells::{Day, Shares, Texts};
 use dsr_records::{
     Foot, Head, Layout, ReadRecordError, Record, RecordFault, Resource, Summary, Usage, Work,

@@ -1,9 +1,8 @@
 //! The calls of `Books` on the texts of the session, and what their report says.
-use crate::answers::{no_memory, say, say_option};
+use crate::answers::{ending_named, no_memory, say, say_option, standing_name, verdict_name};
 use crate::argument::numbered;
 use crate::books::Accounts;
 use crate::events::events_of;
-use crate::names::{ending_named, standing_name, verdict_name};
 use dsr_events::{Ending, EventList};
 use dsr_ledger::Report;
 use dsr_records::Layout;
