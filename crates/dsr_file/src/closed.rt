@@ -11,8 +11,8 @@ ghost use Rattle.dsr_file.specs.inner.Closing.{event_at};
 
 use crate::sink::Sink;
 use dsr_cells::NoMemory;
-use dsr_events::{Event, EventPart};
-use dsr_records::{Block, BoxedBlock, CheckedLine};
+use dsr_events::{BoxedBlock, Event, EventPart};
+use dsr_records::{Block, CheckedLine};
 use std::alloc::Global;
 use std::marker::Model;
 use std::mem;

@@ -8,7 +8,8 @@ ghost use Rattle.dsr_file.specs.inner.Counting.{foot_in, summary_count};
 use crate::closed::Closed;
 use crate::stage::Stage;
 use dsr_events::{Ending, EventPart, FileFault, Outcome};
-use dsr_records::{CheckedLine, Foot, Layout, RecordFault, check_line, text_of};
+use dsr_records::{CheckedLine, Foot, Layout, RecordFault, check_line};
+use dsr_texts::text_of;
 use std::alloc::Global;
 
 /// The result of taking a line.

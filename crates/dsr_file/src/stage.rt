@@ -13,8 +13,8 @@ ghost use Rattle.dsr_file.specs.inner.Stages.{column_at, stage_fault, stage_afte
 use crate::closed::Closed;
 use crate::same_text::is_same;
 use dsr_cells::NoMemory;
-use dsr_events::{EventPart, FileFault, Opening, Summaries};
-use dsr_records::{Block, BoxedBlock, CheckedLine, HeadLine, Kind, SummaryLine};
+use dsr_events::{BoxedBlock, EventPart, FileFault, Opening, Summaries};
+use dsr_records::{Block, CheckedLine, HeadLine, Kind, SummaryLine};
 use std::alloc::Global;
 use std::mem;
 

@@ -54,7 +54,8 @@ mod stages;
 mod threads;
 
 pub use collector::collect;
-pub use dsr_statement::{Outlet, Status, ToWrite, statement, status, write_all};
+pub use dsr_io::{Outlet, ToWrite, write_all};
+pub use dsr_statement::{Status, statement, status};
 pub use errors::{CollectError, IntakeError, RunError};
 pub use feed_sink::FeedSink;
 pub use gather::intake;

@@ -2,8 +2,9 @@
 use dsr_cells::{
     Day, Share, Shares, Text, Texts, read_texts_into, unescape, write_amount, write_day,
 };
+use dsr_events::BoxedBlock;
 use dsr_file::{Ending, Event, EventList, whole_events};
-use dsr_records::{Block, BoxedBlock, Layout, ReadRecordError, read_record};
+use dsr_records::{Block, Layout, ReadRecordError, read_record};
 use std::alloc::Global;
 
 /// A text that is too long to be kept in place.

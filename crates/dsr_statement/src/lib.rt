@@ -38,7 +38,6 @@ mod slice_buffer;
 mod verdict;
 mod write;
 
-pub use dsr_io::{Outlet, ToWrite, write_all};
 pub use remarks::{lent_status, status};
 pub use room::Room;
 pub use verdict::Status;
