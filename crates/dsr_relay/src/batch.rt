@@ -9,6 +9,7 @@ use crate::slots::Slots;
 use dsr_cells::NoMemory;
 use dsr_events::{BoxedBlock, Event, EventPart};
 use std::alloc::Global;
+use std::boxed::Box;
 use std::marker::Model;
 
 /// The stale blocks in a batch's memory are freed once more than this many bytes were counted for them.
@@ -19,7 +20,8 @@ const MOST_UNNOTED: usize = 4096;
 
 /// The events of one message of a relay, and their memory. Contracts see those that were not taken out.
 pub struct Batch {
-    slots: Slots,
+    /// The slots, if there is memory for them. They are moved by their address.
+    slots: Option<Box<Slots>>,
     /// The bytes of the file that were noted while the batch was filled.
     bytes: usize,
     /// The bytes counted for earlier rounds, since the slots last had no stale blocks.
@@ -39,20 +41,22 @@ impl Drop for Batch {
 
 impl Model for Batch {
     ghost use Rattle.std.specs.Prelude.{List};
+    ghost use Rattle.std.specs.Option.{option_map};
     ghost use Rattle.dsr_events.specs.meaning.Placed.{Placed};
+    ghost use Rattle.dsr_relay.specs.inner.Slots.{those_in};
 
     ghost Value = { List Placed };
 
-    ghost view = { λ b. b.slots };
+    ghost view = { λ b. those_in (option_map (λ s. s.value) b.slots) };
 }
 
 impl Batch {
     /// An empty batch without memory.
-    pub(crate) fn none(alloc: Global) -> Batch
+    pub(crate) fn none() -> Batch
         ensures { result ≡ [] }
     {
         Batch {
-            slots: Slots::none(alloc),
+            slots: None,
             bytes: 0,
             stale: 0,
         }
@@ -67,7 +71,7 @@ impl Batch {
         ensures { IfOk result (λ b. b ≡ []) }
     {
         Ok(Batch {
-            slots: Slots::reserved(alloc)?,
+            slots: Some(Box::new(alloc, Slots::reserved(alloc)?)?),
             bytes: 0,
             stale: 0,
         })
@@ -75,7 +79,7 @@ impl Batch {
 
     /// Whether the batch has memory for events.
     pub(crate) fn has_room(&self) -> bool {
-        self.slots.has_memory()
+        self.slots.is_some()
     }
 
     /// The number of events.
@@ -83,7 +87,10 @@ impl Batch {
     pub fn len(&self) -> usize
         ensures { result ≡ length self.now }
     {
-        self.slots.len()
+        match &self.slots {
+            Some(slots) => slots.len(),
+            None => 0,
+        }
     }
 
     /// The place and the content of the event at index `i`, from 0.
@@ -94,7 +101,10 @@ impl Batch {
             ≡ Some (record { place = result.0; part = result.1.now }) }
         ensures small { result.0 < 2 ^ 37 }
     {
-        self.slots.event(i)
+        match &self.slots {
+            Some(slots) => slots.event(i),
+            None => unreachable!(),
+        }
     }
 
     /// The place and the content of the last event; None if there is none.
@@ -125,7 +135,10 @@ impl Batch {
         ensures { MatchResult result (λ _. self.new ≡ self.old ++ event ∷ [])
             (λ back. (back ≡ event) × (self.new ≡ self.old)) }
     {
-        self.slots.push(event)
+        match &mut self.slots {
+            Some(slots) => slots.push(event),
+            None => Err(event),
+        }
     }
 
     /// Appends the event of a block with this place. Returns a stale block, if there is one. If there is no room for the
@@ -140,7 +153,10 @@ impl Batch {
         ensures { MatchResult result (λ _. self.new ≡ self.old ++ block_event place block ∷ [])
             (λ back. (back ≡ block) × (self.new ≡ self.old)) }
     {
-        self.slots.push_block(place, block)
+        match &mut self.slots {
+            Some(slots) => slots.push_block(place, block),
+            None => Err(block),
+        }
     }
 
     /// Takes out the first event; None if there is none.
@@ -148,7 +164,10 @@ impl Batch {
         ensures { MatchOption result ((self.old ≡ []) × (self.new ≡ []))
             (λ e. self.old ≡ e ∷ self.new) }
     {
-        self.slots.take_first()
+        match &mut self.slots {
+            Some(slots) => slots.take_first(),
+            None => None,
+        }
     }
 
     /// Takes out the last event; None if there is none.
@@ -156,7 +175,10 @@ impl Batch {
         ensures { MatchOption result ((self.old ≡ []) × (self.new ≡ []))
             (λ e. self.old ≡ self.new ++ e ∷ []) }
     {
-        self.slots.take_last()
+        match &mut self.slots {
+            Some(slots) => slots.take_last(),
+            None => None,
+        }
     }
 
     /// Makes the blocks stale. Stale blocks are freed once they may take too much memory.
@@ -168,11 +190,14 @@ impl Batch {
             .saturating_add(self.bytes)
             .saturating_add(MOST_UNNOTED);
         self.bytes = 0;
+        let Some(slots) = &mut self.slots else {
+            return;
+        };
         if self.stale > MOST_STALE {
             self.stale = 0;
-            self.slots.free();
+            slots.free();
         } else {
-            self.slots.restart();
+            slots.restart();
         }
     }
 }

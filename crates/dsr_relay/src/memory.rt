@@ -16,7 +16,6 @@ const MOST_TOGETHER: usize = 4;
 /// The end of the pool that takes memory, to fill it.
 #[derive(Drop)]
 pub(crate) struct Supply {
-    alloc: Global,
     /// The memory that was never filled.
     unused: Vec<Batch>,
     receiver: Receiver<Batch>,
@@ -26,7 +25,6 @@ pub(crate) struct Supply {
 /// waits for memory would be woken for each.
 #[derive(Drop)]
 pub(crate) struct Returns {
-    alloc: Global,
     sender: Sender<Batch>,
     /// Batches that are not given back yet.
     kept: Vec<Batch>,
@@ -61,14 +59,9 @@ pub(crate) fn memory(alloc: Global, capacity: u32) -> Result<(Supply, Returns), 
     let batches = capacity as usize + 2;
     let unused = rooms(alloc, batches)?;
     let (sender, receiver) = bounded(alloc, batches)?;
-    let supply = Supply {
-        alloc,
-        unused,
-        receiver,
-    };
+    let supply = Supply { unused, receiver };
     let together = (capacity as usize / 4).min(MOST_TOGETHER).max(1);
     let returns = Returns {
-        alloc,
         sender,
         kept: Vec::with_capacity(alloc, together)?,
         together,
@@ -88,7 +81,7 @@ impl Supply {
         }
         match self.receiver.recv(rt) {
             Ok(used) => used,
-            Err(_) => Batch::none(self.alloc),
+            Err(_) => Batch::none(),
         }
     }
 
@@ -118,13 +111,6 @@ impl Supply {
             drop(self.receiver.try_recv(rt));
         }
     }
-
-    /// A batch without memory.
-    pub(crate) fn none(&self) -> Batch
-        ensures { result ≡ [] }
-    {
-        Batch::none(self.alloc)
-    }
 }
 
 impl Returns {
@@ -151,12 +137,5 @@ impl Returns {
                 drop(self.sender.try_send(rt, batch));
             }
         }
-    }
-
-    /// A batch without memory.
-    pub(crate) fn none(&self) -> Batch
-        ensures { result ≡ [] }
-    {
-        Batch::none(self.alloc)
     }
 }

@@ -90,17 +90,6 @@ fn pad(own: &mut VecDeque<EventPart>, count: usize)
 }
 
 impl Slots {
-    /// No slots, and no memory for them.
-    pub(crate) fn none(alloc: Global) -> Slots
-        ensures { result ≡ [] }
-    {
-        Slots {
-            slots: VecDeque::new(alloc),
-            own: VecDeque::new(alloc),
-            spare: Vec::new(alloc),
-        }
-    }
-
     /// No slots, but memory for 32.
     ///
     /// # Errors
@@ -114,11 +103,6 @@ impl Slots {
             own: VecDeque::with_capacity(alloc, MOST_EVENTS)?,
             spare: Vec::with_capacity(alloc, MOST_EVENTS)?,
         })
-    }
-
-    /// Whether there is memory for the slots.
-    pub(crate) fn has_memory(&self) -> bool {
-        self.slots.capacity() > 0
     }
 
     /// The number of events.

@@ -125,7 +125,7 @@ impl Tap {
         requires { self.old.held ≡ [] }
         ensures { self.new ≡ self.old }
     {
-        let none = self.returns.none();
+        let none = Batch::none();
         let used = mem::replace(&mut self.held, none);
         self.returns.give(rt, used);
     }
@@ -187,7 +187,7 @@ impl Tap {
         ensures held { result ≡ self.old.held }
         ensures orderly { IsOrderly self.new.taken }
     {
-        let none = self.returns.none();
+        let none = Batch::none();
         let batch = mem::replace(&mut self.held, none);
         let Some((place, part)) = batch.last() else {
             unreachable!()

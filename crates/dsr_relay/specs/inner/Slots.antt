@@ -37,3 +37,8 @@ events_in (slot ∷ slots) own = event_in slot (first own) ∷ events_in slots (
 abbrev pub HasOwn : List Held → List EventPart → Type 0
 HasOwn [] own = Unit {0}
 HasOwn (slot ∷ slots) own = (slot.block ≡ None → 0 < length own) × HasOwn slots (rest own)
+
+-- the events, or none if there are no slots
+abbrev pub those_in : Option (List Placed) → List Placed
+those_in None = []
+those_in (Some events) = events
