@@ -5,7 +5,7 @@
 //! 1. `cutter` cuts the bytes into lines, at the line feeds that dsr_texts finds. A line after the
 //!    first that is whole in the piece is not copied.
 //! 2. `grammar` takes each line: it has `dsr_records` check it, looks up its place in the table in
-//!    `stage`, and keeps the counts that FOOT is compared with. `same_text` compares its block's identifier.
+//!    `stage`, and keeps the counts that FOOT is compared with.
 //! 3. `stage` keeps what is open after the records so far: the head with its summaries, or a block.
 //!    A work or a usage is appended to the open block, and a resource is written over an old block.
 //!    What a line closes goes into a place that is lent to the stage (`closed`), with that old block.
@@ -73,7 +73,6 @@ pub mod laws;
 mod phase;
 mod reader;
 mod reading;
-mod same_text;
 mod sink;
 mod stage;
 mod whole;

@@ -11,7 +11,6 @@ ghost use Rattle.dsr_file.specs.meaning.Faults.{place, member_fault, summary_fau
 ghost use Rattle.dsr_file.specs.inner.Stages.{column_at, stage_fault, stage_after, given_by, part_given, kept_fault, block_length, IsFree, IsMember, IsNew};
 
 use crate::closed::Closed;
-use crate::same_text::is_same;
 use dsr_cells::NoMemory;
 use dsr_events::{BoxedBlock, EventPart, FileFault, Opening, Summaries};
 use dsr_records::{Block, CheckedLine, HeadLine, Kind, SummaryLine};
@@ -98,7 +97,7 @@ fn twice_or_many(summaries: &Summaries, id: &str) -> Option<FileFault>
 fn number_or_long(block: &Block, id: &str) -> Option<FileFault>
     ensures { result ≡ member_fault block.now.id (block_length block.now) id.now }
 {
-    if !is_same(id, block.id.as_str()) {
+    if id != block.id.as_str() {
         return Some(FileFault::BlockNumber);
     }
     if block.len() >= MOST_RECORDS {
