@@ -26,11 +26,12 @@ mkdir "$room"; touch "$room/began" "$room/errors"
 if [ -e "$kept.tsv" ]; then mv "$kept.tsv" "$kept.tsv.$(date -u -r "$kept.tsv" +%Y%m%dT%H%M%S.%N)"; fi
 rm -f "$kept.log" "$kept.errors"
 
-# A file is unpacked to its end even if dsr reads no further than a fault: its checksum stands at the end.
+# A file is unpacked to its end even if dsr reads no further than a fault: its checksum stands at the end. One that was unpacked
+# well leaves a mark, since bash now and then forgets the status of a process that ends at once.
 for file in "${files[@]}"; do
     bytes=$((bytes + $(stat -L -c %s -- "$file" || echo 0)))
     case $file in *.gz) tool=gzip ;; *.zst) tool=zstd ;; *.xz) tool=xz ;; *) inputs+=("$file"); continue ;; esac
-    exec {pipe}< <("$tool" -dc -- "$file" 2>>"$room/errors" | tee -p /dev/null)
+    exec {pipe}< <(if "$tool" -dc -- "$file" 2>>"$room/errors" | tee -p /dev/null; then : >"$room/whole.${#inputs[@]}"; fi)
     unpacking+=($!) pipes+=("$pipe") inputs+=("/dev/fd/$pipe")
 done
 # Without a file dsr would read standard input; the empty name cannot be opened.
@@ -39,7 +40,9 @@ done
 running=$!
 wait "$running" || status=$?
 for pipe in "${pipes[@]}"; do exec {pipe}<&-; done
-for unpacked in "${unpacking[@]}"; do wait "$unpacked" || [ "$status" -gt 1 ] || status=4; done
+for unpacked in "${unpacking[@]}"; do wait "$unpacked" || true; done
+whole=("$room"/whole.*)
+[ ${#whole[@]} -eq ${#unpacking[@]} ] || [ "$status" -gt 1 ] || status=4
 [ "$status" -le 2 ] || [ "$status" -eq 4 ] || status=3
 if [ "$status" -le 1 ]; then
     "${DSR_TOTALS:-dsr_totals}" --with-remarks "$room/statement" >"$room/totals" 2>>"$room/errors" || status=$(($? == 1 ? 4 : 3))
