@@ -1,5 +1,6 @@
 //! What a command line asks for.
-use dsr_cells::{Items, Text};
+use dsr_cells::Text;
+use dsr_texts::Items;
 
 /// Names of files.
 pub type Names = Items<Text>;

@@ -1,4 +1,3 @@
 -- Boxed blocks, and laws of the definitions of `meaning`.
 pub mod OrderlyLaws
 pub mod Boxes
-pub mod Lending

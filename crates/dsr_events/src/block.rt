@@ -3,7 +3,8 @@ ghost use Rattle.std.specs.Prelude.{◌≡◌, ◌≤◌, ◌+◌, length};
 ghost use Rattle.dsr_events.specs.meaning.Blocks.{empty_block};
 
 use crate::record::{Resource, Usage, Work};
-use dsr_cells::{InlineItems, Text};
+use dsr_cells::Text;
+use dsr_texts::InlineItems;
 use std::alloc::Global;
 use std::default::MadeWith;
 use std::marker::Model;

@@ -5,7 +5,7 @@ ghost use Rattle.dsr_events.specs.meaning.Orderly.{is_ended};
 use crate::block::Block;
 use crate::fault::Outcome;
 use crate::record::{Head, Summary};
-use dsr_cells::Items;
+use dsr_texts::Items;
 use std::marker::Model;
 
 /// The summaries of a file. Contracts see it as their list.

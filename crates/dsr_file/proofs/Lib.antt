@@ -15,5 +15,4 @@ pub mod ClosedLemmas
 pub mod FeedLemmas
 pub mod ReadLemmas
 pub mod ResultLemmas
-pub mod WordLemmas
 pub mod UsualLemmas

@@ -18,7 +18,7 @@ use std::marker::Model;
 use std::mem;
 
 /// What a line closes, if it closes something, with a block to be overwritten by the next one. Contracts see what is
-/// closed. Blocks are boxed, so that they go to the sink by their addresses.
+/// closed. Blocks are boxed, so that they are exchanged by their addresses.
 #[derive(Drop)]
 pub(crate) struct Closed {
     alloc: Global,
@@ -167,7 +167,7 @@ impl Closed {
         Ok(next)
     }
 
-    /// Puts a closed block into a sink, as the event with this place, by its address, for an old block if the sink has one.
+    /// Puts a closed block into a sink, as the event with this place, by an exchange with a stale block of the sink.
     /// Returns whether it did; otherwise nothing changes.
     #[inline(always)]
     pub(crate) fn exchange_into<S: Sink>(&mut self, place: u64, sink: &mut S) -> bool
@@ -181,15 +181,18 @@ impl Closed {
             → (self.new ≡ self.old) × (S.list sink.new ≡ S.list sink.old) }
         ensures name { S.name sink.new ≡ S.name sink.old }
     {
-        let Some(block) = self.block.take() else {
+        let Some(block) = &mut self.block else {
             return false;
         };
-        self.spare = sink.put_block(place, block, &mut self.other);
-        self.other.is_none()
+        if !sink.put_block(place, block.get_mut()) {
+            return false;
+        }
+        self.spare = self.block.take();
+        true
     }
 
     /// Puts what was closed into a sink, as the event with this place, by moving it. Returns an event that the sink refuses.
-    /// Not inlined, since most blocks go by their addresses.
+    /// Not inlined, since most blocks are exchanged.
     #[cold]
     #[inline(never)]
     pub(crate) fn put_into<S: Sink>(&mut self, place: u64, sink: &mut S) -> Result<(), Event>

@@ -14,8 +14,8 @@
 //!    has how far it has come.
 //! 5. [`read_file`] (`reading`) reads a [`Source`] of dsr_io, which counts its reads, to its end or to
 //!    the limit on reads, and puts the events into a [`Sink`] (`sink`), by the loop in `feeding`. A closed
-//!    block goes to the sink by its address, for an old one ([`Sink::put_block`]), so that it is not
-//!    moved and the next one seldom needs new memory.
+//!    block is exchanged for an old one of the sink ([`Sink::put_block`]), so that it is not moved and
+//!    the next one seldom needs new memory.
 //! 6. [`whole_events`] (`whole`) gives all events of a text at once, in an [`EventList`] of dsr_events.
 //!
 //! **Example**, compiled and proved in `crates/dsr_reader_tests/src/examples/file.rt`;
@@ -78,7 +78,7 @@ mod stage;
 mod whole;
 
 pub use dsr_events::{Ending, Event, EventList, EventPart, FileFault, Opening, Outcome, Summaries};
-pub use dsr_io::{Failed, FromRead, ReadCount, Source};
+pub use dsr_io::{Failed, FromRead, Source};
 pub use reader::FileReader;
 pub use reading::{ReadFileError, read_file};
 pub use sink::Sink;

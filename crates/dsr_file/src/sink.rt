@@ -1,10 +1,10 @@
 //! The destination of a file's events.
-ghost use Rattle.std.specs.Prelude.{◌≡◌, ◌<◌, ◌^◌, List, [], ◌∷◌, ◌++◌, None, OnOk, IfErr, IfSome};
-ghost use Rattle.dsr_events.specs.declared.event.EventPart.TheVariants as parts;
+ghost use Rattle.std.specs.Prelude.{◌≡◌, ◌<◌, ◌^◌, List, [], ◌∷◌, ◌++◌, true, false, OnOk, IfErr};
 ghost use Rattle.dsr_events.specs.meaning.Placed.{Placed, block_event};
 ghost use Rattle.dsr_file.specs.meaning.Runs.{IsSomeRun};
 
-use dsr_events::{BoxedBlock, Event, EventList, EventPart};
+use dsr_events::{Event, EventList};
+use dsr_records::Block;
 
 /// Takes the events of a file, one after another.
 pub trait Sink {
@@ -28,26 +28,19 @@ pub trait Sink {
         ensures refused { IfErr result (λ back. (back ≡ event) × (list self.new ≡ list self.old)) }
         ensures name { name self.new ≡ name self.old };
 
-    /// Adds the event of a block with this place to the list by the address of the block, and may return an old block for it,
-    /// whose value is meaningless and whose memory may be reused. A sink that does not take the block leaves its list as it
-    /// was, and the event's content in `back`: the event is for `put`. The default takes no block.
-    fn put_block(
-        &mut self,
-        _place: u64,
-        block: BoxedBlock,
-        back: &mut Option<EventPart>,
-    ) -> Option<BoxedBlock>
+    /// Adds the event of a block with this place if the sink has an old block to give for it, and returns whether it
+    /// did. The two blocks are exchanged: the value of the old one is meaningless, and its memory may be reused.
+    /// Otherwise nothing changes, and the event is for `put`. A sink that keeps its events has no old block.
+    fn put_block(&mut self, _place: u64, _block: &mut Block) -> bool
         requires small { _place < 2 ^ 37 }
-        requires run { IsSomeRun (list self.old ++ block_event _place block ∷ []) }
-        requires none { back.old ≡ None }
-        ensures added { back.new ≡ None
-            → list self.new ≡ list self.old ++ block_event _place block ∷ [] }
-        ensures kept { IfSome back.new
-            (λ part. (part ≡ parts.Block block) × (list self.new ≡ list self.old)) }
+        requires run { IsSomeRun (list self.old ++ block_event _place _block.old ∷ []) }
+        ensures added { result ≡ true
+            → list self.new ≡ list self.old ++ block_event _place _block.old ∷ [] }
+        ensures kept { result ≡ false
+            → (_block.new ≡ _block.old) × (list self.new ≡ list self.old) }
         ensures name { name self.new ≡ name self.old }
     {
-        *back = Some(block.into_part());
-        None
+        false
     }
 
     /// Notes that this many bytes of the file were read since the last note. A sink may count them to

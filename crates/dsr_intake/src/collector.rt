@@ -58,16 +58,15 @@ fn book_part(books: &mut Books, k: u32, part: &EventPart) -> Result<(), NoMemory
 }
 
 /// Books further events of file k.
-fn book_events(books: &mut Books, k: u32, batch: &Batch) -> Result<(), NoMemory>
-    requires followed { (taken : List Placed) × IsFollowed taken batch.now
+fn book_events(books: &mut Books, k: u32, events: &[Event]) -> Result<(), NoMemory>
+    requires followed { (taken : List Placed) × IsFollowed taken events.now
         × Knows books.old k (file_of taken) }
-    ensures booked { OnOk result ((taken : List Placed) → IsFollowed taken batch.now
-        → TakesAll books.old books.new k taken batch.now) }
+    ensures booked { OnOk result ((taken : List Placed) → IsFollowed taken events.now
+        → TakesAll books.old books.new k taken events.now) }
     ensures files { files_count books.new ≡ files_count books.old }
 {
-    for i in 0..batch.len() {
-        let (_, part) = batch.event(i);
-        book_part(books, k, part)?;
+    for event in events {
+        book_part(books, k, &event.part)?;
     }
     Ok(())
 }
@@ -116,7 +115,7 @@ fn go_on<H: Wait>(
     let Some(batch) = found else {
         return Ok(false);
     };
-    let answer = book_events(books, k, &batch);
+    let answer = book_events(books, k, batch.events());
     tap.give_back(rt, batch);
     match answer {
         Ok(()) => Ok(true),

@@ -1,8 +1,8 @@
 //! The feed of a relay as the sink of a file's events.
 ghost use Rattle.std.specs.Prelude.{◌≡◌};
 
-use dsr_events::BoxedBlock;
-use dsr_file::{Event, EventPart, Sink};
+use dsr_file::{Event, Sink};
+use dsr_records::Block;
 use dsr_relay::{Feed, Name};
 use std::marker::Model;
 use std::sync::Wait;
@@ -66,15 +66,10 @@ impl<'a, H: Wait> Sink for FeedSink<'a, H> {
         self.feed.send(self.rt, event)
     }
 
-    /// Sends the event of a block by the address of the block.
+    /// Sends the event of a block where the feed has memory of an earlier block for it.
     #[inline(always)]
-    fn put_block(
-        &mut self,
-        place: u64,
-        block: BoxedBlock,
-        back: &mut Option<EventPart>,
-    ) -> Option<BoxedBlock> {
-        self.feed.send_block(self.rt, place, block, back)
+    fn put_block(&mut self, place: u64, block: &mut Block) -> bool {
+        self.feed.send_block(self.rt, place, block)
     }
 
     /// Counts the bytes, and sends the batch once there are many.

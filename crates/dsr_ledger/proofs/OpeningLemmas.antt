@@ -1,8 +1,7 @@
 -- The opening of files, and the numbers of their summary keys.
-use Rattle.dsr_ledger.proofs.Common.{◌≡◌, ℕ, ◌<◌, List, [], ◌∷◌, ◌++◌, length, get_or, true, sym, ◌∙◌, ap, arith, Bool, cond, Option, option_map, None, Some, find, list_any, bytes_eq, bytes_eq-Decides, nat_tests, get_or-map, length-map, find-append, list_any_at, option_or, Summary, OpeningParts, SummaryState, key_of, is_same_report, has_same_number, first_head, summaries_of, found_in, no_sums, nothing_found, state_at, number_at, AreNumbered, named, openings_of, FileBooks, Summaries, Ledger, SummaryKey, summary_key_of, summary_key_named, IsNumberedFile, Grows, key_number, summary_key_eq}
+use Rattle.dsr_ledger.proofs.Common.{◌≡◌, ℕ, ◌<◌, List, [], ◌∷◌, ◌++◌, length, get_or, true, sym, ◌∙◌, ap, arith, Bool, cond, Option, option_map, None, Some, find, list_any, bytes_eq, bytes_eq-Decides, nat_tests, get_or-map, length-map, find-append, list_any_at, option_or, Summary, SummaryState, is_same_report, has_same_number, summaries_of, found_in, no_sums, nothing_found, state_at, number_at, AreNumbered, named, openings_of, FileBooks, Summaries, Ledger, SummaryKey, summary_key_of, summary_key_named, IsNumberedFile, Grows, key_number, summary_key_eq}
 use Rattle.std.specs.Prelude.{position}
 use Rattle.dsr_events.specs.declared.record.Head.{Head}
-use Rattle.dsr_ledger.specs.declared.report.ReportKey.{ReportKey}
 use Rattle.dsr_ledger.proofs.ListedLemmas.{mapped}
 
 pub same_report-itself : (h : Head) → is_same_report h h ≡ true
@@ -25,11 +24,6 @@ taken_here h fs i f below is t =
     let opening = λ (x : FileBooks). x.opening in
     list_any_at (has_same_number h) (openings_of fs) i f.opening (omega (arith, length-map fs opening))
     (ap (has_same_number h) (get_or-map opening fs i f f.opening below ∙ ap opening (sym is)) ∙ t)
-
--- the key of the first opening, after one more
-pub key_step : (k : Option ReportKey) (o : Option OpeningParts) (os : List (Option OpeningParts))
-    → option_or (option_or k (option_map (λ x. key_of x.head) o)) (option_map key_of (first_head os)) ≡ option_or k (option_map key_of (first_head (o ∷ os)))
-key_step k o os = grind arith
 
 grows_at : {K : Type 0} (f g : K → Option ℕ) (k : Option K) (n : Option ℕ) → Grows f g → option_map f k ≡ option_map Some n → option_map g k ≡ option_map Some n
 grows_at f g k n grows h = grind (arith, grows)

@@ -18,8 +18,9 @@ use crate::report::{
 };
 use crate::sums::Sums;
 use crate::verdict::Standing;
-use dsr_cells::{Items, NoMemory};
+use dsr_cells::NoMemory;
 use dsr_events::{Head, Opening, Outcome, Summary};
+use dsr_texts::Items;
 use std::alloc::Global;
 use std::collections::BTreeSet;
 use std::mem;

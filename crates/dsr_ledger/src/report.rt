@@ -2,8 +2,9 @@
 ghost use Rattle.std.specs.Prelude.{◌≡◌, ◌++◌, ◌∷◌, [], MatchResult};
 
 use crate::verdict::{Reason, Standing};
-use dsr_cells::{Day, InlineItems, Isrc, Items, NoMemory, Text};
+use dsr_cells::{Day, Isrc, NoMemory, Text};
 use dsr_events::Outcome;
+use dsr_texts::{InlineItems, Items};
 
 /// The key of a report.
 #[derive(Drop)]

@@ -1,9 +1,8 @@
 //! How far a file is read: to its end, or to the line at which memory was refused.
 ghost use Rattle.std.specs.Prelude.{None, false};
 
-use dsr_file::{
-    EventList, Failed, FileFault, Outcome, ReadCount, ReadFileError, Source, read_file,
-};
+use dsr_file::{EventList, Failed, FileFault, Outcome, ReadFileError, Source, read_file};
+use dsr_io::ReadCount;
 use dsr_records::Layout;
 use std::alloc::Global;
 

@@ -2,4 +2,4 @@
 pub mod Feeds
 pub mod Taps
 pub mod Settles
-pub mod Slots
+pub mod Arrays

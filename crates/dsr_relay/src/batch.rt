@@ -1,18 +1,21 @@
 //! Batches: the events that go through a relay as one message.
 //!
-//! The memory of a batch is reused: the feed fills it, and the tap gives it back. The block of a reader goes in by its
-//! address, and a stale block of the batch goes back to the reader, which writes the next one into its memory.
-ghost use Rattle.std.specs.Prelude.{◌≡◌, ◌<◌, ◌^◌, List, ◌∷◌, ◌++◌, [], length, slice_get, MatchOption, MatchResult, IfSome, IfOk};
+//! The memory of a batch, an array of 32 slots, is reused: the feed fills it, and the tap gives it back. An event
+//! overwrites the stale one in its slot, so that nothing is allocated for it. A block is exchanged for a stale one,
+//! and the reader writes the next one into its memory. So that there is a stale one from the beginning, each slot has
+//! the event of an empty block before a batch is filled for the first time.
+ghost use Rattle.std.specs.Prelude.{◌≡◌, ◌<◌, ◌^◌, ◌∷◌, ◌++◌, [], ℕ, List, true, false, MatchOption, MatchResult, IfOk};
+ghost use Rattle.dsr_events.specs.meaning.Blocks.{BlockParts};
 ghost use Rattle.dsr_events.specs.meaning.Placed.{Placed, block_event};
 
 use crate::slots::Slots;
 use dsr_cells::NoMemory;
-use dsr_events::{BoxedBlock, Event, EventPart};
+use dsr_events::{Block, Event, EventPart};
 use std::alloc::Global;
-use std::boxed::Box;
 use std::marker::Model;
+use std::mem;
 
-/// The stale blocks in a batch's memory are freed once more than this many bytes were counted for them.
+/// The stale events in a batch's memory are freed once more than this many bytes were counted for them.
 const MOST_STALE: usize = 256 * 1024;
 
 /// The bytes counted for each round besides those noted: those of one read, which may not be noted yet.
@@ -20,11 +23,15 @@ const MOST_UNNOTED: usize = 4096;
 
 /// The events of one message of a relay, and their memory. Contracts see those that were not taken out.
 pub struct Batch {
-    /// The slots, if there is memory for them. They are moved by their address.
-    slots: Option<Box<Slots>>,
+    /// The events and, from index `count`, stale ones: of earlier rounds, or of empty blocks.
+    slots: Slots,
+    /// The number of events, including those that were taken out.
+    count: usize,
+    /// The number of events that were taken out from the front. Each left a placeholder.
+    out: usize,
     /// The bytes of the file that were noted while the batch was filled.
     bytes: usize,
-    /// The bytes counted for earlier rounds, since the slots last had no stale blocks.
+    /// The bytes counted for earlier rounds, since the slots last had the events of empty blocks.
     stale: usize,
 }
 
@@ -33,6 +40,8 @@ impl Drop for Batch {
     fn drop(self) {
         let Batch {
             slots: _,
+            count: _,
+            out: _,
             bytes: _,
             stale: _,
         } = self;
@@ -40,23 +49,25 @@ impl Drop for Batch {
 }
 
 impl Model for Batch {
-    ghost use Rattle.std.specs.Prelude.{List};
-    ghost use Rattle.std.specs.Option.{option_map};
+    ghost use Rattle.std.specs.Prelude.{◌≤◌, List, length, take, drop};
     ghost use Rattle.dsr_events.specs.meaning.Placed.{Placed};
-    ghost use Rattle.dsr_relay.specs.inner.Slots.{those_in};
 
     ghost Value = { List Placed };
 
-    ghost view = { λ b. those_in (option_map (λ s. s.value) b.slots) };
+    ghost view = { λ b. drop b.out (take b.count b.slots) };
+
+    ghost invariant = { λ b. (b.out ≤ b.count) × (b.count ≤ length b.slots) };
 }
 
 impl Batch {
     /// An empty batch without memory.
-    pub(crate) fn none() -> Batch
+    pub(crate) fn none(alloc: Global) -> Batch
         ensures { result ≡ [] }
     {
         Batch {
-            slots: None,
+            slots: Slots::none(alloc),
+            count: 0,
+            out: 0,
             bytes: 0,
             stale: 0,
         }
@@ -71,7 +82,9 @@ impl Batch {
         ensures { IfOk result (λ b. b ≡ []) }
     {
         Ok(Batch {
-            slots: Some(Box::new(alloc, Slots::reserved(alloc)?)?),
+            slots: Slots::reserved(alloc)?,
+            count: 0,
+            out: 0,
             bytes: 0,
             stale: 0,
         })
@@ -79,43 +92,14 @@ impl Batch {
 
     /// Whether the batch has memory for events.
     pub(crate) fn has_room(&self) -> bool {
-        self.slots.is_some()
+        self.slots.has_memory()
     }
 
-    /// The number of events.
-    #[inline(always)]
-    pub fn len(&self) -> usize
-        ensures { result ≡ length self.now }
+    /// The events, in order.
+    pub fn events(&self) -> &[Event]
+        ensures { result.now ≡ self.now }
     {
-        match &self.slots {
-            Some(slots) => slots.len(),
-            None => 0,
-        }
-    }
-
-    /// The place and the content of the event at index `i`, from 0.
-    #[inline(always)]
-    pub fn event(&self, i: usize) -> (u64, &EventPart)
-        requires { i < length self.now }
-        ensures event { slice_get self.now i
-            ≡ Some (record { place = result.0; part = result.1.now }) }
-        ensures small { result.0 < 2 ^ 37 }
-    {
-        match &self.slots {
-            Some(slots) => slots.event(i),
-            None => unreachable!(),
-        }
-    }
-
-    /// The place and the content of the last event; None if there is none.
-    pub fn last(&self) -> Option<(u64, &EventPart)>
-        ensures last { MatchOption result (self.now ≡ [])
-            (λ e. (front : List Placed)
-            × (self.now ≡ front ++ record { place = e.0; part = e.1.now } ∷ [])) }
-        ensures small { IfSome result (λ e. e.0 < 2 ^ 37) }
-    {
-        let i = self.len().checked_sub(1)?;
-        Some(self.event(i))
+        &self.slots.events()[..self.count][self.out..]
     }
 
     /// Notes that this many bytes of the file were read.
@@ -130,33 +114,35 @@ impl Batch {
         self.bytes
     }
 
-    /// Appends an event. If there is no room for it, it is returned.
+    /// Appends an event, over the stale one in its slot. If there is no slot for it, the event is returned.
     pub(crate) fn push(&mut self, event: Event) -> Result<(), Event>
         ensures { MatchResult result (λ _. self.new ≡ self.old ++ event ∷ [])
             (λ back. (back ≡ event) × (self.new ≡ self.old)) }
     {
-        match &mut self.slots {
-            Some(slots) => slots.push(event),
-            None => Err(event),
+        if self.count >= self.slots.len() {
+            return Err(event);
         }
+        self.slots.put(self.count, event);
+        self.count += 1;
+        Ok(())
     }
 
-    /// Appends the event of a block with this place. Returns a stale block, if there is one. If there is no room for the
-    /// event, the block is returned.
+    /// Appends the event of a block with this place, if its slot has a stale block, and returns whether it did. The two
+    /// blocks are swapped. Otherwise nothing changes.
     #[inline(always)]
-    pub(crate) fn push_block(
-        &mut self,
-        place: u64,
-        block: BoxedBlock,
-    ) -> Result<Option<BoxedBlock>, BoxedBlock>
+    pub(crate) fn push_block(&mut self, place: u64, block: &mut Block) -> bool
         requires { place < 2 ^ 37 }
-        ensures { MatchResult result (λ _. self.new ≡ self.old ++ block_event place block ∷ [])
-            (λ back. (back ≡ block) × (self.new ≡ self.old)) }
+        ensures added { result ≡ true → self.new ≡ self.old ++ block_event place block.old ∷ [] }
+        ensures kept { result ≡ false → (self.new ≡ self.old) × (block.new ≡ block.old) }
     {
-        match &mut self.slots {
-            Some(slots) => slots.push_block(place, block),
-            None => Err(block),
+        if self.count >= self.slots.len() {
+            return false;
         }
+        if !self.slots.put_block(self.count, place, block) {
+            return false;
+        }
+        self.count += 1;
+        true
     }
 
     /// Takes out the first event; None if there is none.
@@ -164,10 +150,12 @@ impl Batch {
         ensures { MatchOption result ((self.old ≡ []) × (self.new ≡ []))
             (λ e. self.old ≡ e ∷ self.new) }
     {
-        match &mut self.slots {
-            Some(slots) => slots.take_first(),
-            None => None,
+        if self.out == self.count {
+            return None;
         }
+        let event = self.slots.take(self.out);
+        self.out += 1;
+        Some(event)
     }
 
     /// Takes out the last event; None if there is none.
@@ -175,14 +163,31 @@ impl Batch {
         ensures { MatchOption result ((self.old ≡ []) × (self.new ≡ []))
             (λ e. self.old ≡ self.new ++ e ∷ []) }
     {
-        match &mut self.slots {
-            Some(slots) => slots.take_last(),
-            None => None,
+        if self.out == self.count {
+            return None;
+        }
+        self.count -= 1;
+        Some(self.slots.take(self.count))
+    }
+
+    /// Takes out the last event, which is that of a block, and makes it the value of `block`.
+    #[cold]
+    #[inline(never)]
+    pub(crate) fn take_last_block(&mut self, block: &mut Block)
+        ensures { (events : List Placed) (place : ℕ) (last : BlockParts)
+            → self.old ≡ events ++ block_event place last ∷ []
+            → (self.new ≡ events) × (block.new ≡ last) }
+    {
+        if let Some(mut event) = self.take_last() {
+            if let EventPart::Block(last) = &mut event.part {
+                mem::swap(block, last);
+            }
+            drop(event);
         }
     }
 
-    /// Makes the blocks stale. Stale blocks are freed once they may take too much memory.
-    pub(crate) fn restart(&mut self)
+    /// Makes the events stale, to be overwritten. Stale events are freed once they may take too much memory.
+    pub(crate) fn restart(&mut self, alloc: Global)
         ensures { self.new ≡ [] }
     {
         self.stale = self
@@ -190,14 +195,11 @@ impl Batch {
             .saturating_add(self.bytes)
             .saturating_add(MOST_UNNOTED);
         self.bytes = 0;
-        let Some(slots) = &mut self.slots else {
-            return;
-        };
-        if self.stale > MOST_STALE {
+        self.count = 0;
+        self.out = 0;
+        if self.stale > MOST_STALE || self.slots.len() == 0 {
             self.stale = 0;
-            slots.free();
-        } else {
-            slots.restart();
+            self.slots.renew(alloc);
         }
     }
 }

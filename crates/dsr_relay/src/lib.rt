@@ -6,8 +6,8 @@
 //!    message; if the channel is full, it waits (`feed`, `batch`, `slots`, `channel`).
 //! 3. The [`Tap`] takes the events one by one, or those of a message at once; if there is none, it waits (`tap`).
 //! 4. A batch whose events are no longer needed is given back ([`Tap::give_back`]). The feed writes later events over
-//!    it. A block on the heap goes out by its address ([`Feed::send_block`]), and an old one that was given back is
-//!    returned for it, so that no block is moved and the reader reuses the memory of the old one.
+//!    it. A block is exchanged for an old one ([`Feed::send_block`]), so that it is not moved and the reader reuses the
+//!    memory of the old one.
 //! 5. [`Tap::take_in`] joins the two ends and returns what was taken and what is left ([`Settled`], in `settled`).
 //!
 //! **Example**, compiled and proved in `crates/dsr_relay_tests/src/example.rt`:

@@ -11,11 +11,12 @@ use std::alloc::Global;
 use std::sync::Wait;
 
 /// At most this many batches are given back together.
-const MOST_TOGETHER: usize = 4;
+const MOST_TOGETHER: usize = 8;
 
 /// The end of the pool that takes memory, to fill it.
 #[derive(Drop)]
 pub(crate) struct Supply {
+    alloc: Global,
     /// The memory that was never filled.
     unused: Vec<Batch>,
     receiver: Receiver<Batch>,
@@ -25,10 +26,11 @@ pub(crate) struct Supply {
 /// waits for memory would be woken for each.
 #[derive(Drop)]
 pub(crate) struct Returns {
+    alloc: Global,
     sender: Sender<Batch>,
     /// Batches that are not given back yet.
     kept: Vec<Batch>,
-    /// This many are given back together: 1 to 4, and at most as many as there are. So the feed never waits for memory while
+    /// This many are given back together: 1 to 8, and at most as many as there are. So the feed never waits for memory while
     /// the tap waits for a message (`laws::never_lacks_memory`).
     together: usize,
 }
@@ -59,9 +61,14 @@ pub(crate) fn memory(alloc: Global, capacity: u32) -> Result<(Supply, Returns), 
     let batches = capacity as usize + 2;
     let unused = rooms(alloc, batches)?;
     let (sender, receiver) = bounded(alloc, batches)?;
-    let supply = Supply { unused, receiver };
-    let together = (capacity as usize / 4).min(MOST_TOGETHER).max(1);
+    let supply = Supply {
+        alloc,
+        unused,
+        receiver,
+    };
+    let together = (capacity as usize / 2).min(MOST_TOGETHER).max(1);
     let returns = Returns {
+        alloc,
         sender,
         kept: Vec::with_capacity(alloc, together)?,
         together,
@@ -81,7 +88,7 @@ impl Supply {
         }
         match self.receiver.recv(rt) {
             Ok(used) => used,
-            Err(_) => Batch::none(),
+            Err(_) => Batch::none(self.alloc),
         }
     }
 
@@ -90,7 +97,7 @@ impl Supply {
         ensures { result ≡ [] }
     {
         let mut batch = self.find(rt);
-        batch.restart();
+        batch.restart(self.alloc);
         batch
     }
 
@@ -110,6 +117,13 @@ impl Supply {
         for _ in 0..self.receiver.len() {
             drop(self.receiver.try_recv(rt));
         }
+    }
+
+    /// A batch without memory.
+    pub(crate) fn none(&self) -> Batch
+        ensures { result ≡ [] }
+    {
+        Batch::none(self.alloc)
     }
 }
 
@@ -137,5 +151,12 @@ impl Returns {
                 drop(self.sender.try_send(rt, batch));
             }
         }
+    }
+
+    /// A batch without memory.
+    pub(crate) fn none(&self) -> Batch
+        ensures { result ≡ [] }
+    {
+        Batch::none(self.alloc)
     }
 }

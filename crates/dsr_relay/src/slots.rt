@@ -1,96 +1,91 @@
-//! The slots of a batch: at most 32 events, which go through a relay as one message.
+//! The slots of a batch: the array of at most 32 events that goes through a relay as one message.
 //!
-//! A slot has the place of its event and, if the event came from a reader, its block on the heap. The content of an event
-//! that was sent by value is in a list beside the slots. The memory of that list is reserved, and not touched until such an
-//! event is sent: a file has only two of them, its first and its last.
-ghost use Rattle.std.specs.Prelude.{◌≡◌, ◌<◌, ◌≤◌, ◌^◌, List, [], ◌∷◌, ◌++◌, length, slice_get, IfOk, MatchOption, MatchResult};
-ghost use Rattle.std.specs.VecDeque.{deque_capacity};
-ghost use Rattle.dsr_events.specs.meaning.Placed.{block_event};
-ghost use Rattle.dsr_relay.specs.inner.Slots.{Held, content_or, first, events_in};
+//! It takes 26 kB, so it is not made on the stack and moved: its memory is reserved as a vector with room for one array, and
+//! the array is made in there when the batch is filled for the first time. Until then the memory is not resident.
+ghost use Rattle.std.specs.Prelude.{◌≡◌, ◌<◌, ◌^◌, [], length, true, false, slice_set, slice_index_or, IfOk};
+ghost use Rattle.dsr_events.specs.meaning.Placed.{Placed, block_event};
 
+use arrayvec::ArrayVec;
 use dsr_cells::NoMemory;
-use dsr_events::{BoxedBlock, Event, EventPart, Outcome};
+use dsr_events::{Block, Event, EventPart};
 use std::alloc::Global;
-use std::collections::VecDeque;
 use std::marker::Model;
+use std::mem;
 
 /// The maximum number of events in a batch.
 pub(crate) const MOST_EVENTS: usize = 32;
 
-/// The place of an event, and its block if that is on the heap.
-#[derive(Drop)]
-struct Slot {
-    place: u64,
-    block: Option<BoxedBlock>,
+/// The slots of a batch. Contracts see the events in them: none until the array is made, and 32 from then on.
+pub(crate) struct Slots {
+    /// The array, which is full, or nothing until it is made.
+    arrays: Vec<ArrayVec<Event, MOST_EVENTS>>,
 }
 
-impl Model for Slot {
-    ghost use Rattle.std.specs.Prelude.{◌^◌, ◌<◌};
-    ghost use Rattle.dsr_relay.specs.inner.Slots.{Held};
-
-    ghost Value = { Held };
-
-    ghost view = { λ s. record { place = s.place; block = s.block } };
-
-    ghost invariant = { λ s. s.place < 2 ^ 37 };
-}
-
-impl Slot {
-    /// The event, whose content is `own` if it has no block on the heap.
-    fn into_event(self, own: Option<EventPart>) -> Event
-        ensures place { result.place ≡ self.place }
-        ensures part { MatchOption own (result.part ≡ content_or self.block (first []))
-            (λ part. result.part ≡ content_or self.block part) }
-    {
-        let Slot { place, block } = self;
-        let part = match block {
-            Some(block) => block.into_part(),
-            None => own.unwrap_or(EventPart::Ended(Outcome::Whole)),
-        };
-        Event { place, part }
+/// Not inlined, since the array is moved to the stack where it is dropped.
+impl Drop for Slots {
+    #[inline(never)]
+    fn drop(self) {
+        let Slots { arrays: _ } = self;
     }
 }
 
-/// The slots of a batch. Contracts see the events in them.
-#[derive(Drop)]
-pub(crate) struct Slots {
-    slots: VecDeque<Slot>,
-    /// The contents of events without a block on the heap, each at the index of its slot. Others have a placeholder there,
-    /// which are left out behind the last of these contents.
-    own: VecDeque<EventPart>,
-    /// Blocks of earlier events, whose memory may be used again.
-    spare: Vec<BoxedBlock>,
-}
-
 impl Model for Slots {
-    ghost use Rattle.std.specs.Prelude.{◌≤◌, List, length};
+    ghost use Rattle.std.specs.Prelude.{List};
     ghost use Rattle.dsr_events.specs.meaning.Placed.{Placed};
-    ghost use Rattle.dsr_relay.specs.inner.Slots.{events_in, HasOwn};
+    ghost use Rattle.dsr_relay.specs.inner.Arrays.{events_in, IsFull};
 
     ghost Value = { List Placed };
 
-    ghost view = { λ s. events_in s.slots.items s.own.items };
+    ghost view = { λ s. events_in s.arrays.items };
 
-    ghost invariant = { λ s. (length s.own.items ≤ length s.slots.items)
-        × HasOwn s.slots.items s.own.items };
+    ghost invariant = { λ s. IsFull s.arrays.items };
 }
 
-/// Appends placeholders until there are this many contents.
-fn pad(own: &mut VecDeque<EventPart>, count: usize)
-    requires fewer { length own.old.items ≤ count }
-    requires fits { count ≤ deque_capacity own.old }
-    ensures same { (slots : List Held) → events_in slots own.new.items
-        ≡ events_in slots own.old.items }
-    ensures count { length own.new.items ≡ count }
-    ensures capacity { deque_capacity own.new ≡ deque_capacity own.old }
+/// A stale event, whose block has no memory of its own.
+fn stale_event(alloc: Global) -> Event {
+    Event {
+        place: 0,
+        part: EventPart::Block(Block::empty(alloc)),
+    }
+}
+
+/// Overwrites a stale event with that of a block, if it is the event of a block too, and returns whether it did. The two
+/// blocks are swapped. Otherwise nothing changes.
+#[inline(always)]
+fn write_block(slot: &mut Event, place: u64, block: &mut Block) -> bool
+    requires { place < 2 ^ 37 }
+    ensures written { result ≡ true → slot.new ≡ block_event place block.old }
+    ensures kept { result ≡ false → (slot.new ≡ slot.old) × (block.new ≡ block.old) }
 {
-    for _ in own.len()..count {
-        own.push_back_reserved(EventPart::Ended(Outcome::Whole));
+    match &mut slot.part {
+        EventPart::Block(stale) => mem::swap(stale, block),
+        _ => return false,
+    }
+    slot.place = place;
+    true
+}
+
+/// Frees the events of an array, and fills it with the events of empty blocks.
+fn fill(array: &mut ArrayVec<Event, MOST_EVENTS>, alloc: Global)
+    ensures { length array.new.items ≡ 32 }
+{
+    array.clear();
+    for _ in 0..MOST_EVENTS {
+        array.push(stale_event(alloc));
     }
 }
 
 impl Slots {
-    /// No slots, but memory for 32.
+    /// No slots, and no memory for them.
+    pub(crate) fn none(alloc: Global) -> Slots
+        ensures { result ≡ [] }
+    {
+        Slots {
+            arrays: Vec::new(alloc),
+        }
+    }
+
+    /// No slots yet, but memory for them.
     ///
     /// # Errors
     ///
@@ -99,128 +94,79 @@ impl Slots {
         ensures { IfOk result (λ s. s ≡ []) }
     {
         Ok(Slots {
-            slots: VecDeque::with_capacity(alloc, MOST_EVENTS)?,
-            own: VecDeque::with_capacity(alloc, MOST_EVENTS)?,
-            spare: Vec::with_capacity(alloc, MOST_EVENTS)?,
+            arrays: Vec::with_capacity(alloc, 1)?,
         })
     }
 
-    /// The number of events.
+    /// Whether there is memory for the slots.
+    pub(crate) fn has_memory(&self) -> bool {
+        self.arrays.capacity() > 0
+    }
+
+    /// The number of slots.
     #[inline(always)]
     pub(crate) fn len(&self) -> usize
         ensures { result ≡ length self.now }
     {
-        self.slots.len()
-    }
-
-    /// The place and the content of the event at this index.
-    #[inline(always)]
-    pub(crate) fn event(&self, i: usize) -> (u64, &EventPart)
-        requires { i < length self.now }
-        ensures event { slice_get self.now i
-            ≡ Some (record { place = result.0; part = result.1.now }) }
-        ensures small { result.0 < 2 ^ 37 }
-    {
-        let slot = &self.slots[i];
-        let part = match &slot.block {
-            Some(block) => block.part(),
-            None => &self.own[i],
-        };
-        (slot.place, part)
-    }
-
-    /// Appends an event. If there is no room for it, it is returned.
-    pub(crate) fn push(&mut self, event: Event) -> Result<(), Event>
-        ensures { MatchResult result (λ _. self.new ≡ self.old ++ event ∷ [])
-            (λ back. (back ≡ event) × (self.new ≡ self.old)) }
-    {
-        let count = self.slots.len();
-        if count >= self.slots.capacity() || count >= self.own.capacity() {
-            return Err(event);
-        }
-        pad(&mut self.own, count);
-        let Event { place, part } = event;
-        self.own.push_back_reserved(part);
-        self.slots.push_back_reserved(Slot { place, block: None });
-        Ok(())
-    }
-
-    /// Appends the event of a block on the heap. Returns a spare block if there is one. If there is no room for the event, the
-    /// block is returned.
-    #[inline(always)]
-    pub(crate) fn push_block(
-        &mut self,
-        place: u64,
-        block: BoxedBlock,
-    ) -> Result<Option<BoxedBlock>, BoxedBlock>
-        requires { place < 2 ^ 37 }
-        ensures { MatchResult result (λ _. self.new ≡ self.old ++ block_event place block ∷ [])
-            (λ back. (back ≡ block) × (self.new ≡ self.old)) }
-    {
-        if self.slots.len() >= self.slots.capacity() {
-            return Err(block);
-        }
-        self.slots.push_back_reserved(Slot {
-            place,
-            block: Some(block),
-        });
-        Ok(self.spare.pop())
-    }
-
-    /// Takes out the first event; None if there is none.
-    pub(crate) fn take_first(&mut self) -> Option<Event>
-        ensures { MatchOption result ((self.old ≡ []) × (self.new ≡ []))
-            (λ e. self.old ≡ e ∷ self.new) }
-    {
-        let slot = self.slots.pop_front()?;
-        let own = self.own.pop_front();
-        Some(slot.into_event(own))
-    }
-
-    /// Takes out the last event; None if there is none.
-    pub(crate) fn take_last(&mut self) -> Option<Event>
-        ensures { MatchOption result ((self.old ≡ []) × (self.new ≡ []))
-            (λ e. self.old ≡ self.new ++ e ∷ []) }
-    {
-        let slot = self.slots.pop_back()?;
-        let own = if self.own.len() > self.slots.len() {
-            self.own.pop_back()
+        if self.arrays.is_empty() {
+            0
         } else {
-            None
-        };
-        Some(slot.into_event(own))
-    }
-
-    /// Takes out all events. Their blocks on the heap are spare from now on.
-    #[cold]
-    #[inline(never)]
-    pub(crate) fn restart(&mut self)
-        ensures { self.new ≡ [] }
-    {
-        for _ in 0..self.slots.len() {
-            if let Some(
-                Slot {
-                    place: _,
-                    block: Some(block),
-                },
-            ) = self.slots.pop_back()
-                && self.spare.len() < self.spare.capacity()
-            {
-                self.spare.push_reserved(block);
-            }
+            MOST_EVENTS
         }
-        self.slots.clear();
-        self.own.clear();
     }
 
-    /// Frees all events and the spare blocks.
+    /// The events in the slots.
+    #[inline(always)]
+    pub(crate) fn events(&self) -> &[Event]
+        ensures { result.now ≡ self.now }
+    {
+        match self.arrays.first() {
+            Some(array) => array.as_slice(),
+            None => &[],
+        }
+    }
+
+    /// Makes the slots in the reserved memory, or frees the events in them. Each then has the event of an empty block.
     #[cold]
     #[inline(never)]
-    pub(crate) fn free(&mut self)
-        ensures { self.new ≡ [] }
+    pub(crate) fn renew(&mut self, alloc: Global) {
+        if self.arrays.len() < self.arrays.capacity() {
+            self.arrays.push_reserved(ArrayVec::new());
+        }
+        if let Some(array) = self.arrays.first_mut() {
+            fill(array, alloc);
+        }
+    }
+
+    /// Puts an event into a slot, and frees the one there.
+    #[inline(always)]
+    pub(crate) fn put(&mut self, at: usize, event: Event)
+        requires { at < length self.old }
+        ensures { self.new ≡ slice_set self.old at event }
     {
-        self.slots.clear();
-        self.own.clear();
-        self.spare.clear();
+        let stale = mem::replace(&mut self.arrays[0][at], event);
+        drop(stale);
+    }
+
+    /// Puts the event of a block into a slot, if the one there is that of a block too, and returns whether it did. The two
+    /// blocks are swapped. Otherwise nothing changes.
+    #[inline(always)]
+    pub(crate) fn put_block(&mut self, at: usize, place: u64, block: &mut Block) -> bool
+        requires small { place < 2 ^ 37 }
+        requires within { at < length self.old }
+        ensures written { result ≡ true → self.new ≡ slice_set self.old at (block_event place block.old) }
+        ensures kept { result ≡ false → (self.new ≡ self.old) × (block.new ≡ block.old) }
+    {
+        write_block(&mut self.arrays[0][at], place, block)
+    }
+
+    /// Takes an event out of its slot, and leaves a placeholder there.
+    #[inline(always)]
+    pub(crate) fn take(&mut self, at: usize) -> Event
+        requires { at < length self.old }
+        ensures value { result ≡ slice_index_or self.old at result }
+        ensures after { (blank : Placed) × (self.new ≡ slice_set self.old at blank) }
+    {
+        mem::take(&mut self.arrays[0][at])
     }
 }

@@ -125,7 +125,7 @@ impl Tap {
         requires { self.old.held ≡ [] }
         ensures { self.new ≡ self.old }
     {
-        let none = Batch::none();
+        let none = self.returns.none();
         let used = mem::replace(&mut self.held, none);
         self.returns.give(rt, used);
     }
@@ -149,7 +149,7 @@ impl Tap {
         ensures closed { OnErr result ((self.new ≡ self.old) × (self.old.held ≡ [])) }
         ensures orderly { IsOrderly self.new.taken }
     {
-        if self.held.len() == 0 {
+        if self.held.events().is_empty() {
             self.let_go(rt);
             self.take_message(rt, true).ok_or(Closed)
         } else {
@@ -171,7 +171,7 @@ impl Tap {
         ensures none { IfNone result ((self.new ≡ self.old) × (self.old.held ≡ [])) }
         ensures orderly { IsOrderly self.new.taken }
     {
-        if self.held.len() == 0 {
+        if self.held.events().is_empty() {
             self.let_go(rt);
             self.take_message(rt, false)
         } else {
@@ -187,13 +187,13 @@ impl Tap {
         ensures held { result ≡ self.old.held }
         ensures orderly { IsOrderly self.new.taken }
     {
-        let none = Batch::none();
+        let none = self.returns.none();
         let batch = mem::replace(&mut self.held, none);
-        let Some((place, part)) = batch.last() else {
+        let Some((last, _)) = batch.events().split_last() else {
             unreachable!()
         };
-        self.count = place + 1;
-        self.ended = part.is_ended();
+        self.count = last.place + 1;
+        self.ended = last.part.is_ended();
         batch
     }
 
@@ -211,11 +211,11 @@ impl Tap {
         ensures orderly { IsOrderly self.new.taken }
     {
         let batch = take_next(rt, &self.receiver, &mut self.pass, waits)?;
-        let Some((place, part)) = batch.last() else {
+        let Some((last, _)) = batch.events().split_last() else {
             unreachable!()
         };
-        self.count = place + 1;
-        self.ended = part.is_ended();
+        self.count = last.place + 1;
+        self.ended = last.part.is_ended();
         Some(batch)
     }
 
@@ -239,7 +239,7 @@ impl Tap {
         ensures held { result ≡ length self.now.held }
         ensures few { result ≤ 31 }
     {
-        self.held.len() as u32
+        self.held.events().len() as u32
     }
 
     /// Joins the two ends of one relay, and returns what was taken and what is left of what was sent: at most 32 events for

@@ -4,7 +4,6 @@ ghost use Rattle.dsr_events.specs.meaning.Orderly.{MayStandAt};
 
 use dsr_cells::{Day, NoMemory, Text};
 use dsr_events::{Block, Event, EventPart, Head, Opening, Outcome, Summaries};
-use dsr_relay::Batch;
 use std::alloc::Global;
 
 /// A title that a block stores in place.
@@ -90,19 +89,14 @@ fn is_block(block: &Block, n: u64) -> bool {
     }
 }
 
-/// What the event with this place and this content is.
-fn what_is(place: u64, part: &EventPart) -> Seen {
-    match part {
-        EventPart::Opened(_) if place == 0 => Seen::Opening,
-        EventPart::Block(block) if is_block(block, place) => Seen::Block,
+/// What the event is.
+pub fn as_seen(event: &Event) -> Seen {
+    match &event.part {
+        EventPart::Opened(_) if event.place == 0 => Seen::Opening,
+        EventPart::Block(block) if is_block(block, event.place) => Seen::Block,
         EventPart::Ended(Outcome::Whole) => Seen::End,
         _ => Seen::Other,
     }
-}
-
-/// What the event is.
-pub fn as_seen(event: &Event) -> Seen {
-    what_is(event.place, &event.part)
 }
 
 /// Whether the event is the end of a whole file, at this place.
@@ -111,10 +105,10 @@ pub fn is_end(event: &Event, place: u64) -> bool {
 }
 
 /// Whether these are the events of a file of blocks from a place on.
-pub fn are_right(batch: &Batch, first: u64) -> bool {
-    for i in 0..batch.len() {
-        let (place, part) = batch.event(i);
-        if place != first.wrapping_add(i as u64) || what_is(place, part) == Seen::Other {
+pub fn are_right(events: &[Event], first: u64) -> bool {
+    for (i, event) in events.iter().enumerate() {
+        let place = first.wrapping_add(i as u64);
+        if event.place != place || as_seen(event) == Seen::Other {
             return false;
         }
     }

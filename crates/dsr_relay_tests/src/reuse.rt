@@ -1,24 +1,19 @@
-//! Blocks that go out by their addresses, for old ones of a batch that came back.
+//! Blocks that are exchanged for stale ones of a batch that came back.
 ghost use Rattle.std.specs.Prelude.{◌≡◌, ◌+◌, ◌<◌, ◌≤◌, [], true, false, length};
 ghost use Rattle.dsr_events.specs.meaning.Orderly.{has_ended};
 
 use crate::events::{LONG_TITLE, are_right, block};
 use crate::sending::{flushes, relay, send_block, send_blocks};
 use crate::taking::takes_batch;
-use dsr_events::{Block, BoxedBlock};
+use dsr_events::Block;
 use dsr_relay::{Feed, Tap};
 use std::alloc::Global;
 use std::sync::Wait;
 use std::test::Fail;
 
-/// The number of a block, 0 if it is empty.
-fn number(block: &Block) -> u64 {
-    block.id.as_str().parse::<u64>().unwrap_or(0)
-}
-
-/// Sends a block as that of the next place, by its address. Returns the number of the old one that the feed had for it, None
-/// if it had none.
-fn exchanged_for<R: Wait>(rt: &R, feed: &mut Feed, block: BoxedBlock) -> Option<u64>
+/// Sends a block as that of the next place if the feed has an old one for it. Returns the number of the old one, 0 if that
+/// is empty.
+fn exchanged_for<R: Wait>(rt: &R, feed: &mut Feed, block: &mut Block) -> Option<u64>
     requires going { has_ended feed.old.sent ≡ false }
     requires few { (0 < length feed.old.sent) × (length feed.old.sent < 100000) }
     ensures name { feed.new.name ≡ feed.old.name }
@@ -27,12 +22,10 @@ fn exchanged_for<R: Wait>(rt: &R, feed: &mut Feed, block: BoxedBlock) -> Option<
     ensures some { 0 < length feed.new.sent }
 {
     let place = feed.sent_count();
-    let mut back = None;
-    let old = feed.send_block(rt, place, block, &mut back);
-    drop(back);
-    let number = old.as_ref().map(|old| number(old.get()));
-    drop(old);
-    number
+    if !feed.send_block(rt, place, block) {
+        return None;
+    }
+    Some(block.id.as_str().parse::<u64>().unwrap_or(0))
 }
 
 /// The same with the block that `block` makes for that place.
@@ -44,10 +37,10 @@ fn exchanged<R: Wait>(rt: &R, alloc: Global, feed: &mut Feed) -> Option<u64>
     ensures few { length feed.new.sent ≤ length feed.old.sent + 1 }
     ensures some { 0 < length feed.new.sent }
 {
-    let mut boxed = BoxedBlock::empty(alloc).ok()?;
-    let block = block(alloc, feed.sent_count(), LONG_TITLE).ok()?;
-    drop(boxed.replace(block));
-    exchanged_for(rt, feed, boxed)
+    let mut block = block(alloc, feed.sent_count(), LONG_TITLE).ok()?;
+    let number = exchanged_for(rt, feed, &mut block);
+    drop(block);
+    number
 }
 
 /// Takes a batch of five blocks from this place on, and returns whether all were right.
@@ -58,13 +51,13 @@ fn takes_blocks<R: Wait>(rt: &R, tap: &mut Tap, place: u64) -> bool
     let Ok(batch) = tap.take_batch(rt) else {
         return false;
     };
-    let right = batch.len() == 5 && are_right(&batch, place);
+    let right = batch.events().len() == 5 && are_right(batch.events(), place);
     tap.give_back(rt, batch);
     right
 }
 
-/// Sends a batch of an opening and three blocks, the last two of which go by their addresses, while the feed has no old ones
-/// yet. Returns whether all of that is so.
+/// Sends a batch of an opening and three blocks, the last two of which are exchanged for empty ones, since the feed has no
+/// old ones yet. Returns whether all of that is so.
 fn first_blocks_are_exchanged<R: Wait>(
     rt: &R,
     alloc: Global,
@@ -78,27 +71,29 @@ fn first_blocks_are_exchanged<R: Wait>(
     ensures some { result ≡ true → 0 < length feed.new.sent }
 {
     send_blocks(rt, alloc, feed, 1)
-        && exchanged(rt, alloc, feed).is_none()
-        && exchanged(rt, alloc, feed).is_none()
+        && exchanged(rt, alloc, feed) == Some(0)
+        && exchanged(rt, alloc, feed) == Some(0)
         && flushes(rt, feed)
         && takes_batch(rt, tap) == Some(4)
 }
 
-/// Sends a batch of five blocks. There are two old ones, for the first two, and none for the others: the opening and the
-/// block that went by value left none. Returns whether all of that is so.
+/// Sends a batch of five blocks. The first one is not exchanged for the opening of the batch that came back; the others are
+/// exchanged for its blocks, and then for an empty one. Returns whether all of that is so.
 fn later_blocks_are_exchanged<R: Wait>(rt: &R, alloc: Global, feed: &mut Feed) -> bool
     requires going { has_ended feed.old.sent ≡ false }
     requires few { (0 < length feed.old.sent) × (length feed.old.sent ≤ 4) }
 {
-    exchanged(rt, alloc, feed) == Some(2)
+    exchanged(rt, alloc, feed).is_none()
+        && send_block(rt, alloc, feed, LONG_TITLE)
+        && exchanged(rt, alloc, feed) == Some(1)
+        && exchanged(rt, alloc, feed) == Some(2)
         && exchanged(rt, alloc, feed) == Some(3)
-        && exchanged(rt, alloc, feed).is_none()
-        && exchanged(rt, alloc, feed).is_none()
-        && exchanged(rt, alloc, feed).is_none()
+        && exchanged(rt, alloc, feed) == Some(0)
         && flushes(rt, feed)
 }
 
-/// Whether there is no old block in the first round of a batch, and in the second the ones that went by their addresses.
+/// Whether a block is exchanged for an empty one in the first round of a batch and for a stale one after that, but not for
+/// the opening.
 fn blocks_are_exchanged<R: Wait>(rt: &R, alloc: Global, feed: &mut Feed, tap: &mut Tap) -> bool
     requires { (feed.old.sent ≡ []) × (tap.old.taken ≡ []) }
 {
@@ -118,7 +113,7 @@ fn a_block_is_sent_for_a_stale_one(rt: HostRuntime) -> Result<(), Fail> {
     Ok(())
 }
 
-/// Whether a block that goes by its address and fills a batch sends it.
+/// Whether the block that fills a batch is exchanged too, and sends the batch.
 fn the_last_block_is_exchanged<R: Wait>(
     rt: &R,
     alloc: Global,
@@ -128,7 +123,7 @@ fn the_last_block_is_exchanged<R: Wait>(
     requires { (feed.old.sent ≡ []) × (tap.old.taken ≡ []) }
 {
     send_blocks(rt, alloc, feed, 30)
-        && exchanged(rt, alloc, feed).is_none()
+        && exchanged(rt, alloc, feed) == Some(0)
         && takes_batch(rt, tap) == Some(32)
 }
 
@@ -143,12 +138,12 @@ fn a_block_that_fills_a_batch_is_exchanged(rt: HostRuntime) -> Result<(), Fail> 
 }
 
 /// Sends a batch for which many bytes were read, some of them before its first event, takes it and gives it back. Returns
-/// whether its blocks were freed: there is no old one for the next block in their place.
+/// whether its blocks were freed: the next block is exchanged for an empty one.
 fn blocks_are_freed<R: Wait>(rt: &R, alloc: Global, feed: &mut Feed, tap: &mut Tap) -> bool
     requires { (feed.old.sent ≡ []) × (tap.old.taken ≡ []) }
 {
     feed.note_bytes(128 * 1024);
-    if !send_blocks(rt, alloc, feed, 1) || exchanged(rt, alloc, feed).is_some() {
+    if !send_blocks(rt, alloc, feed, 2) {
         return false;
     }
     feed.note_bytes(128 * 1024);
@@ -157,8 +152,7 @@ fn blocks_are_freed<R: Wait>(rt: &R, alloc: Global, feed: &mut Feed, tap: &mut T
         && feed.batch_bytes() == 0
         && takes_batch(rt, tap) == Some(3)
         && send_block(rt, alloc, feed, LONG_TITLE)
-        && send_block(rt, alloc, feed, LONG_TITLE)
-        && exchanged(rt, alloc, feed).is_none()
+        && exchanged(rt, alloc, feed) == Some(0)
 }
 
 #[test]

@@ -53,7 +53,7 @@ pub fn takes_batch<R: Wait>(rt: &R, tap: &mut Tap) -> Option<usize>
     let Ok(batch) = tap.take_batch(rt) else {
         return None;
     };
-    let count = batch.len();
+    let count = batch.events().len();
     tap.give_back(rt, batch);
     Some(count)
 }
@@ -66,7 +66,7 @@ pub fn takes_ready<R: Wait>(rt: &R, tap: &mut Tap) -> Option<usize> {
     let Some(batch) = tap.take_ready(rt) else {
         return Some(0);
     };
-    let count = batch.len();
+    let count = batch.events().len();
     tap.give_back(rt, batch);
     Some(count)
 }
@@ -99,11 +99,11 @@ pub fn take_batches<R: Wait>(rt: &R, tap: &mut Tap) -> u64
         let Ok(batch) = tap.take_batch(rt) else {
             return taken;
         };
-        if !are_right(&batch, taken) {
+        if !are_right(batch.events(), taken) {
             drop(batch);
             return taken;
         }
-        taken = taken.wrapping_add(batch.len() as u64);
+        taken = taken.wrapping_add(batch.events().len() as u64);
         tap.give_back(rt, batch);
     }
     taken

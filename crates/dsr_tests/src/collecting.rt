@@ -152,7 +152,7 @@ fn takes_ready<H: Wait>(rt: &H, tap: &mut Tap) -> usize {
     let Some(batch) = tap.take_ready(rt) else {
         return 0;
     };
-    let count = batch.len();
+    let count = batch.events().len();
     tap.give_back(rt, batch);
     count
 }

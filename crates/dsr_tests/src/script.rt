@@ -1,7 +1,8 @@
 //! A scripted reader of a text.
 ghost use Rattle.std.specs.Prelude.{◌≡◌, ◌≤◌, None, false, length, All, IfOk};
 
-use dsr_file::{Failed, ReadCount, Source};
+use dsr_file::{Failed, Source};
+use dsr_io::ReadCount;
 use std::alloc::{AllocError, Global};
 use std::sync::Arc;
 use std::sync::atomic::{AtomicU64, Ordering};

@@ -1,27 +1,14 @@
 -- The statements that are opened, or the one that is not.
-use Rattle.std.proofs.Common.{◌≡◌, ◌≢◌, ◌∙◌, ℕ, List, [], ◌∷◌, ◌++◌, Some, true, false, ap₂, sym, refl, subst, inl, inr, length, map, codes, suc-ne-zero}
+use Rattle.std.proofs.Common.{◌≡◌, ℕ, List, true, false, refl, subst, inl, inr, length, codes}
 use Rattle.std.specs.Prelude.{◌⊎◌, ◌≤◌, Result, Ok, Err, MatchResult, take}
-use Rattle.std.proofs.lemmas.List.{append-nil, map-append}
-use Rattle.dsr_command.specs.declared.inputs.Input.{Input}
 use Rattle.dsr_command.specs.declared.inputs.OpenError.{OpenError}
 use Rattle.dsr_command.specs.declared.inputs.OpenError.TheVariants.{CannotOpen, Memory}
 use Rattle.dsr_command.specs.Faults.{cannot_open_line, line_of, unopened_line, unopened_status}
-use Rattle.dsr_command.specs.Inputs.{IsRefusal, sources_of}
+use Rattle.dsr_command.specs.Inputs.{IsRefusal}
 use Rattle.dsr_command.specs.Printing.{IsTold}
 use Rattle.dsr_io.specs.meaning.Written.{Written, IsFlushed, IsCut}
 use Rattle.dsr_totals.specs.Refusals.{dsr_totals}
 use Rattle.dsr_totals.specs.Serving.{IsOnlyTold, IsUnopened, IsWithoutMemory, outputs}
-
--- none was paid
-pub named_none : (given paid : List (List ℕ)) → length paid ≡ 0 → sources_of given ≡ sources_of given ++ map Some paid
-named_none given [] none = sym (append-nil (sources_of given))
-named_none given (p ∷ ps) none = absurd (suc-ne-zero (length ps) none)
-
--- some were paid
-pub named_some : (given paid : List (List ℕ)) (xs ys : List Input) → length paid ≢ 0 → map (λ i. i.name) xs ≡ sources_of given
-    → map (λ i. i.name) ys ≡ sources_of paid → map (λ i. i.name) (xs ++ ys) ≡ sources_of given ++ map Some paid
-named_some given [] xs ys some first second = absurd (some refl)
-named_some given (p ∷ ps) xs ys some first second = map-append (λ i. i.name) xs ys ∙ ap₂ (λ a b. a ++ b) first second
 
 -- only this was told, and the output is as it was
 pub only_told : (out f g : Written) (text : List ℕ) → IsTold f g text → IsOnlyTold text (outputs out f) (outputs out g)

@@ -1,13 +1,9 @@
--- The block in the content of an event.
-use Rattle.dsr_events.specs.meaning.Blocks.{BlockParts, empty_block}
-use Rattle.dsr_events.specs.declared.event.EventPart.{EventPart}
-use Rattle.dsr_events.specs.declared.event.EventPart.TheVariants.{Block}
+-- The final value of a boxed block that is lent.
+use Rattle.std.specs.Borrow.{Lends, Fml, MutBor}
+use Rattle.dsr_events.specs.meaning.Blocks.{BlockParts}
+use Rattle.dsr_events.specs.contracts.boxed.BoxedBlock.{the_row}
+use Rattle.dsr_events.specs.contracts.block.Block.{the_row as block_row}
 
--- the block, or the empty one where there is none
-abbrev pub block_of : EventPart → BlockParts
-block_of (Block block) = block
-block_of _ = empty_block
-
-abbrev pub IsBlock : EventPart → Type 0
-IsBlock (Block block) = Unit {0}
-IsBlock _ = ⊥
+-- once the borrow r ends, the boxed block is the final value of r
+abbrev pub lends_block : MutBor BlockParts → MutBor BlockParts → Fml
+lends_block s r = Lends the_row block_row s r (λ w. w)

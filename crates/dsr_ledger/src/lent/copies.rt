@@ -8,7 +8,8 @@ ghost use Rattle.dsr_ledger.specs.inner.Stands.{LedgerStands};
 use crate::ledger::Ledger;
 use crate::lent::{LentLedger, LentLine, LentParty};
 use crate::report::{LedgerLine, LedgerLines, Parties, PartyLine, append};
-use dsr_cells::{Items, NoMemory, Text};
+use dsr_cells::{NoMemory, Text};
+use dsr_texts::Items;
 use std::alloc::Global;
 
 /// Copies the parties of a line.

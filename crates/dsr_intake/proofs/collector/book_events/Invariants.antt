@@ -4,8 +4,8 @@ use Rattle.dsr_ledger.specs.inner.BooksWords.{files_count}
 use Rattle.dsr_intake.specs.inner.Collecting.{IsFollowed, TakesAll}
 use Rattle.dsr_intake.proofs.collector.book_events.Given as goal
 
-abbrev pub invariant-loop-i : goal.invariant-loop-i
-invariant-loop-i l = record {
+abbrev pub invariant-loop-event : goal.invariant-loop-event
+invariant-loop-event l = record {
   files : files_count l.books ≡ files_count l.fn.books;
-  takes : (taken : List Placed) → IsFollowed taken l.batch → TakesAll l.fn.books l.books l.k taken (take l.i l.batch);
+  takes : (taken : List Placed) → IsFollowed taken l.events → TakesAll l.fn.books l.books l.k taken (take l.event-index l.events);
 }

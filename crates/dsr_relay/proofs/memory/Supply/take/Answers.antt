@@ -1,0 +1,5 @@
+use Rattle.std.proofs.Common.{refl}
+use Rattle.dsr_relay.proofs.memory.Supply.take.Goals as goal
+
+pub returns : goal.returns
+returns g c = search refl

@@ -1,0 +1,6 @@
+use Rattle.std.proofs.Common.{arith}
+use Rattle.std.proofs.lemmas.Grind.{common_steps}
+use Rattle.dsr_relay.proofs.slots.Slots.take.Goals as goal
+
+pub returns-clause-after : goal.returns-clause-after
+returns-clause-after c = (c.take.new.dest, grind (arith, common_steps))
