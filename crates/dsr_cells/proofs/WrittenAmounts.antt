@@ -1,7 +1,6 @@
 -- Lemmas on written numbers.
-use Rattle.std.proofs.Common.{◌≡◌, ◌^◌, ◌-◌, ℕ, false}
+use Rattle.std.proofs.Common.{◌≡◌, ◌^◌, ◌-◌, ℕ, false, eqb}
 use Rattle.std.specs.Fmt.{styled_decimal, format_spec, padded_integral, char_count}
-use Rattle.std.proofs.Common.{eqb}
 use Rattle.std.proofs.lemmas.List.{append-nil}
 use Rattle.std.proofs.Math.Nat.{sub-zero}
 use Rattle.dsr_cells.specs.meaning.Written.{padded_number}

@@ -1,4 +1,3 @@
 -- The definitions that relate the code to those of `meaning`.
 pub mod Parts
 pub mod Order
-pub mod Fours

@@ -1,8 +1,7 @@
 //! The line for a run that failed, and the exit status.
 ghost use Rattle.std.specs.Prelude.{◌≡◌};
-ghost use Rattle.dsr_command.specs.Faults.{status_number, fault_line, line_of, closed_line, failed_line};
+ghost use Rattle.dsr_command.specs.Faults.{status_number, fault_line, line_of, closed_line, failed_line, cannot_open_line, cannot_read_line, bad_layout_line, layout_fault_text};
 ghost use Rattle.dsr_command.specs.NewFiles.{cannot_replace_line, new_file_line};
-ghost use Rattle.dsr_command.specs.Faults.{cannot_open_line, cannot_read_line, bad_layout_line, layout_fault_text};
 ghost use Rattle.dsr_command.specs.Printing.{IsWritten};
 
 use crate::new_file::NewFileError;

@@ -1,6 +1,5 @@
 -- The events of bytes, and of texts that begin with them.
-use Rattle.std.proofs.Common.{◌≡◌, ℕ, ◌+◌, ◌<◌, ◌≤◌, ◌⊎◌, inl, inr, ◌∙◌, sym, ap, refl, subst, Bool, true, false, cond, ◌||◌, eqb, List, [], ◌∷◌, ◌++◌, length}
-use Rattle.std.proofs.Common.{map, Option, None, Some, append_assoc, length-append, arith}
+use Rattle.std.proofs.Common.{◌≡◌, ℕ, ◌+◌, ◌<◌, ◌≤◌, ◌⊎◌, inl, inr, ◌∙◌, sym, ap, refl, subst, Bool, true, false, cond, ◌||◌, eqb, List, [], ◌∷◌, ◌++◌, length, map, Option, None, Some, append_assoc, length-append, arith}
 use Rattle.std.specs.Prelude.{if◌then◌else◌}
 use Rattle.std.specs.Option.{option_to_list, option_map}
 use Rattle.std.specs.List.{slice_split, onto_first, list_any, filter_map}
@@ -28,8 +27,7 @@ use Rattle.dsr_file.specs.meaning.Lines.{lines_among}
 use Rattle.dsr_file.specs.meaning.Readings.{Reading, Holds, Faulty, SkippedLine, reading, kept, records}
 use Rattle.dsr_file.specs.meaning.Parts.{events_of, opened, opening_of, opens, closed, block_of}
 use Rattle.dsr_file.specs.meaning.Faults.{fault_of, early_fault}
-use Rattle.dsr_file.specs.meaning.Texts.{First, AllGood, At, first_if, first_from, counts_fault, taken, outcome, ended_so_far, events, events_so_far, placed, readings}
-use Rattle.dsr_file.specs.meaning.Texts.{so_far, text_events}
+use Rattle.dsr_file.specs.meaning.Texts.{First, AllGood, At, first_if, first_from, counts_fault, taken, outcome, ended_so_far, events, events_so_far, placed, readings, so_far, text_events}
 use Rattle.dsr_file.specs.inner.Stages.{KeepsStage, stage_after}
 use Rattle.dsr_file.specs.inner.Grammars.{IsRecord}
 use Rattle.dsr_file.specs.inner.Cutting.{IsSettled}

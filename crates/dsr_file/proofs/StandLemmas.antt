@@ -1,6 +1,5 @@
 -- What a reader represents after one more line.
-use Rattle.std.proofs.Common.{◌≡◌, ℕ, ◌+◌, ◌≤◌, inl, inr, ◌∙◌, sym, ap, refl, subst, Bool, true, false, ◌||◌, List, [], ◌∷◌, ◌++◌, length, map, Option, None}
-use Rattle.std.proofs.Common.{Some, append_assoc, zero-add, length-append, length-take, take, drop, take-add, ◌-◌, arith}
+use Rattle.std.proofs.Common.{◌≡◌, ℕ, ◌+◌, ◌≤◌, inl, inr, ◌∙◌, sym, ap, refl, subst, Bool, true, false, ◌||◌, List, [], ◌∷◌, ◌++◌, length, map, Option, None, Some, append_assoc, zero-add, length-append, length-take, take, drop, take-add, ◌-◌, arith}
 use Rattle.std.specs.Prelude.{IsTrue}
 use Rattle.std.specs.Option.{option_to_list, IfNone}
 use Rattle.std.proofs.lemmas.Bool.Decides.{nat_tests}

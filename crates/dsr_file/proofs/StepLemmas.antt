@@ -1,6 +1,5 @@
 -- One more record: the stage changes as the records do, and gives their next event.
-use Rattle.std.proofs.Common.{◌≡◌, ◌≢◌, ℕ, suc, ◌+◌, ◌<◌, ◌≤◌, ◌∙◌, sym, ap, refl, Bool, true, false, not, ◌||◌, eqb, leb, List, [], ◌∷◌, ◌++◌, length, map}
-use Rattle.std.proofs.Common.{drop, Option, None, Some, arith, append_assoc, add-zero, length-append}
+use Rattle.std.proofs.Common.{◌≡◌, ◌≢◌, ℕ, suc, ◌+◌, ◌<◌, ◌≤◌, ◌∙◌, sym, ap, refl, Bool, true, false, not, ◌||◌, eqb, leb, List, [], ◌∷◌, ◌++◌, length, map, drop, Option, None, Some, arith, append_assoc, add-zero, length-append}
 use Rattle.std.specs.Prelude.{if◌then◌else◌}
 use Rattle.std.specs.Option.{option_to_list, option_map}
 use Rattle.std.proofs.lemmas.Bool.Decides.{nat_tests}
@@ -29,8 +28,7 @@ use Rattle.dsr_events.specs.declared.event.EventPart.TheVariants as tell
 use Rattle.dsr_file.specs.declared.stage.Before.TheVariants as columns
 use Rattle.dsr_file.specs.declared.stage.Stage.{Stage}
 use Rattle.dsr_file.specs.declared.stage.Stage.TheVariants.{Start, Front, Open, Closed}
-use Rattle.dsr_file.specs.meaning.Parts.{parts, opens, but_last, closed, block_limit, has_id, summaries, works, usages, works_then_usages, is_usage, block_of}
-use Rattle.dsr_file.specs.meaning.Parts.{opening_of, opened, events_of}
+use Rattle.dsr_file.specs.meaning.Parts.{parts, opens, but_last, closed, block_limit, has_id, summaries, works, usages, works_then_usages, is_usage, block_of, opening_of, opened, events_of}
 use Rattle.dsr_file.specs.meaning.Faults.{column, place, fault_if, summary_fault, summary_limit, member_fault, early_fault}
 use Rattle.dsr_file.specs.inner.Stages.{column_at, block_length, stage_fault, given_by, stage_after, records_of, IsFree, IsOpen, KeepsStage}
 use Rattle.dsr_file.specs.inner.Grammars.{IsRecord}

@@ -1,12 +1,14 @@
 -- The results of testing a line.
-use Rattle.std.proofs.Common.{◌≡◌, ℕ, ◌+◌, ◌≤◌, ◌∙◌, sym, ap, refl, Bool, true, false, not, List, [], ◌∷◌, length, Option, None, Some, length-append, arith}
+use Rattle.std.proofs.Common.{◌≡◌, ℕ, ◌+◌, ◌≤◌, ◌∙◌, sym, ap, refl, Bool, true, false, not, List, [], ◌∷◌, length, Option, None, Some, length-append, arith, rules, ◌-◌, ◌++◌, get_or, take, subst, inl, inr}
 use Rattle.std.specs.Prelude.{Result, nat_le}
 use Rattle.std.specs.List.{list_any}
 use Rattle.std.specs.Str.{is_utf8, IsUtf8, bytes_eq}
-use Rattle.std.proofs.lemmas.List.{append-nil}
-use Rattle.std.proofs.lemmas.Str.{IsUtf8-from_is_utf8}
+use Rattle.std.proofs.lemmas.Bool.{cases_eq, cases_lt, le-ltb, lt-ltb, ne_eqb}
+use Rattle.std.proofs.lemmas.List.{append-nil, take_all, take_more}
+use Rattle.std.proofs.lemmas.Str.{IsUtf8-append, IsUtf8-from_ascii, IsUtf8-from_is_utf8}
 use Rattle.std.proofs.lemmas.Bool.Decides.{nat_tests}
 use Rattle.dsr_cells.specs.meaning.Lines.{line_limit, is_long, without_return}
+use Rattle.dsr_records.specs.meaning.Layouts.{is_left_out}
 use Rattle.dsr_records.specs.declared.checked.CheckedLine.{CheckedLine}
 use Rattle.dsr_records.specs.declared.checked.CheckedLine.TheVariants as lines
 use Rattle.dsr_records.specs.inner.Checked.{record_seen}
@@ -27,8 +29,7 @@ use Rattle.dsr_file.specs.declared.grammar.Step.TheVariants.{Good, Faulty}
 use Rattle.dsr_file.specs.declared.stage.Before.{Before}
 use Rattle.dsr_file.specs.declared.stage.Before.TheVariants as columns
 use Rattle.dsr_file.specs.declared.stage.Stage.{Stage}
-use Rattle.dsr_file.specs.meaning.Readings.{Reading, Holds, SkippedLine, reading, of_text, of_utf8, of_record, is_skipped_text, kept, records, is_skipped_line}
-use Rattle.dsr_file.specs.meaning.Readings.{is_skipped_record, file_fault}
+use Rattle.dsr_file.specs.meaning.Readings.{Reading, Holds, SkippedLine, reading, of_text, of_utf8, of_record, records, is_skipped_line, is_skipped_record, file_fault}
 use Rattle.dsr_file.specs.meaning.Readings as line
 use Rattle.dsr_file.specs.meaning.Parts.{closed, summaries, events_of, last_of}
 use Rattle.dsr_file.specs.meaning.Faults.{fault_if, fault_of, early_fault, place, column, member_fault, in_part, summary_fault, summary_limit, last_part, first_id}
@@ -186,12 +187,12 @@ skip_record_steps g h ls k s l a b r m n =
       ap events_of same ∙ sym (append-nil (events_of (records ls))),
     )
 
-pub of_utf8_skipped : (layout : LayoutTable) (t : List ℕ) → is_skipped_text t ≡ true → of_utf8 layout t ≡ SkippedLine
+pub of_utf8_skipped : (layout : LayoutTable) (t : List ℕ) → is_left_out t ≡ true → of_utf8 layout t ≡ SkippedLine
 unfolding of_utf8
 of_utf8_skipped layout t e = rw e refl
 
 -- the text of a line that is not skipped
-pub of_utf8_record : (layout : LayoutTable) (t : List ℕ) (found : Result Record RecordFault) → is_skipped_text t ≡ false → found ≡ record_of layout t
+pub of_utf8_record : (layout : LayoutTable) (t : List ℕ) (found : Result Record RecordFault) → is_left_out t ≡ false → found ≡ record_of layout t
     → of_utf8 layout t ≡ of_record found
 unfolding of_utf8
 of_utf8_record layout t found e f = rw e (ap of_record (sym f))
@@ -205,6 +206,20 @@ pub reading_garbled : (layout : LayoutTable) (bytes : List ℕ) → length bytes
     → reading layout bytes ≡ line.Faulty faults.NotUtf8
 unfolding reading of_text
 reading_garbled layout bytes h u = let n : is_long bytes ≡ false = grind (arith, nat_tests) in rw (n, u) refl
+
+-- a line is UTF-8 if it is without its carriage return
+pub utf8_with_return : (line : List ℕ) → IsUtf8 (without_return line) → IsUtf8 line
+utf8_with_return line h = elim (cases_lt 0 (length line)) [
+  | inl some ↦ elim (cases_eq (get_or line (length line - 1) 0) 13) [
+    | inl ret ↦
+        let short : without_return line ≡ take (length line - 1) line = rw (lt-ltb 0 (length line) some, ret) refl in
+        let whole : line ≡ take (length line - 1) line ++ 13 ∷ [] =
+        sym (take_all (length line - 1 + 1) line (omega arith)) ∙ rw (← ret) (take_more line (length line - 1) 0 (omega arith)) in
+        subst IsUtf8 (sym whole) (IsUtf8-append _ _ (subst IsUtf8 short h) (IsUtf8-from_ascii (13 ∷ []) (search rules)))
+    | inr other ↦ subst IsUtf8 (rw (lt-ltb 0 (length line) some, ne_eqb _ _ other) refl) h
+  ]
+  | inr none ↦ subst IsUtf8 (rw (le-ltb 0 (length line) none) refl) h
+]
 
 pub utf8_false : (bs : List ℕ) → (IsUtf8 bs → ⊥) → is_utf8 bs ≡ false
 utf8_false bs n = elim (is_utf8 bs) as (λ b. is_utf8 bs ≡ b → b ≡ false) [ true ↦ λ e. absurd (n (IsUtf8-from_is_utf8 bs e)) | false ↦ λ e. refl ] refl

@@ -1,6 +1,5 @@
 -- What a reader represents after a line of the usual form.
-use Rattle.std.proofs.Common.{◌≡◌, ℕ, ◌+◌, ◌-◌, ◌<◌, ◌∙◌, sym, ap, refl, subst, Bool, true, false, List, [], ◌∷◌, ◌++◌, length, Option, length-append}
-use Rattle.std.proofs.Common.{length-take, take, get_or, map, arith, eqb, suc, Ok}
+use Rattle.std.proofs.Common.{◌≡◌, ℕ, ◌+◌, ◌-◌, ◌<◌, ◌∙◌, sym, ap, refl, subst, Bool, true, false, List, [], ◌∷◌, ◌++◌, length, Option, length-append, length-take, take, get_or, map, arith, eqb, suc, Ok}
 use Rattle.std.specs.List.{list_any}
 use Rattle.std.specs.Str.{is_utf8}
 use Rattle.std.proofs.lemmas.Bool.{ne_eqb, lt-ltb, false≢true}
@@ -10,6 +9,7 @@ use Rattle.std.proofs.lemmas.List.Sums.{AllPass-from_list_all}
 use Rattle.std.proofs.lemmas.Str.{is_utf8-from_IsUtf8}
 use Rattle.dsr_cells.specs.meaning.Lines.{is_line_feed, without_return}
 use Rattle.dsr_events.specs.declared.record.Record.{Record}
+use Rattle.dsr_records.specs.meaning.Layouts.{is_left_out}
 use Rattle.dsr_records.specs.inner.Usual.{BeginsWithLine, is_plain}
 use Rattle.dsr_records.specs.meaning.Records.{LayoutTable}
 use Rattle.dsr_records.specs.meaning.Values.{record_of}
@@ -18,7 +18,7 @@ use Rattle.dsr_events.specs.meaning.Placed.{Placed}
 use Rattle.dsr_file.specs.declared.grammar.Step.{Step}
 use Rattle.dsr_file.specs.declared.reader.FileReader.{FileReader}
 use Rattle.dsr_file.specs.declared.phase.Phase.TheVariants as phases
-use Rattle.dsr_file.specs.meaning.Readings.{Reading, Holds, reading, of_utf8, is_skipped_text}
+use Rattle.dsr_file.specs.meaning.Readings.{Reading, Holds, reading, of_utf8}
 use Rattle.dsr_file.specs.inner.Cutting.{CutsTo, IsBetweenLines}
 use Rattle.dsr_file.specs.inner.Grammars.{Keeps, LineSteps}
 use Rattle.dsr_file.specs.inner.Standing.{Stands, StandsAt, AtAnswer}
@@ -52,7 +52,7 @@ module _ (page : List ℕ) (size : ℕ) (line : BeginsWithLine page size) where
       plain_inside _ 13 (plain_at (length text - 1) (omega (arith, text_length, line.some))) refl in
       rw (last, lt-ltb 0 (length text) (omega (arith, text_length, line.some))) refl
 
-  not_skipped : is_skipped_text text ≡ false
+  not_skipped : is_left_out text ≡ false
   not_skipped =
       let some : eqb (length text) 0 ≡ false = ne_eqb (length text) 0 (λ e. omega (arith, e, text_length, line.some)) in
       let begins : eqb (get_or text 0 0) 35 ≡ false = ne_eqb (get_or text 0 0) 35 (λ e. line.begins (sym (get_or-take size page 0 0 line.some) ∙ e)) in

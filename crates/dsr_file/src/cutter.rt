@@ -3,11 +3,9 @@ ghost use Rattle.std.specs.Prelude.{◌≡◌, ◌++◌, ◌∷◌, [], ◌+◌,
 ghost use Rattle.dsr_cells.specs.meaning.Lines.{line_limit, without_mark};
 
 use dsr_cells::NoMemory;
+use dsr_records::LINE_LIMIT;
 use dsr_texts::line_end;
 use std::alloc::Global;
-
-/// The maximum length of a line in bytes, without its line feed.
-const LINE_LIMIT: usize = 8192;
 
 /// The result of using bytes of a piece.
 #[derive(Clone, Copy)]

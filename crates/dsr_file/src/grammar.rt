@@ -1,14 +1,14 @@
 //! Taking the lines of a file one after another, each with the event that it closes or the fault that ends the file.
-ghost use Rattle.std.specs.Prelude.{◌≡◌, ◌+◌, ◌-◌, ◌<◌, ◌≤◌, ◌^◌, [], length, List, None, true, option_and_then};
-ghost use Rattle.dsr_cells.specs.meaning.Lines.{line_limit, without_return};
+ghost use Rattle.std.specs.Prelude.{◌≡◌, ◌+◌, ◌-◌, ◌<◌, ◌≤◌, ◌^◌, [], length, List, None, option_and_then};
+ghost use Rattle.dsr_cells.specs.meaning.Lines.{line_limit};
 ghost use Rattle.dsr_records.specs.inner.Checked.{record_seen};
-ghost use Rattle.dsr_file.specs.meaning.Readings.{is_skipped_text, file_fault};
+ghost use Rattle.dsr_file.specs.meaning.Readings.{file_fault};
 ghost use Rattle.dsr_file.specs.inner.Counting.{foot_in, summary_count};
 
 use crate::closed::Closed;
 use crate::stage::Stage;
 use dsr_events::{Ending, EventPart, FileFault, Outcome};
-use dsr_records::{CheckedLine, Foot, Layout, RecordFault, check_line};
+use dsr_records::{CheckedLine, Foot, Layout, RecordFault, check_line, is_left_out, strip_return};
 use dsr_texts::text_of;
 use std::alloc::Global;
 
@@ -212,7 +212,7 @@ impl Grammar {
             → LineSteps ls (of_utf8 layout.now text.now) result closed.new self.new }
         ensures counts { self.new.lines ≤ self.old.lines + 1 }
     {
-        if is_skipped(text) {
+        if is_left_out(text) {
             self.skip_line();
             return Step::Good;
         }
@@ -238,8 +238,8 @@ impl Grammar {
             → LineSteps ls (reading layout.now line.now) result closed.new self.new }
         ensures counts { self.new.lines ≤ self.old.lines + 1 }
     {
-        match text_of(strip_return(line)) {
-            Some(text) => self.text(alloc, layout, text, closed),
+        match text_of(line) {
+            Some(text) => self.text(alloc, layout, strip_return(text), closed),
             None => Step::Faulty(FileFault::NotUtf8),
         }
     }
@@ -305,25 +305,6 @@ impl Grammar {
             _ => None,
         }
     }
-}
-
-/// A line without a carriage return at its end.
-fn strip_return(line: &[u8]) -> &[u8]
-    ensures { result.now ≡ without_return line.now }
-{
-    if !line.is_empty() && line[line.len() - 1] == b'\r' {
-        &line[..line.len() - 1]
-    } else {
-        line
-    }
-}
-
-/// Whether a line is empty or begins with #.
-fn is_skipped(text: &str) -> bool
-    ensures { result ≡ is_skipped_text text.now }
-{
-    let bytes = text.as_bytes();
-    bytes.is_empty() || bytes[0] == b'#'
 }
 
 /// The fault of a file that a fault of a line is.

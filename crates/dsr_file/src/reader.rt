@@ -1,8 +1,6 @@
 //! The reader of a file, which takes the bytes in pieces.
-ghost use Rattle.std.specs.Prelude.{◌≡◌, ◌≢◌, ◌++◌, ◌∷◌, [], ◌+◌, ◌<◌, ◌≤◌, ◌^◌, ◌⊎◌, ◌↔◌, length, List, ℕ, true, false, take};
-ghost use Rattle.std.specs.Prelude.{Some, None, Ok, IfOk, IfNone, IfSome, OnSome, IsTrue};
+ghost use Rattle.std.specs.Prelude.{◌≡◌, ◌≢◌, [], ◌+◌, ◌<◌, ◌≤◌, ◌^◌, ◌⊎◌, ◌↔◌, length, List, ℕ, true, take, Some, None, Ok, IfOk, IfNone, OnSome, IsTrue};
 ghost use Rattle.std.specs.Option.{option_to_list};
-ghost use Rattle.dsr_cells.specs.meaning.Lines.{line_limit};
 ghost use Rattle.dsr_records.specs.meaning.Records.{LayoutTable};
 ghost use Rattle.dsr_events.specs.meaning.Placed.{Placed};
 ghost use Rattle.dsr_events.specs.meaning.Orderly.{has_ended};

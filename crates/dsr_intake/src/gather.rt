@@ -1,6 +1,5 @@
 //! Reading the files of a report concurrently.
-ghost use Rattle.std.specs.Prelude.{◌≡◌, ◌<◌, ◌≤◌, false, List, [], map, All, IfOk, OnOk, IfErr};
-ghost use Rattle.std.specs.Prelude.{Err, MatchOption, vec_len, vec_capacity};
+ghost use Rattle.std.specs.Prelude.{◌≡◌, ◌<◌, ◌≤◌, false, List, [], map, All, IfOk, OnOk, IfErr, Err, MatchOption, vec_len, vec_capacity};
 ghost use Rattle.dsr_file.specs.meaning.Runs.{FileText, events_of_text};
 ghost use Rattle.dsr_ledger.specs.inner.Closed.{AreClosed};
 ghost use Rattle.dsr_intake.specs.inner.Collecting.{IsDrained};

@@ -4,7 +4,7 @@ ghost use Rattle.dsr_file.specs.meaning.Runs.{FileText};
 ghost use Rattle.dsr_ledger.specs.declared.report.Report.{Report};
 ghost use Rattle.dsr_ledger.specs.inner.Closed.{AreClosed};
 ghost use Rattle.dsr_ledger.specs.meaning.Files.{File};
-ghost use Rattle.dsr_ledger.specs.inner.Lent.{IsReady, IsLent};
+ghost use Rattle.dsr_ledger.specs.inner.View.{IsReady, IsViewOf};
 ghost use Rattle.dsr_ledger.specs.meaning.Reports.{report_of};
 ghost use Rattle.dsr_intake.specs.meaning.Options.{refusal_of};
 ghost use Rattle.dsr_intake.specs.meaning.Outcomes.{IsReported, IsUnwritten, IsLateRun};
@@ -19,8 +19,8 @@ use crate::options::Options;
 use dsr_cells::NoMemory;
 use dsr_file::Source;
 use dsr_io::Outlet;
-use dsr_ledger::{ClosedBooks, LentReport};
-use dsr_statement::{Room, Status, lent_status, write_statement};
+use dsr_ledger::{ClosedBooks, ReportView};
+use dsr_statement::{Room, Status, view_status, write_statement};
 use std::alloc::Global;
 use std::random::RandomSource;
 use std::sync::Wait;
@@ -88,26 +88,26 @@ fn write_books<W: Outlet>(
     }
 }
 
-/// Writes the statement of a lent report, and returns whether it has remarks. All memory that writing needs is
+/// Writes the statement of a view of a report, and returns whether it has remarks. All memory that writing needs is
 /// allocated before the first byte is written.
 fn write_report<W: Outlet>(
     alloc: Global,
-    report: &mut LentReport<'_>,
+    report: &mut ReportView<'_>,
     out: &mut W,
 ) -> Result<Status, RunError>
     requires ready { IsReady report.old.ledger }
-    ensures written { (r : Report) → IsLent report.old r
+    ensures written { (r : Report) → IsViewOf report.old r
         → OnOk result (IsFlushed (statement_of r) (W.told out.old) (W.told out.new)) }
-    ensures status { (r : Report) → IsLent report.old r
+    ensures status { (r : Report) → IsViewOf report.old r
         → IfOk result (λ status. status ≡ status_of r) }
-    ensures unfinished { (r : Report) → IsLent report.old r
+    ensures unfinished { (r : Report) → IsViewOf report.old r
         → IfErr result (IsUnfinished r (W.told out.old) (W.told out.new)) }
     ensures late { IfErr result IsLateRun }
 {
     let Ok(room) = Room::new(alloc, report.key) else {
         return Err(RunError::Memory);
     };
-    let status = lent_status(report);
+    let status = view_status(report);
     match write_statement(room, report, out) {
         Ok(()) => Ok(status),
         Err(written) => Err(RunError::Write { written }),

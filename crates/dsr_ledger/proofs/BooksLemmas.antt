@@ -1,7 +1,7 @@
 -- The books after a block, an opening or an outcome.
 use Rattle.dsr_ledger.proofs.Common.{◌≡◌, ℕ, ◌≤◌, length, List, [], ◌∷◌, ◌++◌, Bool, true, false, refl, arith, ◌+◌, ◌*◌, ◌^◌, sym, ◌∙◌, ap, subst, ◌<◌, cond, length-append, set, Option, Some, option_map, find, map, slice_get, Result, Ok, Err, MatchResult, IfOk, OnErr, AllByRecursion, BlockParts, Key, Verdict, File, summaries_of, Filed, standing, opened, with_block, with_outcome, verdict_in, verdict_after, summary_key_named, bookings, ForSome, bytes_eq, OpeningParts, Ledger, FileBooks, usages_in, state_at, sums_with, no_sums, StateFits, IsInRange, SumsFit, tally_of, key_tally, TallyFits, tally_at, key_number, KeepsKeys, IsBlockInRange, IsSameFile, IsNumberedFile, FileStands, FilesStand, Took, IsSmallFile, IsReached, Stands, ∥∥₁_elim, props, Outcome, Kept, Grows, openings_of}
 use Rattle.dsr_ledger.proofs.EachLemmas.{each_weaker, AreFew, few_flat, each_append, each_set}
-use Rattle.dsr_ledger.proofs.ListedLemmas.{mapped}
+use Rattle.dsr_ledger.proofs.SortedLemmas.{mapped}
 use Rattle.dsr_ledger.proofs.StateLemmas.{sums_fit_after}
 use Rattle.dsr_ledger.proofs.TallyLemmas.{tally_fits_after, key_tally-append}
 use Rattle.dsr_ledger.proofs.NumberedLemmas.{each_at}

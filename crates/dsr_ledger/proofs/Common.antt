@@ -66,7 +66,7 @@ pub use Rattle.dsr_ledger.specs.declared.ledger.parts.SeatShare.{SeatShare}
 pub use Rattle.dsr_ledger.specs.declared.ledger.recording.Recording.{Recording}
 pub use Rattle.dsr_ledger.specs.declared.ledger.Ledger.{Ledger}
 pub use Rattle.dsr_ledger.specs.declared.ledger.summary_key.SummaryKey.{SummaryKey}
-pub use Rattle.dsr_ledger.specs.declared.lent.LentLedger.{LentLedger}
+pub use Rattle.dsr_ledger.specs.declared.view.LedgerView.{LedgerView}
 pub use Rattle.dsr_ledger.specs.declared.report.LedgerLine.{LedgerLine}
 pub use Rattle.dsr_ledger.specs.declared.report.PartyLine.{PartyLine}
 pub use Rattle.dsr_ledger.specs.declared.sums.Sums.{Sums}
@@ -79,8 +79,8 @@ pub use Rattle.dsr_ledger.specs.inner.FileSteps.{IsBlockInRange, IsNumberedFile,
 pub use Rattle.dsr_ledger.specs.inner.IdRanks.{number_of_id, rank_of, with_byte}
 pub use Rattle.dsr_ledger.specs.inner.Ids.{is_between, is_in}
 pub use Rattle.dsr_ledger.specs.inner.Indexes.{AreIndexed, Rise}
-pub use Rattle.dsr_ledger.specs.inner.Lent.{AreBefore, AreGiven, HaveGiven, IsBookedLine, booked_lines, keys_under, lines_left, most_left}
-pub use Rattle.dsr_ledger.specs.inner.Listed.{AreDistinctBelow, AreListed, key_in, lent, line_for, numbered_by, party_in}
+pub use Rattle.dsr_ledger.specs.inner.View.{AreBefore, AreGiven, HaveGiven, IsBookedLine, booked_lines, keys_under, lines_left, most_left}
+pub use Rattle.dsr_ledger.specs.inner.Sorted.{AreDistinctBelow, AreListed, key_in, lent, line_for, numbered_by, party_in}
 pub use Rattle.dsr_ledger.specs.inner.Numbered.{AreApart, AreBelow, Grows, IsNumbered, IsWithNumber, place_by, place_in, read_at}
 pub use Rattle.dsr_ledger.specs.inner.Order.{AreOfSmall, AreSmall, IsSmall}
 pub use Rattle.dsr_ledger.specs.inner.Owed.{Owed, PartsGrow, nothing_owed, owed_at_place, owed_for, owed_in, owed_kept, owed_of, owed_plus, owed_with, part_in, part_seats, parts_size}

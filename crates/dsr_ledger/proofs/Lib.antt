@@ -4,9 +4,9 @@ pub mod LedgerLemmas
 pub mod PlanLemmas
 pub mod TextLemmas
 pub mod OrderLemmas
-pub mod ListedLemmas
+pub mod SortedLemmas
 pub mod ReportLemmas
-pub mod LentLemmas
+pub mod ViewLemmas
 pub mod PartyLemmas
 pub mod JudgedLemmas
 pub mod IdsLemmas

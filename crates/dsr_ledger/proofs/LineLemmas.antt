@@ -4,7 +4,7 @@ use Rattle.dsr_ledger.proofs.EachLemmas.{some_if, some_pass}
 use Rattle.dsr_ledger.proofs.OrderLemmas.{same_in_order, in_order_is}
 use Rattle.dsr_ledger.proofs.KeyLemmas.{key_total, key_exact, key_ties}
 use Rattle.dsr_ledger.proofs.IndexMapLemmas.{number_at}
-use Rattle.dsr_ledger.proofs.ListedLemmas.{all_there, below_number, differ, entries_by, kept_apart, kept_in, kept_out, mapped, own_below, own_place, own_value, put_in_order, there}
+use Rattle.dsr_ledger.proofs.SortedLemmas.{all_there, below_number, differ, entries_by, kept_apart, kept_in, kept_out, mapped, own_below, own_place, own_value, put_in_order, there}
 use Rattle.dsr_ledger.proofs.NumberedLemmas.{by_numbered, places_are_numbered, read_is}
 use Rattle.dsr_ledger.proofs.PartyLemmas.{some_for, unclaimed_is}
 use Rattle.std.specs.Cmp.{eq_by_cmp_equiv}

@@ -16,7 +16,7 @@ pub mod Stands
 pub mod Books
 pub mod BooksWords
 pub mod Order
-pub mod Listed
+pub mod Sorted
 pub mod Assembly
-pub mod Lent
+pub mod View
 pub mod Closed

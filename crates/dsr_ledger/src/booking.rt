@@ -17,7 +17,7 @@ ghost use Rattle.dsr_ledger.specs.inner.Ranges.{IsInRange};
 ghost use Rattle.dsr_ledger.specs.inner.Tallies.{tally_plus, key_tally, TallyFits};
 
 use crate::file::summaries::Summaries;
-use crate::index::narrow;
+use crate::index::to_u32;
 use crate::ledger::Ledger;
 use crate::ledger::parts::SeatShare;
 use dsr_cells::{Isrc, NoMemory};
@@ -71,7 +71,7 @@ fn plan_work(
     let shares = work.shares.as_slice();
     for (i, party) in work.parties.as_slice().iter().enumerate() {
         let number = ledger.seat(alloc, recording, party, next_seat(plan.as_slice()))?;
-        let seat = narrow(number)?;
+        let seat = to_u32(number)?;
         plan.push(SeatShare {
             seat,
             share: shares[i].parts(),

@@ -12,9 +12,9 @@ use crate::books::Kept;
 use crate::file::FileBooks;
 use crate::findings::{differences_of, file_lines, key_and_rejects, missing_numbers, own_numbers};
 use crate::ledger::Ledger;
-use crate::lent::copies::copied_lines;
-use crate::lent::{LentLedger, LentReport};
 use crate::report::{Differences, FileLines, Numbers, Rejects, Report, ReportKey};
+use crate::view::copies::copied_lines;
+use crate::view::{LedgerView, ReportView};
 use dsr_cells::NoMemory;
 use std::alloc::Global;
 use std::collections::BTreeSet;
@@ -74,7 +74,7 @@ impl ClosedBooks {
     ghost use Rattle.dsr_ledger.specs.meaning.Files.{File};
     ghost use Rattle.dsr_ledger.specs.meaning.Reports.{report_of};
     ghost use Rattle.dsr_ledger.specs.inner.Closed.{AreClosed};
-    ghost use Rattle.dsr_ledger.specs.inner.Lent.{IsReady, IsLent};
+    ghost use Rattle.dsr_ledger.specs.inner.View.{IsReady, IsViewOf};
 
     /// Closes the books of the files: makes the parts of the report other than the lines of the ledger.
     pub(crate) fn of(alloc: Global, kept: Kept) -> Result<ClosedBooks, NoMemory>
@@ -125,17 +125,17 @@ impl ClosedBooks {
     /// # Errors
     ///
     /// `NoMemory`: out of memory for making the lines of the ledger.
-    pub fn report(&self) -> Result<LentReport<'_>, NoMemory>
+    pub fn report(&self) -> Result<ReportView<'_>, NoMemory>
         ensures ready { IfOk result (λ r. IsReady r.ledger) }
         ensures report { (files : List File) → AreClosed self.now files
-            → IfOk result (λ r. IsLent r (report_of files)) }
+            → IfOk result (λ r. IsViewOf r (report_of files)) }
     {
-        Ok(LentReport {
+        Ok(ReportView {
             key: &self.key,
             files: self.files.as_slice(),
             missing: self.missing.as_slice(),
             differences: self.differences.as_slice(),
-            ledger: LentLedger::of(self.alloc, &self.ledger)?,
+            ledger: LedgerView::of(self.alloc, &self.ledger)?,
             rejects: self.rejects.as_slice(),
         })
     }

@@ -238,7 +238,7 @@ impl BuildHasher for Seeded {
 }
 
 /// The number in 32 bits. One past 32 bits is reported as `NoMemory`.
-pub(crate) fn narrow(number: usize) -> Result<u32, NoMemory>
+pub(crate) fn to_u32(number: usize) -> Result<u32, NoMemory>
     ensures { IfOk result (λ same. same ≡ number) }
 {
     match u32::try_from(number) {

@@ -14,7 +14,7 @@ pub(crate) mod recording;
 pub(crate) mod seats;
 pub(crate) mod summary_key;
 
-use crate::index::{Seeded, narrow};
+use crate::index::{Seeded, to_u32};
 use crate::ledger::parts::SeatShare;
 use crate::ledger::recording::Recording;
 use crate::ledger::summary_key::SummaryKey;
@@ -151,9 +151,9 @@ impl Ledger {
         ensures there { IfOk result (λ number. party_number self.new name.now ≡ Some number) }
     {
         if let Some(number) = self.parties.get_index_of(name) {
-            return narrow(number);
+            return to_u32(number);
         }
-        let number = narrow(self.parties.len())?;
+        let number = to_u32(self.parties.len())?;
         self.parties.insert(name.copy(alloc)?)?;
         Ok(number)
     }
@@ -202,9 +202,9 @@ impl Ledger {
     {
         if let Some(number) = self.summary_keys.get_index_of(&key) {
             drop(key);
-            return narrow(number);
+            return to_u32(number);
         }
-        let Ok(number) = narrow(self.summary_keys.len()) else {
+        let Ok(number) = to_u32(self.summary_keys.len()) else {
             drop(key);
             return Err(NoMemory);
         };

@@ -16,8 +16,8 @@
 //!    (`ledger/parts`). `index` finds an item of a list: a long list whose numbers do not rise has an index of them; in a
 //!    short one, hints are the probable places of lines and summaries. Numbers of items are kept in 32 bits.
 //! 5. `closed` closes the books: it makes the parts of the `report` that say how the files did (`findings`). Closed books
-//!    give the lines of the ledger one after another (`lent`), in the order of the recordings and of the summary keys
-//!    (`lent/listed`). Giving them allocates nothing. They borrow their texts; a report has copies of them (`lent/copies`).
+//!    give the lines of the ledger one after another (`view`), in the order of the recordings and of the summary keys
+//!    (`view/sorted`). Giving them allocates nothing. They borrow their texts; a report has copies of them (`view/copies`).
 //!
 //! **Example**, compiled and proved in `crates/dsr_tests/src/books/example.rt`:
 //!
@@ -113,16 +113,16 @@ mod findings;
 mod index;
 pub mod laws;
 mod ledger;
-mod lent;
 mod report;
 mod sums;
 mod verdict;
+mod view;
 
 pub use books::Books;
 pub use closed::ClosedBooks;
-pub use lent::{LentLedger, LentLine, LentParty, LentReport};
 pub use report::{
     Difference, Differences, FileLine, FileLines, LedgerLine, LedgerLines, Numbers, Parties,
     PartyLine, Reject, Rejects, Report, ReportKey,
 };
 pub use verdict::{Reason, Standing, Verdict};
+pub use view::{LedgerView, LineView, PartyView, ReportView};

@@ -8,12 +8,12 @@ use std::marker::Model;
 /// A number of 128 bits that is aligned like one of 64 bits, so that a struct with one takes less memory. Contracts see
 /// it as the number.
 #[derive(Default, Drop)]
-pub(crate) struct Wide {
+pub(crate) struct PackedI128 {
     high: i64,
     low: u64,
 }
 
-impl Model for Wide {
+impl Model for PackedI128 {
     ghost use Rattle.std.specs.Prelude.{ℤ, ◌+ℤ◌, ◌*ℤ◌, ◌^◌, pos};
 
     ghost Value = { ℤ };
@@ -21,13 +21,13 @@ impl Model for Wide {
     ghost view = { λ wide. wide.high *ℤ pos (2 ^ 64) +ℤ pos wide.low };
 }
 
-impl Wide {
+impl PackedI128 {
     /// This number.
     #[inline(always)]
-    pub(crate) fn of(number: i128) -> Wide
+    pub(crate) fn of(number: i128) -> PackedI128
         ensures { result ≡ number }
     {
-        Wide {
+        PackedI128 {
             high: number.div_euclid(1 << 64) as i64,
             low: number.rem_euclid(1 << 64) as u64,
         }
@@ -45,8 +45,8 @@ impl Wide {
 /// The sums of the usages and of the amounts, in units.
 #[derive(Drop)]
 pub(crate) struct Sums {
-    pub(crate) usages: Wide,
-    pub(crate) amount: Wide,
+    pub(crate) usages: PackedI128,
+    pub(crate) amount: PackedI128,
 }
 
 impl Sums {
@@ -55,8 +55,8 @@ impl Sums {
         ensures { result ≡ record { usages = pos 0; amount = pos 0 } }
     {
         Sums {
-            usages: Wide::of(0),
-            amount: Wide::of(0),
+            usages: PackedI128::of(0),
+            amount: PackedI128::of(0),
         }
     }
 
@@ -65,8 +65,8 @@ impl Sums {
         ensures { result ≡ self.now }
     {
         Sums {
-            usages: Wide::of(self.usages.get()),
-            amount: Wide::of(self.amount.get()),
+            usages: PackedI128::of(self.usages.get()),
+            amount: PackedI128::of(self.amount.get()),
         }
     }
 
@@ -77,8 +77,8 @@ impl Sums {
         ensures amount { self.new.amount ≡ self.old.amount +ℤ usage.now.amount }
         ensures range { IsInRange usage.now }
     {
-        self.usages = Wide::of(self.usages.get() + i128::from(usage.usages));
-        self.amount = Wide::of(self.amount.get() + usage.amount.units());
+        self.usages = PackedI128::of(self.usages.get() + i128::from(usage.usages));
+        self.amount = PackedI128::of(self.amount.get() + usage.amount.units());
     }
 }
 

@@ -9,17 +9,13 @@ use Rattle.std.proofs.lemmas.Option.{IfSome_then}
 use Rattle.std.specs.Prelude.{IfSome}
 use Rattle.std.specs.Char.{is_ascii_digit}
 use Rattle.std.specs.List.{list_all}
-use Rattle.std.proofs.lemmas.Nat.{xor_lt, pow-add, pow_pos}
+use Rattle.std.proofs.lemmas.Nat.{xor_lt, pow-add, pow_pos, and_block, and_mask}
 use Rattle.std.proofs.lemmas.List.{length-take, length-replicate, length-map, map-append, take-map, take-take}
 use Rattle.std.proofs.lemmas.List.Folds.{list_all-append}
 use Rattle.std.proofs.lemmas.Bool.{and_parts, lt-ltb, le-leb}
 use Rattle.dsr_cells.specs.meaning.Numbers.{digits_sum, digits_of}
-use Rattle.dsr_cells.proofs.Fours.{xor_byte, digit, digits_sum-append}
-use Rattle.dsr_records.specs.inner.Usual.{IsWordOf, SpellsNumber, IsFilledUp}
-use Rattle.std.proofs.lemmas.Nat.{and_block, and_mask}
-use Rattle.dsr_cells.specs.inner.Fours.{word_of_four}
-use Rattle.dsr_cells.proofs.Fours.{and_four, low_four, below_ten}
-use Rattle.dsr_records.specs.inner.Usual.{word_of_eight, number_of_eight}
+use Rattle.dsr_records.proofs.Fours.{xor_byte, digit, digits_sum-append, and_four, low_four, below_ten}
+use Rattle.dsr_records.specs.inner.Usual.{IsWordOf, SpellsNumber, IsFilledUp, word_of_four, word_of_eight, number_of_eight}
 
 -- an operation by bits on each half of a word
 and_halves : (lo hi m n : ℕ) → lo < 2 ^ 32 → m < 2 ^ 32 → bit_and (lo + 2 ^ 32 * hi) (m + 2 ^ 32 * n) ≡ bit_and lo m + 2 ^ 32 * bit_and hi n

@@ -1,13 +1,11 @@
 -- Lemmas on the printable bytes of a page, whose other bytes are known as a bit mask.
-use Rattle.std.proofs.Common.{arith, ◌≡◌, ◌<◌, ◌≤◌, ◌+◌, ◌-◌, ◌/◌, ◌^◌, ◌∙◌, ℕ, Bool, List, length, map, take, drop, get_or, true, false, not, cond, inl, inr, sym}
-use Rattle.std.proofs.Common.{[], ◌∷◌, ap, w64, pow_mono, length-take, refl, slice_index}
+use Rattle.std.proofs.Common.{arith, ◌≡◌, ◌<◌, ◌≤◌, ◌+◌, ◌-◌, ◌/◌, ◌^◌, ◌∙◌, ℕ, Bool, List, length, map, take, drop, get_or, true, false, not, cond, inl, inr, sym, [], ◌∷◌, ap, w64, pow_mono, length-take, refl, slice_index, drop-cons}
 use Rattle.std.specs.Int.{bit_at}
 use Rattle.std.specs.Int.Count.{count_trailing_zeros}
 use Rattle.std.specs.List.{list_all, prefix_len}
 use Rattle.std.specs.Simd.Lanes.{chunk}
 use Rattle.std.specs.Str.{IsAscii, IsUtf8}
 use Rattle.std.proofs.lemmas.Bool.{and_parts, cases_lt}
-use Rattle.std.proofs.Common.{drop-cons}
 use Rattle.std.proofs.lemmas.List.{get_or_past, get_or-take, length-map, drop-drop, drop-take, take-take}
 use Rattle.std.proofs.lemmas.List.Elements.{All-from_get_or, All-get_or}
 use Rattle.std.proofs.lemmas.List.Sums.{fails_before_first, list_all-from_AllPass, AllPass-from_list_all}

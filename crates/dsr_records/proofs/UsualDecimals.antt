@@ -1,6 +1,5 @@
 -- Lemmas on up to ten decimals, the first eight of which are read from one word.
-use Rattle.std.proofs.Common.{arith, ◌≡◌, ◌<◌, ◌≤◌, ◌+◌, ◌-◌, ◌*◌, ◌^◌, ◌∙◌, ℕ, List, [], ◌∷◌, ◌++◌, length, take, drop, get_or, true, cond, inl, inr, sym}
-use Rattle.std.proofs.Common.{ap, w8, Fits, drop-cons, ltb, min, refl, subst, mul_assoc, mul-lt-mul_of_pos_right, lit<}
+use Rattle.std.proofs.Common.{arith, ◌≡◌, ◌<◌, ◌≤◌, ◌+◌, ◌-◌, ◌*◌, ◌^◌, ◌∙◌, ℕ, List, [], ◌∷◌, ◌++◌, length, take, drop, get_or, true, cond, inl, inr, sym, ap, w8, Fits, drop-cons, ltb, min, refl, subst, mul_assoc, mul-lt-mul_of_pos_right, lit<}
 use Rattle.std.proofs.Math.Nat.{one-le-pow, min-eq_left, min-eq_right}
 use Rattle.std.specs.Char.{is_ascii_digit}
 use Rattle.std.specs.Int.Bits.{bit_xor}
@@ -13,7 +12,7 @@ use Rattle.std.proofs.lemmas.List.Folds.{list_all-append}
 use Rattle.std.proofs.lemmas.Nat.{pow-add}
 use Rattle.std.proofs.lemmas.Simd.{length-chunk}
 use Rattle.dsr_cells.specs.meaning.Numbers.{digits_sum}
-use Rattle.dsr_cells.proofs.Fours.{digit, digits_sum-append}
+use Rattle.dsr_records.proofs.Fours.{digit, digits_sum-append}
 use Rattle.dsr_cells.proofs.Numbers.{digits_sum-lt, is_digits_yes}
 use Rattle.dsr_records.specs.inner.Usual.{IsFilledUp}
 

@@ -1,6 +1,5 @@
 -- Lemmas on lines of the usual form.
-use Rattle.std.proofs.Common.{arith, ◌≡◌, ◌<◌, ◌≤◌, ◌+◌, ◌-◌, ◌*◌, ◌^◌, ◌∙◌, ℕ, Bool, List, [], ◌∷◌, length, take, drop, get_or, true, false, sym, ap, refl, subst, eqb, leb, ltb, not, cond}
-use Rattle.std.proofs.Common.{inl, inr, suc, zero, Option, Some, None, ◌++◌, slice_index}
+use Rattle.std.proofs.Common.{arith, ◌≡◌, ◌<◌, ◌≤◌, ◌+◌, ◌-◌, ◌*◌, ◌^◌, ◌∙◌, ℕ, Bool, List, [], ◌∷◌, length, take, drop, get_or, true, false, sym, ap, refl, subst, eqb, leb, ltb, not, cond, inl, inr, suc, zero, Option, Some, None, ◌++◌, slice_index}
 use Rattle.std.specs.Prelude.{ℤ, pos, codes, Ok}
 use Rattle.std.specs.Char.{is_ascii_digit}
 use Rattle.std.specs.List.{list_all, position_or_len, prefix_len}

@@ -1,6 +1,5 @@
 //! Checking lines, and copying the records of lines without a fault.
-ghost use Rattle.std.specs.Prelude.{◌≡◌, ◌+◌, ◌<◌, true, length};
-ghost use Rattle.std.specs.Prelude.{Ok, Err, IfOk, IfSome, OnOk, OnErr, nat_lt, take};
+ghost use Rattle.std.specs.Prelude.{◌≡◌, ◌+◌, ◌<◌, true, length, Ok, Err, IfOk, IfSome, OnOk, OnErr, nat_lt, take};
 ghost use Rattle.std.specs.Option.{option_map};
 ghost use Rattle.dsr_cells.specs.meaning.Cells.{cells};
 ghost use Rattle.dsr_events.specs.meaning.Blocks.{OpensBlock, with_member};

@@ -1,5 +1,5 @@
 //! Finding the cells of a line, one after another.
-ghost use Rattle.std.specs.Prelude.{◌≡◌, ◌<◌, Some, IfSome, slice_get, drop};
+ghost use Rattle.std.specs.Prelude.{◌≡◌, ◌<◌, Some, slice_get, drop};
 ghost use Rattle.std.specs.Option.{option_map};
 ghost use Rattle.dsr_cells.specs.meaning.Cells.{cells};
 ghost use Rattle.dsr_records.specs.inner.Rows.{cells_left};
@@ -74,35 +74,6 @@ impl<'l> Cursor<'l> {
             rest: whole,
             next: 0,
         }
-    }
-
-    /// A cursor at the second cell of a line, given the rest of the line from there.
-    #[inline(always)]
-    pub(crate) fn behind_type(line: &'l str, rest: Rest<'l>) -> Cursor<'l>
-        requires { cells rest.text.now ≡ drop 1 (cells line.now) }
-        ensures { result ≡ cells line.now }
-    {
-        Cursor {
-            line,
-            rest,
-            next: 1,
-        }
-    }
-
-    /// The cell at an index, if the cursor is there. Inlined, and the calls in it return only numbers, so that a loop over
-    /// it keeps the cursor in registers.
-    #[inline(always)]
-    pub(crate) fn cell_here(&mut self, place: u8) -> Option<&'l str>
-        ensures value { IfSome result (λ c. slice_get self.old place ≡ Some c.now) }
-        ensures same { self.new ≡ self.old }
-    {
-        let place = usize::from(place);
-        if place != self.next {
-            return None;
-        }
-        let (cell, after) = self.rest.first_cell();
-        self.stand_at(place + 1, after);
-        Some(cell)
     }
 
     /// The cell at an index, from 0, if the line has it.

@@ -1,6 +1,5 @@
 //! The rest of a line, and its first cell.
-ghost use Rattle.std.specs.Prelude.{◌≡◌, ◌≢◌, ◌+◌, ◌-◌, ◌<◌, ◌≤◌, ◌==◌, ◌∷◌, length, take, drop};
-ghost use Rattle.std.specs.Prelude.{[], slice_index, not, false, IfSome};
+ghost use Rattle.std.specs.Prelude.{◌≡◌, ◌≢◌, ◌+◌, ◌-◌, ◌<◌, ◌≤◌, ◌==◌, ◌∷◌, length, take, drop, [], slice_index, not, false, IfSome};
 ghost use Rattle.std.specs.List.{position, position_or_len};
 ghost use Rattle.dsr_cells.specs.meaning.Cells.{cells};
 ghost use Rattle.dsr_texts.specs.Tabs.{tab_bits};

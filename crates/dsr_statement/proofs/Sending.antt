@@ -1,6 +1,5 @@
 -- What was written, step by step.
-use Rattle.std.proofs.Common.{arith, ◌≡◌, ℕ, ◌+◌, ◌-◌, ◌^◌, ◌≤◌, ◌++◌, List, length, take, min, true, false, ◌∙◌, ap, sym, subst, refl, [], append_assoc, length-append}
-use Rattle.std.proofs.Common.{Result, Ok, Err, IfErr}
+use Rattle.std.proofs.Common.{arith, ◌≡◌, ℕ, ◌+◌, ◌-◌, ◌^◌, ◌≤◌, ◌++◌, List, length, take, min, true, false, ◌∙◌, ap, sym, subst, refl, [], append_assoc, length-append, Result, Ok, Err, IfErr}
 use Rattle.std.specs.Result.{OnOk}
 use Rattle.std.proofs.Math.Seq.{take-append-add}
 use Rattle.std.proofs.lemmas.List.{append-nil, take-append-le, length-take-le}

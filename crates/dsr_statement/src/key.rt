@@ -7,13 +7,13 @@ use crate::cells::put_text;
 use crate::pieces::Pieces;
 use crate::slice_buffer::SliceBuffer;
 use dsr_io::Outlet;
-use dsr_ledger::LentLine;
+use dsr_ledger::LineView;
 
 /// Room for this many bytes of a key's cells.
 pub(crate) const KEY_ROOM: usize = 256;
 
 /// The cells of a key, written into this room, if they fit.
-pub(crate) fn laid_key<'a>(room: &'a mut SliceBuffer<'_>, line: &LentLine<'_>) -> Option<&'a [u8]>
+pub(crate) fn laid_key<'a>(room: &'a mut SliceBuffer<'_>, line: &LineView<'_>) -> Option<&'a [u8]>
     ensures { IfSome result (λ k. k.now ≡ tabbed (key_cells line.now)) }
 {
     if lay_key(room, line) {
@@ -24,7 +24,7 @@ pub(crate) fn laid_key<'a>(room: &'a mut SliceBuffer<'_>, line: &LentLine<'_>) -
 }
 
 /// Writes the cells of a key over what the room has. Returns whether they fit.
-fn lay_key(room: &mut SliceBuffer<'_>, line: &LentLine<'_>) -> bool
+fn lay_key(room: &mut SliceBuffer<'_>, line: &LineView<'_>) -> bool
     ensures { result ≡ true → room.new ≡ tabbed (key_cells line.now) }
 {
     room.clear();
@@ -44,7 +44,7 @@ fn lay_cell(room: &mut SliceBuffer<'_>, cell: &[u8]) -> bool
 
 /// Puts the cells of a line's key: those of `key`, if they were laid there.
 #[inline(always)]
-pub(crate) fn put_key<W: Outlet>(out: &mut Pieces<'_, W>, key: Option<&[u8]>, line: &LentLine<'_>)
+pub(crate) fn put_key<W: Outlet>(out: &mut Pieces<'_, W>, key: Option<&[u8]>, line: &LineView<'_>)
     requires { IfSome key (λ k. k.now ≡ tabbed (key_cells line.now)) }
     ensures { Puts W.told out.old out.new (tabbed (key_cells line.now)) }
 {
@@ -55,7 +55,7 @@ pub(crate) fn put_key<W: Outlet>(out: &mut Pieces<'_, W>, key: Option<&[u8]>, li
 }
 
 /// Puts the cells of a line's key one by one.
-fn put_key_cells<W: Outlet>(out: &mut Pieces<'_, W>, line: &LentLine<'_>)
+fn put_key_cells<W: Outlet>(out: &mut Pieces<'_, W>, line: &LineView<'_>)
     ensures { Puts W.told out.old out.new (tabbed (key_cells line.now)) }
 {
     put_text(out, line.isrc.as_bytes());

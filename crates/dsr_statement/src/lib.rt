@@ -38,7 +38,7 @@ mod slice_buffer;
 mod verdict;
 mod write;
 
-pub use remarks::{lent_status, status};
+pub use remarks::{status, view_status};
 pub use room::Room;
 pub use verdict::Status;
 pub use write::{statement, write_statement};

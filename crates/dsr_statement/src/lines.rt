@@ -1,9 +1,7 @@
 //! The lines of a statement.
 ghost use Rattle.std.specs.Prelude.{◌≡◌, ◌∷◌, ◌++◌, [], IfSome};
 ghost use Rattle.std.specs.List.{flat_map};
-ghost use Rattle.dsr_statement.specs.meaning.Statement.{tabbed, head_line, report_line, number_cell, outcome_cells, column_cells};
-ghost use Rattle.dsr_statement.specs.meaning.Statement.{key_cells, file_line, missing_line, difference_line, ledger_lines};
-ghost use Rattle.dsr_statement.specs.meaning.Statement.{sums_line, party_line, unclaimed_line, reject_line};
+ghost use Rattle.dsr_statement.specs.meaning.Statement.{tabbed, head_line, report_line, number_cell, outcome_cells, column_cells, key_cells, file_line, missing_line, difference_line, ledger_lines, sums_line, party_line, unclaimed_line, reject_line};
 ghost use Rattle.dsr_statement.specs.inner.Laid.{day_cells};
 ghost use Rattle.dsr_statement.specs.inner.Pieces.{Puts};
 
@@ -15,7 +13,7 @@ use crate::slice_buffer::SliceBuffer;
 use dsr_events::{Column, Outcome};
 use dsr_io::Outlet;
 use dsr_ledger::{
-    Difference, FileLine, LedgerLine, LentLine, LentParty, PartyLine, Reject, ReportKey,
+    Difference, FileLine, LedgerLine, LineView, PartyLine, PartyView, Reject, ReportKey,
 };
 
 /// Puts the first line. `days` has the cells of the report's days.
@@ -123,7 +121,7 @@ pub(crate) fn put_difference<W: Outlet>(out: &mut Pieces<'_, W>, difference: &Di
 pub(crate) fn put_ledger<W: Outlet>(
     out: &mut Pieces<'_, W>,
     room: &mut SliceBuffer<'_>,
-    line: &LentLine<'_>,
+    line: &LineView<'_>,
     own: &[PartyLine],
 )
     ensures { Puts W.told out.old out.new
@@ -147,7 +145,7 @@ pub(crate) fn put_own_ledger<W: Outlet>(
 )
     ensures { Puts W.told out.old out.new (ledger_lines line.now) }
 {
-    let lent = LentLine {
+    let view = LineView {
         isrc: &line.isrc,
         territory: &line.territory,
         use_type: &line.use_type,
@@ -157,30 +155,30 @@ pub(crate) fn put_own_ledger<W: Outlet>(
         unclaimed: line.unclaimed,
         parties: &[],
     };
-    put_ledger(out, room, &lent, line.parties.as_slice())
+    put_ledger(out, room, &view, line.parties.as_slice())
 }
 
 /// Puts the lines of the parties of a report's line. `key` has the key's cells, if they fit.
 fn put_own_parties<W: Outlet>(
     out: &mut Pieces<'_, W>,
     key: Option<&[u8]>,
-    line: &LentLine<'_>,
+    line: &LineView<'_>,
     parties: &[PartyLine],
 )
     requires { IfSome key (λ k. k.now ≡ tabbed (key_cells line.now)) }
     ensures { Puts W.told out.old out.new (flat_map (party_line line.now) parties.now) }
 {
     for party in parties {
-        let lent = LentParty {
+        let view = PartyView {
             party: &party.party,
             amount: party.amount,
         };
-        put_party(out, key, line, &lent);
+        put_party(out, key, line, &view);
     }
 }
 
 /// Puts the line of a key's sums. `key` has the key's cells, if they fit.
-fn put_sums<W: Outlet>(out: &mut Pieces<'_, W>, key: Option<&[u8]>, line: &LentLine<'_>)
+fn put_sums<W: Outlet>(out: &mut Pieces<'_, W>, key: Option<&[u8]>, line: &LineView<'_>)
     requires { IfSome key (λ k. k.now ≡ tabbed (key_cells line.now)) }
     ensures { Puts W.told out.old out.new (sums_line line.now) }
 {
@@ -191,7 +189,7 @@ fn put_sums<W: Outlet>(out: &mut Pieces<'_, W>, key: Option<&[u8]>, line: &LentL
 }
 
 /// Puts the lines of a key's parties. `key` has the key's cells, if they fit.
-fn put_parties<W: Outlet>(out: &mut Pieces<'_, W>, key: Option<&[u8]>, line: &LentLine<'_>)
+fn put_parties<W: Outlet>(out: &mut Pieces<'_, W>, key: Option<&[u8]>, line: &LineView<'_>)
     requires { IfSome key (λ k. k.now ≡ tabbed (key_cells line.now)) }
     ensures { Puts W.told out.old out.new (flat_map (party_line line.now) line.now.parties) }
 {
@@ -204,8 +202,8 @@ fn put_parties<W: Outlet>(out: &mut Pieces<'_, W>, key: Option<&[u8]>, line: &Le
 fn put_party<W: Outlet>(
     out: &mut Pieces<'_, W>,
     key: Option<&[u8]>,
-    line: &LentLine<'_>,
-    party: &LentParty<'_>,
+    line: &LineView<'_>,
+    party: &PartyView<'_>,
 )
     requires { IfSome key (λ k. k.now ≡ tabbed (key_cells line.now)) }
     ensures { Puts W.told out.old out.new (party_line line.now party.now) }
@@ -217,7 +215,7 @@ fn put_party<W: Outlet>(
 }
 
 /// Puts the line of a key's unclaimed amount. `key` has the key's cells, if they fit.
-fn put_unclaimed<W: Outlet>(out: &mut Pieces<'_, W>, key: Option<&[u8]>, line: &LentLine<'_>)
+fn put_unclaimed<W: Outlet>(out: &mut Pieces<'_, W>, key: Option<&[u8]>, line: &LineView<'_>)
     requires { IfSome key (λ k. k.now ≡ tabbed (key_cells line.now)) }
     ensures { Puts W.told out.old out.new (unclaimed_line line.now) }
 {

@@ -1,11 +1,11 @@
 //! The status of a report.
 ghost use Rattle.std.specs.Prelude.{◌≡◌};
 ghost use Rattle.dsr_ledger.specs.declared.report.Report.{Report as ReportValue};
-ghost use Rattle.dsr_ledger.specs.inner.Lent.{IsLent};
+ghost use Rattle.dsr_ledger.specs.inner.View.{IsViewOf};
 ghost use Rattle.dsr_statement.specs.meaning.Status.{status_of};
 
 use crate::verdict::{Status, status_by};
-use dsr_ledger::{LentReport, Report};
+use dsr_ledger::{Report, ReportView};
 
 /// Whether the statement has remarks.
 pub fn status(report: &Report) -> Status
@@ -20,9 +20,9 @@ pub fn status(report: &Report) -> Status
     )
 }
 
-/// The same of a report that is lent.
-pub fn lent_status(report: &LentReport<'_>) -> Status
-    ensures { (r : ReportValue) → IsLent report.now r → result ≡ status_of r }
+/// The same of a view of a report.
+pub fn view_status(report: &ReportView<'_>) -> Status
+    ensures { (r : ReportValue) → IsViewOf report.now r → result ≡ status_of r }
 {
     status_by(
         report.key,

@@ -4,7 +4,7 @@ ghost use Rattle.std.specs.List.{flat_map};
 ghost use Rattle.dsr_statement.specs.meaning.Statement.{statement_of, file_lines, missing_line, difference_line, ledger_lines, reject_line};
 ghost use Rattle.dsr_ledger.specs.declared.report.Report.{Report as ReportValue};
 ghost use Rattle.dsr_ledger.specs.declared.report.LedgerLine.{LedgerLine as LedgerLineValue};
-ghost use Rattle.dsr_ledger.specs.inner.Lent.{AreGiven, IsReady, IsLent};
+ghost use Rattle.dsr_ledger.specs.inner.View.{AreGiven, IsReady, IsViewOf};
 ghost use Rattle.dsr_io.specs.meaning.Written.{IsFlushed, IsCut};
 ghost use Rattle.dsr_statement.specs.inner.Pieces.{Puts};
 ghost use Rattle.dsr_statement.specs.inner.Laid.{day_cells};
@@ -17,7 +17,7 @@ use crate::room::Room;
 use crate::slice_buffer::SliceBuffer;
 use dsr_cells::NoMemory;
 use dsr_io::{Outlet, ToWrite};
-use dsr_ledger::{Difference, FileLine, LedgerLine, LentLedger, LentReport, Reject, Report};
+use dsr_ledger::{Difference, FileLine, LedgerLine, LedgerView, Reject, Report, ReportView};
 use std::alloc::Global;
 
 /// The bytes of the statement.
@@ -60,21 +60,21 @@ fn write_report<W: Outlet>(room: Room, report: &Report, out: &mut W) -> Result<(
     answer
 }
 
-/// Writes the statement of a lent report in pieces, and then flushes.
+/// Writes the statement of a view of a report in pieces, and then flushes.
 ///
 /// # Errors
 ///
 /// How many of its bytes were written before a write or the flush failed.
 pub fn write_statement<W: Outlet>(
     room: Room,
-    report: &mut LentReport<'_>,
+    report: &mut ReportView<'_>,
     out: &mut W,
 ) -> Result<(), u64>
     requires days { IfSome report.old.key.now (λ k. room.days.items ≡ day_cells k) }
     requires ready { IsReady report.old.ledger }
-    ensures whole { (r : ReportValue) → IsLent report.old r → OnOk result
+    ensures whole { (r : ReportValue) → IsViewOf report.old r → OnOk result
         (IsFlushed (statement_of r) (W.told out.old) (W.told out.new)) }
-    ensures part { (r : ReportValue) → IsLent report.old r → IfErr result (λ n. (n ≤ length (statement_of r))
+    ensures part { (r : ReportValue) → IsViewOf report.old r → IfErr result (λ n. (n ≤ length (statement_of r))
         × IsCut (take n (statement_of r)) (W.told out.old) (W.told out.new)) }
 {
     let Room {
@@ -96,32 +96,32 @@ fn put_statement<W: Outlet>(
     out: &mut Pieces<'_, W>,
     key: &mut SliceBuffer<'_>,
     days: &[u8],
-    report: &mut LentReport<'_>,
+    report: &mut ReportView<'_>,
 )
     requires days { IfSome report.old.key.now (λ k. days.now ≡ day_cells k) }
     requires ready { IsReady report.old.ledger }
-    ensures { (r : ReportValue) → IsLent report.old r → Puts W.told out.old out.new (statement_of r) }
+    ensures { (r : ReportValue) → IsViewOf report.old r → Puts W.told out.old out.new (statement_of r) }
 {
     put_head(out, report.key, days);
     put_files(out, report.files);
     put_missing_files(out, report.missing);
     put_differences(out, report.differences);
-    put_lent_lines(out, key, &mut report.ledger);
+    put_viewed_lines(out, key, &mut report.ledger);
     put_rejects(out, report.rejects);
 }
 
-/// Puts the lines of a ledger that is lent.
-fn put_lent_lines<W: Outlet>(
+/// Puts the lines of a view of a ledger.
+fn put_viewed_lines<W: Outlet>(
     out: &mut Pieces<'_, W>,
     key: &mut SliceBuffer<'_>,
-    lent: &mut LentLedger<'_>,
+    view: &mut LedgerView<'_>,
 )
-    requires { IsReady lent.old }
-    ensures { (all : List LedgerLineValue) → AreGiven lent.old all []
+    requires { IsReady view.old }
+    ensures { (all : List LedgerLineValue) → AreGiven view.old all []
         → Puts W.told out.old out.new (flat_map ledger_lines all) }
 {
-    while let Some(line) = lent.next() {
-        put_ledger(out, key, &lent.whole(&line), &[]);
+    while let Some(line) = view.next() {
+        put_ledger(out, key, &view.whole(&line), &[]);
     }
 }
 

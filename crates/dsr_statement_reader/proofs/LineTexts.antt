@@ -38,8 +38,7 @@ use Rattle.dsr_statement_reader.specs.declared.fault.StatementFault.{StatementFa
 use Rattle.dsr_statement_reader.specs.declared.fault.StatementFault.TheVariants as faults
 use Rattle.dsr_statement_reader.specs.meaning.Spellings.{◌>>=◌, usages_in, amount_in, number_in, named, is_period, text_if, file_number_in, standing_in, standings_in_order, reason_in, reasons_in_order, column_in, columns_in_order, fault_in, plain_faults, outcome_in, key_in}
 use Rattle.dsr_statement_reader.specs.meaning.Lines.{text_of_line, text_of}
-use Rattle.dsr_statement_reader.specs.meaning.Readings.{report_if, report_in, file_in, missing_in, difference_in, ledger_in, party_in, unclaimed_in, reject_in, spelled, kind_name, kinds_in_order, kind_in, has_cells}
-use Rattle.dsr_statement_reader.specs.meaning.Readings.{or_fault, line_of_kind, line_of_cells, line_of, placed, is_placed, adds_up, is_no_report, next_line, ◌>>>◌, reading_after, reading_of, with_line, at_line, ended, end_fault, refused_after, Refusal, is_complete, most_bytes}
+use Rattle.dsr_statement_reader.specs.meaning.Readings.{report_if, report_in, file_in, missing_in, difference_in, ledger_in, party_in, unclaimed_in, reject_in, spelled, kind_name, kinds_in_order, kind_in, has_cells, or_fault, line_of_kind, line_of_cells, line_of, placed, is_placed, adds_up, is_no_report, next_line, ◌>>>◌, reading_after, reading_of, with_line, at_line, ended, end_fault, refused_after, Refusal, is_complete, most_bytes}
 use Rattle.dsr_statement_reader.specs.meaning.Statements.{AreInPlace}
 use Rattle.dsr_statement_reader.proofs.Digits.{number_spelled}
 use Rattle.dsr_statement_reader.proofs.CellTexts.{bind_some, map_some, if_some, usages_text, amount_text, day_text, name_text, text_same, period_days}

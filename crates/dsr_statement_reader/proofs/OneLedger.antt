@@ -1,8 +1,7 @@
 -- A statement has one ledger.
-use Rattle.std.proofs.Common.{◌≡◌, ℕ, suc, List, [], ◌∷◌, ◌++◌, map, refl, ap, sym, ◌∙◌, Result, Ok}
+use Rattle.std.proofs.Common.{◌≡◌, ℕ, suc, List, [], ◌∷◌, ◌++◌, map, refl, ap, sym, ◌∙◌, Result, Ok, append_assoc}
 use Rattle.std.specs.Prelude.{ℤ, pos}
 use Rattle.std.specs.List.{flat_map}
-use Rattle.std.proofs.Common.{append_assoc}
 use Rattle.std.proofs.lemmas.List.Concat.{flat_map-cons}
 use Rattle.dsr_ledger.specs.meaning.Keys.{Key}
 use Rattle.dsr_ledger.specs.meaning.Laws.{key_of_line}

@@ -21,8 +21,7 @@ use Rattle.dsr_ledger.specs.declared.report.Report.{Report}
 use Rattle.dsr_statement_reader.specs.declared.line.StatementLine.{StatementLine}
 use Rattle.dsr_statement_reader.specs.declared.line.StatementLine.TheVariants as lines
 use Rattle.dsr_statement_reader.specs.meaning.Lines.{head_of, files_from, lines_of_ledger, statement_lines}
-use Rattle.dsr_statement_reader.specs.meaning.Readings.{placed, is_placed, adds_up, is_no_report, of_latest, left_of, may_end, is_key_below, is_text_below}
-use Rattle.dsr_statement_reader.specs.meaning.Readings.{follows_file, follows_missing, follows_summary, follows_ledger, unclaimed_follows}
+use Rattle.dsr_statement_reader.specs.meaning.Readings.{placed, is_placed, adds_up, is_no_report, of_latest, left_of, may_end, is_key_below, is_text_below, follows_file, follows_missing, follows_summary, follows_ledger, unclaimed_follows}
 use Rattle.dsr_statement_reader.specs.meaning.Statements.{AreInPlace, IsStatement, all_adjacent, are_parties_in_order, is_before, IsReadable}
 
 -- a line that passes the tests stands where it may

@@ -3,11 +3,10 @@ use Rattle.std.proofs.Common.{arith, ◌≡◌, ◌≢◌, ℕ, List, [], ◌∷
 use Rattle.std.specs.Prelude.{pos, neg_ℤ}
 use Rattle.std.specs.Option.{option_map}
 use Rattle.std.specs.Char.{is_ascii_digit}
-use Rattle.std.specs.List.{list_all, onto_first}
+use Rattle.std.specs.List.{list_all, onto_first, join_with_byte}
 use Rattle.std.proofs.lemmas.Bool.Decides.{nat_tests}
 use Rattle.std.proofs.lemmas.Bool.{and_left, and_parts, cases_Bool, eqb-true}
 use Rattle.std.proofs.lemmas.List.Splits.{slice_split-cons_yes, slice_split-cons_no, join_with_byte-slice_split}
-use Rattle.std.specs.List.{join_with_byte}
 use Rattle.dsr_cells.specs.meaning.Texts.{is_run_of}
 use Rattle.dsr_cells.proofs.Splits.{pieces, pieces_cases}
 use Rattle.dsr_statement_reader.specs.inner.Cuts.{HasNoPoint}

@@ -2,8 +2,7 @@
 ghost use Rattle.std.specs.Prelude.{◌≡◌, OnOk};
 ghost use Rattle.dsr_ledger.specs.meaning.Keys.{key_eq};
 ghost use Rattle.dsr_statement_reader.specs.meaning.Readings.{is_key_below};
-ghost use Rattle.dsr_statement_reader.specs.inner.Lasts.{last_line, file_fits, fits_file, fits_missing, fits_summary, fits_ledger};
-ghost use Rattle.dsr_statement_reader.specs.inner.Lasts.{missing_fits, summary_fits, ledger_fits, party_fits, unclaimed_fits, reject_fits, fits_start, ends};
+ghost use Rattle.dsr_statement_reader.specs.inner.Lasts.{last_line, file_fits, fits_file, fits_missing, fits_summary, fits_ledger, missing_fits, summary_fits, ledger_fits, party_fits, unclaimed_fits, reject_fits, fits_start, ends};
 
 use crate::line::{ReadKey, StatementLine};
 use dsr_cells::{NoMemory, Text};

@@ -1,7 +1,5 @@
 -- Lemmas on the TABs of bytes as a bit mask.
-use Rattle.std.proofs.Common.{◌≡◌, ◌+◌, ◌-◌, ◌*◌, ◌/◌, ◌%◌, ◌^◌, ◌<◌, ◌≤◌, ℕ, zero, suc, Bool, List, [], ◌∷◌, length, map, take, drop, get_or, cond, true}
-use Rattle.std.proofs.Common.{false, eqb, sym, ap, subst, ◌∙◌, arith, inl, inr, bit_or, min, pow_mono, pow-suc, mul_comm, div-one}
-use Rattle.std.proofs.Common.{mod-eq_of_lt, mul-lt-mul_of_pos_right}
+use Rattle.std.proofs.Common.{◌≡◌, ◌+◌, ◌-◌, ◌*◌, ◌/◌, ◌%◌, ◌^◌, ◌<◌, ◌≤◌, ℕ, zero, suc, Bool, List, [], ◌∷◌, length, map, take, drop, get_or, cond, true, false, eqb, sym, ap, subst, ◌∙◌, arith, inl, inr, bit_or, min, pow_mono, pow-suc, mul_comm, div-one, mod-eq_of_lt, mul-lt-mul_of_pos_right}
 use Rattle.std.specs.Int.{bit_at, from_bool}
 use Rattle.std.specs.Simd.Lanes.{chunk, mask_l}
 use Rattle.std.proofs.lemmas.Bool.{cases_lt}

@@ -1,7 +1,7 @@
 //! The texts of a report: found in the bytes of a file, tested, and kept past their line.
 //!
-//! 1. `line_feed` finds the first line feed, which ends a line; `tabs` the TABs of a line's first 64 bytes; `utf8` tests
-//!    that bytes are UTF-8 (RFC 3629). They look at many bytes at a time (SIMD), in reports and in layouts.
+//! 1. `line_feed` finds the first line feed, which ends a line; `tabs` the TABs of a line's first 64 bytes, many bytes at a
+//!    time (SIMD); `utf8` tests that bytes are UTF-8 (RFC 3629).
 //! 2. `text` keeps a text: up to 22 bytes in place (`short`), longer ones on the heap (`kept`). A text
 //!    takes 24 bytes, and can be written over, which reuses its memory.
 //! 3. `inline_items` is the list type of blocks, and of the parties of a report's line: its first items

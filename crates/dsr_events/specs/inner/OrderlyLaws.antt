@@ -1,6 +1,5 @@
 -- Laws of orderly lists.
-use Rattle.std.proofs.Common.{◌≡◌, ℕ, zero, suc, Bool, true, false, true≢false, ◌||◌, ◌⊎◌, inl, inr, ⊎_elim, append_assoc, List, [], ◌∷◌, ◌++◌, length, Some}
-use Rattle.std.proofs.Common.{slice_get, refl, sym, ap, ◌∙◌, subst, arith, length-append}
+use Rattle.std.proofs.Common.{◌≡◌, ℕ, zero, suc, Bool, true, false, true≢false, ◌||◌, ◌⊎◌, inl, inr, ⊎_elim, append_assoc, List, [], ◌∷◌, ◌++◌, length, Some, slice_get, refl, sym, ap, ◌∙◌, subst, arith, length-append}
 use Rattle.std.proofs.lemmas.Option.{slice_get_within}
 use Rattle.dsr_events.specs.meaning.Placed.{Placed}
 use Rattle.dsr_events.specs.meaning.Orderly.{is_ended, has_ended, MayStandAt, IsOrderly}

@@ -1,10 +1,7 @@
 -- The columns of the records.
 use Rattle.std.specs.Prelude.{ℕ, List, codes}
 use Rattle.dsr_events.specs.declared.kinds.Column.{Column}
-use Rattle.dsr_events.specs.declared.kinds.Column.TheVariants.{MessageId, FileNumber, NumberOfFiles, UsageStartDate, UsageEndDate, Sender, Recipient}
-use Rattle.dsr_events.specs.declared.kinds.Column.TheVariants.{SummaryRecordId, Territory, UseType, Currency, Usages, Amount, BlockId, Isrc, Titles, Artists}
-use Rattle.dsr_events.specs.declared.kinds.Column.TheVariants.{WorkId, Title, Parties, Shares, NumberOfLinesInFile, NumberOfSummaryRecords}
-use Rattle.dsr_events.specs.declared.kinds.Column.TheVariants.{NumberOfBlocksInFile}
+use Rattle.dsr_events.specs.declared.kinds.Column.TheVariants.{MessageId, FileNumber, NumberOfFiles, UsageStartDate, UsageEndDate, Sender, Recipient, SummaryRecordId, Territory, UseType, Currency, Usages, Amount, BlockId, Isrc, Titles, Artists, WorkId, Title, Parties, Shares, NumberOfLinesInFile, NumberOfSummaryRecords, NumberOfBlocksInFile}
 
 -- the name of each column
 abbrev pub column_name : Column → List ℕ

@@ -2,9 +2,7 @@
 use Rattle.std.specs.Prelude.{ℕ, List, codes, Option, None, Some}
 use Rattle.dsr_events.specs.declared.kinds.Column.{Column}
 use Rattle.dsr_events.specs.declared.fault.FileFault.{FileFault}
-use Rattle.dsr_events.specs.declared.fault.FileFault.TheVariants.{LongLine, NotUtf8, ManyCells, UnknownRecord, MissingCell, BadCell, Uneven, NoHead, SecondHead}
-use Rattle.dsr_events.specs.declared.fault.FileFault.TheVariants.{LateSummary, NoResource, LateWork, BlockNumber, NoUsage, AfterFoot, NoFoot, SummaryTwice}
-use Rattle.dsr_events.specs.declared.fault.FileFault.TheVariants.{ManySummaries, LongBlock, FootLines, FootSummaries, FootBlocks, Read, Reads, Memory}
+use Rattle.dsr_events.specs.declared.fault.FileFault.TheVariants.{LongLine, NotUtf8, ManyCells, UnknownRecord, MissingCell, BadCell, Uneven, NoHead, SecondHead, LateSummary, NoResource, LateWork, BlockNumber, NoUsage, AfterFoot, NoFoot, SummaryTwice, ManySummaries, LongBlock, FootLines, FootSummaries, FootBlocks, Read, Reads, Memory}
 
 abbrev pub name_of : FileFault → List ℕ
 name_of LongLine = codes "LongLine"

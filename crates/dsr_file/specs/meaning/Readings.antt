@@ -1,11 +1,12 @@
 -- What a line is, without the lines before it.
-use Rattle.std.specs.Prelude.{ℕ, ◌==◌, ◌||◌, Bool, true, false, List, [], ◌∷◌, ◌++◌, length, slice_index, Result, Ok, Err, if◌then◌else◌}
+use Rattle.std.specs.Prelude.{ℕ, Bool, true, false, List, [], ◌∷◌, ◌++◌, Result, Ok, Err, if◌then◌else◌}
 use Rattle.std.specs.Str.{is_utf8}
 use Rattle.dsr_cells.specs.meaning.Lines.{is_long, without_return}
 use Rattle.dsr_events.specs.declared.record.Record.{Record}
 use Rattle.dsr_events.specs.declared.record.Record.TheVariants.{Skipped}
 use Rattle.dsr_records.specs.declared.fault.RecordFault.{RecordFault}
 use Rattle.dsr_records.specs.declared.fault.RecordFault.TheVariants as faults
+use Rattle.dsr_records.specs.meaning.Layouts.{is_left_out}
 use Rattle.dsr_records.specs.meaning.Records.{LayoutTable}
 use Rattle.dsr_records.specs.meaning.Values.{record_of}
 use Rattle.dsr_events.specs.declared.fault.FileFault.{FileFault}
@@ -24,17 +25,13 @@ file_fault (faults.Missing column) = MissingCell column
 file_fault (faults.Bad column) = BadCell column
 file_fault faults.Uneven = Uneven
 
--- an empty line, or one that begins with #
-abbrev pub is_skipped_text : List ℕ → Bool
-is_skipped_text text = (length text == 0) || (slice_index text 0 == 35)
-
 abbrev pub of_record : Result Record RecordFault → Reading
 of_record (Ok r) = Holds r
 of_record (Err f) = Faulty (file_fault f)
 
 -- what the text of a line is, if it is UTF-8
 unfoldable pub of_utf8 : LayoutTable → List ℕ → Reading
-of_utf8 layout text = if is_skipped_text text then SkippedLine else of_record (record_of layout text)
+of_utf8 layout text = if is_left_out text then SkippedLine else of_record (record_of layout text)
 
 -- what the text of a line is, if it is not too long
 unfoldable pub of_text : LayoutTable → List ℕ → Reading

@@ -12,7 +12,7 @@ ghost use Rattle.dsr_ledger.specs.meaning.Parts.{part_of};
 ghost use Rattle.dsr_ledger.specs.inner.Seated.{HaveSeats, HasPart, HaveParts, AreSeatsBelow};
 
 use crate::index::{Index, Numbered, Seeded};
-use crate::sums::Wide;
+use crate::sums::PackedI128;
 use dsr_cells::{Amount, NoMemory};
 use smallvec::SmallVec;
 use std::alloc::Global;
@@ -33,7 +33,7 @@ pub(crate) struct SeatShare {
 pub(crate) struct SeatPart {
     pub(crate) seat: u32,
     pub(crate) has_part: bool,
-    pub(crate) amount: Wide,
+    pub(crate) amount: PackedI128,
 }
 
 impl SeatPart {
@@ -45,7 +45,7 @@ impl SeatPart {
         SeatPart {
             seat,
             has_part: false,
-            amount: Wide::of(0),
+            amount: PackedI128::of(0),
         }
     }
 
@@ -56,7 +56,7 @@ impl SeatPart {
         ensures owed { owed_kept self.new ≡ owed_with amount (owed_kept self.old) }
     {
         self.has_part = true;
-        self.amount = Wide::of(self.amount.get() + amount);
+        self.amount = PackedI128::of(self.amount.get() + amount);
     }
 }
 

@@ -6,11 +6,14 @@ use Rattle.std.specs.Int.{is_in_range}
 use Rattle.std.specs.List.{list_all}
 use Rattle.std.specs.Simd.Lanes.{Each1, chunk, mask_l, number_l}
 use Rattle.dsr_cells.specs.meaning.Cells.{cells}
-use Rattle.dsr_cells.specs.inner.Fours.{word_of_four}
 use Rattle.dsr_cells.specs.meaning.Numbers.{digits_sum, is_digits}
 use Rattle.dsr_events.specs.declared.record.Record.{Record}
 use Rattle.dsr_records.specs.meaning.Layouts.{standard_layout}
 use Rattle.dsr_records.specs.meaning.Values.{record_of}
+
+-- the word that four bytes make, the first of them the lowest
+abbrev pub word_of_four : ℕ → ℕ → ℕ → ℕ → ℕ
+word_of_four a b c d = a + 256 * (b + 256 * (c + 256 * d))
 
 -- the word that eight bytes make, the first of them the lowest
 abbrev pub word_of_eight : ℕ → ℕ → ℕ → ℕ → ℕ → ℕ → ℕ → ℕ → ℕ

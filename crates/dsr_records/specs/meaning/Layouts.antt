@@ -1,6 +1,5 @@
 -- The layout that the lines of a text spell, or the first faulty line and its fault.
-use Rattle.std.specs.Prelude.{ℕ, suc, ◌&&◌, ◌||◌, ◌==◌, not, nat_lt, nat_le, Bool, if◌then◌else◌, List, [], ◌∷◌, ◌++◌, map, length, codes, Option, Some, None}
-use Rattle.std.specs.Prelude.{Result, Ok, Err, slice_get, slice_index}
+use Rattle.std.specs.Prelude.{ℕ, suc, ◌&&◌, ◌||◌, ◌==◌, not, nat_lt, nat_le, Bool, if◌then◌else◌, List, [], ◌∷◌, ◌++◌, map, length, codes, Option, Some, None, Result, Ok, Err, slice_get, slice_index}
 use Rattle.std.specs.Char.{is_ascii_alphanumeric}
 use Rattle.std.specs.Int.{is_in_range}
 use Rattle.std.specs.List.{list_any}
@@ -14,8 +13,7 @@ use Rattle.dsr_events.specs.declared.kinds.Column.{Column}
 use Rattle.dsr_events.specs.declared.kinds.Kind.{Kind}
 use Rattle.dsr_events.specs.declared.kinds.Kind.TheVariants.{Head, Summary, Resource, Work, Usage, Foot, Skipped}
 use Rattle.dsr_records.specs.declared.fault.LayoutFault.{LayoutFault}
-use Rattle.dsr_records.specs.declared.fault.LayoutFault.TheVariants.{Large, LongLine, NotUtf8, UnknownRole, BadType, RoleTwice, TypeTwice, BadPosition}
-use Rattle.dsr_records.specs.declared.fault.LayoutFault.TheVariants.{ManySkips, MissingRole}
+use Rattle.dsr_records.specs.declared.fault.LayoutFault.TheVariants.{Large, LongLine, NotUtf8, UnknownRole, BadType, RoleTwice, TypeTwice, BadPosition, ManySkips, MissingRole}
 use Rattle.dsr_records.specs.declared.fault.LayoutError.{LayoutError}
 use Rattle.dsr_records.specs.meaning.Records.{LayoutTable, RoleLine, is_skipped}
 use Rattle.dsr_records.specs.meaning.Tables.{columns_of, may_be_empty}

@@ -8,10 +8,7 @@ use Rattle.dsr_cells.specs.meaning.Numbers.{number_of, usages_of, amount_of, sha
 use Rattle.dsr_cells.specs.meaning.Texts.{is_identifier_text, is_territory_text, is_use_type_text, is_currency_text}
 use Rattle.dsr_cells.specs.meaning.Values.{raw_parts}
 use Rattle.dsr_events.specs.declared.kinds.Column.{Column}
-use Rattle.dsr_events.specs.declared.kinds.Column.TheVariants.{MessageId, FileNumber, NumberOfFiles, UsageStartDate, UsageEndDate, Sender, Recipient}
-use Rattle.dsr_events.specs.declared.kinds.Column.TheVariants.{SummaryRecordId, Territory, UseType, Currency, Usages, Amount, BlockId, Isrc, Titles, Artists}
-use Rattle.dsr_events.specs.declared.kinds.Column.TheVariants.{WorkId, Title, Parties, Shares, NumberOfLinesInFile, NumberOfSummaryRecords}
-use Rattle.dsr_events.specs.declared.kinds.Column.TheVariants.{NumberOfBlocksInFile}
+use Rattle.dsr_events.specs.declared.kinds.Column.TheVariants.{MessageId, FileNumber, NumberOfFiles, UsageStartDate, UsageEndDate, Sender, Recipient, SummaryRecordId, Territory, UseType, Currency, Usages, Amount, BlockId, Isrc, Titles, Artists, WorkId, Title, Parties, Shares, NumberOfLinesInFile, NumberOfSummaryRecords, NumberOfBlocksInFile}
 use Rattle.dsr_events.specs.declared.kinds.Kind.{Kind}
 use Rattle.dsr_events.specs.declared.kinds.Kind.TheVariants.{Head, Summary, Resource, Work, Usage, Foot, Skipped}
 

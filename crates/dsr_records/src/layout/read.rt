@@ -5,7 +5,7 @@ ghost use Rattle.std.specs.Option.{option_map};
 ghost use Rattle.std.specs.Str.{is_utf8};
 ghost use Rattle.dsr_cells.specs.meaning.Cells.{cells};
 ghost use Rattle.dsr_cells.specs.meaning.Lines.{without_return};
-ghost use Rattle.dsr_records.specs.meaning.Layouts.{empty_layout, is_type_text, is_type_byte, kind_named, position_of, positions_from, with_line, with_text, with_piece, with_lines, layout_of, cell_at, is_left_out};
+ghost use Rattle.dsr_records.specs.meaning.Layouts.{empty_layout, is_type_text, is_type_byte, kind_named, position_of, positions_from, with_line, with_text, with_piece, with_lines, layout_of, cell_at};
 
 use crate::column::{MOST_COLUMNS, column_may_be_empty, columns};
 use crate::cursor::Cursor;
@@ -14,6 +14,7 @@ use crate::layout::line::{RoleLine, TypeName};
 use crate::layout::pieces::{Pieces, lines};
 use crate::layout::positions::Positions;
 use crate::layout::{Layout, place};
+use crate::line::{LINE_LIMIT, is_left_out, strip_return};
 use crate::rest::Rest;
 use arrayvec::ArrayVec;
 use dsr_cells::read_number;
@@ -22,9 +23,6 @@ use dsr_texts::text_of;
 
 /// The maximum number of bytes of a layout.
 const MOST_BYTES: usize = 65536;
-
-/// The maximum length of a line of a layout in bytes, without its line feed.
-const LINE_LIMIT: usize = 8192;
 
 /// The greatest position of a column.
 const LAST_POSITION: u64 = 63;
@@ -133,7 +131,7 @@ impl Layout {
         ensures { MatchResult result (λ _. with_text self.old line.now ≡ Ok self.new)
             (λ fault. with_text self.old line.now ≡ Err fault) }
     {
-        if is_comment(line) {
+        if is_left_out(line) {
             return Ok(());
         }
         match read_kind_name(cell(line, 0).unwrap_or("")) {
@@ -172,25 +170,6 @@ impl Layout {
             });
         }
         read_pieces(lines(bytes))
-    }
-}
-
-/// Whether a line is ignored: an empty one, or one that begins with `#`.
-fn is_comment(line: &str) -> bool
-    ensures { result ≡ is_left_out line.now }
-{
-    line.is_empty() || line.as_bytes()[0] == b'#'
-}
-
-/// The text without a carriage return at its end.
-fn strip_return(text: &str) -> &str
-    ensures { result.now ≡ without_return text.now }
-{
-    let last = text.len().saturating_sub(1);
-    if last < text.len() && text.as_bytes()[last] == b'\r' {
-        &text[..last]
-    } else {
-        text
     }
 }
 

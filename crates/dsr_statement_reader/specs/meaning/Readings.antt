@@ -1,6 +1,5 @@
 -- What the text of a statement means: its lines, or its first fault.
-use Rattle.std.specs.Prelude.{ℕ, suc, ◌^◌, ◌&&◌, ◌||◌, ◌==◌, nat_lt, nat_le, not, Bool, true, false, if◌then◌else◌, List, [], ◌∷◌, length, Option, Some, None, Result, Ok, Err, ℤ, pos, ◌-ℤ◌}
-use Rattle.std.specs.Prelude.{option_map, codes}
+use Rattle.std.specs.Prelude.{ℕ, suc, ◌^◌, ◌&&◌, ◌||◌, ◌==◌, nat_lt, nat_le, not, Bool, true, false, if◌then◌else◌, List, [], ◌∷◌, length, Option, Some, None, Result, Ok, Err, ℤ, pos, ◌-ℤ◌, option_map, codes}
 use Rattle.std.specs.List.{slice_split}
 use Rattle.std.specs.Ordering.{int_eq, is_lt}
 use Rattle.std.specs.Str.{bytes_eq, is_utf8}

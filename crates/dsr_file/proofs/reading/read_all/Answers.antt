@@ -4,8 +4,7 @@ use Rattle.std.proofs.lemmas.Result.{IfOk-weaker, IfErr-weaker, err_from_is_err_
 use Rattle.std.specs.Io.KnownBytes.{Consumes}
 use Rattle.dsr_file.specs.inner.Feeding.{Reads}
 use Rattle.dsr_io.specs.meaning.ReadCounts.{AddsRead}
-use Rattle.dsr_file.proofs.ReadLemmas.{done_ends, no_reads, whole_read, whole_refused, failed_read, failed_refused, limit_read, limit_refused, fault_read}
-use Rattle.dsr_file.proofs.ReadLemmas.{more_reads, piece_refused, not_done}
+use Rattle.dsr_file.proofs.ReadLemmas.{done_ends, no_reads, whole_read, whole_refused, failed_read, failed_refused, limit_read, limit_refused, fault_read, more_reads, piece_refused, not_done}
 use Rattle.dsr_file.proofs.reading.read_all.Goals as goal
 
 pub loop-init : goal.loop-init

@@ -11,7 +11,7 @@ returns g c = λ r is.
     let files = then (turn c.put_head.ensures (ap head_line is.key)) (turn c.put_files.ensures (ap (file_lines 1) is.files)) in
     let missing = turn c.put_missing_files.ensures (ap (flat_map missing_line) is.missing) in
     let differences = turn c.put_differences.ensures (ap (flat_map difference_line) is.differences) in
-    let ledger = c.put_lent_lines.ensures r.ledger is.ledger in
+    let ledger = c.put_viewed_lines.ensures r.ledger is.ledger in
     let rejects = turn c.put_rejects.ensures (ap (flat_map reject_line) is.rejects) in
     let puts = then files (then missing (then differences (then ledger rejects))) in
     turn puts (search (rules, append_assoc, append-nil))

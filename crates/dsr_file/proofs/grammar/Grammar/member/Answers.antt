@@ -1,4 +1,4 @@
-use Rattle.std.proofs.Common.{◌+◌, ◌∙◌, sym, ap, refl, add-zero}
+use Rattle.std.proofs.Common.{◌+◌, ◌∙◌, sym, ap, refl}
 use Rattle.std.specs.Prelude.{option_and_then}
 use Rattle.dsr_records.specs.inner.Checked.{record_seen}
 use Rattle.dsr_file.specs.inner.Grammars.{kept_count_fault}

@@ -4,15 +4,15 @@ use Rattle.dsr_file.specs.meaning.Readings.{file_fault, of_record}
 use Rattle.dsr_file.proofs.TestLemmas.{of_utf8_skipped, of_utf8_record, faulty_steps, own_not_count}
 use Rattle.dsr_file.proofs.grammar.Grammar.text.Goals as goal
 
-pub returns-then-is_skipped-clause-steps : goal.returns-then-is_skipped-clause-steps
-returns-then-is_skipped-clause-steps c =
-    λ ls k. rw (of_utf8_skipped c.args.layout.now c.args.text.now (sym c.is_skipped.ensures ∙ c.if-is_skipped.true), c.requires.none)
+pub returns-then-is_left_out-clause-steps : goal.returns-then-is_left_out-clause-steps
+returns-then-is_left_out-clause-steps c =
+    λ ls k. rw (of_utf8_skipped c.args.layout.now c.args.text.now (sym c.is_left_out.ensures ∙ c.if-is_left_out.true), c.requires.none)
     (c.skip_line.ensures.steps ls k)
 
 pub returns-in-Err-clause-steps : goal.returns-in-Err-clause-steps
 returns-in-Err-clause-steps c = λ ls k.
     rw (
-      of_utf8_record c.args.layout.now c.args.text.now (found_by c.check_line.result) (sym c.is_skipped.ensures ∙ c.if-is_skipped.false) c.check_line.ensures
+      of_utf8_record c.args.layout.now c.args.text.now (found_by c.check_line.result) (sym c.is_left_out.ensures ∙ c.if-is_left_out.false) c.check_line.ensures
           ∙ ap (λ r. of_record (found_by r)) c.in-Err.is,
       c.file_fault.ensures,
       c.requires.none,
@@ -21,5 +21,5 @@ returns-in-Err-clause-steps c = λ ls k.
 
 pub returns-in-Ok-clause-steps : goal.returns-in-Ok-clause-steps
 returns-in-Ok-clause-steps c = λ ls k.
-    rw (of_utf8_record c.args.layout.now c.args.text.now (found_by c.check_line.result) (sym c.is_skipped.ensures ∙ c.if-is_skipped.false) c.check_line.ensures
+    rw (of_utf8_record c.args.layout.now c.args.text.now (found_by c.check_line.result) (sym c.is_left_out.ensures ∙ c.if-is_left_out.false) c.check_line.ensures
     ∙ ap (λ r. of_record (found_by r)) c.in-Ok.is) (c.checked.ensures.steps ls k)

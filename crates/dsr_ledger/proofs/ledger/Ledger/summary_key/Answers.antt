@@ -27,5 +27,5 @@ returns-clause-keeps c =
 pub returns-in-Some-clause-keeps : goal.returns-in-Some-clause-keeps
 returns-in-Some-clause-keeps c = keys_stay c.args.self.now
 
-pub returns-in_default-narrow-clause-keeps : goal.returns-in_default-narrow-clause-keeps
-returns-in_default-narrow-clause-keeps c = keys_stay c.args.self.now
+pub returns-in_default-to_u32-clause-keeps : goal.returns-in_default-to_u32-clause-keeps
+returns-in_default-to_u32-clause-keeps c = keys_stay c.args.self.now

@@ -1,5 +1,0 @@
-use Rattle.dsr_ledger.proofs.Common.{◌≡◌, take}
-use Rattle.dsr_ledger.proofs.lent.copies.copy_parties.Given as goal
-
-abbrev pub invariant-loop-party : goal.invariant-loop-party
-invariant-loop-party l = l.parties ≡ take l.party-index l.lent
