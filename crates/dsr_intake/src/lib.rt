@@ -10,8 +10,8 @@
 //!    naps, and when it waits.
 //! 5. `gather` again: joins the threads, and returns the readers and the closed books. `intake`
 //!    makes their report; the statement of a run is put from lines that borrow their texts from them.
-//! 6. dsr_statement allocates all memory that writing the statement needs, writes it to an outlet in pieces, and says
-//!    whether it has remarks.
+//! 6. dsr_statement takes the memory for writing the statement, writes it to an outlet in pieces, and says whether it has
+//!    remarks.
 //! 7. `stages`: all of them together.
 //!
 //! **Example**, compiled and proved in `crates/dsr_tests/src/runs.rt`. `Script` is a reader that gives a text, `Page`

@@ -11,7 +11,7 @@
 //! `checks/refusals` refuses each allocation of `reads`, of `whole`, and of the second test of `memory`, in turn.
 //!
 //! That cells, records, layouts and files have the values of docs/PROFILE.md is not tested here: `checks/rows` tries it on
-//! the program. The tests are a separate crate, since a crate with tests is proved a second time with them.
+//! the program.
 #![tactic(auto)]
 
 #[cfg(test)]

@@ -1,4 +1,4 @@
-//! Batches that are taken without waiting.
+//! Batches that one thread sends and takes.
 ghost use Rattle.std.specs.Prelude.{◌≡◌, []};
 
 use crate::sending::{flushes, relay, send_blocks};

@@ -2,13 +2,11 @@
 //!
 //! 1. `example`: the one that the lib.rt of dsr_relay shows.
 //! 2. `events` makes the events that go through a relay, `sending` sends them, and `taking` takes them.
-//! 3. `batches`: batches that are taken without waiting. `ends`: what a call returns once the other end is gone. `reuse`:
+//! 3. `batches`: batches that one thread sends and takes. `ends`: what a call returns once the other end is gone. `reuse`:
 //!    blocks that are exchanged for stale ones.
 //! 4. `passing`: a file that goes from one thread to another. `memory`, where allocations are refused, and `threads` let it
 //!    go through relays of their own.
 //! 5. `opening`: relays that are made again if memory is refused.
-//!
-//! The tests are a separate crate, since a crate with tests is proved a second time with them.
 #![tactic(auto)]
 
 #[cfg(test)]

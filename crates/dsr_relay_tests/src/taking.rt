@@ -58,7 +58,7 @@ pub fn takes_batch<R: Wait>(rt: &R, tap: &mut Tap) -> Option<usize>
     Some(count)
 }
 
-/// Takes what is there without waiting and gives it back, and returns the number of its events, or None after the end.
+/// Takes the batch that is there, if one is, and gives it back. Returns the number of its events, or None after the end.
 pub fn takes_ready<R: Wait>(rt: &R, tap: &mut Tap) -> Option<usize> {
     if tap.ended() {
         return None;

@@ -1,6 +1,6 @@
 //! The statement of a report: its bytes, how they are written, and whether it has remarks.
 //!
-//! 1. `room`: allocates all memory that writing the statement needs, before its first byte is written.
+//! 1. `room`: the memory that writing the statement needs.
 //! 2. `write`: puts the statement, by `lines`, `cells`, `key` and `names`, into `pieces`.
 //! 3. `pieces`: writes what is put to an [`Outlet`] of dsr_io, in pieces of up to 64 KiB, and flushes it at the end. What
 //!    waits is in a `slice_buffer`.
@@ -20,8 +20,8 @@
 //!
 //! **The promise.** What `write_statement` writes to an outlet and then flushes is exactly the statement of the report, as
 //! defined in `specs/`; if a write or the flush fails, exactly the reported number of its first bytes was written.
-//! [`Room::new`] allocates all memory for this, and `write_statement` none. `statement` returns the same bytes. The status
-//! is that of the same report.
+//! Memory for writing is refused by [`Room::new`] alone, which has nothing to write to. `statement` returns the same bytes. The
+//! status is that of the same report.
 //!
 //! **Where to begin.** `specs/meaning/Statement.antt` and `specs/meaning/Status.antt` have the definitions, and
 //! `Written.antt` of dsr_io what an outlet tells; `src/lines.rt` puts each line, and `src/write.rt` the whole.

@@ -144,7 +144,7 @@ fn a_relay_that_closes_early(rt: HostRuntime) -> Result<(), AllocError> {
     Ok(())
 }
 
-/// Takes what is there without waiting, and gives it back. Returns the number of its events.
+/// Takes the batch that is there, if one is, and gives it back. Returns the number of its events.
 fn takes_ready<H: Wait>(rt: &H, tap: &mut Tap) -> usize {
     if tap.ended() {
         return 0;
