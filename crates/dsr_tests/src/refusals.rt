@@ -213,14 +213,14 @@ fn is_refused<H: Threads + Wait + RandomSource + Clock + Copy + Send + 'static>(
 #[test]
 fn no_files_and_too_many(rt: HostRuntime) -> Result<(), AllocError> {
     let alloc = rt.alloc();
-    let reason = IntakeError::NoFiles;
     for capacity in CAPACITIES {
         let readers = readers_of(alloc, &[])?;
+        let reason = IntakeError::NoFiles;
+        assert!(rt; is_refused(&rt, alloc, readers, options(capacity, 100), reason));
+        let readers = readers_of(alloc, &[CLEAN; 65])?;
+        let reason = IntakeError::TooManyFiles;
         assert!(rt; is_refused(&rt, alloc, readers, options(capacity, 100), reason));
     }
-    let readers = readers_of(alloc, &[CLEAN; 65])?;
-    let reason = IntakeError::TooManyFiles;
-    assert!(rt; is_refused(&rt, alloc, readers, options(1, 100), reason));
     Ok(())
 }
 
