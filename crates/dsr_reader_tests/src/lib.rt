@@ -6,7 +6,8 @@
 //! 3. `reads`: how far a file is read, which contracts do not say of one that ends for want of memory. The source of this
 //!    test is the example of dsr_io.
 //! 4. `whole`: all events of a file at once, asked for again if memory is refused.
-//! 5. `usual`: which lines are read quickly, which contracts do not say.
+//! 5. `refused`: which event `read_file` hands back if its sink refuses one.
+//! 6. `usual`: which lines are read quickly, which contracts do not say.
 //!
 //! `checks/refusals` refuses each allocation of `reads`, of `whole`, and of the second test of `memory`, in turn.
 //!
@@ -20,6 +21,8 @@ mod examples;
 mod memory;
 #[cfg(test)]
 mod reads;
+#[cfg(test)]
+mod refused;
 #[cfg(test)]
 mod usual;
 #[cfg(test)]
