@@ -27,7 +27,7 @@ fn may_stand(place: u64, part: &EventPart) -> bool
 
 impl Sender {
     /// Whether the events sent and this one are in order.
-    #[tactic(auto, using(dsr_events::specs::inner::OrderlyLaws::orderly_push))]
+    #[tactic(auto, using(dsr_events::proofs::OrderlyLaws::orderly_push))]
     fn may_send(&self, event: &Event) -> bool
         ensures going { result ≡ true → has_ended self.now.feed.sent ≡ false }
         ensures orderly { result ≡ true → IsOrderly (self.now.feed.sent ++ event.now ∷ []) }

@@ -1,9 +1,5 @@
 -- The last ten digits of a number of eleven.
-use Rattle.std.proofs.Common.{arith, ◌≡◌, ◌<◌, ◌-◌, ◌+◌, ◌^◌, ℕ, ◌∷◌, length, refl, ap, sym, ◌∙◌}
-use Rattle.std.specs.Fmt.{decimal}
-use Rattle.std.proofs.lemmas.Fmt.{decimal-digits_value}
-use Rattle.dsr_cells.specs.meaning.Numbers.{digits_sum}
-use Rattle.dsr_cells.specs.meaning.Written.{padded_number}
+use Rattle.dsr_cells.proofs.Common.{arith, ◌≡◌, ◌<◌, ◌-◌, ◌+◌, ◌^◌, ℕ, ◌∷◌, length, refl, ap, sym, ◌∙◌, decimal, decimal-digits_value, digits_sum, padded_number}
 use Rattle.dsr_cells.proofs.Numbers.{own}
 use Rattle.dsr_cells.proofs.Spelled.{all_digits, zeros_digits, zeros_spelled, spelled, padded_length}
 

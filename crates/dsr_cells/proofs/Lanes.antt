@@ -1,9 +1,5 @@
 -- Lemmas on testing several bytes at a time.
-use Rattle.std.proofs.Common.{arith, ◌≡◌, ◌+◌, ◌∙◌, ◌&&◌, ℕ, Bool, List, [], ◌∷◌, map, take, drop, true, refl, sym, ap, ap₂, w8, Fits, take-append-drop}
-use Rattle.std.specs.List.{list_all}
-use Rattle.std.specs.Simd.Lanes.{Each1, chunk}
-use Rattle.std.proofs.lemmas.Bool.{agree_below, agree_below_at}
-use Rattle.std.proofs.lemmas.List.{drop-take, take-take}
+use Rattle.dsr_cells.proofs.Common.{arith, ◌≡◌, ◌+◌, ◌∙◌, ◌&&◌, ℕ, Bool, List, [], ◌∷◌, map, take, drop, true, refl, sym, ap, ap₂, w8, Fits, take-append-drop, list_all, Each1, chunk, agree_below, agree_below_at, drop-take, take-take}
 use Rattle.std.proofs.lemmas.List.Folds.{list_all-append}
 
 -- two tests that agree on all bytes flag the same lanes

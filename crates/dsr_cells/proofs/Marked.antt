@@ -1,9 +1,6 @@
 -- Lemmas on the first pipe or backslash of some bytes.
-use Rattle.std.proofs.Common.{arith, ◌≡◌, ◌<◌, ◌≤◌, ◌+◌, ℕ, Bool, List, [], ◌∷◌, length, map, get_or, true, false, not, refl, eqb, inl, inr, Some, None, bit_or}
-use Rattle.std.specs.List.{position, position_or_len, prefix_len}
-use Rattle.std.specs.Simd.Lanes.{mask_l}
+use Rattle.dsr_cells.proofs.Common.{arith, ◌≡◌, ◌<◌, ◌≤◌, ◌+◌, ℕ, Bool, List, [], ◌∷◌, length, map, get_or, true, false, not, refl, eqb, inl, inr, Some, None, bit_or, position, position_or_len, prefix_len, mask_l, cases_Bool, cases_lt, lt-ltb, le-ltb}
 use Rattle.std.proofs.lemmas.List.Sums.{position_or_len_is}
-use Rattle.std.proofs.lemmas.Bool.{cases_Bool, cases_lt, lt-ltb, le-ltb}
 use Rattle.dsr_cells.proofs.RawParts.{is_mark, PlainTo}
 
 -- a byte that is a pipe once the bit of value 32 is set

@@ -1,16 +1,13 @@
 -- Big-endian numbers of bytes have the order of the bytes.
-use Rattle.std.proofs.Common.{◌≡◌, ◌∙◌, refl, sym, ap, ℕ, zero, suc, ◌+◌, ◌*◌, ◌^◌, ◌<◌, List, [], ◌∷◌, length, take, drop, slice_index, nat_cmp, Ordering, Less, Equal, Greater, arith}
+use Rattle.dsr_cells.proofs.Common.{◌≡◌, ◌∙◌, refl, sym, ap, ℕ, zero, suc, ◌+◌, ◌*◌, ◌^◌, ◌<◌, List, [], ◌∷◌, length, take, drop, slice_index, nat_cmp, Ordering, Less, Equal, Greater, arith, MatchOrdering, ordering_then, is_eq, is_eq-slice_cmp, pow-suc}
 use Rattle.std.specs.Cmp.{nat_cmp_is, ranks}
 use Rattle.std.specs.Cmp.Lexicographic.{slice_cmp}
 use Rattle.std.specs.Int.{w32, w64, from_be_bytes}
-use Rattle.std.specs.Ordering.{MatchOrdering, ordering_then, is_eq}
-use Rattle.std.proofs.lemmas.Map.Text.{is_eq-slice_cmp}
 use Rattle.std.proofs.lemmas.Slice.Eq.{bytes_eq-Decides}
 use Rattle.std.proofs.lemmas.Nat.{mul-add-lt}
-use Rattle.std.proofs.Math.Nat.{pow-suc}
 use Rattle.dsr_texts.specs.inner.Bytes.{AreBytes}
 use Rattle.dsr_texts.proofs.Bytes.{small_front, small_back}
-use Rattle.dsr_cells.specs.inner.Order.{number_of_bytes}
+use Rattle.dsr_cells.specs.inner.Parts.{number_of_bytes}
 
 below : (bytes : List ℕ) → AreBytes bytes → number_of_bytes bytes < 256 ^ length bytes
 below [] small = omega arith

@@ -8,7 +8,7 @@ ghost use Rattle.std.specs.Str.{bytes_eq};
 ghost use Rattle.std.specs.Hash as fed;
 ghost use Rattle.std.proofs.Common.{rules};
 ghost use Rattle.dsr_texts.specs.inner.Bytes.{AreBytes};
-ghost use Rattle.dsr_cells.specs.inner.Order.{number_of_bytes};
+ghost use Rattle.dsr_cells.specs.inner.Parts.{number_of_bytes};
 ghost use Rattle.dsr_cells.specs.meaning.Texts.{is_isrc_text};
 
 use crate::spelling::is_isrc;

@@ -1,7 +1,7 @@
 //! Reading all values of a list cell.
 ghost use Rattle.std.specs.Prelude.{◌≡◌, ◌∷◌, IfOk, OnOk, length, map};
 ghost use Rattle.dsr_cells.specs.inner.Parts.{parts_left};
-ghost use Rattle.dsr_cells.specs.meaning.Values.{parts_after, raw_parts, value_of};
+ghost use Rattle.dsr_cells.specs.meaning.Cells.{parts_after, raw_parts, value_of};
 
 use crate::cells::values;
 use crate::escape::unescape;

@@ -1,2 +1,3 @@
+pub mod Common
 pub mod Naming
 pub mod Printing

@@ -1,7 +1,5 @@
 -- Sources in the order of their names.
-use Rattle.std.proofs.Common.{◌≡◌, ◌∙◌, ◌+◌, ◌<◌, ℕ, List, [], ◌∷◌, ◌++◌, Some, ap, ap₂, sym, length, take, map, slice_index_or}
-use Rattle.std.proofs.lemmas.List.{get_or_default, map-append, take_more}
-use Rattle.dsr_command.specs.Inputs.{IsRefusal, IsRefusalOf}
+use Rattle.dsr_command.proofs.Common.{◌≡◌, ◌∙◌, ◌+◌, ◌<◌, ℕ, List, [], ◌∷◌, ◌++◌, Some, ap, ap₂, sym, length, take, map, slice_index_or, get_or_default, map-append, take_more, IsRefusal, IsRefusalOf}
 use Rattle.dsr_command.specs.declared.inputs.Input.{Input}
 use Rattle.dsr_command.specs.declared.inputs.OpenError.{OpenError}
 use Rattle.dsr_command.specs.declared.inputs.OpenError.TheVariants.{CannotOpen, Memory}

@@ -1,11 +1,8 @@
 -- Lines that are written part by part.
-use Rattle.std.proofs.Common.{◌≡◌, ◌∙◌, ◌+◌, ◌<◌, ◌≤◌, ℕ, List, [], ◌∷◌, ◌++◌, false, ap, sym, arith, length, take, drop, map, slice_index_or, Bor}
+use Rattle.dsr_command.proofs.Common.{◌≡◌, ◌∙◌, ◌+◌, ◌<◌, ◌≤◌, ℕ, List, [], ◌∷◌, ◌++◌, false, ap, sym, arith, length, take, drop, map, slice_index_or, Bor, append_assoc, append-nil, length-append, map-append, take_more, take-append-drop, take-append-le, Written, IsCut, IsWritten, joined}
 use Rattle.std.specs.List.{concat}
-use Rattle.std.proofs.lemmas.List.{append_assoc, append-nil, length-append, map-append, take_more, take-append-drop, take-append-le}
 use Rattle.std.proofs.lemmas.List.Folds.{concat-append}
 use Rattle.std.proofs.Math.Seq.{take-append-add}
-use Rattle.dsr_io.specs.meaning.Written.{Written, IsCut}
-use Rattle.dsr_command.specs.Printing.{IsWritten, joined}
 
 joined_append : (xs ys : List (Bor (List ℕ))) → joined (xs ++ ys) ≡ joined xs ++ joined ys
 joined_append xs ys = ap concat (map-append (λ p. p.now) xs ys) ∙ concat-append (map (λ p. p.now) xs) (map (λ p. p.now) ys)

@@ -2,6 +2,4 @@
 pub mod CommandLine
 pub mod Inputs
 pub mod Faults
-pub mod Printing
 pub mod LayoutFile
-pub mod NewFiles

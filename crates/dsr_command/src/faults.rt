@@ -1,12 +1,9 @@
 //! The line for a run that failed, and the exit status.
 ghost use Rattle.std.specs.Prelude.{◌≡◌};
-ghost use Rattle.dsr_command.specs.Faults.{status_number, fault_line, line_of, closed_line, failed_line, cannot_open_line, cannot_read_line, bad_layout_line, layout_fault_text};
-ghost use Rattle.dsr_command.specs.NewFiles.{cannot_replace_line, new_file_line};
-ghost use Rattle.dsr_command.specs.Printing.{IsWritten};
+ghost use Rattle.dsr_command.specs.Faults.{status_number, fault_line, line_of, closed_line, failed_line, bad_layout_line, layout_fault_text};
+ghost use Rattle.dsr_command.specs.LayoutFile.{IsWritten};
 
-use crate::new_file::NewFileError;
 use crate::print::write_parts;
-use dsr_cells::Text;
 use dsr_intake::{IntakeError, Outlet, RunError, Status};
 use dsr_records::{LayoutError, LayoutFault};
 use itoa::Buffer;
@@ -86,51 +83,6 @@ pub fn write_failed<W: Outlet>(program: &str, written: u64, out: &mut W) -> bool
         &[program, ": write failed after ", written, " bytes\n"],
         out,
     )
-}
-
-/// Writes the line for a file that cannot be opened.
-pub(crate) fn write_cannot_open<W: Outlet>(program: &str, name: &Text, out: &mut W) -> bool
-    ensures { IsWritten result (W.told out.old) (W.told out.new)
-        (cannot_open_line program.now name.now) }
-{
-    write_parts(&[program, ": cannot open ", name.as_str(), "\n"], out)
-}
-
-/// Writes the line for a new file that cannot be put in its place.
-pub(crate) fn write_cannot_replace<W: Outlet>(program: &str, name: &Text, out: &mut W) -> bool
-    ensures { IsWritten result (W.told out.old) (W.told out.new)
-        (cannot_replace_line program.now name.now) }
-{
-    write_parts(&[program, ": cannot replace ", name.as_str(), "\n"], out)
-}
-
-/// Writes the line for a new file that cannot be had.
-pub(crate) fn write_no_new_file<W: Outlet>(
-    program: &str,
-    name: &Text,
-    error: NewFileError,
-    out: &mut W,
-) -> bool
-    ensures { IsWritten result (W.told out.old) (W.told out.new)
-        (new_file_line program.now name.now error) }
-{
-    let name = name.as_str();
-    match error {
-        NewFileError::IsRead => write_parts(
-            &[program, ": cannot write to ", name, ", which is read\n"],
-            out,
-        ),
-        NewFileError::CannotCreate => write_parts(&[program, ": cannot create ", name, "\n"], out),
-        NewFileError::Memory => write_line(program, "out of memory", out),
-    }
-}
-
-/// Writes the line for a layout that cannot be read.
-pub(crate) fn write_cannot_read<W: Outlet>(name: &Text, out: &mut W) -> bool
-    ensures { IsWritten result (W.told out.old) (W.told out.new)
-        (cannot_read_line name.now) }
-{
-    write_parts(&["dsr: cannot read ", name.as_str(), "\n"], out)
 }
 
 /// Writes the line for the first fault of a layout.

@@ -1,7 +1,6 @@
 //! The options of a run.
 ghost use Rattle.std.specs.Prelude.{◌≡◌, IfOk, IfErr, OnOk};
-ghost use Rattle.dsr_command.specs.LayoutFile.{IsLayoutGiven};
-ghost use Rattle.dsr_command.specs.Printing.{AreRefused};
+ghost use Rattle.dsr_command.specs.LayoutFile.{IsLayoutGiven, AreRefused};
 
 use crate::command::Asked;
 use crate::faults::DSR;

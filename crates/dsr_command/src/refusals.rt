@@ -1,16 +1,13 @@
 //! What ends the program before a file of the report is read.
 ghost use Rattle.std.specs.Prelude.{◌≡◌, codes};
-ghost use Rattle.dsr_command.specs.Faults.{layout_refused_line, layout_refused_status, line_of, unopened_line, unopened_status};
-ghost use Rattle.dsr_command.specs.NewFiles.{cannot_replace_line, new_file_line, new_file_status};
-ghost use Rattle.dsr_command.specs.Printing.{IsTold};
+ghost use Rattle.dsr_command.specs.Faults.{layout_refused_line, layout_refused_status, line_of, unopened_line, unopened_status, cannot_replace_line, new_file_line, new_file_status};
+ghost use Rattle.dsr_command.specs.LayoutFile.{IsTold};
 
-use crate::faults::{
-    DSR, REFUSED, UNFINISHED, write_bad_layout, write_cannot_open, write_cannot_read,
-    write_cannot_replace, write_line, write_no_new_file,
-};
+use crate::faults::{DSR, REFUSED, UNFINISHED, write_bad_layout, write_line};
 use crate::inputs::OpenError;
 use crate::layout_file::LayoutReadError;
 use crate::new_file::NewFileError;
+use crate::print::write_parts;
 use dsr_cells::Text;
 use dsr_intake::Outlet;
 
@@ -22,7 +19,7 @@ pub(crate) fn layout_refused<F: Outlet>(name: &Text, error: LayoutReadError, fau
 {
     match error {
         LayoutReadError::Read => {
-            write_cannot_read(name, fault);
+            write_parts(&["dsr: cannot read ", name.as_str(), "\n"], fault);
             REFUSED
         }
         LayoutReadError::Bad(error) => {
@@ -41,7 +38,7 @@ pub fn not_opened<F: Outlet>(program: &str, error: &OpenError, fault: &mut F) ->
 {
     match error {
         OpenError::CannotOpen(name) => {
-            write_cannot_open(program, name, fault);
+            write_parts(&[program, ": cannot open ", name.as_str(), "\n"], fault);
             REFUSED
         }
         OpenError::Memory => no_memory(program, fault),
@@ -73,10 +70,20 @@ pub fn no_new_file<F: Outlet>(program: &str, name: &Text, error: NewFileError, f
     ensures told { IsTold (F.told fault.old) (F.told fault.new)
         (new_file_line program.now name.now error) }
 {
-    write_no_new_file(program, name, error, fault);
+    let name = name.as_str();
     match error {
-        NewFileError::IsRead | NewFileError::CannotCreate => REFUSED,
-        NewFileError::Memory => UNFINISHED,
+        NewFileError::IsRead => {
+            write_parts(
+                &[program, ": cannot write to ", name, ", which is read\n"],
+                fault,
+            );
+            REFUSED
+        }
+        NewFileError::CannotCreate => {
+            write_parts(&[program, ": cannot create ", name, "\n"], fault);
+            REFUSED
+        }
+        NewFileError::Memory => no_memory(program, fault),
     }
 }
 
@@ -86,6 +93,6 @@ pub fn cannot_replace<F: Outlet>(program: &str, name: &Text, fault: &mut F) -> u
     ensures told { IsTold (F.told fault.old) (F.told fault.new)
         (cannot_replace_line program.now name.now) }
 {
-    write_cannot_replace(program, name, fault);
+    write_parts(&[program, ": cannot replace ", name.as_str(), "\n"], fault);
     UNFINISHED
 }

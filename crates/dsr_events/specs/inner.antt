@@ -1,3 +1,2 @@
--- Boxed blocks, and laws of the definitions of `meaning`.
-pub mod OrderlyLaws
+-- Boxed blocks.
 pub mod Boxes

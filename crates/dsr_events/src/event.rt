@@ -70,7 +70,7 @@ pub struct Event {
 
 impl Model for Event {
     ghost use Rattle.std.specs.Prelude.{◌^◌, ◌<◌};
-    ghost use Rattle.dsr_events.specs.meaning.Placed.{Placed};
+    ghost use Rattle.dsr_events.specs.meaning.Orderly.{Placed};
 
     ghost Value = { Placed };
 

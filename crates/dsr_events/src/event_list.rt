@@ -15,7 +15,7 @@ pub struct EventList {
 
 impl Model for EventList {
     ghost use Rattle.std.specs.Prelude.{List};
-    ghost use Rattle.dsr_events.specs.meaning.Placed.{Placed};
+    ghost use Rattle.dsr_events.specs.meaning.Orderly.{Placed};
 
     ghost Value = { List Placed };
 

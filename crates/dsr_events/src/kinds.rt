@@ -2,7 +2,7 @@
 //! of DDEX's Digital Sales Report (DSR). The record types of the standard layout have no version suffix; a layout may
 //! name types that have one (`AS01.01`).
 ghost use Rattle.std.specs.Prelude.{◌≡◌};
-ghost use Rattle.dsr_events.specs.meaning.Columns.{column_name};
+ghost use Rattle.dsr_events.specs.meaning.Names.{column_name};
 
 /// The kinds of record, each with its record type in the standard layout.
 #[derive(Clone, Copy, PartialEq, Eq)]

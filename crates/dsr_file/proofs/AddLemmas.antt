@@ -1,24 +1,8 @@
 -- Adding a record to a grammar.
-use Rattle.std.proofs.Common.{◌≡◌, ◌+◌, ◌∙◌, sym, ap, refl, subst, Bool, true, false, List, [], ◌∷◌, ◌++◌, length, count_by, Option, None, Some, add-zero, length-append, cond}
+use Rattle.dsr_file.proofs.Common.{◌≡◌, ◌+◌, ◌∙◌, sym, ap, refl, subst, Bool, true, false, List, [], ◌∷◌, ◌++◌, length, count_by, Option, None, Some, add-zero, length-append, cond, option_and_then, if◌then◌else◌, option_to_list, Record, Head, Summary, Resource, Work, Usage, Foot, Skipped, FileFault, EventPart, Grammar, Reading, Holds, kept, records, is_skipped_line, is_skipped_record, closed, summaries, events_of, fault_if, fault_of, early_fault, count_fault, or_else, counts_fault, Stage, KeepsStage, IsMember, stage_after, given_by, foot_in, summary_count, block_count, Keeps, kept_count_fault, IsRecord}
 use Rattle.std.proofs.lemmas.List.Sums.{sum_by-append}
-use Rattle.std.specs.Prelude.{option_and_then, if◌then◌else◌}
-use Rattle.std.specs.Option.{option_to_list}
 use Rattle.dsr_events.specs.declared.record.Foot as foot
-use Rattle.dsr_events.specs.declared.record.Record.{Record}
-use Rattle.dsr_events.specs.declared.record.Record.TheVariants.{Head, Summary, Resource, Work, Usage, Foot, Skipped}
-use Rattle.dsr_events.specs.declared.fault.FileFault.{FileFault}
 use Rattle.dsr_events.specs.declared.fault.FileFault.TheVariants as faults
-use Rattle.dsr_events.specs.declared.event.EventPart.{EventPart}
-use Rattle.dsr_file.specs.declared.grammar.Grammar.{Grammar}
-use Rattle.dsr_file.specs.meaning.Readings.{Reading, Holds, kept, records, is_skipped_line, is_skipped_record}
-use Rattle.dsr_file.specs.meaning.Parts.{closed, summaries, events_of}
-use Rattle.dsr_file.specs.meaning.Faults.{fault_if, fault_of, early_fault, count_fault}
-use Rattle.dsr_records.specs.meaning.Records.{or_else}
-use Rattle.dsr_file.specs.meaning.Texts.{counts_fault}
-use Rattle.dsr_file.specs.declared.stage.Stage.{Stage}
-use Rattle.dsr_file.specs.inner.Stages.{KeepsStage, IsMember, stage_after, given_by}
-use Rattle.dsr_file.specs.inner.Counting.{foot_in, summary_count, block_count}
-use Rattle.dsr_file.specs.inner.Grammars.{Keeps, kept_count_fault, IsRecord}
 use Rattle.dsr_file.proofs.StepLemmas.{Steps, step_record, summaries-append}
 use Rattle.dsr_file.proofs.LineLemmas.{records-push, first_good}
 

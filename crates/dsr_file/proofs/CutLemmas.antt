@@ -1,14 +1,6 @@
 -- More bytes, and the pieces after them.
-use Rattle.std.proofs.Common.{◌≡◌, ℕ, suc, ◌+◌, ◌<◌, ◌≤◌, ◌∙◌, sym, ap, refl, subst, Bool, true, false, cond, ◌||◌, ◌&&◌, eqb, List, [], ◌∷◌, ◌++◌, length, take, drop, ◌-◌, append_assoc, arith, length-append, length-take}
-use Rattle.std.specs.Prelude.{nat_eq, zero, ◌==◌, slice_index, if◌then◌else◌}
-use Rattle.std.proofs.lemmas.List.{append-nil, take_more}
+use Rattle.dsr_file.proofs.Common.{◌≡◌, ℕ, suc, ◌+◌, ◌<◌, ◌≤◌, ◌∙◌, sym, ap, refl, subst, Bool, true, false, cond, ◌||◌, ◌&&◌, eqb, List, [], ◌∷◌, ◌++◌, length, take, drop, ◌-◌, append_assoc, arith, length-append, length-take, nat_eq, zero, ◌==◌, slice_index, if◌then◌else◌, append-nil, take_more, eqb-true, common_steps, nat_tests, slice_split, onto_first, list_any, position_or_len, starts_with, is_line_feed, byte_order_mark, without_mark, IsSettled, CutsTo}
 use Rattle.std.proofs.lemmas.List.Sums.{fails_before_first, passes_at_first}
-use Rattle.std.proofs.lemmas.Bool.{eqb-true}
-use Rattle.std.proofs.lemmas.Grind.{common_steps}
-use Rattle.std.proofs.lemmas.Bool.Decides.{nat_tests}
-use Rattle.std.specs.List.{slice_split, onto_first, list_any, position_or_len, starts_with}
-use Rattle.dsr_cells.specs.meaning.Lines.{is_line_feed, byte_order_mark, without_mark}
-use Rattle.dsr_file.specs.inner.Cutting.{IsSettled, CutsTo}
 use Rattle.dsr_file.proofs.PartLemmas.{onto_last, onto_first-last, onto_last-cons, onto_last_push}
 
 pub split_some : (p : ℕ → Bool) (xs : List ℕ) → (q : List ℕ) × (qs : List (List ℕ)) × (slice_split p xs ≡ q ∷ qs)

@@ -1,36 +1,9 @@
 -- The end of a text.
-use Rattle.std.proofs.Common.{◌≡◌, ◌≢◌, ℕ, ◌+◌, ◌<◌, ◌≤◌, inl, inr, ◌∙◌, sym, ap, refl, subst, Bool, true, false, not, ltb, List, [], ◌∷◌, ◌++◌, length, map, Option, None, Some, arith}
-use Rattle.std.specs.Prelude.{if◌then◌else◌}
-use Rattle.std.specs.Option.{option_to_list, is_some}
-use Rattle.std.proofs.lemmas.List.{append-nil, map-append}
-use Rattle.std.proofs.lemmas.Bool.Decides.{nat_tests}
-use Rattle.dsr_cells.specs.meaning.Lines.{pieces, line_limit}
-use Rattle.dsr_records.specs.meaning.Records.{LayoutTable}
-use Rattle.dsr_events.specs.declared.fault.FileFault.{FileFault}
+use Rattle.dsr_file.proofs.Common.{◌≡◌, ◌≢◌, ℕ, ◌+◌, ◌<◌, ◌≤◌, inl, inr, ◌∙◌, sym, ap, refl, subst, Bool, true, false, not, ltb, List, [], ◌∷◌, ◌++◌, length, map, Option, None, Some, arith, if◌then◌else◌, option_to_list, is_some, append-nil, map-append, nat_tests, pieces, line_limit, LayoutTable, FileFault, Ending, Outcome, EventPart, Ended, Grammar, Step, Good, Faulty, NoMemory, Phase, FileReader, Placed, has_ended, lines_among, Reading, reading, records, events_of, fault_of, AllGood, first_from, counts_fault, taken, outcome, outcome_at, end_of, events, placed, readings, so_far, text_events, ended, known_events, HasEvents, Keeps, LineSteps, column_at, Stands, StandsAt, SameText, AtEnd, EndsAfter}
 use Rattle.dsr_events.specs.declared.fault.FileFault.TheVariants as faults
-use Rattle.dsr_events.specs.declared.fault.Ending.{Ending}
 use Rattle.dsr_events.specs.declared.fault.Ending.TheVariants as endings
-use Rattle.dsr_events.specs.declared.fault.Outcome.{Outcome}
 use Rattle.dsr_events.specs.declared.fault.Outcome.TheVariants as outcomes
-use Rattle.dsr_events.specs.declared.event.EventPart.{EventPart}
-use Rattle.dsr_events.specs.declared.event.EventPart.TheVariants.{Ended}
-use Rattle.dsr_file.specs.declared.grammar.Grammar.{Grammar}
-use Rattle.dsr_file.specs.declared.grammar.Step.{Step}
-use Rattle.dsr_file.specs.declared.grammar.Step.TheVariants.{Good, Faulty, NoMemory}
-use Rattle.dsr_file.specs.declared.phase.Phase.{Phase}
 use Rattle.dsr_file.specs.declared.phase.Phase.TheVariants as phases
-use Rattle.dsr_file.specs.declared.reader.FileReader.{FileReader}
-use Rattle.dsr_events.specs.meaning.Placed.{Placed}
-use Rattle.dsr_events.specs.meaning.Orderly.{has_ended}
-use Rattle.dsr_file.specs.meaning.Lines.{lines_among}
-use Rattle.dsr_file.specs.meaning.Readings.{Reading, reading, records}
-use Rattle.dsr_file.specs.meaning.Parts.{events_of}
-use Rattle.dsr_file.specs.meaning.Faults.{fault_of}
-use Rattle.dsr_file.specs.meaning.Texts.{AllGood, first_from, counts_fault, taken, outcome, outcome_at, end_of, events, placed, readings, so_far, text_events}
-use Rattle.dsr_file.specs.meaning.Runs.{ended, known_events, HasEvents}
-use Rattle.dsr_file.specs.inner.Grammars.{Keeps, LineSteps}
-use Rattle.dsr_file.specs.inner.Stages.{column_at}
-use Rattle.dsr_file.specs.inner.Standing.{Stands, StandsAt, SameText, AtEnd, EndsAfter}
 use Rattle.dsr_file.proofs.StageLemmas.{column_kept}
 use Rattle.dsr_file.proofs.LineLemmas.{first_at}
 use Rattle.dsr_file.proofs.LawLemmas.{fault_is_final_lem}

@@ -1,19 +1,6 @@
 -- The state of a reader and a sink while a source is read.
-use Rattle.std.proofs.Common.{◌≡◌, ℕ, ◌+◌, ◌-◌, ◌≤◌, ◌⊎◌, inl, inr, ◌∙◌, sym, ap, refl, subst, List, [], ◌∷◌, ◌++◌, length, take, drop, Option, None, Some, false, append_assoc, length-take, length-drop, arith}
-use Rattle.std.specs.Option.{option_to_list, is_some, IfNone, IfSome}
-use Rattle.std.proofs.lemmas.List.{append-nil}
-use mathlib.Core.List.{IsPrefix}
-use Rattle.dsr_records.specs.meaning.Records.{LayoutTable}
-use Rattle.dsr_events.specs.declared.fault.Ending.{Ending}
+use Rattle.dsr_file.proofs.Common.{◌≡◌, ℕ, ◌+◌, ◌-◌, ◌≤◌, ◌⊎◌, inl, inr, ◌∙◌, sym, ap, refl, subst, List, [], ◌∷◌, ◌++◌, length, take, drop, Option, None, Some, false, append_assoc, length-take, length-drop, arith, option_to_list, is_some, IfNone, IfSome, append-nil, IsPrefix, LayoutTable, Ending, EventPart, FileReader, Placed, text_events, so_far, FileText, IsSomeRun, IsRun, BeginsEvents, HasEvents, Stands, IsDone, Fed, FedSome, event_at}
 use Rattle.dsr_events.specs.declared.fault.Ending.TheVariants as endings
-use Rattle.dsr_events.specs.declared.event.EventPart.{EventPart}
-use Rattle.dsr_file.specs.declared.reader.FileReader.{FileReader}
-use Rattle.dsr_events.specs.meaning.Placed.{Placed}
-use Rattle.dsr_file.specs.meaning.Texts.{text_events, so_far}
-use Rattle.dsr_file.specs.meaning.Runs.{FileText, IsSomeRun, IsRun, BeginsEvents, HasEvents}
-use Rattle.dsr_file.specs.inner.Standing.{Stands, IsDone}
-use Rattle.dsr_file.specs.inner.Feeding.{Fed, FedSome}
-use Rattle.dsr_file.specs.inner.Closing.{event_at}
 use Rattle.dsr_file.proofs.LawLemmas.{so_far_begins_lem, so_far_grows}
 use Rattle.dsr_file.proofs.RunLemmas.{cut_off_run, cut_off_later}
 use Rattle.dsr_file.proofs.StandLemmas.{stands_joined}

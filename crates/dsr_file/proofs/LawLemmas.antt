@@ -1,36 +1,9 @@
 -- The events of bytes, and of texts that begin with them.
-use Rattle.std.proofs.Common.{◌≡◌, ℕ, ◌+◌, ◌<◌, ◌≤◌, ◌⊎◌, inl, inr, ◌∙◌, sym, ap, refl, subst, Bool, true, false, cond, ◌||◌, eqb, List, [], ◌∷◌, ◌++◌, length, map, Option, None, Some, append_assoc, length-append, arith}
-use Rattle.std.specs.Prelude.{if◌then◌else◌}
-use Rattle.std.specs.Option.{option_to_list, option_map}
-use Rattle.std.specs.List.{slice_split, onto_first, list_any, filter_map}
-use Rattle.std.proofs.lemmas.List.{append-nil, map-append}
-use Rattle.std.proofs.lemmas.List.Folds.{list_any-append}
-use Rattle.std.proofs.lemmas.Bool.Decides.{nat_tests}
-use Rattle.std.proofs.lemmas.Bool.{cases_lt, eqb-true}
-use mathlib.Core.List.{IsPrefix}
-use Rattle.dsr_cells.specs.meaning.Lines.{is_long, pieces, without_mark, is_line_feed, line_limit}
-use Rattle.dsr_events.specs.declared.record.Record.{Record}
-use Rattle.dsr_events.specs.declared.record.Record.TheVariants.{Head, Summary, Resource, Work, Usage, Foot, Skipped}
-use Rattle.dsr_events.specs.meaning.Blocks.{BlockParts}
-use Rattle.dsr_records.specs.meaning.Records.{LayoutTable, or_else}
-use Rattle.dsr_events.specs.declared.fault.FileFault.{FileFault}
+use Rattle.dsr_file.proofs.Common.{◌≡◌, ℕ, ◌+◌, ◌<◌, ◌≤◌, ◌⊎◌, inl, inr, ◌∙◌, sym, ap, refl, subst, Bool, true, false, cond, ◌||◌, eqb, List, [], ◌∷◌, ◌++◌, length, map, Option, None, Some, append_assoc, length-append, arith, if◌then◌else◌, option_to_list, option_map, slice_split, onto_first, list_any, filter_map, append-nil, map-append, list_any-append, nat_tests, cases_lt, eqb-true, IsPrefix, is_long, pieces, without_mark, is_line_feed, line_limit, Record, Head, Summary, Resource, Work, Usage, Foot, Skipped, BlockParts, LayoutTable, or_else, FileFault, Ending, EventPart, Stage, Start, OpeningParts, is_ended, has_ended, lines_among, Reading, Holds, SkippedLine, reading, kept, records, events_of, opened, opening_of, opens, closed, block_of, fault_of, early_fault, First, AllGood, At, first_if, first_from, counts_fault, taken, outcome, ended_so_far, events, events_so_far, placed, readings, so_far, text_events, KeepsStage, stage_after, IsRecord, IsSettled}
 use Rattle.dsr_events.specs.declared.fault.FileFault.TheVariants as faults
-use Rattle.dsr_events.specs.declared.fault.Ending.{Ending}
 use Rattle.dsr_events.specs.declared.fault.Ending.TheVariants as endings
-use Rattle.dsr_events.specs.declared.event.EventPart.{EventPart}
 use Rattle.dsr_events.specs.declared.event.EventPart.TheVariants as tell
-use Rattle.dsr_file.specs.declared.stage.Stage.{Stage}
-use Rattle.dsr_file.specs.declared.stage.Stage.TheVariants.{Start}
-use Rattle.dsr_events.specs.meaning.Openings.{OpeningParts}
-use Rattle.dsr_events.specs.meaning.Orderly.{is_ended, has_ended}
-use Rattle.dsr_file.specs.meaning.Lines.{lines_among}
-use Rattle.dsr_file.specs.meaning.Readings.{Reading, Holds, Faulty, SkippedLine, reading, kept, records}
-use Rattle.dsr_file.specs.meaning.Parts.{events_of, opened, opening_of, opens, closed, block_of}
-use Rattle.dsr_file.specs.meaning.Faults.{fault_of, early_fault}
-use Rattle.dsr_file.specs.meaning.Texts.{First, AllGood, At, first_if, first_from, counts_fault, taken, outcome, ended_so_far, events, events_so_far, placed, readings, so_far, text_events}
-use Rattle.dsr_file.specs.inner.Stages.{KeepsStage, stage_after}
-use Rattle.dsr_file.specs.inner.Grammars.{IsRecord}
-use Rattle.dsr_file.specs.inner.Cutting.{IsSettled}
+use Rattle.dsr_file.specs.meaning.Readings.{Faulty}
 use Rattle.dsr_file.proofs.LineLemmas.{records-same, first_good, first_at}
 use Rattle.dsr_file.proofs.AddLemmas.{with_item}
 use Rattle.dsr_file.proofs.StepLemmas.{step_record}

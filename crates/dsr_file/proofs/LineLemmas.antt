@@ -1,10 +1,5 @@
 -- One more line.
-use Rattle.std.proofs.Common.{◌≡◌, ◌∙◌, sym, ap, refl, List, [], ◌∷◌, ◌++◌, None, Some, append_assoc}
-use Rattle.std.proofs.lemmas.List.{append-nil}
-use Rattle.dsr_events.specs.declared.fault.FileFault.{FileFault}
-use Rattle.dsr_file.specs.meaning.Readings.{Reading, kept, records}
-use Rattle.dsr_file.specs.meaning.Faults.{fault_of}
-use Rattle.dsr_file.specs.meaning.Texts.{AllGood, At, first_if, first_from}
+use Rattle.dsr_file.proofs.Common.{◌≡◌, ◌∙◌, sym, ap, refl, List, [], ◌∷◌, ◌++◌, None, Some, append_assoc, append-nil, FileFault, Reading, kept, records, fault_of, AllGood, At, first_if, first_from}
 
 pub records-append : (ls ms : List Reading) → records (ls ++ ms) ≡ records ls ++ records ms
 records-append [] ms = refl

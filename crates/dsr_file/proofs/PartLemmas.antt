@@ -1,8 +1,5 @@
 -- The parts of records, with one more record at the end.
-use Rattle.std.proofs.Common.{◌≡◌, ◌∙◌, sym, ap, refl, true, false, cond, List, [], ◌∷◌, ◌++◌, drop, Some}
-use Rattle.std.specs.List.{onto_first}
-use Rattle.dsr_events.specs.declared.record.Record.{Record}
-use Rattle.dsr_file.specs.meaning.Parts.{parts, opens, but_last, last_of, closed}
+use Rattle.dsr_file.proofs.Common.{◌≡◌, ◌∙◌, sym, ap, refl, true, false, cond, List, [], ◌∷◌, ◌++◌, drop, Some, onto_first, Record, parts, opens, but_last, last_of, closed}
 
 -- a list of lists with x at the end of its last list
 abbrev pub onto_last : {X : Type 0} → X → List (List X) → List (List X)

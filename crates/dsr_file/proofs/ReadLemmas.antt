@@ -1,32 +1,15 @@
 -- The results of reading a file.
-use Rattle.std.proofs.Common.{◌≡◌, ℕ, ◌+◌, ◌-◌, ◌<◌, ◌≤◌, ◌⊎◌, inl, inr, ◌∙◌, sym, ap, refl, subst, Bool, true, false, List, [], ◌∷◌, ◌++◌, length, take, drop, Option, None, Some, append_assoc, take-append-drop, length-append, take_all, arith}
-use Rattle.std.proofs.lemmas.List.{append-nil}
+use Rattle.dsr_file.proofs.Common.{◌≡◌, ℕ, ◌+◌, ◌-◌, ◌<◌, ◌≤◌, ◌⊎◌, inl, inr, ◌∙◌, sym, ap, refl, subst, Bool, true, false, List, [], ◌∷◌, ◌++◌, length, take, drop, Option, None, Some, append_assoc, take-append-drop, length-append, take_all, arith, append-nil, IsPrefix, Consumes, IsAtEnd, LayoutTable, Ending, Outcome, EventPart, Ended, FileReader, Placed, has_ended, records, events_of, last_of, events_so_far, placed, readings, text_events, so_far, FileText, ended, BeginsEvents, HasEvents, IsCutOff, EndsWith, Answered, AddsRead, Stands, StandsAt, IsDone, Fed, FedSome, Reads}
 use Rattle.std.proofs.Math.Seq.{take-append_seam, take-nil}
-use mathlib.Core.List.{IsPrefix}
-use Rattle.std.specs.Io.KnownBytes.{Consumes, Keeps, IsAtEnd}
-use Rattle.dsr_records.specs.meaning.Records.{LayoutTable}
-use Rattle.dsr_events.specs.declared.fault.Ending.{Ending}
+use Rattle.std.specs.Io.KnownBytes.{Keeps}
 use Rattle.dsr_events.specs.declared.fault.Ending.TheVariants as endings
 use Rattle.dsr_events.specs.declared.fault.FileFault.TheVariants as faults
-use Rattle.dsr_events.specs.declared.fault.Outcome.{Outcome}
 use Rattle.dsr_events.specs.declared.fault.Outcome.TheVariants as outcomes
-use Rattle.dsr_events.specs.declared.event.EventPart.{EventPart}
-use Rattle.dsr_events.specs.declared.event.EventPart.TheVariants.{Ended}
 use Rattle.dsr_io.specs.declared.read_count.ReadCount.{ReadCount}
 use Rattle.dsr_file.specs.declared.phase.Phase.TheVariants as phases
-use Rattle.dsr_file.specs.declared.reader.FileReader.{FileReader}
-use Rattle.dsr_events.specs.meaning.Placed.{Placed}
-use Rattle.dsr_events.specs.meaning.Orderly.{has_ended}
-use Rattle.dsr_file.specs.meaning.Readings.{records}
-use Rattle.dsr_file.specs.meaning.Parts.{events_of, last_of}
-use Rattle.dsr_file.specs.meaning.Texts.{events_so_far, placed, readings, text_events, so_far}
-use Rattle.dsr_events.specs.meaning.Ends.{is_memory}
-use Rattle.dsr_file.specs.meaning.Runs.{FileText, ended, BeginsEvents, HasEvents, IsCutOff, EndsWith}
-use Rattle.dsr_io.specs.meaning.ReadCounts.{Answered, AddsRead}
+use Rattle.dsr_events.specs.meaning.Names.{is_memory}
 use Rattle.dsr_io.specs.meaning.Told.{Told}
 use Rattle.dsr_file.specs.meaning.Sources.{Gave, before_last, HasEarlier, Stopped, IsRead, IsRefused}
-use Rattle.dsr_file.specs.inner.Standing.{Stands, StandsAt, IsDone}
-use Rattle.dsr_file.specs.inner.Feeding.{Fed, FedSome, Reads}
 use Rattle.dsr_file.proofs.LawLemmas.{fault_is_final_lem}
 use Rattle.dsr_file.proofs.RunLemmas.{cut_off_is, cut_off_later}
 use Rattle.dsr_file.proofs.StandLemmas.{ended_last, ends_has_ended, done_ended}

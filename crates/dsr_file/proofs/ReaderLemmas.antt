@@ -1,21 +1,7 @@
 -- The lines and events of bytes, with one more line.
-use Rattle.std.proofs.Common.{◌≡◌, ℕ, suc, ◌+◌, ◌<◌, ◌≤◌, ◌∙◌, sym, ap, refl, Bool, true, false, ◌&&◌, ◌||◌, ltb, List, [], ◌∷◌, ◌++◌, length, map, Some, add-zero, arith}
-use Rattle.std.specs.Prelude.{if◌then◌else◌}
-use Rattle.std.proofs.lemmas.List.{append-nil, map-append}
-use Rattle.std.proofs.lemmas.Bool.Decides.{nat_tests}
-use Rattle.dsr_cells.specs.meaning.Lines.{is_long, pieces, line_limit}
-use Rattle.dsr_records.specs.meaning.Records.{LayoutTable}
-use Rattle.dsr_events.specs.declared.fault.FileFault.{FileFault}
-use Rattle.dsr_events.specs.declared.fault.Ending.{Ending}
+use Rattle.dsr_file.proofs.Common.{◌≡◌, ℕ, suc, ◌+◌, ◌<◌, ◌≤◌, ◌∙◌, sym, ap, refl, Bool, true, false, ◌&&◌, ◌||◌, ltb, List, [], ◌∷◌, ◌++◌, length, map, Some, add-zero, arith, if◌then◌else◌, append-nil, map-append, nat_tests, is_long, pieces, line_limit, LayoutTable, FileFault, Ending, EventPart, Ended, lines_among, Reading, reading, records, events_of, fault_of, AllGood, first_from, counts_fault, events_so_far, placed, readings}
 use Rattle.dsr_events.specs.declared.fault.Ending.TheVariants as endings
 use Rattle.dsr_events.specs.declared.fault.Outcome.TheVariants as outcomes
-use Rattle.dsr_events.specs.declared.event.EventPart.{EventPart}
-use Rattle.dsr_events.specs.declared.event.EventPart.TheVariants.{Ended}
-use Rattle.dsr_file.specs.meaning.Lines.{lines_among}
-use Rattle.dsr_file.specs.meaning.Readings.{Reading, reading, records}
-use Rattle.dsr_file.specs.meaning.Parts.{events_of}
-use Rattle.dsr_file.specs.meaning.Faults.{fault_of}
-use Rattle.dsr_file.specs.meaning.Texts.{AllGood, first_from, counts_fault, events_so_far, placed, readings}
 use Rattle.dsr_file.proofs.LineLemmas.{first_at}
 
 pub placed-append : (n : ℕ) (xs ys : List EventPart) → placed n (xs ++ ys) ≡ placed n xs ++ placed (n + length xs) ys

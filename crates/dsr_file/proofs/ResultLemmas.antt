@@ -1,10 +1,8 @@
 -- A result whose error is the event that the sink refused.
-use Rattle.std.proofs.Common.{Result, Ok, Err}
-use Rattle.std.specs.Prelude.{IfOk, IfErr}
+use Rattle.dsr_file.proofs.Common.{Result, Ok, Err, IfOk, IfErr, Placed}
 use Rattle.dsr_file.specs.declared.reading.ReadFileError.{ReadFileError}
 use Rattle.dsr_file.specs.declared.reading.ReadFileError.TheVariants.{Refused}
-use Rattle.dsr_events.specs.meaning.Placed.{Placed}
-use Rattle.dsr_file.specs.meaning.Refusals.{refused_event}
+use Rattle.dsr_file.specs.meaning.Sources.{refused_event}
 
 module _ {O : Type 0} where
   pub if_refused : (r : Result O Placed) (Q : Placed → Type 0) (P : ReadFileError → Type 0)

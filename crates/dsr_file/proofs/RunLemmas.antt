@@ -1,33 +1,11 @@
 -- Runs of a text are orderly, and events cut off because memory was refused are a run.
-use Rattle.std.proofs.Common.{◌≡◌, ℕ, ◌+◌, ◌<◌, ◌⊎◌, inl, inr, ◌∙◌, sym, ap, refl, subst, Bool, true, false, List, [], ◌∷◌, ◌++◌, length, map, None, Some, append_assoc, zero-add, length-append, arith}
-use Rattle.std.specs.Prelude.{if◌then◌else◌}
-use Rattle.std.specs.Option.{option_to_list}
-use Rattle.std.specs.List.{filter_map}
-use Rattle.std.proofs.lemmas.List.{append-nil, map-append}
-use Rattle.std.proofs.lemmas.List.Folds.{list_any-append}
-use Rattle.dsr_events.specs.declared.record.Record.{Record}
-use Rattle.dsr_events.specs.meaning.Blocks.{BlockParts}
-use Rattle.dsr_records.specs.meaning.Records.{LayoutTable}
-use Rattle.dsr_events.specs.declared.fault.FileFault.{FileFault}
+use Rattle.dsr_file.proofs.Common.{◌≡◌, ℕ, ◌+◌, ◌<◌, ◌⊎◌, inl, inr, ◌∙◌, sym, ap, refl, subst, Bool, true, false, List, [], ◌∷◌, ◌++◌, length, map, None, Some, append_assoc, zero-add, length-append, arith, if◌then◌else◌, option_to_list, filter_map, append-nil, map-append, list_any-append, Record, BlockParts, LayoutTable, FileFault, Ending, EventPart, Stage, Start, Front, Open, Closed, OpeningParts, Placed, is_ended, has_ended, IsOrderly, Reading, Holds, SkippedLine, reading, kept, records, events_of, opens, closed, block_of, summaries, fault_of, AllGood, first_from, counts_fault, taken, outcome, events, placed, readings, text_events, KeepsStage, stage_after, part_given, IsRecord, FileText, ended, EndsByMemory, IsRun, IsCutOff}
 use Rattle.dsr_events.specs.declared.fault.FileFault.TheVariants as faults
-use Rattle.dsr_events.specs.declared.fault.Ending.{Ending}
 use Rattle.dsr_events.specs.declared.fault.Ending.TheVariants as endings
 use Rattle.dsr_events.specs.declared.fault.Outcome.TheVariants as outcomes
-use Rattle.dsr_events.specs.declared.event.EventPart.{EventPart}
 use Rattle.dsr_events.specs.declared.event.EventPart.TheVariants as tell
-use Rattle.dsr_file.specs.declared.stage.Stage.{Stage}
-use Rattle.dsr_file.specs.declared.stage.Stage.TheVariants.{Start, Front, Open, Closed}
-use Rattle.dsr_events.specs.meaning.Openings.{OpeningParts}
-use Rattle.dsr_events.specs.meaning.Placed.{Placed}
-use Rattle.dsr_events.specs.meaning.Orderly.{is_ended, has_ended, IsOrderly}
-use Rattle.dsr_events.specs.inner.OrderlyLaws.{orderly_nil, orderly_front, orderly_push}
-use Rattle.dsr_file.specs.meaning.Readings.{Reading, Holds, Faulty, SkippedLine, reading, kept, records}
-use Rattle.dsr_file.specs.meaning.Parts.{events_of, opens, closed, block_of, summaries}
-use Rattle.dsr_file.specs.meaning.Faults.{fault_of}
-use Rattle.dsr_file.specs.meaning.Texts.{AllGood, first_from, counts_fault, taken, outcome, events, placed, readings, text_events}
-use Rattle.dsr_file.specs.inner.Stages.{KeepsStage, stage_after, part_given}
-use Rattle.dsr_file.specs.inner.Grammars.{IsRecord}
-use Rattle.dsr_file.specs.meaning.Runs.{FileText, ended, EndsByMemory, IsRun, IsCutOff}
+use Rattle.dsr_events.proofs.OrderlyLaws.{orderly_nil, orderly_front, orderly_push}
+use Rattle.dsr_file.specs.meaning.Readings.{Faulty}
 use Rattle.dsr_file.proofs.LineLemmas.{records-same, first_good, first_at}
 use Rattle.dsr_file.proofs.AddLemmas.{with_item}
 use Rattle.dsr_file.proofs.StepLemmas.{step_record, front_events, opened_known}

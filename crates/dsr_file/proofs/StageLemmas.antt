@@ -1,22 +1,10 @@
 -- A stage changes as the records do.
-use Rattle.std.proofs.Common.{◌≡◌, ℕ, ◌∙◌, sym, ap, refl, true, false, eqb, List, [], ◌∷◌, length, map, Option, None, Some, unwrap_or, arith, length-append}
-use Rattle.std.proofs.lemmas.List.{length-map}
+use Rattle.dsr_file.proofs.Common.{◌≡◌, ℕ, ◌∙◌, sym, ap, refl, true, false, eqb, List, [], ◌∷◌, length, map, Option, None, Some, unwrap_or, arith, length-append, length-map, if◌then◌else◌, id_of_record, kind_of_record, or_else, Record, BlockParts, OpensBlock, FileFault, Stage, Start, Front, Open, Closed, last_of, summaries, column, place, summary_fault, member_fault, early_fault, last_part, in_part, column_at, block_length, stage_fault, stage_after, given_by, part_given, records_of, IsOpen, KeepsStage}
 use Rattle.dsr_events.specs.declared.kinds.Kind.TheVariants as kinds
-use Rattle.std.specs.Prelude.{if◌then◌else◌}
-use Rattle.dsr_records.specs.meaning.Reads.{id_of_record, kind_of_record}
-use Rattle.dsr_records.specs.meaning.Records.{or_else}
-use Rattle.dsr_events.specs.declared.record.Record.{Record}
 use Rattle.dsr_events.specs.declared.record.Record.TheVariants as the
 use Rattle.dsr_events.specs.declared.record.Summary as summary
 use Rattle.dsr_events.specs.declared.record.Head as head
-use Rattle.dsr_events.specs.meaning.Blocks.{BlockParts, OpensBlock}
-use Rattle.dsr_events.specs.declared.fault.FileFault.{FileFault}
 use Rattle.dsr_file.specs.declared.stage.Before.TheVariants as columns
-use Rattle.dsr_file.specs.declared.stage.Stage.{Stage}
-use Rattle.dsr_file.specs.declared.stage.Stage.TheVariants.{Start, Front, Open, Closed}
-use Rattle.dsr_file.specs.meaning.Parts.{last_of, summaries}
-use Rattle.dsr_file.specs.meaning.Faults.{column, place, summary_fault, member_fault, early_fault, last_part, in_part}
-use Rattle.dsr_file.specs.inner.Stages.{column_at, block_length, stage_fault, stage_after, given_by, part_given, records_of, IsOpen, KeepsStage}
 use Rattle.dsr_file.proofs.PartLemmas.{last_of_push}
 
 -- the last record of a head and summaries

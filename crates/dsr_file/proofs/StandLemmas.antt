@@ -1,41 +1,12 @@
 -- What a reader represents after one more line.
-use Rattle.std.proofs.Common.{◌≡◌, ℕ, ◌+◌, ◌≤◌, inl, inr, ◌∙◌, sym, ap, refl, subst, Bool, true, false, ◌||◌, List, [], ◌∷◌, ◌++◌, length, map, Option, None, Some, append_assoc, zero-add, length-append, length-take, take, drop, take-add, ◌-◌, arith}
-use Rattle.std.specs.Prelude.{IsTrue}
-use Rattle.std.specs.Option.{option_to_list, IfNone}
-use Rattle.std.proofs.lemmas.Bool.Decides.{nat_tests}
-use Rattle.std.proofs.lemmas.List.{append-nil, map-append}
-use Rattle.std.proofs.lemmas.List.Folds.{list_any-append}
-use Rattle.std.proofs.lemmas.Grind.{common_steps}
-use Rattle.std.specs.List.{list_any}
-use Rattle.dsr_cells.specs.meaning.Lines.{is_long}
-use Rattle.dsr_events.specs.declared.record.Record.{Record}
-use Rattle.dsr_records.specs.meaning.Records.{LayoutTable}
-use Rattle.dsr_events.specs.declared.fault.FileFault.{FileFault}
+use Rattle.dsr_file.proofs.Common.{◌≡◌, ℕ, ◌+◌, ◌≤◌, inl, inr, ◌∙◌, sym, ap, refl, subst, Bool, true, false, ◌||◌, List, [], ◌∷◌, ◌++◌, length, map, Option, None, Some, append_assoc, zero-add, length-append, length-take, take, drop, take-add, ◌-◌, arith, IsTrue, option_to_list, IfNone, nat_tests, append-nil, map-append, list_any-append, common_steps, list_any, is_long, Record, LayoutTable, FileFault, Ending, Outcome, EventPart, Ended, Step, Good, Faulty, NoMemory, Phase, FileReader, Placed, is_ended, has_ended, Reading, reading, records, events_of, fault_of, AllGood, first_from, events_so_far, placed, readings, so_far, ended, known_events, known_lines, BeginsEvents, IsCutOff, EndsWith, Keeps, LineSteps, TakesMemory, CutsTo, CutSteps, Stands, StandsAt, SameText, AtLine, AtAnswer, AtCut, EndsAfter, IsDone}
 use Rattle.dsr_events.specs.declared.fault.FileFault.TheVariants as faults
-use Rattle.dsr_events.specs.declared.fault.Ending.{Ending}
 use Rattle.dsr_events.specs.declared.fault.Ending.TheVariants as endings
-use Rattle.dsr_events.specs.declared.fault.Outcome.{Outcome}
 use Rattle.dsr_events.specs.declared.fault.Outcome.TheVariants as outcomes
-use Rattle.dsr_events.specs.declared.event.EventPart.{EventPart}
-use Rattle.dsr_events.specs.declared.event.EventPart.TheVariants.{Ended}
-use Rattle.dsr_file.specs.declared.grammar.Step.{Step}
-use Rattle.dsr_file.specs.declared.grammar.Step.TheVariants.{Good, Faulty, NoMemory}
 use Rattle.dsr_file.specs.declared.cutter.Cut.{Cut}
 use Rattle.dsr_file.specs.declared.cutter.Cut.TheVariants.{Long}
-use Rattle.dsr_file.specs.declared.phase.Phase.{Phase}
 use Rattle.dsr_file.specs.declared.phase.Phase.TheVariants as phases
-use Rattle.dsr_file.specs.declared.reader.FileReader.{FileReader}
-use Rattle.dsr_events.specs.meaning.Placed.{Placed}
-use Rattle.dsr_events.specs.meaning.Orderly.{is_ended, has_ended}
-use Rattle.dsr_file.specs.meaning.Readings.{Reading, reading, records}
 use Rattle.dsr_file.specs.meaning.Readings as of
-use Rattle.dsr_file.specs.meaning.Parts.{events_of}
-use Rattle.dsr_file.specs.meaning.Faults.{fault_of}
-use Rattle.dsr_file.specs.meaning.Texts.{AllGood, first_from, events_so_far, placed, readings, so_far}
-use Rattle.dsr_file.specs.meaning.Runs.{ended, known_events, known_lines, BeginsEvents, IsCutOff, EndsWith}
-use Rattle.dsr_file.specs.inner.Grammars.{Keeps, LineSteps, TakesMemory}
-use Rattle.dsr_file.specs.inner.Cutting.{CutsTo, CutSteps}
-use Rattle.dsr_file.specs.inner.Standing.{Stands, StandsAt, SameText, AtLine, AtAnswer, AtCut, EndsAfter, IsDone}
 use Rattle.dsr_file.proofs.LawLemmas.{no_ended, ended_placed}
 use Rattle.dsr_file.proofs.ReaderLemmas.{placed-append, length-placed, readings_short, readings_long, fault_events, good_events}
 

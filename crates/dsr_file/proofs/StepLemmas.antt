@@ -1,18 +1,7 @@
 -- One more record: the stage changes as the records do, and gives their next event.
-use Rattle.std.proofs.Common.{◌≡◌, ◌≢◌, ℕ, suc, ◌+◌, ◌<◌, ◌≤◌, ◌∙◌, sym, ap, refl, Bool, true, false, not, ◌||◌, eqb, leb, List, [], ◌∷◌, ◌++◌, length, map, drop, Option, None, Some, arith, append_assoc, add-zero, length-append}
-use Rattle.std.specs.Prelude.{if◌then◌else◌}
-use Rattle.std.specs.Option.{option_to_list, option_map}
-use Rattle.std.proofs.lemmas.Bool.Decides.{nat_tests}
-use Rattle.std.proofs.lemmas.List.{length-map, map-append, append-nil}
+use Rattle.dsr_file.proofs.Common.{◌≡◌, ◌≢◌, ℕ, suc, ◌+◌, ◌<◌, ◌≤◌, ◌∙◌, sym, ap, refl, Bool, true, false, not, ◌||◌, eqb, leb, List, [], ◌∷◌, ◌++◌, length, map, drop, Option, None, Some, arith, append_assoc, add-zero, length-append, if◌then◌else◌, option_to_list, option_map, nat_tests, length-map, map-append, append-nil, list_all-append, list_any-append, onto_first, filter_map, list_any, list_all, bytes_eq, id_of_record, kind_of_record, or_else, Kind, Record, BlockParts, FileFault, OpeningParts, Stage, Start, Front, Open, Closed, parts, opens, but_last, closed, block_limit, has_id, summaries, works, usages, works_then_usages, is_usage, block_of, opening_of, opened, events_of, column, place, fault_if, summary_fault, summary_limit, member_fault, early_fault, column_at, block_length, stage_fault, given_by, stage_after, records_of, IsFree, IsOpen, KeepsStage, IsRecord, block_count}
 use Rattle.std.proofs.lemmas.List.Elements.{filter_map-append}
-use Rattle.std.proofs.lemmas.List.Folds.{list_all-append, list_any-append}
-use Rattle.std.specs.List.{onto_first, filter_map, list_any, list_all}
-use Rattle.std.specs.Str.{bytes_eq}
-use Rattle.dsr_records.specs.meaning.Reads.{id_of_record, kind_of_record}
-use Rattle.dsr_records.specs.meaning.Records.{or_else}
-use Rattle.dsr_events.specs.declared.kinds.Kind.{Kind}
 use Rattle.dsr_events.specs.declared.kinds.Kind.TheVariants as kinds
-use Rattle.dsr_events.specs.declared.record.Record.{Record}
 use Rattle.dsr_events.specs.declared.record.Record.TheVariants as the
 use Rattle.dsr_events.specs.declared.record.Summary as summary
 use Rattle.dsr_events.specs.meaning.Works.{WorkParts}
@@ -20,19 +9,9 @@ use Rattle.dsr_events.specs.declared.record.Usage as usage
 use Rattle.dsr_events.specs.declared.record.Head as head
 use Rattle.dsr_events.specs.declared.record.Foot as foot
 use Rattle.dsr_events.specs.declared.record.Resource as resource
-use Rattle.dsr_events.specs.meaning.Blocks.{BlockParts}
-use Rattle.dsr_events.specs.declared.fault.FileFault.{FileFault}
 use Rattle.dsr_events.specs.declared.fault.FileFault.TheVariants as faults
-use Rattle.dsr_events.specs.meaning.Openings.{OpeningParts}
 use Rattle.dsr_events.specs.declared.event.EventPart.TheVariants as tell
 use Rattle.dsr_file.specs.declared.stage.Before.TheVariants as columns
-use Rattle.dsr_file.specs.declared.stage.Stage.{Stage}
-use Rattle.dsr_file.specs.declared.stage.Stage.TheVariants.{Start, Front, Open, Closed}
-use Rattle.dsr_file.specs.meaning.Parts.{parts, opens, but_last, closed, block_limit, has_id, summaries, works, usages, works_then_usages, is_usage, block_of, opening_of, opened, events_of}
-use Rattle.dsr_file.specs.meaning.Faults.{column, place, fault_if, summary_fault, summary_limit, member_fault, early_fault}
-use Rattle.dsr_file.specs.inner.Stages.{column_at, block_length, stage_fault, given_by, stage_after, records_of, IsFree, IsOpen, KeepsStage}
-use Rattle.dsr_file.specs.inner.Grammars.{IsRecord}
-use Rattle.dsr_file.specs.inner.Counting.{block_count}
 use Rattle.dsr_file.proofs.StageLemmas.{column_kept, fault_agrees}
 use Rattle.dsr_file.proofs.PartLemmas.{onto_last, parts_open, parts_stay, but_last_push, last_of_push, onto_last_push, closed_stay, closed_open}
 

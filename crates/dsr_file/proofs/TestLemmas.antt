@@ -1,41 +1,15 @@
 -- The results of testing a line.
-use Rattle.std.proofs.Common.{◌≡◌, ℕ, ◌+◌, ◌≤◌, ◌∙◌, sym, ap, refl, Bool, true, false, not, List, [], ◌∷◌, length, Option, None, Some, length-append, arith, rules, ◌-◌, ◌++◌, get_or, take, subst, inl, inr}
-use Rattle.std.specs.Prelude.{Result, nat_le}
-use Rattle.std.specs.List.{list_any}
-use Rattle.std.specs.Str.{is_utf8, IsUtf8, bytes_eq}
-use Rattle.std.proofs.lemmas.Bool.{cases_eq, cases_lt, le-ltb, lt-ltb, ne_eqb}
-use Rattle.std.proofs.lemmas.List.{append-nil, take_all, take_more}
-use Rattle.std.proofs.lemmas.Str.{IsUtf8-append, IsUtf8-from_ascii, IsUtf8-from_is_utf8}
-use Rattle.std.proofs.lemmas.Bool.Decides.{nat_tests}
-use Rattle.dsr_cells.specs.meaning.Lines.{line_limit, is_long, without_return}
-use Rattle.dsr_records.specs.meaning.Layouts.{is_left_out}
+use Rattle.dsr_file.proofs.Common.{◌≡◌, ℕ, ◌+◌, ◌≤◌, ◌∙◌, sym, ap, refl, Bool, true, false, not, List, [], ◌∷◌, length, Option, None, Some, length-append, arith, rules, ◌-◌, ◌++◌, get_or, take, subst, inl, inr, Result, nat_le, list_any, is_utf8, IsUtf8, bytes_eq, cases_eq, cases_lt, le-ltb, lt-ltb, ne_eqb, append-nil, take_all, take_more, IsUtf8-append, IsUtf8-from_ascii, IsUtf8-from_is_utf8, nat_tests, line_limit, is_long, without_return, is_left_out, record_seen, id_of_record, kind_of_record, LayoutTable, or_else, record_of, Kind, Record, Head, Summary, Resource, Work, Usage, Foot, Skipped, FileFault, Grammar, Good, Faulty, Stage, Reading, Holds, SkippedLine, reading, of_text, of_utf8, of_record, records, is_skipped_line, is_skipped_record, file_fault, closed, summaries, events_of, last_of, fault_if, fault_of, early_fault, place, column, member_fault, in_part, summary_fault, summary_limit, last_part, first_id, counts_fault, stage_fault, Keeps, LineSteps, IsRecord}
 use Rattle.dsr_records.specs.declared.checked.CheckedLine.{CheckedLine}
 use Rattle.dsr_records.specs.declared.checked.CheckedLine.TheVariants as lines
-use Rattle.dsr_records.specs.inner.Checked.{record_seen}
-use Rattle.dsr_records.specs.meaning.Reads.{id_of_record, kind_of_record}
-use Rattle.dsr_records.specs.meaning.Records.{LayoutTable, or_else}
-use Rattle.dsr_records.specs.meaning.Values.{record_of}
-use Rattle.dsr_events.specs.declared.kinds.Kind.{Kind}
 use Rattle.dsr_events.specs.declared.kinds.Kind.TheVariants as kinds
 use Rattle.dsr_records.specs.declared.fault.RecordFault.{RecordFault}
 use Rattle.dsr_records.specs.declared.fault.RecordFault.TheVariants as own
-use Rattle.dsr_events.specs.declared.record.Record.{Record}
 use Rattle.dsr_events.specs.declared.record.Summary as summary
-use Rattle.dsr_events.specs.declared.record.Record.TheVariants.{Head, Summary, Resource, Work, Usage, Foot, Skipped}
-use Rattle.dsr_events.specs.declared.fault.FileFault.{FileFault}
 use Rattle.dsr_events.specs.declared.fault.FileFault.TheVariants as faults
-use Rattle.dsr_file.specs.declared.grammar.Grammar.{Grammar}
-use Rattle.dsr_file.specs.declared.grammar.Step.TheVariants.{Good, Faulty}
 use Rattle.dsr_file.specs.declared.stage.Before.{Before}
 use Rattle.dsr_file.specs.declared.stage.Before.TheVariants as columns
-use Rattle.dsr_file.specs.declared.stage.Stage.{Stage}
-use Rattle.dsr_file.specs.meaning.Readings.{Reading, Holds, SkippedLine, reading, of_text, of_utf8, of_record, records, is_skipped_line, is_skipped_record, file_fault}
 use Rattle.dsr_file.specs.meaning.Readings as line
-use Rattle.dsr_file.specs.meaning.Parts.{closed, summaries, events_of, last_of}
-use Rattle.dsr_file.specs.meaning.Faults.{fault_if, fault_of, early_fault, place, column, member_fault, in_part, summary_fault, summary_limit, last_part, first_id}
-use Rattle.dsr_file.specs.meaning.Texts.{counts_fault}
-use Rattle.dsr_file.specs.inner.Stages.{stage_fault}
-use Rattle.dsr_file.specs.inner.Grammars.{Keeps, LineSteps, IsRecord}
 use Rattle.dsr_file.proofs.StageLemmas.{fault_agrees}
 use Rattle.dsr_file.proofs.LineLemmas.{records-same, first_good}
 use Rattle.dsr_file.proofs.AddLemmas.{count_by_push_no, count_by_push_yes}

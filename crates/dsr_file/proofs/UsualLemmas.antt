@@ -1,27 +1,9 @@
 -- What a reader represents after a line of the usual form.
-use Rattle.std.proofs.Common.{◌≡◌, ℕ, ◌+◌, ◌-◌, ◌<◌, ◌∙◌, sym, ap, refl, subst, Bool, true, false, List, [], ◌∷◌, ◌++◌, length, Option, length-append, length-take, take, get_or, map, arith, eqb, suc, Ok}
-use Rattle.std.specs.List.{list_any}
-use Rattle.std.specs.Str.{is_utf8}
-use Rattle.std.proofs.lemmas.Bool.{ne_eqb, lt-ltb, false≢true}
-use Rattle.std.proofs.lemmas.List.{get_or-take}
+use Rattle.dsr_file.proofs.Common.{◌≡◌, ℕ, ◌+◌, ◌-◌, ◌<◌, ◌∙◌, sym, ap, refl, subst, Bool, true, false, List, [], ◌∷◌, ◌++◌, length, Option, length-append, length-take, take, get_or, map, arith, eqb, suc, Ok, list_any, is_utf8, ne_eqb, lt-ltb, false≢true, get_or-take, is_utf8-from_IsUtf8, is_line_feed, without_return, Record, is_left_out, LayoutTable, record_of, EventPart, Placed, Step, FileReader, Reading, Holds, reading, of_utf8, CutsTo, IsBetweenLines, Keeps, LineSteps, Stands, StandsAt, AtAnswer}
 use Rattle.std.proofs.lemmas.List.Elements.{All-get_or}
 use Rattle.std.proofs.lemmas.List.Sums.{AllPass-from_list_all}
-use Rattle.std.proofs.lemmas.Str.{is_utf8-from_IsUtf8}
-use Rattle.dsr_cells.specs.meaning.Lines.{is_line_feed, without_return}
-use Rattle.dsr_events.specs.declared.record.Record.{Record}
-use Rattle.dsr_records.specs.meaning.Layouts.{is_left_out}
 use Rattle.dsr_records.specs.inner.Usual.{BeginsWithLine, is_plain}
-use Rattle.dsr_records.specs.meaning.Records.{LayoutTable}
-use Rattle.dsr_records.specs.meaning.Values.{record_of}
-use Rattle.dsr_events.specs.declared.event.EventPart.{EventPart}
-use Rattle.dsr_events.specs.meaning.Placed.{Placed}
-use Rattle.dsr_file.specs.declared.grammar.Step.{Step}
-use Rattle.dsr_file.specs.declared.reader.FileReader.{FileReader}
 use Rattle.dsr_file.specs.declared.phase.Phase.TheVariants as phases
-use Rattle.dsr_file.specs.meaning.Readings.{Reading, Holds, reading, of_utf8}
-use Rattle.dsr_file.specs.inner.Cutting.{CutsTo, IsBetweenLines}
-use Rattle.dsr_file.specs.inner.Grammars.{Keeps, LineSteps}
-use Rattle.dsr_file.specs.inner.Standing.{Stands, StandsAt, AtAnswer}
 use Rattle.dsr_file.proofs.CutLemmas.{fed_line}
 use Rattle.dsr_file.proofs.TestLemmas.{of_utf8_record, reading_text}
 

@@ -3,11 +3,10 @@ ghost use Rattle.std.specs.Prelude.{◌≡◌, ◌++◌, ◌∷◌, ◌<◌, ◌
 ghost use Rattle.std.specs.Option.{option_to_list};
 ghost use Rattle.dsr_events.specs.declared.kinds.Kind.TheVariants as kinds;
 ghost use Rattle.dsr_events.specs.meaning.Blocks.{OpensBlock};
-ghost use Rattle.dsr_records.specs.inner.Checked.{record_seen};
-ghost use Rattle.dsr_records.specs.meaning.Reads.{has_texts, kind_of_record};
+ghost use Rattle.dsr_records.specs.inner.Rows.{record_seen};
+ghost use Rattle.dsr_records.specs.meaning.Values.{has_texts, kind_of_record};
 ghost use Rattle.dsr_file.specs.meaning.Runs.{IsSomeRun};
-ghost use Rattle.dsr_file.specs.inner.Counting.{block_count};
-ghost use Rattle.dsr_file.specs.inner.Closing.{event_at};
+ghost use Rattle.dsr_file.specs.inner.Stages.{block_count, event_at};
 
 use crate::sink::Sink;
 use dsr_cells::NoMemory;
@@ -40,7 +39,7 @@ fn new_block(alloc: Global) -> Result<BoxedBlock, NoMemory> {
 impl Model for Closed {
     ghost use Rattle.std.specs.Prelude.{Option};
     ghost use Rattle.dsr_events.specs.declared.event.EventPart.{EventPart};
-    ghost use Rattle.dsr_file.specs.inner.Closing.{part_closed, IsOne};
+    ghost use Rattle.dsr_file.specs.inner.Stages.{part_closed, IsOne};
 
     ghost Value = { Option EventPart };
 

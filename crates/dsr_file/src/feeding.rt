@@ -2,7 +2,7 @@
 ghost use Rattle.std.specs.Prelude.{◌≡◌, ◌++◌, ◌∷◌, [], ◌+◌, ◌≤◌, ◌^◌, length, None, OnOk, IfOk, IfErr, IfSome};
 ghost use mathlib.Core.List.{IsPrefix};
 ghost use Rattle.dsr_file.specs.inner.Standing.{bytes_used, ending_told};
-ghost use Rattle.dsr_file.specs.inner.Feeding.{IsKnown, Feeds, FeedsSome, Finishes, FinishesSome};
+ghost use Rattle.dsr_file.specs.inner.ReaderSteps.{IsKnown, Feeds, FeedsSome, Finishes, FinishesSome};
 
 use crate::closed::Closed;
 use crate::reader::FileReader;

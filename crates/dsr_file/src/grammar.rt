@@ -1,9 +1,9 @@
 //! Taking the lines of a file one after another, each with the event that it closes or the fault that ends the file.
 ghost use Rattle.std.specs.Prelude.{◌≡◌, ◌+◌, ◌-◌, ◌<◌, ◌≤◌, ◌^◌, [], length, List, None, option_and_then};
 ghost use Rattle.dsr_cells.specs.meaning.Lines.{line_limit};
-ghost use Rattle.dsr_records.specs.inner.Checked.{record_seen};
+ghost use Rattle.dsr_records.specs.inner.Rows.{record_seen};
 ghost use Rattle.dsr_file.specs.meaning.Readings.{file_fault};
-ghost use Rattle.dsr_file.specs.inner.Counting.{foot_in, summary_count};
+ghost use Rattle.dsr_file.specs.inner.Stages.{foot_in, summary_count};
 
 use crate::closed::Closed;
 use crate::stage::Stage;

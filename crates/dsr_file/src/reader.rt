@@ -2,10 +2,9 @@
 ghost use Rattle.std.specs.Prelude.{◌≡◌, ◌≢◌, [], ◌+◌, ◌<◌, ◌≤◌, ◌^◌, ◌⊎◌, ◌↔◌, length, List, ℕ, true, take, Some, None, Ok, IfOk, IfNone, OnSome, IsTrue};
 ghost use Rattle.std.specs.Option.{option_to_list};
 ghost use Rattle.dsr_records.specs.meaning.Records.{LayoutTable};
-ghost use Rattle.dsr_events.specs.meaning.Placed.{Placed};
-ghost use Rattle.dsr_events.specs.meaning.Orderly.{has_ended};
+ghost use Rattle.dsr_events.specs.meaning.Orderly.{Placed, has_ended};
 ghost use Rattle.dsr_file.specs.inner.Allowance.{allowance, left};
-ghost use Rattle.dsr_file.specs.inner.Closing.{event_at};
+ghost use Rattle.dsr_file.specs.inner.Stages.{event_at};
 ghost use Rattle.dsr_file.specs.meaning.Runs.{ended};
 
 use crate::closed::Closed;
@@ -50,11 +49,9 @@ impl Drop for FileReader {
 }
 
 impl FileReader {
-    ghost use Rattle.dsr_file.specs.inner.Advances.{Advances, Gives, HasBegun, HasGivenAll, GivesBeforeItUses};
+    ghost use Rattle.dsr_file.specs.inner.ReaderSteps.{Advances, Gives, HasBegun, HasGivenAll, GivesBeforeItUses, StandsAs, UsesBytes, AppliesCut, AppliesStep, EndsText};
+    ghost use Rattle.dsr_file.specs.inner.Standing.{Stands, SameBut, SameText, AtEnd, EndsAfter, IsDone, bytes_used, events_left, ending_told, first_ending};
     ghost use Rattle.dsr_file.specs.inner.Cutting.{FitsCut};
-    ghost use Rattle.dsr_file.specs.inner.ReaderSteps.{StandsAs, UsesBytes, AppliesCut, AppliesStep, EndsText};
-    ghost use Rattle.dsr_file.specs.inner.Standing.{Stands, SameBut, SameText, AtEnd, EndsAfter, IsDone};
-    ghost use Rattle.dsr_file.specs.inner.Standing.{bytes_used, events_left, ending_told, first_ending};
     ghost use Rattle.dsr_file.specs.declared.phase.Phase.TheVariants as phases;
 
     /// A reader that has used no bytes. It keeps the allocator and a copy of the layout.

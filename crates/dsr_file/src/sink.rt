@@ -1,6 +1,6 @@
 //! The destination of a file's events.
 ghost use Rattle.std.specs.Prelude.{◌≡◌, ◌<◌, ◌^◌, List, [], ◌∷◌, ◌++◌, true, false, OnOk, IfErr};
-ghost use Rattle.dsr_events.specs.meaning.Placed.{Placed, block_event};
+ghost use Rattle.dsr_events.specs.meaning.Orderly.{Placed, block_event};
 ghost use Rattle.dsr_file.specs.meaning.Runs.{IsSomeRun};
 
 use dsr_events::{Event, EventList};

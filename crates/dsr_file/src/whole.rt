@@ -4,7 +4,7 @@ ghost use Rattle.dsr_records.specs.meaning.Records.{LayoutTable};
 ghost use Rattle.dsr_file.specs.meaning.Texts.{text_events};
 ghost use Rattle.dsr_file.specs.meaning.Runs.{HasEvents, EndsWith};
 ghost use Rattle.dsr_file.specs.inner.Standing.{Stands, bytes_used, ending_told};
-ghost use Rattle.dsr_file.specs.inner.Feeding.{IsKnown};
+ghost use Rattle.dsr_file.specs.inner.ReaderSteps.{IsKnown};
 
 use crate::closed::Closed;
 use crate::feeding::{feed, finish_all};

@@ -1,14 +1,9 @@
 -- How lists of events end.
-use Rattle.std.proofs.Common.{◌≡◌, ℕ, suc, ◌+◌, Bool, true, false, ◌||◌, List, [], ◌∷◌, ◌++◌, length, Some, slice_get, refl, ap, ◌∙◌, arith, length-append}
+use Rattle.dsr_intake.proofs.Common.{◌≡◌, ℕ, suc, ◌+◌, Bool, true, false, ◌||◌, List, [], ◌∷◌, ◌++◌, length, Some, slice_get, refl, ap, ◌∙◌, arith, length-append, EventPart, Placed, is_ended, has_ended, IsOrderly, slice_get_front, is_clean_end, ends_clean}
 use Rattle.dsr_events.specs.declared.fault.FileFault.TheVariants.{Memory}
 use Rattle.dsr_events.specs.declared.fault.Outcome.TheVariants.{Fault}
-use Rattle.dsr_events.specs.declared.event.EventPart.{EventPart}
 use Rattle.dsr_events.specs.declared.event.EventPart.TheVariants.{Opened, Block, Ended}
-use Rattle.dsr_events.specs.meaning.Placed.{Placed}
-use Rattle.dsr_events.specs.meaning.Orderly.{is_ended, has_ended, IsOrderly}
-use Rattle.dsr_events.specs.inner.OrderlyLaws.{slice_get_front}
 use Rattle.dsr_file.specs.meaning.Texts.{placed}
-use Rattle.dsr_intake.specs.inner.Ends.{is_clean_end, ends_clean}
 
 pub ends_clean_push : (xs : List Placed) (e : Placed) → ends_clean (xs ++ e ∷ []) ≡ is_clean_end e.part
 ends_clean_push [] e = refl

@@ -1,22 +1,8 @@
 -- The file of a list of events, event by event.
-use Rattle.std.proofs.Common.{◌≡◌, ℕ, zero, suc, ◌+◌, ◌<◌, ◌≤◌, ◌^◌, ◌||◌, true, false, List, [], ◌∷◌, ◌++◌, length, take, drop, get_or, Some, IsSome, refl, sym, ap, subst, ◌∙◌, arith, add-one, append_assoc, length-append, set, slice_get}
-use Rattle.std.specs.List.{filter_map}
-use Rattle.std.proofs.lemmas.List.{append-nil, set-set, set-get_or, take-append-drop}
+use Rattle.dsr_intake.proofs.Common.{◌≡◌, ℕ, zero, suc, ◌+◌, ◌<◌, ◌≤◌, ◌^◌, ◌||◌, true, false, List, [], ◌∷◌, ◌++◌, length, take, drop, get_or, Some, IsSome, refl, sym, ap, subst, ◌∙◌, arith, add-one, append_assoc, length-append, set, slice_get, filter_map, append-nil, set-set, set-get_or, take-append-drop, get_or_from_slice_get, filter_map-append, EventPart, Placed, is_ended, has_ended, MayStandAt, IsOrderly, orderly_front, Books, File, Stands, ends_clean, is_clean_end, opening_in, block_in, outcome_in, first, file_of, with_part, is_opening, IsGoing, Knows, Changes, IsFollowed, TakesAll}
 use Rattle.std.proofs.Math.Seq.{take-suc}
-use Rattle.std.proofs.lemmas.Option.{get_or_from_slice_get}
-use Rattle.std.proofs.lemmas.List.Elements.{filter_map-append}
-use Rattle.dsr_events.specs.declared.event.EventPart.{EventPart}
 use Rattle.dsr_events.specs.declared.event.EventPart.TheVariants as part
-use Rattle.dsr_events.specs.meaning.Placed.{Placed}
-use Rattle.dsr_events.specs.meaning.Orderly.{is_ended, has_ended, MayStandAt, IsOrderly}
-use Rattle.dsr_events.specs.inner.OrderlyLaws.{orderly_front}
 use Rattle.dsr_relay.proofs.Taking.{going_on}
-use Rattle.dsr_ledger.specs.declared.books.Books.{Books}
-use Rattle.dsr_ledger.specs.meaning.Files.{File}
-use Rattle.dsr_ledger.specs.inner.BooksWords.{Stands}
-use Rattle.dsr_intake.specs.inner.Ends.{ends_clean, is_clean_end}
-use Rattle.dsr_intake.specs.meaning.Texts.{opening_in, block_in, outcome_in, first, file_of}
-use Rattle.dsr_intake.specs.inner.Collecting.{with_part, is_opening, IsGoing, Knows, Changes, IsFollowed, TakesAll}
 use Rattle.dsr_intake.proofs.EndLemmas.{ends_clean_push, has_ended_push}
 
 abbrev event : ℕ → EventPart → Placed

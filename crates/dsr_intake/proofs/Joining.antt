@@ -1,20 +1,8 @@
 -- What holds while the threads are started, and while they are joined.
-use Rattle.std.proofs.Common.{◌≡◌, false, List, [], ◌∷◌, ◌++◌, map, All, refl, sym, ap, subst, ◌∙◌, append_assoc}
-use Rattle.std.proofs.lemmas.List.{append-nil, map-append}
-use Rattle.std.proofs.lemmas.List.Elements.{All-head, All-tail, All-cons, All-append, All-nil}
-use Rattle.dsr_events.specs.meaning.Placed.{Placed}
-use Rattle.dsr_events.specs.meaning.Orderly.{IsOrderly}
-use Rattle.dsr_file.specs.meaning.Runs.{FileText, events_of_text}
-use Rattle.dsr_io.specs.meaning.Told.{Told}
+use Rattle.dsr_intake.proofs.Common.{◌≡◌, false, List, [], ◌∷◌, ◌++◌, map, All, refl, sym, ap, subst, ◌∙◌, append_assoc, append-nil, map-append, All-head, All-tail, All-cons, All-append, All-nil, Placed, IsOrderly, FileText, events_of_text, Told, TapView, Options, ends_clean, IsDrained, IsGiven, GaveEach, file_of}
 use Rattle.dsr_file.specs.meaning.Sources.{GaveText}
 use Rattle.dsr_relay.specs.declared.name.Name.{Name}
-use Rattle.dsr_relay.specs.meaning.Views.{TapView}
 use Rattle.dsr_records.specs.meaning.Records.{LayoutTable}
-use Rattle.dsr_intake.specs.declared.options.Options.{Options}
-use Rattle.dsr_intake.specs.inner.Ends.{ends_clean}
-use Rattle.dsr_intake.specs.inner.Collecting.{IsDrained}
-use Rattle.dsr_intake.specs.inner.Given.{IsGiven}
-use Rattle.dsr_intake.specs.meaning.Texts.{GaveEach, file_of}
 use Rattle.dsr_intake.proofs.EndLemmas.{clean_is_whole}
 
 All-one : {A : Type 0} (P : A → Type 0) (x : A) → P x → All P (x ∷ [])

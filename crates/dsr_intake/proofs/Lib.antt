@@ -1,3 +1,4 @@
+pub mod Common
 pub mod EndLemmas
 pub mod Promises
 pub mod Joining

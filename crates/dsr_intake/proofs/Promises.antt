@@ -1,18 +1,9 @@
 -- A thread's list of events, by the result of reading its file.
-use Rattle.std.proofs.Common.{◌≡◌, false, List, [], ◌∷◌, ◌++◌, inl, inr, ap, refl, Result, Ok, Err, IfErr}
-use Rattle.std.specs.Prelude.{OnOk}
-use Rattle.dsr_events.specs.declared.fault.Outcome.{Outcome}
+use Rattle.dsr_intake.proofs.Common.{◌≡◌, false, List, [], ◌∷◌, ◌++◌, inl, inr, ap, refl, Result, Ok, Err, IfErr, OnOk, Outcome, Placed, Told, run_orderly, Options, ends_clean, IsGiven}
 use Rattle.dsr_file.specs.declared.reading.ReadFileError.{ReadFileError}
 use Rattle.dsr_file.specs.declared.reading.ReadFileError.TheVariants.{Memory, Refused}
-use Rattle.dsr_events.specs.meaning.Placed.{Placed}
-use Rattle.dsr_io.specs.meaning.Told.{Told}
-use Rattle.dsr_file.specs.meaning.Sources.{IsRead, IsRefused}
-use Rattle.dsr_file.specs.meaning.Refusals.{IsRefusal}
+use Rattle.dsr_file.specs.meaning.Sources.{IsRead, IsRefused, IsRefusal}
 use Rattle.dsr_file.proofs.FeedLemmas.{known_run}
-use Rattle.dsr_file.proofs.RunLemmas.{run_orderly}
-use Rattle.dsr_intake.specs.declared.options.Options.{Options}
-use Rattle.dsr_intake.specs.inner.Ends.{ends_clean}
-use Rattle.dsr_intake.specs.inner.Given.{IsGiven}
 use Rattle.dsr_intake.proofs.EndLemmas.{clean_is_whole, memory_is_unclean}
 
 module _ (options : Options) (before after : Told) (sent : List Placed) where

@@ -1,29 +1,14 @@
 -- What holds while the files are opened, and in a round.
-use Rattle.std.proofs.Common.{◌≡◌, ℕ, zero, suc, ◌+◌, ◌<◌, ◌≤◌, true, List, [], ◌∷◌, ◌++◌, map, take, set, length, get_or, All, Some, None, Result, Ok, Err, refl, sym, ap, subst, ◌∙◌, arith, length-take, add-one, ◌⊎◌, inl, inr, IsSome, is_some, slice_get}
-use Rattle.std.specs.List.{filter_map}
-use Rattle.std.specs.Prelude.{OnOk}
+use Rattle.dsr_intake.proofs.Common.{◌≡◌, ℕ, zero, suc, ◌+◌, ◌<◌, ◌≤◌, true, List, [], ◌∷◌, ◌++◌, map, take, set, length, get_or, All, Some, None, Result, Ok, Err, refl, sym, ap, subst, ◌∙◌, arith, length-take, add-one, ◌⊎◌, inl, inr, IsSome, is_some, slice_get, filter_map, OnOk, All-tail, map-append, length-map, map-set, slice_get-map, slice_get-get_or, get_or_from_slice_get, slice_get_within, slice_get_read, EventPart, Outcome, Placed, MayStandAt, has_ended, TapView, Books, File, opened, add_block, end_with, with_block, with_outcome, Stands, files_count, opened_count, CanBook, CanEnd, AllEnded, file_of, first, outcome_in, IsTapped, IsStoppedAt, IsFileAt, Changes, Opens, first_file, IsGoing, Knows, IsNext}
 use Rattle.std.specs.Option.{option_map}
-use Rattle.std.proofs.lemmas.List.Elements.{All-tail}
-use Rattle.std.proofs.lemmas.List.{map-append, length-map, map-set}
 use Rattle.std.proofs.Math.Seq.{take-suc-set, map-set_same, set-append_seam}
-use Rattle.std.proofs.lemmas.Option.{slice_get-map, slice_get-get_or, get_or_from_slice_get, slice_get_within, slice_get_read}
 use Rattle.dsr_events.specs.meaning.Blocks.{BlockParts}
-use Rattle.dsr_events.specs.declared.event.EventPart.{EventPart}
 use Rattle.dsr_events.specs.declared.event.EventPart.TheVariants as part
-use Rattle.dsr_events.specs.declared.fault.Outcome.{Outcome}
-use Rattle.dsr_events.specs.meaning.Placed.{Placed}
-use Rattle.dsr_events.specs.meaning.Orderly.{MayStandAt, has_ended}
-use Rattle.dsr_relay.specs.meaning.Views.{TapView}
-use Rattle.dsr_ledger.specs.declared.books.Books.{Books}
-use Rattle.dsr_ledger.specs.meaning.Files.{File, opened, add_block, end_with, with_block, with_outcome}
 use Rattle.dsr_ledger.specs.inner.Books.{ended_in}
-use Rattle.dsr_ledger.specs.inner.BooksWords.{Stands, files_count, opened_count, CanBook, CanEnd, AllEnded}
 use Rattle.dsr_ledger.proofs.CallerLemmas.{opened_is, can_book, can_end, all_ended}
-use Rattle.dsr_intake.specs.meaning.Texts.{file_of, first, outcome_in}
-use Rattle.dsr_intake.specs.inner.Stops.{IsStopped}
+use Rattle.dsr_intake.specs.inner.Collecting.{IsStopped}
 use Rattle.dsr_intake.specs.declared.errors.CollectError.{CollectError}
 use Rattle.dsr_intake.specs.declared.errors.CollectError.TheVariants.{Memory, Closed}
-use Rattle.dsr_intake.specs.inner.Collecting.{IsTapped, IsStoppedAt, IsFileAt, Changes, Opens, first_file, IsGoing, Knows, IsNext}
 use Rattle.dsr_intake.proofs.Filing.{get_end, get_set_same}
 
 abbrev event : ℕ → EventPart → Placed

@@ -1,15 +1,11 @@
 //! The collector: it takes the events of all files, books them, and closes the books or makes their report.
 ghost use Rattle.std.specs.Prelude.{◌≡◌, ◌+◌, ◌<◌, ◌≤◌, ◌++◌, true, false, List, [], map, All, OnOk, OnErr, IfOk, IfErr, MatchOption, vec_len};
-ghost use Rattle.dsr_events.specs.meaning.Placed.{Placed};
-ghost use Rattle.dsr_events.specs.meaning.Orderly.{IsOrderly, is_ended, has_ended, MayStandAt};
-ghost use Rattle.dsr_ledger.specs.inner.BooksWords.{Stands, files_count};
-ghost use Rattle.dsr_ledger.specs.inner.Closed.{AreClosed};
+ghost use Rattle.dsr_events.specs.meaning.Orderly.{Placed, IsOrderly, is_ended, has_ended, MayStandAt};
+ghost use Rattle.dsr_ledger.specs.inner.BooksWords.{Stands, files_count, AreClosed};
 ghost use Rattle.dsr_ledger.specs.meaning.Reports.{report_of};
 ghost use Rattle.dsr_ledger.specs.meaning.Files.{File};
-ghost use Rattle.dsr_intake.specs.inner.Ends.{is_clean_end};
+ghost use Rattle.dsr_intake.specs.inner.Collecting.{is_clean_end, IsStopped, with_part, is_opening, first_file, IsGoing, Knows, Changes, IsNext, Opens, IsTapped, IsDrained, IsFollowed, TakesAll, IsStoppedAt};
 ghost use Rattle.dsr_intake.specs.meaning.Texts.{file_of};
-ghost use Rattle.dsr_intake.specs.inner.Stops.{IsStopped};
-ghost use Rattle.dsr_intake.specs.inner.Collecting.{with_part, is_opening, first_file, IsGoing, Knows, Changes, IsNext, Opens, IsTapped, IsDrained, IsFollowed, TakesAll, IsStoppedAt};
 
 use crate::errors::CollectError;
 use crate::options::MOST_READERS;

@@ -1,14 +1,10 @@
 //! Reading the files of a report concurrently.
 ghost use Rattle.std.specs.Prelude.{◌≡◌, ◌<◌, ◌≤◌, false, List, [], map, All, IfOk, OnOk, IfErr, Err, MatchOption, vec_len, vec_capacity};
 ghost use Rattle.dsr_file.specs.meaning.Runs.{FileText, events_of_text};
-ghost use Rattle.dsr_ledger.specs.inner.Closed.{AreClosed};
-ghost use Rattle.dsr_intake.specs.inner.Collecting.{IsDrained};
-ghost use Rattle.dsr_intake.specs.meaning.Texts.{GaveEach, file_of};
-ghost use Rattle.dsr_intake.specs.meaning.Options.{refusal_of, IsLate};
+ghost use Rattle.dsr_ledger.specs.inner.BooksWords.{AreClosed};
+ghost use Rattle.dsr_intake.specs.inner.Collecting.{IsDrained, AreBooksOf, AreReady, intake_error_of};
+ghost use Rattle.dsr_intake.specs.meaning.Texts.{GaveEach, file_of, refusal_of, IsLate};
 ghost use Rattle.dsr_intake.specs.meaning.Outcomes.{IsReportOf};
-ghost use Rattle.dsr_intake.specs.inner.Read.{AreBooksOf};
-ghost use Rattle.dsr_intake.specs.inner.Ready.{AreReady};
-ghost use Rattle.dsr_intake.specs.inner.Stops.{intake_error_of};
 
 use crate::collector::collect_books;
 use crate::errors::{CollectError, IntakeError};

@@ -1,6 +1,6 @@
 //! The options of a run, and what is refused before anything is read.
 ghost use Rattle.std.specs.Prelude.{◌≡◌};
-ghost use Rattle.dsr_intake.specs.meaning.Options.{standard_options, refusal_of};
+ghost use Rattle.dsr_intake.specs.meaning.Texts.{standard_options, refusal_of};
 
 use crate::errors::IntakeError;
 use dsr_records::Layout;

@@ -2,16 +2,16 @@
 ghost use Rattle.std.specs.Prelude.{◌≡◌, false, List, All, OnOk, IfOk, IfErr, Err, MatchOption, vec_len};
 ghost use Rattle.dsr_file.specs.meaning.Runs.{FileText};
 ghost use Rattle.dsr_ledger.specs.declared.report.Report.{Report};
-ghost use Rattle.dsr_ledger.specs.inner.Closed.{AreClosed};
+ghost use Rattle.dsr_ledger.specs.inner.BooksWords.{AreClosed};
 ghost use Rattle.dsr_ledger.specs.meaning.Files.{File};
 ghost use Rattle.dsr_ledger.specs.inner.View.{IsReady, IsViewOf};
 ghost use Rattle.dsr_ledger.specs.meaning.Reports.{report_of};
-ghost use Rattle.dsr_intake.specs.meaning.Options.{refusal_of};
+ghost use Rattle.dsr_intake.specs.meaning.Texts.{refusal_of};
 ghost use Rattle.dsr_intake.specs.meaning.Outcomes.{IsReported, IsUnwritten, IsLateRun};
 ghost use Rattle.dsr_statement.specs.meaning.Statement.{statement_of};
 ghost use Rattle.dsr_statement.specs.meaning.Status.{status_of};
 ghost use Rattle.dsr_io.specs.meaning.Written.{IsFlushed};
-ghost use Rattle.dsr_intake.specs.inner.Unfinished.{IsUnfinished};
+ghost use Rattle.dsr_intake.specs.inner.Collecting.{IsUnfinished};
 
 use crate::errors::{IntakeError, RunError};
 use crate::gather::read_books;

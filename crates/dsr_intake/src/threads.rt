@@ -3,11 +3,9 @@ ghost use Rattle.std.specs.Prelude.{◌≡◌, ◌≢◌, ◌<◌, ◌≤◌, fa
 ghost use Rattle.dsr_events.specs.declared.event.EventPart.TheVariants as part;
 ghost use Rattle.dsr_events.specs.declared.fault.FileFault.TheVariants as fault;
 ghost use Rattle.dsr_events.specs.declared.fault.Outcome.TheVariants as outcome;
-ghost use Rattle.dsr_events.specs.meaning.Placed.{Placed};
-ghost use Rattle.dsr_events.specs.meaning.Orderly.{IsOrderly};
-ghost use Rattle.dsr_intake.specs.meaning.Options.{IsLate};
-ghost use Rattle.dsr_intake.specs.inner.Ends.{ends_clean, was_refused_memory};
-ghost use Rattle.dsr_intake.specs.inner.Given.{IsGiven};
+ghost use Rattle.dsr_events.specs.meaning.Orderly.{Placed, IsOrderly};
+ghost use Rattle.dsr_intake.specs.meaning.Texts.{IsLate};
+ghost use Rattle.dsr_intake.specs.inner.Collecting.{ends_clean, was_refused_memory, IsGiven};
 
 use crate::errors::IntakeError;
 use crate::feed_sink::FeedSink;

@@ -1,4 +1,3 @@
 -- The definitions to be trusted: the state of a source and how the count of its reads grows, and the state of an outlet.
-pub mod ReadCounts
 pub mod Told
 pub mod Written

@@ -1,6 +1,6 @@
 //! Counting the reads of a source.
 ghost use Rattle.std.specs.Prelude.{◌≡◌};
-ghost use Rattle.dsr_io.specs.meaning.ReadCounts.{AddsRead, no_reads};
+ghost use Rattle.dsr_io.specs.meaning.Told.{AddsRead, no_reads};
 
 /// The number of reads that a source has answered, the number of those that gave bytes, and the bytes of the last one. No
 /// code asks for them: contracts say with them how many reads were made.

@@ -2,8 +2,7 @@
 ghost use Rattle.std.specs.Prelude.{◌≡◌, ◌<◌, true, false, length, MatchResult};
 ghost use Rattle.std.specs.Io.{ReadsAtMost};
 ghost use Rattle.std.specs.Io.KnownBytes.{ReadConsumes};
-ghost use Rattle.dsr_io.specs.meaning.ReadCounts.{AddsRead, no_reads};
-ghost use Rattle.dsr_io.specs.meaning.Told.{Told};
+ghost use Rattle.dsr_io.specs.meaning.Told.{AddsRead, no_reads, Told};
 
 use crate::read_count::ReadCount;
 use std::io::Read;

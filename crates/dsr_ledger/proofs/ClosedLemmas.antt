@@ -1,11 +1,10 @@
 -- The report's parts made of the files' states are those of the files that they represent.
-use Rattle.dsr_ledger.proofs.Common.{◌≡◌, ℕ, List, [], ◌∷◌, ◌++◌, true, sym, ◌∙◌, ap, arith, Bool, ◌+◌, append_assoc, false, refl, not, ◌&&◌, ◌||◌, Option, option_map, None, Some, map, ℤ, filter, if◌then◌else◌, list_any, flat_map, range_with_len, bytes_eq, map-id, list_any-append, Summary, key_of, outcome_of, file_line, report_head, missing, first_head, summaries_of, File, Filed, filed, found_in, sums_at, openings_of, FileBooks, Summaries, tally_at, FileStands, Stands, Usage, usages_in, is_ours, ended_whole, naming, difference, differs, differences_in, differences, has_number, is_there, missing_for, rejects_in, rejects, BTreeSet, contains, nat_cmp, filter_of_map_range_with_len_more, Kept, int_sum_by, line_kept, is_number_kept, not_in, sums_or_zeros, difference_to, differences_to, differences_kept}
-use Rattle.dsr_events.specs.declared.record.Head.{Head}
+use Rattle.dsr_ledger.proofs.Common.{◌≡◌, ℕ, List, [], ◌∷◌, ◌++◌, true, sym, ◌∙◌, ap, arith, Bool, ◌+◌, append_assoc, false, refl, not, ◌&&◌, ◌||◌, Option, option_map, None, Some, map, ℤ, filter, if◌then◌else◌, list_any, flat_map, range_with_len, bytes_eq, map-id, list_any-append, Summary, key_of, outcome_of, file_line, report_head, missing, first_head, summaries_of, File, Filed, filed, found_in, sums_at, openings_of, FileBooks, Summaries, tally_at, FileStands, Stands, Usage, usages_in, is_ours, ended_whole, naming, difference, differs, differences_in, differences, has_number, is_there, missing_for, rejects_in, rejects, BTreeSet, contains, nat_cmp, filter_of_map_range_with_len_more, Kept, int_sum_by, line_kept, is_number_kept, not_in, sums_or_zeros, difference_to, differences_to, differences_kept, Head}
 use Rattle.dsr_ledger.proofs.TextLemmas.{text_itself}
 use Rattle.dsr_ledger.proofs.EachLemmas.{zero-add}
 use Rattle.dsr_ledger.proofs.FilesLemmas.{openings_are, zip_folds, zip_maps}
 use Rattle.dsr_ledger.specs.declared.closed.ClosedBooks.{ClosedBooks}
-use Rattle.dsr_ledger.specs.inner.Closed.{AreClosed}
+use Rattle.dsr_ledger.specs.inner.BooksWords.{AreClosed}
 
 -- the numbers that are not in a set of the numbers that are there
 pub not_in_is : (head : Option Head) (numbers : BTreeSet ℕ) (ds : List Filed) → ((n : ℕ) → contains nat_cmp numbers n ≡ is_there n ds)

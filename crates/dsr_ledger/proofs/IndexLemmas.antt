@@ -1,8 +1,6 @@
 -- The index of a list of numbers: if they ascend, and with one more number.
-use Rattle.dsr_ledger.proofs.Common.{◌≡◌, ℕ, zero, suc, ◌<◌, cond, not, List, [], ◌∷◌, ◌++◌, length, get_or, nat_eq, refl, sym, ap, ◌∙◌, arith, subst, ◌+◌, ◌-◌, ◌≤◌, take, drop, Result, Ok, Err, Option, None, Some, slice_get, map, nat_tests, length_push, length-map, drop_all, drop-append-le, take_more, get_or-map, get_or_append_left, get_or_push, length-take, get_or_default, get_or-take, list_any_none, position-Some, gets, slice_get-get_or, place_in, AreApart, IsSearchInRange, IsBinarySearchResult, IsNonDecreasingBy, nat_cmp, ordering_index, ranked, insert_key, Rise}
+use Rattle.dsr_ledger.proofs.Common.{◌≡◌, ℕ, zero, suc, ◌<◌, cond, not, List, [], ◌∷◌, ◌++◌, length, get_or, nat_eq, refl, sym, ap, ◌∙◌, arith, subst, ◌+◌, ◌-◌, ◌≤◌, take, drop, Result, Ok, Err, Option, None, Some, slice_get, map, nat_tests, length_push, length-map, drop_all, drop-append-le, take_more, get_or-map, get_or_append_left, get_or_push, length-take, get_or_default, get_or-take, list_any_none, position-Some, gets, slice_get-get_or, place_in, AreApart, IsSearchInRange, IsBinarySearchResult, IsNonDecreasingBy, nat_cmp, ordering_index, ranked, insert_key, Rise, position, prefix_len, option_map}
 use Rattle.std.specs.Result.{result_ok}
-use Rattle.std.specs.List.{position, prefix_len}
-use Rattle.std.specs.Prelude.{option_map}
 use Rattle.std.proofs.lemmas.List.{length-drop}
 use Rattle.dsr_ledger.proofs.NumberedLemmas.{none_any, position_is, position_none}
 

@@ -1,7 +1,5 @@
 -- An `IndexMap` whose keys' equality is equality of values: the number of a key, and a value written by its number.
 use Rattle.dsr_ledger.proofs.Common.{◌≡◌, ℕ, Bool, cond, List, get_or, sym, ap, ◌∙◌, arith, Some, slice_get, option_map, Decides, position, IsDistinct, position-Some, gets, slice_get-map, get_or_from_slice_get, IsEquivalence, lookup_from_place, apart_from_distinct, IndexMap, keys, get, index_of, with_value_at, IsUnique, updates-with_value_at}
-use Rattle.std.specs.Prelude.{position}
-use Rattle.std.specs.Option.{option_map}
 use Rattle.dsr_ledger.proofs.NumberedLemmas.{position_is}
 
 module _ {K : Type 0} (eq : K → K → Bool) (decides : (a b : K) → Decides (eq a b) (a ≡ b)) where

@@ -1,6 +1,5 @@
 -- Successive ledgers that keep what they have.
-use Rattle.dsr_ledger.proofs.Common.{◌≡◌, ℕ, List, refl, ◌∙◌, Option, Some, map, WorkParts, SeatShare, shares_of, Usage, Summaries, Ledger, SummaryKey, IsLined, AreLined, IsPlanned, KeepsKeys, KeepsSeats, KeepsLines, SameNumbers, seat_at, line_at, IsWideAt, index_at}
-use Rattle.dsr_ledger.specs.declared.booking.Plan.{Plan}
+use Rattle.dsr_ledger.proofs.Common.{◌≡◌, ℕ, List, refl, ◌∙◌, Option, Some, map, WorkParts, SeatShare, shares_of, Usage, Summaries, Ledger, SummaryKey, IsLined, AreLined, IsPlanned, KeepsKeys, KeepsSeats, KeepsLines, SameNumbers, seat_at, line_at, IsWideAt, index_at, Plan}
 use Rattle.dsr_ledger.proofs.SeatedLemmas.{seated_grows, zip_weaker}
 
 pub keys_stay : (a : Ledger) → KeepsKeys a a

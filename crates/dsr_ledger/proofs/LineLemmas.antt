@@ -7,7 +7,6 @@ use Rattle.dsr_ledger.proofs.IndexMapLemmas.{number_at}
 use Rattle.dsr_ledger.proofs.SortedLemmas.{all_there, below_number, differ, entries_by, kept_apart, kept_in, kept_out, mapped, own_below, own_place, own_value, put_in_order, there}
 use Rattle.dsr_ledger.proofs.NumberedLemmas.{by_numbered, places_are_numbered, read_is}
 use Rattle.dsr_ledger.proofs.PartyLemmas.{some_for, unclaimed_is}
-use Rattle.std.specs.Cmp.{eq_by_cmp_equiv}
 
 -- a key has a booking if it is among the bookings' keys
 pub some_at : (q : Key) (bs : List Booking) → nat_lt 0 (length (at_key q bs)) ≡ list_any (eq_by_cmp key_cmp q) (map (λ b. b.key) bs)

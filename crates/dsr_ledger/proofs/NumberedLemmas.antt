@@ -1,7 +1,5 @@
 -- Numbered keys and items: one more key, and one more value.
 use Rattle.dsr_ledger.proofs.Common.{◌≡◌, ℕ, ◌<◌, Bool, true, false, not, cond, List, [], ◌∷◌, ◌++◌, length, set, get_or, nat_eq, refl, sym, ap, ◌∙◌, arith, subst, Option, None, Some, slice_get, map, option_map, Decides, list_any, position, AllByRecursion, option_and_then, option_map_or, nat_tests, common_steps, length_push, length-map, map_push, position_or_len_push, list_any_none, position-Some, position_or_len_is, prefix_len-le-length, fails_before_first, gets, slice_get-map, slice_get_read, slice_get_within, get_or_from_slice_get, IsNumbered, Grows, read_at, place_in, place_by, AreBelow, map-set_same, All-from_recursion}
-use Rattle.std.specs.Prelude.{position}
-use Rattle.std.specs.Option.{option_map}
 pub use Rattle.std.proofs.lemmas.Bool.Decides.{Decides-eqb as same_number}
 
 -- the first place that passes, if there is one

@@ -1,7 +1,5 @@
 -- The opening of files, and the numbers of their summary keys.
-use Rattle.dsr_ledger.proofs.Common.{◌≡◌, ℕ, ◌<◌, List, [], ◌∷◌, ◌++◌, length, get_or, true, sym, ◌∙◌, ap, arith, Bool, cond, Option, option_map, None, Some, find, list_any, bytes_eq, bytes_eq-Decides, nat_tests, get_or-map, length-map, find-append, list_any_at, option_or, Summary, SummaryState, is_same_report, has_same_number, summaries_of, found_in, no_sums, nothing_found, state_at, number_at, AreNumbered, named, openings_of, FileBooks, Summaries, Ledger, SummaryKey, summary_key_of, summary_key_named, IsNumberedFile, Grows, key_number, summary_key_eq}
-use Rattle.std.specs.Prelude.{position}
-use Rattle.dsr_events.specs.declared.record.Head.{Head}
+use Rattle.dsr_ledger.proofs.Common.{◌≡◌, ℕ, ◌<◌, List, [], ◌∷◌, ◌++◌, length, get_or, true, sym, ◌∙◌, ap, arith, Bool, cond, Option, option_map, None, Some, find, list_any, bytes_eq, bytes_eq-Decides, nat_tests, get_or-map, length-map, find-append, list_any_at, option_or, Summary, SummaryState, is_same_report, has_same_number, summaries_of, found_in, no_sums, nothing_found, state_at, number_at, AreNumbered, named, openings_of, FileBooks, Summaries, Ledger, SummaryKey, summary_key_of, summary_key_named, IsNumberedFile, Grows, key_number, summary_key_eq, position, Head}
 use Rattle.dsr_ledger.proofs.SortedLemmas.{mapped}
 
 pub same_report-itself : (h : Head) → is_same_report h h ≡ true

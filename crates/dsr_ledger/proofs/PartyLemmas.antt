@@ -4,7 +4,6 @@ use Rattle.dsr_ledger.proofs.EachLemmas.{int_sum_by-append, zero-add, abs-sum, a
 use Rattle.dsr_ledger.proofs.TextLemmas.{same_text}
 use Rattle.dsr_ledger.proofs.TallyLemmas.{small_parts}
 use Rattle.dsr_ledger.proofs.OrderLemmas.{any-in_order, mapped_in_order, sorted_in_order}
-use Rattle.std.specs.Cmp.{eq_by_cmp_equiv}
 
 sum_zero : {X : Type 0} (xs : List X) → int_sum_by (λ _. pos 0) xs ≡ pos 0
 sum_zero [] = refl

@@ -1,6 +1,5 @@
 -- The plan of one usage of a block.
-use Rattle.dsr_ledger.proofs.Common.{◌≡◌, ℕ, ◌<◌, List, [], length, get_or, sym, ap, ◌∙◌, arith, cond, subst, Option, Some, map, option_map, slice_get, flat_map, get_or_from_slice_get, slice_get_within, WorkParts, SeatShare, part_of, work_parts, AreSeated, shares_of, Usage, Summaries, Ledger, SummaryKey, IsLined, IsPlanned, seat_at, IsWideAt, IsLineOf, index_at, state_with, ints, SummaryState, Key, key_eq, key_under, Tally, tally_with}
-use Rattle.dsr_ledger.specs.declared.booking.Plan.{Plan}
+use Rattle.dsr_ledger.proofs.Common.{◌≡◌, ℕ, ◌<◌, List, [], length, get_or, sym, ap, ◌∙◌, arith, cond, subst, Option, Some, map, option_map, slice_get, flat_map, get_or_from_slice_get, slice_get_within, WorkParts, SeatShare, part_of, work_parts, AreSeated, shares_of, Usage, Summaries, Ledger, SummaryKey, IsLined, IsPlanned, seat_at, IsWideAt, IsLineOf, index_at, state_with, ints, SummaryState, Key, key_eq, key_under, Tally, tally_with, Plan}
 use Rattle.dsr_ledger.proofs.SeatedLemmas.{parts_of_shares, value_at, zip_step}
 
 -- the summary and the line of usage i

@@ -1,7 +1,6 @@
 -- The tallies of lines when a line is added, widened or changed, and when a seat is given.
-use Rattle.dsr_ledger.proofs.Common.{◌≡◌, ℕ, ◌<◌, List, [], ◌∷◌, ◌++◌, length, refl, ap, subst, ◌∙◌, arith, cond, set, get_or, nat_eq, ⊎_elim, sym, Option, None, Some, slice_get, length_push, slice_get_within, gets, same_Some, slice_get-get_or, slice_get_read, SeatShare, IsWithNumber, AreApart, AreBelow, read_at, place_in, part_in, part_seats, owed_at_place, HaveParts, IsDistinct, bytes_eq, cases_eq, nat_tests, nat_eq_equiv, common_steps, list_any-append, bytes_eq-Decides, IsDistinct-from_apart, IsDistinct-push, Line, Tally, no_tally, line_tally, line_in, lines_tally, AreWithin, IsWide, LinesGrow}
+use Rattle.dsr_ledger.proofs.Common.{◌≡◌, ℕ, ◌<◌, List, [], ◌∷◌, ◌++◌, length, refl, ap, subst, ◌∙◌, arith, cond, set, get_or, nat_eq, ⊎_elim, sym, Option, None, Some, slice_get, length_push, slice_get_within, gets, same_Some, slice_get-get_or, slice_get_read, SeatShare, IsWithNumber, AreApart, AreBelow, read_at, place_in, part_in, part_seats, owed_at_place, HaveParts, IsDistinct, bytes_eq, cases_eq, nat_tests, nat_eq_equiv, common_steps, list_any-append, bytes_eq-Decides, IsDistinct-from_apart, IsDistinct-push, Line, Tally, no_tally, line_tally, line_in, lines_tally, AreWithin, IsWide, LinesGrow, length-le_from_distinct_below}
 use Rattle.dsr_ledger.proofs.NumberedLemmas.{items_grow, items_pushed, none_any, place_more, read_changed, by_new_key, numbers_kept, items_are_numbered, items_written, same_number}
-use Rattle.std.proofs.lemmas.Map.Steps.{length-le_from_distinct_below}
 
 abbrev pub key_of : Line → ℕ
 key_of l = l.key

@@ -1,5 +1,5 @@
 -- The lines of the report, recording after recording.
-use Rattle.dsr_ledger.proofs.Common.{◌≡◌, List, [], ◌++◌, sym, subst, ℕ, zero, suc, ◌+◌, ◌<◌, ◌≤◌, drop, drop_all, get_or, Bool, true, cond, ◌∷◌, ◌⊎◌, inl, inr, ⊎_elim, length, refl, ap, ◌∙◌, arith, LedgerLine, Option, None, Some, slice_get, map, filter, option_map_or, AllByRecursion, Contains, IsStrictlySortedBy, Bor, bytes_eq, tied_itself, nat_list_cmp_total, keys_of, ordering_then, Ordering, Less, Contains-append_left, Contains-append_right, filter-append, map-append, recursion_from_All, map-map, get, Key, text_cmp, key_cmp, Line, SummaryKey, Recording, Ledger, summary_key_cmp, summary_key_in, place_by, Booking, key_under, is_at_key, at_key, line_of, ledger, tally_at, recording_tally, party_number, key_number, seat_of, seat_numbers, part_seats, no_tally, line_tally, line_keys, key_tally, LedgerStands, IsSmall, AreSmall, AreBelow, AreBefore, AreListed, IsBookedLine, booked_lines, keys_under, key_in, line_for, lent}
+use Rattle.dsr_ledger.proofs.Common.{◌≡◌, List, [], ◌++◌, sym, subst, ℕ, zero, suc, ◌<◌, ◌≤◌, drop, drop_all, get_or, Bool, true, cond, ◌∷◌, ◌⊎◌, inl, inr, ⊎_elim, length, refl, ap, ◌∙◌, arith, LedgerLine, Option, None, Some, slice_get, map, filter, option_map_or, AllByRecursion, Contains, IsStrictlySortedBy, Bor, bytes_eq, tied_itself, nat_list_cmp_total, keys_of, ordering_then, Ordering, Less, Contains-append_left, Contains-append_right, filter-append, map-append, recursion_from_All, map-map, get, Key, text_cmp, key_cmp, Line, SummaryKey, Recording, Ledger, summary_key_cmp, summary_key_in, place_by, Booking, key_under, is_at_key, at_key, line_of, ledger, tally_at, recording_tally, party_number, key_number, seat_of, seat_numbers, part_seats, no_tally, line_tally, line_keys, key_tally, LedgerStands, IsSmall, AreSmall, AreBelow, AreBefore, AreListed, IsBookedLine, booked_lines, keys_under, key_in, line_for, lent}
 use Rattle.dsr_ledger.proofs.KeyLemmas.{key_total, key_exact}
 use Rattle.dsr_ledger.proofs.EachLemmas.{some_if, contains_map, each_append, each_filter, each_map, each_of, each_weaker, fewer}
 use Rattle.dsr_ledger.proofs.SortedLemmas.{kept_in, kept_out}

@@ -1,9 +1,6 @@
 -- Items put in the order of their names, and those of them that pass a test.
-use Rattle.dsr_ledger.proofs.Common.{◌≡◌, ℕ, ◌+◌, ◌<◌, ◌≤◌, Bool, None, refl, list_any, true≢false, List, [], ◌∷◌, length, get_or, nat_eq, sym, ap, ◌∙◌, subst, arith, All, Option, Some, map, option_map, slice_get, Decides, Contains, IsDistinct, IsPermutation, IsSortedBy, IsStrictlySortedBy, IsTotalOrder, keys_of, is_eq, is_lt, Ordering, nat_tests, get_or-map, length-map, All-map, All-filter, Contains-append_right, cond_both, cond, false, true, zero, suc, filter, position-Some, All-permutation, Contains-permutation, IsPermutation-map, IsDistinct-IsPermutation, IsDistinct-from_apart, apart_from_distinct, sorted_from_all_adjacent, slice_get-map, slice_get-get_or, slice_get_within, get_or_from_slice_get, map-map, place_in, place_by, AreApart, AreListed, AreDistinctBelow, numbered_by}
-use Rattle.std.specs.Prelude.{AllPairs}
-use Rattle.std.proofs.lemmas.List.Elements.{All-contains_itself, filter_passes}
+use Rattle.dsr_ledger.proofs.Common.{◌≡◌, ℕ, ◌+◌, ◌<◌, ◌≤◌, Bool, None, refl, list_any, true≢false, List, [], ◌∷◌, length, get_or, nat_eq, sym, ap, ◌∙◌, subst, arith, All, Option, Some, map, option_map, slice_get, Decides, Contains, IsDistinct, IsPermutation, IsSortedBy, IsStrictlySortedBy, IsTotalOrder, keys_of, is_eq, is_lt, Ordering, nat_tests, get_or-map, length-map, All-map, All-filter, Contains-append_right, cond_both, cond, false, true, zero, suc, filter, position-Some, All-permutation, Contains-permutation, IsPermutation-map, IsDistinct-IsPermutation, IsDistinct-from_apart, apart_from_distinct, sorted_from_all_adjacent, slice_get-map, slice_get-get_or, slice_get_within, get_or_from_slice_get, map-map, place_in, place_by, AreApart, AreListed, AreDistinctBelow, numbered_by, AllPairs, All-contains_itself, filter_passes, length-le_from_distinct_below}
 use Rattle.std.proofs.lemmas.List.Kept.{AllPairs-filter}
-use Rattle.std.proofs.lemmas.Map.Steps.{length-le_from_distinct_below}
 use Rattle.dsr_ledger.proofs.NumberedLemmas.{none_any, position_is, same_flips}
 pub use Rattle.dsr_ledger.proofs.NumberedLemmas.{taken}
 

@@ -1,7 +1,6 @@
 -- The lines of a ledger, given one after another.
-use Rattle.dsr_ledger.proofs.Common.{◌≡◌, List, ℕ, ◌+◌, ◌<◌, ◌≤◌, ◌^◌, [], ◌∷◌, ◌++◌, append-nil, arith, length, get_or, sym, ap, ◌∙◌, subst, ∥∥₁_elim, props, All, None, Some, drop, AreOfSmall, filter, sum_by, length-map, get_or-map, unsigned_abs, ◌-ℤ◌, int_sum_by, Bor, Key, Line, SummaryKey, SeatPart, Recording, Ledger, LedgerLine, PartyLine, Booking, LedgerView, AreBefore, AreDistinctBelow, AreGiven, AreListed, HaveGiven, IsBookedLine, LedgerStands, all_parts, at_key, booked_lines, bytes_eq, get, key_under, keys_under, lent, line_for, line_keys, line_of, lines_left, owed_for, owed_in, part_seats, party_in, party_lines, place_by, seat_numbers, summary_key_cmp, text_cmp}
+use Rattle.dsr_ledger.proofs.Common.{◌≡◌, List, ℕ, ◌+◌, ◌<◌, ◌≤◌, ◌^◌, [], ◌∷◌, ◌++◌, append-nil, arith, length, get_or, sym, ap, ◌∙◌, subst, ∥∥₁_elim, props, All, None, Some, drop, AreOfSmall, filter, sum_by, length-map, get_or-map, unsigned_abs, ◌-ℤ◌, int_sum_by, Bor, Key, Line, SummaryKey, SeatPart, Recording, Ledger, LedgerLine, PartyLine, Booking, LedgerView, AreBefore, AreDistinctBelow, AreGiven, AreListed, HaveGiven, IsBookedLine, LedgerStands, all_parts, at_key, booked_lines, bytes_eq, get, key_under, keys_under, lent, line_for, line_keys, line_of, lines_left, owed_for, owed_in, part_seats, party_in, party_lines, place_by, seat_numbers, summary_key_cmp, text_cmp, into_iter_items}
 use Rattle.std.specs.Option.{MatchOption}
-use Rattle.std.specs.Vec.Iter.{into_iter_items}
 use Rattle.dsr_ledger.proofs.SortedLemmas.{few_below}
 use Rattle.dsr_ledger.proofs.PartyLemmas.{line_fits, unclaimed_is}
 use Rattle.dsr_ledger.proofs.ReportLemmas.{before_step, booked_append, line_given, line_stands, lines_are, none_before, none_left, seats_below, small_at}

@@ -1,22 +1,14 @@
 -- The definitions that relate the state of the books to those of `meaning`.
 pub mod Numbered
-pub mod Indexes
-pub mod SummaryKeys
-pub mod Ranges
-pub mod Owed
 pub mod Seated
 pub mod Tallies
 pub mod Recordings
 pub mod Summaries
-pub mod Plans
 pub mod IdRanks
 pub mod Ids
 pub mod FileSteps
 pub mod Stands
 pub mod Books
 pub mod BooksWords
-pub mod Order
-pub mod Sorted
 pub mod Assembly
 pub mod View
-pub mod Closed

@@ -1,11 +1,8 @@
 -- The definitions to be trusted: what a report is.
 pub mod Limits
-pub mod Sums
 pub mod Files
 pub mod Verdicts
 pub mod Bookings
-pub mod Keys
-pub mod Parts
 pub mod Ledger
 pub mod Findings
 pub mod Reports

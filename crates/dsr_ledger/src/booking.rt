@@ -6,14 +6,12 @@ ghost use Rattle.dsr_events.specs.declared.record.Usage.{Usage};
 ghost use Rattle.dsr_events.specs.meaning.Works.{WorkParts};
 ghost use Rattle.dsr_ledger.specs.declared.ledger.summary_key.SummaryKey.{SummaryKey};
 ghost use Rattle.dsr_ledger.specs.meaning.Limits.{whole_share};
-ghost use Rattle.dsr_ledger.specs.meaning.Keys.{Key};
-ghost use Rattle.dsr_ledger.specs.meaning.Bookings.{booked_under, usage_bookings};
+ghost use Rattle.dsr_ledger.specs.meaning.Bookings.{Key, booked_under, usage_bookings};
 ghost use Rattle.dsr_ledger.specs.meaning.Verdicts.{share_total};
 ghost use Rattle.dsr_ledger.specs.inner.Recordings.{tally_at, seat_at, recording_number, KeepsSeats, KeepsLines, SameNumbers};
 ghost use Rattle.dsr_ledger.specs.inner.Seated.{shares_of, AreSeated, SeatedMore};
-ghost use Rattle.dsr_ledger.specs.inner.Summaries.{index_at, AreNumbered, state_at, state_with, StateFits};
-ghost use Rattle.dsr_ledger.specs.inner.Plans.{AreLined, IsPlanned};
-ghost use Rattle.dsr_ledger.specs.inner.Ranges.{IsInRange};
+ghost use Rattle.dsr_ledger.specs.inner.Summaries.{index_at, AreNumbered, state_at, state_with, StateFits, IsInRange};
+ghost use Rattle.dsr_ledger.specs.inner.FileSteps.{AreLined, IsPlanned};
 ghost use Rattle.dsr_ledger.specs.inner.Tallies.{tally_plus, key_tally, TallyFits};
 
 use crate::file::summaries::Summaries;

@@ -62,9 +62,8 @@ impl Books {
     ghost use Rattle.dsr_ledger.specs.meaning.Files.{File, standing, opened, with_block, with_outcome};
     ghost use Rattle.dsr_ledger.specs.meaning.Verdicts.{verdict_in};
     ghost use Rattle.dsr_ledger.specs.inner.Books.{has_opening_in, ended_in, blocks_in};
-    ghost use Rattle.dsr_ledger.specs.inner.Closed.{AreClosed};
+    ghost use Rattle.dsr_ledger.specs.inner.BooksWords.{AreClosed, Stands, files_count, opened_count, has_opening_at, ended_at, blocks_at, CanBook, CanEnd, AllEnded};
     ghost use Rattle.dsr_ledger.specs.meaning.Reports.{report_of};
-    ghost use Rattle.dsr_ledger.specs.inner.BooksWords.{Stands, files_count, opened_count, has_opening_at, ended_at, blocks_at, CanBook, CanEnd, AllEnded};
 
     /// New books of a report in `files` files, 1 to 64, with no file opened. The seed is fixed.
     ///

@@ -4,7 +4,7 @@ ghost use Rattle.std.specs.List.{flat_map, list_any};
 ghost use Rattle.std.specs.BTreeSet.{contains};
 ghost use Rattle.std.specs.Ordering.{nat_cmp};
 ghost use Rattle.dsr_ledger.specs.meaning.Limits.{most_files};
-ghost use Rattle.dsr_ledger.specs.inner.Order.{AreOfSmall};
+ghost use Rattle.dsr_ledger.specs.inner.Stands.{AreOfSmall};
 ghost use Rattle.dsr_ledger.specs.inner.Assembly.{line_kept, is_number_kept, differences_kept};
 ghost use Rattle.dsr_ledger.specs.inner.Books.{IsReached, Stands};
 
@@ -73,7 +73,7 @@ impl ClosedBooks {
     ghost use Rattle.std.specs.Prelude.{List};
     ghost use Rattle.dsr_ledger.specs.meaning.Files.{File};
     ghost use Rattle.dsr_ledger.specs.meaning.Reports.{report_of};
-    ghost use Rattle.dsr_ledger.specs.inner.Closed.{AreClosed};
+    ghost use Rattle.dsr_ledger.specs.inner.BooksWords.{AreClosed};
     ghost use Rattle.dsr_ledger.specs.inner.View.{IsReady, IsViewOf};
 
     /// Closes the books of the files: makes the parts of the report other than the lines of the ledger.

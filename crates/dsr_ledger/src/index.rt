@@ -1,8 +1,7 @@
 //! How the items of a list are found: an index by their numbers, hints, and hashers with a seed.
 ghost use Rattle.std.specs.Prelude.{◌≡◌, ℕ, [], ◌∷◌, ◌++◌, None, true, OnOk, OnErr, IfOk, map, nat_eq, take, drop};
 ghost use Rattle.std.specs.List.{position};
-ghost use Rattle.dsr_ledger.specs.inner.Numbered.{place_in, AreApart};
-ghost use Rattle.dsr_ledger.specs.inner.Indexes.{Rise, AreIndexed};
+ghost use Rattle.dsr_ledger.specs.inner.Numbered.{place_in, AreApart, Rise, AreIndexed};
 
 use dsr_cells::NoMemory;
 use indexmap::IndexSet;

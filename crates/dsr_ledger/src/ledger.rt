@@ -37,12 +37,10 @@ pub(crate) struct Ledger {
 
 impl Ledger {
     ghost use Rattle.std.specs.Prelude.{◌≤◌, Option, IfOk, IfSome, None, map, if◌then◌else◌};
-    ghost use Rattle.dsr_ledger.specs.meaning.Keys.{Key, key_eq};
-    ghost use Rattle.dsr_ledger.specs.meaning.Bookings.{key_under};
-    ghost use Rattle.dsr_ledger.specs.inner.Owed.{parts_size};
-    ghost use Rattle.dsr_ledger.specs.meaning.Parts.{part_of};
-    ghost use Rattle.dsr_ledger.specs.inner.Ranges.{IsInRange};
-    ghost use Rattle.dsr_ledger.specs.inner.Seated.{AreSeated};
+    ghost use Rattle.dsr_ledger.specs.meaning.Bookings.{Key, key_eq, key_under};
+    ghost use Rattle.dsr_ledger.specs.inner.Seated.{parts_size, AreSeated};
+    ghost use Rattle.dsr_ledger.specs.meaning.Ledger.{part_of};
+    ghost use Rattle.dsr_ledger.specs.inner.Summaries.{IsInRange};
     ghost use Rattle.dsr_ledger.specs.inner.Tallies.{no_tally, tally_with, TallyFits};
     ghost use Rattle.dsr_ledger.specs.inner.Recordings.{party_number, key_number, recording_number, tally_at, seat_at, line_at, IsWideAt, KeepsKeys, KeepsSeats, KeepsLines, SameNumbers, IsLineOf};
 

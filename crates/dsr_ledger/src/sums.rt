@@ -1,6 +1,6 @@
 //! Sums over usages, and the numbers of 128 bits in which they are kept.
 ghost use Rattle.std.specs.Prelude.{◌≡◌, ◌+ℤ◌, pos};
-ghost use Rattle.dsr_ledger.specs.inner.Ranges.{IsInRange, SumsFit};
+ghost use Rattle.dsr_ledger.specs.inner.Summaries.{IsInRange, SumsFit};
 
 use dsr_events::Usage;
 use std::marker::Model;

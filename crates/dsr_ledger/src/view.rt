@@ -2,8 +2,8 @@
 //! another: recordings in the order of their ISRCs, in each its lines in the order of their keys, with their parties in the
 //! order of their names (`sorted`). `copies` makes copies of the lines.
 ghost use Rattle.std.specs.Prelude.{◌≡◌, ◌+◌, ◌<◌, ◌≤◌, ◌-ℤ◌, ◌^◌, IfOk, length, sum_by, unsigned_abs, vec_capacity};
-ghost use Rattle.dsr_ledger.specs.meaning.Sums.{int_sum_by};
-ghost use Rattle.dsr_ledger.specs.inner.Order.{AreOfSmall};
+ghost use Rattle.dsr_ledger.specs.meaning.Limits.{int_sum_by};
+ghost use Rattle.dsr_ledger.specs.inner.Stands.{AreOfSmall};
 
 pub(crate) mod copies;
 mod sorted;
@@ -130,8 +130,7 @@ fn unclaimed(amount: i128, parties: &[PartyView<'_>]) -> i128
 impl<'a> LedgerView<'a> {
     ghost use Rattle.std.specs.Prelude.{◌++◌, ◌∷◌, [], IfNone, IfSome, List};
     ghost use Rattle.dsr_ledger.specs.declared.report.LedgerLine.{LedgerLine as LedgerLineValue};
-    ghost use Rattle.dsr_ledger.specs.meaning.Bookings.{Booking};
-    ghost use Rattle.dsr_ledger.specs.meaning.Keys.{Key};
+    ghost use Rattle.dsr_ledger.specs.meaning.Bookings.{Booking, Key};
     ghost use Rattle.dsr_ledger.specs.meaning.Ledger.{ledger};
     ghost use Rattle.dsr_ledger.specs.inner.Stands.{LedgerStands};
     ghost use Rattle.dsr_ledger.specs.inner.View.{AreBefore, AreGiven, HaveGiven, IsBookedLine};

@@ -1,21 +1,8 @@
 -- Lemmas on eight digits in the bytes of a word.
-use Rattle.std.proofs.Common.{arith, ◌≡◌, ◌≤◌, ◌<◌, ◌+◌, ◌-◌, ◌*◌, ◌/◌, ◌%◌, ◌^◌, ◌∙◌, ◌∷◌, [], ℕ, List, length, refl, sym, ap, Bool, true, map, take, drop, replicate, ◌++◌, w8, w64, Fits, Option, Some, get_or, suc, zero, length-append, take-append-drop, subst, mul_comm, mul_assoc, zero-add, pow-suc, mul-lt-mul_of_pos_right}
-use Rattle.std.proofs.Math.Nat.{mod-eq_of_lt, add-mul, add-mul-mod_self_left, mul-div_cancel}
-use Rattle.std.specs.Int.Bits.{bit_and, bit_xor}
-use Rattle.std.specs.Int.{from_le_bytes}
-use Rattle.std.specs.Simd.Lanes.{Each1, number_l, chunk}
-use Rattle.std.proofs.lemmas.Simd.{Each1-chunk, Each1-replicate, Each1-weaker, chunk-fits, length-chunk}
+use Rattle.dsr_records.proofs.Common.{arith, ◌≡◌, ◌≤◌, ◌<◌, ◌+◌, ◌-◌, ◌*◌, ◌/◌, ◌%◌, ◌^◌, ◌∙◌, ◌∷◌, [], ℕ, List, length, refl, sym, ap, Bool, true, map, take, drop, replicate, ◌++◌, w8, w64, Fits, Option, Some, get_or, suc, zero, length-append, take-append-drop, subst, mul_comm, mul_assoc, zero-add, pow-suc, mul-lt-mul_of_pos_right, mod-eq_of_lt, add-mul, add-mul-mod_self_left, mul-div_cancel, bit_and, bit_xor, from_le_bytes, Each1, number_l, chunk, Each1-chunk, Each1-replicate, Each1-weaker, chunk-fits, length-chunk, IfSome, is_ascii_digit, list_all, xor_lt, pow-add, pow_pos, and_block, and_mask, length-take, length-replicate, length-map, take-map, take-take, list_all-append, and_parts, lt-ltb, le-leb, digits_sum, digits_of, IsWordOf, SpellsNumber, IsFilledUp, word_of_four, word_of_eight, number_of_eight}
 use Rattle.std.proofs.lemmas.Option.{IfSome_then}
-use Rattle.std.specs.Prelude.{IfSome}
-use Rattle.std.specs.Char.{is_ascii_digit}
-use Rattle.std.specs.List.{list_all}
-use Rattle.std.proofs.lemmas.Nat.{xor_lt, pow-add, pow_pos, and_block, and_mask}
-use Rattle.std.proofs.lemmas.List.{length-take, length-replicate, length-map, map-append, take-map, take-take}
-use Rattle.std.proofs.lemmas.List.Folds.{list_all-append}
-use Rattle.std.proofs.lemmas.Bool.{and_parts, lt-ltb, le-leb}
-use Rattle.dsr_cells.specs.meaning.Numbers.{digits_sum, digits_of}
+use Rattle.std.proofs.lemmas.List.{map-append}
 use Rattle.dsr_records.proofs.Fours.{xor_byte, digit, digits_sum-append, and_four, low_four, below_ten}
-use Rattle.dsr_records.specs.inner.Usual.{IsWordOf, SpellsNumber, IsFilledUp, word_of_four, word_of_eight, number_of_eight}
 
 -- an operation by bits on each half of a word
 and_halves : (lo hi m n : ℕ) → lo < 2 ^ 32 → m < 2 ^ 32 → bit_and (lo + 2 ^ 32 * hi) (m + 2 ^ 32 * n) ≡ bit_and lo m + 2 ^ 32 * bit_and hi n

@@ -1,11 +1,5 @@
--- The first cell of a line.
-use Rattle.std.proofs.Common.{◌≡◌, ◌<◌, ◌≤◌, ◌+◌, ℕ, List, [], ◌∷◌, length, take, drop, get_or, false, arith, not, Some, None, inl, inr, eqb}
-use Rattle.std.specs.List.{position, position_or_len}
-use Rattle.std.proofs.lemmas.List.Elements.{All-from_get_or}
-use Rattle.std.proofs.lemmas.List.Sums.{fails_before_first, passes_at_first, prefix_len-le-length}
-use Rattle.std.proofs.lemmas.Bool.{cases_lt, lt-ltb, le-ltb, eqb-true}
-use Rattle.std.proofs.lemmas.List.Splits.{slice_split_none, slice_split_first}
-use Rattle.dsr_cells.specs.meaning.Cells.{cells}
+-- The first cells of a line.
+use Rattle.dsr_records.proofs.Common.{slice_index_or, refl, ap, length-take, length-slice_split, ◌≡◌, ◌<◌, ◌+◌, ℕ, List, [], ◌∷◌, length, take, drop, get_or, arith, eqb, position_or_len, passes_at_first, eqb-true, slice_split_first, cells}
 
 -- the first TAB is at index i
 pub record TabAt (text : List ℕ) (i : ℕ) : Type 0 where
@@ -21,19 +15,11 @@ first_tab text some = record {
   cut = slice_split_first (λ b. eqb b 9) text 0 some;
 }
 
-pub no_tab : (text : List ℕ) → length text ≤ position_or_len (λ b. eqb b 9) text → cells text ≡ text ∷ []
-no_tab text none =
-    slice_split_none (λ b. eqb b 9) text (All-from_get_or (λ b. eqb b 9 ≡ false) text 0 (λ k h. fails_before_first (λ b. eqb b 9) text k 0 (omega arith)))
+-- a line has a first cell
+pub some_first : (line : List ℕ) (first : List (List ℕ)) → first ≡ take 10 (cells line) → 0 < length first
+some_first line first are = omega (arith, ap length are, length-take 10 (cells line), length-slice_split (λ b. eqb b 9) line)
 
--- the result of `position`
-pub place_found : (text : List ℕ) (i : ℕ) → position (λ b. eqb b 9) text ≡ Some i → i ≡ position_or_len (λ b. eqb b 9) text
-place_found text i e = elim (cases_lt (position_or_len (λ b. eqb b 9) text) (length text)) [
-  | inl some ↦ let there = rw (lt-ltb _ _ some) at e in cc
-  | inr none ↦ let there = rw (le-ltb _ _ none) at e in cc
-]
-
-pub none_found : (text : List ℕ) → position (λ b. eqb b 9) text ≡ None → length text ≡ position_or_len (λ b. eqb b 9) text
-none_found text e = elim (cases_lt (position_or_len (λ b. eqb b 9) text) (length text)) [
-  | inl some ↦ let there = rw (lt-ltb _ _ some) at e in cc
-  | inr none ↦ omega (arith, prefix_len-le-length (λ b. not (eqb b 9)) text)
-]
+-- the first of a line's first cells is its first cell
+pub first_of : (all first : List (List ℕ)) → first ≡ take 10 all → 0 < length first → all ≡ slice_index_or first 0 [] ∷ drop 1 all
+first_of [] first are some = absurd (omega (arith, ap length are))
+first_of (x ∷ xs) first are some = rw are refl

@@ -1,14 +1,5 @@
 -- Lemmas on digits in the bytes of a word.
-use Rattle.std.proofs.Common.{arith, ◌≡◌, ◌<◌, ◌+◌, ◌-◌, ◌*◌, ◌^◌, ◌∙◌, ◌∷◌, [], ℕ, List, length, ◌++◌, length-append, mul_assoc, not, refl, true, sym, ap, eqb, ltb}
-use Rattle.std.specs.Prelude.{◌||◌}
-use Rattle.std.specs.Int.Bits.{bit_and, bit_xor}
-use Rattle.std.specs.Char.{is_ascii_digit}
-use Rattle.std.proofs.lemmas.Nat.{and_block, xor_block, pow-add}
-use Rattle.std.proofs.Math.Nat.{add-mul}
-use Rattle.std.proofs.lemmas.Bool.{agree_below_at, eqb-true}
-use Rattle.std.proofs.lemmas.Bool.Decides.{nat_tests}
-use Rattle.dsr_cells.specs.meaning.Numbers.{digits_sum}
-use Rattle.dsr_records.specs.inner.Usual.{word_of_four}
+use Rattle.dsr_records.proofs.Common.{arith, ◌≡◌, ◌<◌, ◌+◌, ◌-◌, ◌*◌, ◌^◌, ◌∙◌, ◌∷◌, [], ℕ, List, length, ◌++◌, length-append, mul_assoc, not, refl, true, sym, ap, eqb, ltb, ◌||◌, bit_and, bit_xor, is_ascii_digit, and_block, xor_block, pow-add, add-mul, agree_below_at, eqb-true, nat_tests, digits_sum, word_of_four}
 
 -- an operation by bits on each byte of a word
 pub xor_byte : (a k more mask : ℕ) → a < 256 → k < 256 → bit_xor (a + 256 * more) (k + 256 * mask) ≡ bit_xor a k + 256 * bit_xor more mask

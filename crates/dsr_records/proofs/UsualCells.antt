@@ -1,21 +1,21 @@
 -- Lemmas on the printable bytes of a page, whose other bytes are known as a bit mask.
-use Rattle.std.proofs.Common.{arith, ◌≡◌, ◌<◌, ◌≤◌, ◌+◌, ◌-◌, ◌/◌, ◌^◌, ◌∙◌, ℕ, Bool, List, length, map, take, drop, get_or, true, false, not, cond, inl, inr, sym, [], ◌∷◌, ap, w64, pow_mono, length-take, refl, slice_index, drop-cons}
-use Rattle.std.specs.Int.{bit_at}
-use Rattle.std.specs.Int.Count.{count_trailing_zeros}
-use Rattle.std.specs.List.{list_all, prefix_len}
-use Rattle.std.specs.Simd.Lanes.{chunk}
-use Rattle.std.specs.Str.{IsAscii, IsUtf8}
-use Rattle.std.proofs.lemmas.Bool.{and_parts, cases_lt}
-use Rattle.std.proofs.lemmas.List.{get_or_past, get_or-take, length-map, drop-drop, drop-take, take-take}
-use Rattle.std.proofs.lemmas.List.Elements.{All-from_get_or, All-get_or}
-use Rattle.std.proofs.lemmas.List.Sums.{fails_before_first, list_all-from_AllPass, AllPass-from_list_all}
-use Rattle.std.proofs.lemmas.Bool.Decides.{nat_tests}
-use Rattle.std.proofs.lemmas.Nat.Bits.{bit_at-trailing_zeros}
-use Rattle.std.proofs.lemmas.Str.{IsUtf8-from_ascii}
-use Rattle.std.proofs.lemmas.Simd.{length-chunk, trailing_mask_l, bit_mask_l, mask_l-lt}
-use Rattle.dsr_texts.proofs.TabBits.{mask-drop}
-use Rattle.dsr_cells.proofs.Lanes.{part_passes}
-use Rattle.dsr_records.specs.inner.Usual.{is_printable, is_shown, odd_bits}
+use Rattle.dsr_records.proofs.Common.{arith, ◌≡◌, ◌<◌, ◌≤◌, ◌+◌, ◌-◌, ◌/◌, ◌^◌, ◌∙◌, ℕ, Bool, List, length, map, take, drop, get_or, true, false, not, cond, inl, inr, sym, [], ◌∷◌, ap, w64, pow_mono, length-take, refl, slice_index, drop-cons, bit_at, count_trailing_zeros, list_all, prefix_len, chunk, IsAscii, IsUtf8, and_parts, cases_lt, get_or_past, get_or-take, length-map, drop-drop, drop-take, take-take, All-from_get_or, All-get_or, fails_before_first, list_all-from_AllPass, AllPass-from_list_all, nat_tests, bit_at-trailing_zeros, IsUtf8-from_ascii, length-chunk, trailing_mask_l, bit_mask_l, mask_l-lt, part_passes, is_printable, is_shown, odd_bits, zero, suc, div-one, pow-suc, mul_comm, ◌*◌, mask_l}
+use Rattle.std.proofs.Math.Nat.{zero-div, div-div-eq-div-mul}
+
+halved : (b : Bool) (n : ℕ) → (cond b 1 0 + 2 * n) / 2 ≡ n
+halved true n = omega arith
+halved false n = omega arith
+
+-- a right shift drops bytes
+mask-drop : (p : ℕ → Bool) (bytes : List ℕ) (k : ℕ) → mask_l (map p bytes) / 2 ^ k ≡ mask_l (map p (drop k bytes))
+mask-drop p [] zero = zero-div (2 ^ 0)
+mask-drop p [] (suc k) = zero-div (2 ^ suc k)
+mask-drop p (b ∷ bytes) zero = div-one (mask_l (map p (b ∷ bytes)))
+mask-drop p (b ∷ bytes) (suc k) =
+    ap (λ n. mask_l (map p (b ∷ bytes)) / n) (pow-suc 2 k ∙ mul_comm (2 ^ k) 2)
+    ∙ sym (div-div-eq-div-mul (mask_l (map p (b ∷ bytes))) 2 (2 ^ k))
+    ∙ ap (λ n. n / 2 ^ k) (halved (p b) (mask_l (map p bytes)))
+    ∙ mask-drop p bytes k
 
 abbrev is_odd : ℕ → Bool
 is_odd b = not (is_printable b)

@@ -1,20 +1,6 @@
 -- Lemmas on up to ten decimals, the first eight of which are read from one word.
-use Rattle.std.proofs.Common.{arith, ◌≡◌, ◌<◌, ◌≤◌, ◌+◌, ◌-◌, ◌*◌, ◌^◌, ◌∙◌, ℕ, List, [], ◌∷◌, ◌++◌, length, take, drop, get_or, true, cond, inl, inr, sym, ap, w8, Fits, drop-cons, ltb, min, refl, subst, mul_assoc, mul-lt-mul_of_pos_right, lit<}
-use Rattle.std.proofs.Math.Nat.{one-le-pow, min-eq_left, min-eq_right}
-use Rattle.std.specs.Char.{is_ascii_digit}
-use Rattle.std.specs.Int.Bits.{bit_xor}
-use Rattle.std.specs.List.{list_all}
-use Rattle.std.specs.Simd.Lanes.{chunk}
-use Rattle.std.proofs.Math.Seq.{take-add}
-use Rattle.std.proofs.lemmas.Bool.{cases_lt, and_parts, lt-ltb, le-ltb, leb-true}
-use Rattle.std.proofs.lemmas.List.{drop-drop}
-use Rattle.std.proofs.lemmas.List.Folds.{list_all-append}
-use Rattle.std.proofs.lemmas.Nat.{pow-add}
-use Rattle.std.proofs.lemmas.Simd.{length-chunk}
-use Rattle.dsr_cells.specs.meaning.Numbers.{digits_sum}
+use Rattle.dsr_records.proofs.Common.{arith, ◌≡◌, ◌<◌, ◌≤◌, ◌+◌, ◌-◌, ◌*◌, ◌^◌, ◌∙◌, ℕ, List, [], ◌∷◌, ◌++◌, length, take, drop, get_or, true, cond, inl, inr, sym, ap, w8, Fits, drop-cons, ltb, min, refl, subst, mul_assoc, mul-lt-mul_of_pos_right, lit<, one-le-pow, min-eq_left, min-eq_right, is_ascii_digit, bit_xor, list_all, chunk, take-add, cases_lt, and_parts, lt-ltb, le-ltb, leb-true, drop-drop, list_all-append, pow-add, length-chunk, digits_sum, digits_sum-lt, is_digits_yes, IsFilledUp}
 use Rattle.dsr_records.proofs.Fours.{digit, digits_sum-append}
-use Rattle.dsr_cells.proofs.Numbers.{digits_sum-lt, is_digits_yes}
-use Rattle.dsr_records.specs.inner.Usual.{IsFilledUp}
 
 -- decimals in units of 10 ^ -places are fewer than 10 ^ places
 pub filled_small : (places n : ℕ) (digits : List ℕ) → IsFilledUp places digits n → n < 10 ^ places

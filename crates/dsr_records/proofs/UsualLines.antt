@@ -1,32 +1,7 @@
 -- Lemmas on lines of the usual form.
-use Rattle.std.proofs.Common.{arith, ◌≡◌, ◌<◌, ◌≤◌, ◌+◌, ◌-◌, ◌*◌, ◌^◌, ◌∙◌, ℕ, Bool, List, [], ◌∷◌, length, take, drop, get_or, true, false, sym, ap, refl, subst, eqb, leb, ltb, not, cond, inl, inr, suc, zero, Option, Some, None, ◌++◌, slice_index}
-use Rattle.std.specs.Prelude.{ℤ, pos, codes, Ok}
-use Rattle.std.specs.Char.{is_ascii_digit}
-use Rattle.std.specs.List.{list_all, position_or_len, prefix_len}
-use Rattle.std.specs.Simd.Lanes.{chunk}
-use Rattle.std.proofs.lemmas.Bool.{cases_Bool, and_parts, leb-true, ltb-true, eqb-true, eq-eqb}
-use Rattle.std.proofs.lemmas.Bool.Decides.{nat_tests}
-use Rattle.std.proofs.lemmas.List.{append_assoc, drop-drop, drop-take, take-take, take_more}
-use Rattle.std.proofs.lemmas.List.Elements.{All-from_get_or, All-get_or}
-use Rattle.std.proofs.lemmas.List.Folds.{list_all_more}
-use Rattle.std.proofs.lemmas.List.Splits.{slice_split_none}
-use Rattle.std.proofs.lemmas.List.Sums.{position_or_len_is, AllPass-from_list_all}
-use Rattle.std.proofs.lemmas.Simd.{get_or-chunk, length-chunk, run_in_chunk_stops}
-use Rattle.std.proofs.lemmas.Str.{IsUtf8-append, IsUtf8-from_ascii}
-use Rattle.std.proofs.Math.Seq.{take-add}
-use Rattle.std.specs.Str.{IsAscii, IsUtf8}
-use Rattle.dsr_cells.specs.meaning.Cells.{cells}
-use Rattle.dsr_cells.specs.meaning.Values.{raw_parts}
-use Rattle.dsr_cells.specs.meaning.Numbers.{amount_of, decimal_of, digits_of, digits_sum, is_digits, number_of, signed_of, usages_of}
+use Rattle.dsr_records.proofs.Common.{arith, ◌≡◌, ◌<◌, ◌≤◌, ◌+◌, ◌-◌, ◌*◌, ◌^◌, ◌∙◌, ℕ, Bool, List, [], ◌∷◌, length, take, drop, get_or, true, false, sym, ap, refl, subst, eqb, leb, ltb, not, cond, inl, inr, suc, zero, Option, Some, None, ◌++◌, slice_index, ℤ, pos, codes, Ok, is_ascii_digit, list_all, position_or_len, prefix_len, chunk, cases_Bool, and_parts, leb-true, ltb-true, eqb-true, eq-eqb, nat_tests, append_assoc, drop-drop, drop-take, take-take, take_more, All-from_get_or, All-get_or, list_all_more, slice_split_none, position_or_len_is, AllPass-from_list_all, get_or-chunk, length-chunk, run_in_chunk_stops, IsUtf8-append, IsUtf8-from_ascii, take-add, IsAscii, IsUtf8, cells, raw_parts, amount_of, decimal_of, digits_of, digits_sum, is_digits, number_of, signed_of, usages_of, part_passes, decimal_parts, is_digits_yes, standard_layout, share_count, is_share, record_of, shares_of, values_of, BeginsWithType, IsFilledUp, IsFront, IsLineOf, is_plain, is_printable, is_shown}
 use Rattle.dsr_cells.specs.meaning.Texts.{is_identifier_text}
-use Rattle.dsr_cells.proofs.Lanes.{part_passes}
-use Rattle.dsr_cells.proofs.Numbers.{decimal_parts, is_digits_yes}
 use Rattle.dsr_events.specs.declared.record.Record.TheVariants as of
-use Rattle.dsr_records.specs.meaning.Layouts.{standard_layout}
-use Rattle.dsr_records.specs.inner.Rows.{share_count}
-use Rattle.dsr_records.specs.meaning.Tables.{is_share}
-use Rattle.dsr_records.specs.meaning.Values.{record_of, shares_of, values_of}
-use Rattle.dsr_records.specs.inner.Usual.{BeginsWithType, IsFilledUp, IsFront, IsLineOf, is_plain, is_printable, is_shown}
 use Rattle.dsr_records.proofs.FirstCells.{TabAt, first_tab}
 use Rattle.dsr_records.proofs.LineChecks.{found}
 use Rattle.dsr_records.proofs.UsualCells.{printable_utf8, shown_all}

@@ -3,5 +3,4 @@
 pub mod Tables
 pub mod Records
 pub mod Values
-pub mod Reads
 pub mod Layouts

@@ -4,11 +4,10 @@ ghost use Rattle.std.specs.Option.{option_map};
 ghost use Rattle.dsr_cells.specs.meaning.Cells.{cells};
 ghost use Rattle.dsr_events.specs.meaning.Blocks.{OpensBlock, with_member};
 ghost use Rattle.dsr_events.specs.declared.kinds.Kind.TheVariants as kinds;
-ghost use Rattle.dsr_records.specs.inner.Checked.{found_by, record_seen};
+ghost use Rattle.dsr_records.specs.inner.Rows.{found_by, record_seen};
 ghost use Rattle.dsr_records.specs.inner.Usual.{BeginsWithLine};
 ghost use Rattle.dsr_records.specs.meaning.Layouts.{standard_layout};
-ghost use Rattle.dsr_records.specs.meaning.Reads.{AnswersRecord, kind_of_record, id_of_record, has_texts};
-ghost use Rattle.dsr_records.specs.meaning.Values.{id_of, kind_of, record_by_row, record_of};
+ghost use Rattle.dsr_records.specs.meaning.Values.{AnswersRecord, kind_of_record, id_of_record, has_texts, id_of, kind_of, record_by_row, record_of};
 
 use crate::check::{
     HeadLine, ResourceLine, SummaryLine, UsageLine, WorkLine, check_foot, check_head,
@@ -16,10 +15,9 @@ use crate::check::{
 };
 use crate::fault::{ReadRecordError, RecordFault};
 use crate::layout::Layout;
-use crate::rest::Rest;
 use crate::row::Row;
 use crate::usual::{usual_resource, usual_usage, usual_work};
-use dsr_cells::{NoMemory, count_cells};
+use dsr_cells::{FirstCells, NoMemory, count_cells};
 use dsr_events::{Block, Foot, Kind, Record};
 use std::alloc::Global;
 
@@ -152,32 +150,19 @@ impl<'l> CheckedLine<'l> {
 /// The maximum number of cells of a line.
 const MOST_CELLS: usize = 64;
 
-/// Whether a line has more than 64 cells. Not inlined, since few lines need it.
-#[inline(never)]
-fn counts_many_cells(line: &str) -> bool
-    ensures { result ≡ nat_lt 64 (length (cells line.now)) }
-{
-    count_cells(line) > MOST_CELLS
-}
-
-/// Whether a line has more than 64 cells. A line of fewer than 64 bytes has not, and for most longer ones
-/// the TABs among the first 64 bytes show that they have not.
-#[tactic(auto, using(crate::proofs::LineChecks::few_cells))]
+/// Whether a line has more than 64 cells, given its first ten. They are counted only if it has ten.
 #[inline(always)]
-fn has_many_cells(line: &str, whole: &Rest<'_>) -> bool
-    requires { whole.now.text.now ≡ line.now }
+fn has_many_cells(line: &str, first: &FirstCells<'_>) -> bool
+    requires { first.now ≡ take 10 (cells line.now) }
     ensures { result ≡ nat_lt 64 (length (cells line.now)) }
 {
-    if line.len() < MOST_CELLS {
-        return false;
-    }
-    whole.may_have_more(MOST_CELLS) && counts_many_cells(line)
+    first.len() == 10 && count_cells(line) > MOST_CELLS
 }
 
 /// Checks the cells of a kind's columns. Returns the line's record, not yet copied, or the first fault. Each arm
 /// returns by itself, so that the caller, into which this is inlined, need not match the kind again.
 #[inline(always)]
-fn check_row<'l>(row: &Row<'l>, kind: Kind) -> Result<CheckedLine<'l>, RecordFault>
+fn check_row<'l>(row: &Row<'_, 'l>, kind: Kind) -> Result<CheckedLine<'l>, RecordFault>
     ensures { found_by result ≡ record_by_row row.now kind }
 {
     match kind {
@@ -202,15 +187,18 @@ fn check_row<'l>(row: &Row<'l>, kind: Kind) -> Result<CheckedLine<'l>, RecordFau
 pub fn check_line<'l>(layout: &Layout, line: &'l str) -> Result<CheckedLine<'l>, RecordFault>
     ensures { found_by result ≡ record_of layout.now line.now }
 {
-    let whole = Rest::of(line);
-    if has_many_cells(line, &whole) {
+    let first = FirstCells::of(line);
+    if has_many_cells(line, &first) {
         return Err(RecordFault::Many);
     }
-    let (name, after) = whole.first_cell();
+    let name = first.at(0);
     match layout.role(name) {
         Some(role) => {
-            let mut row = Row::new();
-            row.take(line, after, &role.positions);
+            let row = Row {
+                line,
+                first: &first,
+                positions: role.positions.as_slice(),
+            };
             check_row(&row, role.kind)
         }
         None if layout.skips(name) => Ok(CheckedLine::Skipped),
@@ -237,8 +225,7 @@ pub fn record_id<'l>(layout: &Layout, line: &'l str) -> Option<&'l str>
     check_line(layout, line).ok()?.id()
 }
 
-/// The record of a line by a layout, or its first fault. All cells are checked before anything is
-/// allocated.
+/// The record of a line by a layout, or its first fault.
 ///
 /// # Errors
 ///

@@ -37,7 +37,7 @@ fn file_number(text: &str) -> Option<u32>
 
 /// The cell of a column that must not be missing.
 #[inline(always)]
-fn there<'l>(row: &Row<'l>, i: usize, column: Column) -> Result<&'l str, RecordFault>
+fn there<'l>(row: &Row<'_, 'l>, i: usize, column: Column) -> Result<&'l str, RecordFault>
     ensures { MatchResult result (λ text. cell_of row.now i ≡ Some text.now)
         (λ fault. (cell_of row.now i ≡ None) × (fault ≡ faults.Missing column)) }
 {
@@ -47,7 +47,7 @@ fn there<'l>(row: &Row<'l>, i: usize, column: Column) -> Result<&'l str, RecordF
 /// An identifier of at most `most` bytes, in a column that requires one.
 #[inline(always)]
 pub(crate) fn read_identifier<'l>(
-    row: &Row<'l>,
+    row: &Row<'_, 'l>,
     i: usize,
     column: Column,
     most: usize,
@@ -65,7 +65,7 @@ pub(crate) fn read_identifier<'l>(
 }
 
 /// A number, in a column that requires one.
-pub(crate) fn read_count(row: &Row<'_>, i: usize, column: Column) -> Result<u64, RecordFault>
+pub(crate) fn read_count(row: &Row<'_, '_>, i: usize, column: Column) -> Result<u64, RecordFault>
     requires needed { may_be_empty column ≡ false }
     requires asked { (text : List ℕ) → is_spelled row.now column text ≡ is_some (number_of text) }
     ensures { ReadsValue number_of row.now column i result }
@@ -75,7 +75,7 @@ pub(crate) fn read_count(row: &Row<'_>, i: usize, column: Column) -> Result<u64,
 }
 
 /// The file number.
-pub(crate) fn read_file_number(row: &Row<'_>, i: usize) -> Result<u32, RecordFault>
+pub(crate) fn read_file_number(row: &Row<'_, '_>, i: usize) -> Result<u32, RecordFault>
     ensures { ReadsValue file_number_of row.now columns.FileNumber i result }
 {
     let text = there(row, i, Column::FileNumber)?;
@@ -83,7 +83,11 @@ pub(crate) fn read_file_number(row: &Row<'_>, i: usize) -> Result<u32, RecordFau
 }
 
 /// The number of files, which is at least the file number.
-pub(crate) fn read_number_of_files(row: &Row<'_>, i: usize, least: u32) -> Result<u32, RecordFault>
+pub(crate) fn read_number_of_files(
+    row: &Row<'_, '_>,
+    i: usize,
+    least: u32,
+) -> Result<u32, RecordFault>
     requires { file_number_of (text_of row.now 1) ≡ Some least }
     ensures { ReadsValue file_number_of row.now columns.NumberOfFiles i result }
 {
@@ -95,7 +99,7 @@ pub(crate) fn read_number_of_files(row: &Row<'_>, i: usize, least: u32) -> Resul
 }
 
 /// The first day of the usages.
-pub(crate) fn read_first_day(row: &Row<'_>, i: usize) -> Result<Day, RecordFault>
+pub(crate) fn read_first_day(row: &Row<'_, '_>, i: usize) -> Result<Day, RecordFault>
     ensures { ReadsValue day_of row.now columns.UsageStartDate i result }
 {
     let text = there(row, i, Column::UsageStartDate)?;
@@ -103,7 +107,7 @@ pub(crate) fn read_first_day(row: &Row<'_>, i: usize) -> Result<Day, RecordFault
 }
 
 /// The last day of the usages, not before the first.
-pub(crate) fn read_last_day(row: &Row<'_>, i: usize, first: Day) -> Result<Day, RecordFault>
+pub(crate) fn read_last_day(row: &Row<'_, '_>, i: usize, first: Day) -> Result<Day, RecordFault>
     requires { day_of (text_of row.now 3) ≡ Some first }
     ensures { ReadsValue day_of row.now columns.UsageEndDate i result }
 {
@@ -115,7 +119,7 @@ pub(crate) fn read_last_day(row: &Row<'_>, i: usize, first: Day) -> Result<Day, 
 }
 
 /// A territory.
-pub(crate) fn read_territory<'l>(row: &Row<'l>, i: usize) -> Result<&'l str, RecordFault>
+pub(crate) fn read_territory<'l>(row: &Row<'_, 'l>, i: usize) -> Result<&'l str, RecordFault>
     ensures { ReadsText row.now columns.Territory i result }
 {
     let text = there(row, i, Column::Territory)?;
@@ -126,7 +130,7 @@ pub(crate) fn read_territory<'l>(row: &Row<'l>, i: usize) -> Result<&'l str, Rec
 }
 
 /// A use type.
-pub(crate) fn read_use_type<'l>(row: &Row<'l>, i: usize) -> Result<&'l str, RecordFault>
+pub(crate) fn read_use_type<'l>(row: &Row<'_, 'l>, i: usize) -> Result<&'l str, RecordFault>
     ensures { ReadsText row.now columns.UseType i result }
 {
     let text = there(row, i, Column::UseType)?;
@@ -137,7 +141,7 @@ pub(crate) fn read_use_type<'l>(row: &Row<'l>, i: usize) -> Result<&'l str, Reco
 }
 
 /// A currency.
-pub(crate) fn read_currency<'l>(row: &Row<'l>, i: usize) -> Result<&'l str, RecordFault>
+pub(crate) fn read_currency<'l>(row: &Row<'_, 'l>, i: usize) -> Result<&'l str, RecordFault>
     ensures { ReadsText row.now columns.Currency i result }
 {
     let text = there(row, i, Column::Currency)?;
@@ -149,7 +153,7 @@ pub(crate) fn read_currency<'l>(row: &Row<'l>, i: usize) -> Result<&'l str, Reco
 
 /// Usages.
 #[inline(always)]
-pub(crate) fn read_usage_count(row: &Row<'_>, i: usize) -> Result<i64, RecordFault>
+pub(crate) fn read_usage_count(row: &Row<'_, '_>, i: usize) -> Result<i64, RecordFault>
     ensures { ReadsValue usages_of row.now columns.Usages i result }
 {
     let text = there(row, i, Column::Usages)?;
@@ -158,7 +162,7 @@ pub(crate) fn read_usage_count(row: &Row<'_>, i: usize) -> Result<i64, RecordFau
 
 /// An amount.
 #[inline(always)]
-pub(crate) fn read_amount(row: &Row<'_>, i: usize) -> Result<Amount, RecordFault>
+pub(crate) fn read_amount(row: &Row<'_, '_>, i: usize) -> Result<Amount, RecordFault>
     ensures { ReadsValue amount_of row.now columns.Amount i result }
 {
     let text = there(row, i, Column::Amount)?;
@@ -195,7 +199,7 @@ pub(crate) fn count_shares(cell: &str, first: &mut FirstShares) -> Option<usize>
 /// which is empty.
 #[inline(always)]
 pub(crate) fn read_share_count(
-    row: &Row<'_>,
+    row: &Row<'_, '_>,
     i: usize,
     first: &mut FirstShares,
 ) -> Result<usize, RecordFault>

@@ -1,6 +1,5 @@
 -- Taking one more event out of a batch.
-use Rattle.std.proofs.Common.{◌≡◌, ℕ, zero, suc, ◌+◌, ◌<◌, ◌≤◌, List, [], ◌∷◌, length, take, drop, set, slice_index_or, sym, ap, subst, arith}
-use Rattle.dsr_events.specs.meaning.Placed.{Placed}
+use Rattle.dsr_relay.proofs.Common.{◌≡◌, ℕ, zero, suc, ◌+◌, ◌<◌, ◌≤◌, List, [], ◌∷◌, length, take, drop, set, slice_index_or, sym, ap, subst, arith, Placed}
 
 -- the first event is taken out, and another one is put into its slot
 first_out : (xs : List Placed) (out count : ℕ) (d e : Placed) → out < count → count ≤ length xs → e ≡ slice_index_or xs out e

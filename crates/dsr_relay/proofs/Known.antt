@@ -1,11 +1,5 @@
 -- The steps, if the view is known.
-use Rattle.std.proofs.Common.{◌≡◌, ℕ, ◌≤◌, List, [], ◌∷◌, ◌++◌, length, refl, sym, subst}
-use Rattle.crossbeam_channel.specs.Fifo.{Pushes, Pops, Forks, Merges, Learns}
-use Rattle.dsr_events.specs.meaning.Orderly.{IsOrderly}
-use Rattle.dsr_relay.specs.declared.rule.Log.{Log}
-use Rattle.dsr_relay.specs.declared.rule.Log.TheVariants.{Fresh, Sends, Takes, Both, Spent}
-use Rattle.dsr_relay.specs.meaning.Messages.{Message, events_of, IsMessage, AreMessages}
-use Rattle.dsr_relay.specs.meaning.Rule.{Relayed, Goes, Comes, IsLeft, both_of, out_of, received_of}
+use Rattle.dsr_relay.proofs.Common.{◌≡◌, ℕ, ◌≤◌, List, [], ◌∷◌, ◌++◌, length, refl, sym, subst, Pushes, Pops, Forks, Merges, Learns, IsOrderly, Log, Fresh, Sends, Takes, Both, Spent, Message, events_of, IsMessage, AreMessages, Relayed, Goes, Comes, IsLeft, both_of, out_of, received_of}
 use Rattle.dsr_relay.proofs.Moves.{sends, receives, forks, merges, learns}
 
 pub sends_as : (n pass : ℕ) (v : Log) (x : Message) → v ≡ Sends (out_of v) n → IsMessage x → IsOrderly (events_of (out_of v) ++ x)

@@ -1,12 +1,6 @@
 -- What is left when the ends are joined.
-use Rattle.std.proofs.Common.{◌≡◌, ℕ, ◌+◌, ◌*◌, ◌≤◌, List, ◌++◌, length, drop, sym, ap, ◌∙◌, subst, arith, append_assoc, length-append}
+use Rattle.dsr_relay.proofs.Common.{◌≡◌, ℕ, ◌+◌, ◌*◌, ◌≤◌, List, ◌++◌, length, drop, sym, ap, ◌∙◌, subst, arith, append_assoc, length-append, Placed, Log, Sends, Takes, Message, events_of, AreMessages, both_of, out_of, received_of, IsLeft, TapView, FeedView}
 use Rattle.std.proofs.Math.Seq.{drop-append_seam}
-use Rattle.dsr_events.specs.meaning.Placed.{Placed}
-use Rattle.dsr_relay.specs.declared.rule.Log.{Log}
-use Rattle.dsr_relay.specs.declared.rule.Log.TheVariants.{Sends, Takes}
-use Rattle.dsr_relay.specs.meaning.Messages.{Message, events_of, AreMessages}
-use Rattle.dsr_relay.specs.meaning.Rule.{both_of, out_of, received_of, IsLeft}
-use Rattle.dsr_relay.specs.meaning.Views.{TapView, FeedView}
 use Rattle.dsr_relay.proofs.Known.{both_is, left_is}
 use Rattle.dsr_relay.proofs.Messages.{events_of-append, events_of-length, messages_back}
 

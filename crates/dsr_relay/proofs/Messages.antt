@@ -1,7 +1,5 @@
 -- Laws of messages and their events.
-use Rattle.std.proofs.Common.{◌≡◌, ◌*◌, ◌≤◌, List, [], ◌∷◌, ◌++◌, length, refl, sym, ap, ◌∙◌, arith, append_assoc, length-append}
-use Rattle.dsr_events.specs.meaning.Placed.{Placed}
-use Rattle.dsr_relay.specs.meaning.Messages.{Message, events_of, IsMessage, AreMessages}
+use Rattle.dsr_relay.proofs.Common.{◌≡◌, ◌*◌, ◌≤◌, List, [], ◌∷◌, ◌++◌, length, refl, sym, ap, ◌∙◌, arith, append_assoc, length-append, Placed, Message, events_of, IsMessage, AreMessages}
 
 pub append_nil : (xs : List Placed) → xs ++ [] ≡ xs
 append_nil [] = refl

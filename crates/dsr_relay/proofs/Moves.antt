@@ -1,15 +1,8 @@
 -- Each step keeps the rule of the relay.
-use Rattle.std.proofs.Common.{◌≡◌, ◌≢◌, ℕ, zero, suc, List, [], ◌∷◌, ◌++◌, length, set, ◌⊎◌, inl, inr, refl, sym, ap, ◌∙◌, subst, ⊎_elim, arith, append_assoc, length-append}
+use Rattle.dsr_relay.proofs.Common.{◌≡◌, ◌≢◌, ℕ, zero, suc, List, [], ◌∷◌, ◌++◌, length, set, ◌⊎◌, inl, inr, refl, sym, ap, ◌∙◌, subst, ⊎_elim, arith, append_assoc, length-append, Pushes, Pops, Forks, Merges, Learns, IsOrderly, orderly_nil, orderly_front, Log, Fresh, Sends, Takes, Both, Spent, Message, events_of, IsMessage, AreMessages, Knows, Relayed, Goes, Comes, IsLeft}
 use mathlib.Core.Option.{some, some-ne-none, some-injective}
 use lib.ListN.{get_elem?}
-use Rattle.crossbeam_channel.specs.Fifo.{Pushes, Pops, Forks, Merges, Learns}
 use Rattle.atomic_table.proofs.Lists.{at_set}
-use Rattle.dsr_events.specs.meaning.Orderly.{IsOrderly}
-use Rattle.dsr_events.specs.inner.OrderlyLaws.{orderly_nil, orderly_front}
-use Rattle.dsr_relay.specs.declared.rule.Log.{Log}
-use Rattle.dsr_relay.specs.declared.rule.Log.TheVariants.{Fresh, Sends, Takes, Both, Spent}
-use Rattle.dsr_relay.specs.meaning.Messages.{Message, events_of, IsMessage, AreMessages}
-use Rattle.dsr_relay.specs.meaning.Rule.{Knows, Relayed, Goes, Comes, IsLeft}
 use Rattle.dsr_relay.proofs.Messages.{events_of-append, events_of-push, messages_push, messages_front}
 
 module _ (feed tap : ℕ) (out received : List Message) (capacity : ℕ) where

@@ -1,5 +1,5 @@
 -- What the steps of a relay's memory preserve.
-use Rattle.std.proofs.Common.{◌≡◌, ℕ, ◌+◌, ◌-◌, ◌<◌, ◌≤◌, List, [], ◌∷◌, refl, sym, subst, zero, suc, arith}
+use Rattle.dsr_relay.proofs.Common.{◌≡◌, ℕ, ◌+◌, ◌-◌, ◌<◌, ◌≤◌, List, [], ◌∷◌, refl, sym, subst, zero, suc, arith}
 use Rattle.dsr_relay.specs.meaning.Pool.{Pool, Turn, reuse, begin, send, keep, give, Turns, Passes, IsUntouched, NeverLacksMemory}
 
 -- what holds after each step: fewer are kept than are given back together, and there are at least as many as that

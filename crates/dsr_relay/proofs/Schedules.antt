@@ -1,13 +1,7 @@
 -- What every schedule preserves.
-use Rattle.std.proofs.Common.{◌≡◌, ℕ, ◌+◌, ◌*◌, ◌≤◌, Bool, true, false, true≢false, List, [], ◌∷◌, ◌++◌, length, map, set, Some, slice_get, refl, sym, ap, ◌∙◌, subst, arith, append_assoc, length-append}
+use Rattle.dsr_relay.proofs.Common.{◌≡◌, ℕ, ◌+◌, ◌*◌, ◌≤◌, Bool, true, false, true≢false, List, [], ◌∷◌, ◌++◌, length, map, set, Some, slice_get, refl, sym, ap, ◌∙◌, subst, arith, append_assoc, length-append, AllByRecursion, sum_by, Placed, IsOrderly, has_ended, ended_whole, IsMessage, events_of, Lane, Step, put, get, IsPrefix, Puts, Gets, Moves, file_of, Happens, Leads, IsFresh}
 use Rattle.std.specs.Prelude.{sum}
-use Rattle.std.specs.List.{AllByRecursion, sum_by}
 use Rattle.std.proofs.lemmas.List.Sums.{sum-map, sum_by-cons}
-use Rattle.dsr_events.specs.meaning.Placed.{Placed}
-use Rattle.dsr_events.specs.meaning.Orderly.{IsOrderly, has_ended}
-use Rattle.dsr_events.specs.inner.OrderlyLaws.{ended_whole}
-use Rattle.dsr_relay.specs.meaning.Messages.{IsMessage, events_of}
-use Rattle.dsr_relay.specs.meaning.Lanes.{Lane, Step, put, get, IsPrefix, Puts, Gets, Moves, file_of, Happens, Leads, IsFresh}
 use Rattle.dsr_relay.specs.meaning.Laws.{IsInOrder, InEverySchedule, LeavesOthers, IsNeverStuck, IsBounded, IsDelivered}
 use Rattle.dsr_relay.proofs.Messages.{append_nil}
 use Rattle.dsr_relay.proofs.Lanes.{all_get, all_set, all_from, all_map, set_else, map_kept, map_same, total, total_set, total_below}

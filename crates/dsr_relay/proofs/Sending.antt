@@ -1,12 +1,6 @@
 -- A feed after its batch was sent.
-use Rattle.std.proofs.Common.{◌≡◌, ℕ, ◌≤◌, true, false, List, [], ◌∷◌, ◌++◌, length, refl, sym, ap, ◌∙◌, arith, length-append}
+use Rattle.dsr_relay.proofs.Common.{◌≡◌, ℕ, ◌≤◌, true, false, List, [], ◌∷◌, ◌++◌, length, refl, sym, ap, ◌∙◌, arith, length-append, Placed, block_event, Log, Sends, Message, events_of, out_of, goes_out, batch_after}
 use Rattle.dsr_events.specs.meaning.Blocks.{BlockParts}
-use Rattle.dsr_events.specs.meaning.Placed.{Placed, block_event}
-use Rattle.dsr_relay.specs.declared.rule.Log.{Log}
-use Rattle.dsr_relay.specs.declared.rule.Log.TheVariants.{Sends}
-use Rattle.dsr_relay.specs.meaning.Messages.{Message, events_of}
-use Rattle.dsr_relay.specs.meaning.Rule.{out_of}
-use Rattle.dsr_relay.specs.meaning.Views.{goes_out, batch_after}
 use Rattle.dsr_relay.proofs.Messages.{append_nil, events_of-push}
 
 pub sends_again : (v : Log) (ms : List Message) (n : ℕ) → v ≡ Sends ms n → v ≡ Sends (out_of v) n

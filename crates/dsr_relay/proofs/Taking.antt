@@ -1,13 +1,6 @@
 -- A tap after one more event was taken.
-use Rattle.std.proofs.Common.{◌≡◌, ℕ, ◌+◌, Bool, true, false, ◌||◌, List, [], ◌∷◌, ◌++◌, length, take, refl, sym, ap, ◌∙◌, subst, arith, append_assoc, length-append}
+use Rattle.dsr_relay.proofs.Common.{◌≡◌, ℕ, ◌+◌, Bool, true, false, ◌||◌, List, [], ◌∷◌, ◌++◌, length, take, refl, sym, ap, ◌∙◌, subst, arith, append_assoc, length-append, Placed, IsOrderly, is_ended, has_ended, orderly_next, orderly_front, ended_whole, Log, Takes, Message, events_of, IsMessage, AreMessages, received_of}
 use Rattle.std.proofs.Math.Seq.{take-append_seam}
-use Rattle.dsr_events.specs.meaning.Placed.{Placed}
-use Rattle.dsr_events.specs.meaning.Orderly.{IsOrderly, is_ended, has_ended}
-use Rattle.dsr_events.specs.inner.OrderlyLaws.{orderly_next, orderly_front, ended_whole}
-use Rattle.dsr_relay.specs.declared.rule.Log.{Log}
-use Rattle.dsr_relay.specs.declared.rule.Log.TheVariants.{Takes}
-use Rattle.dsr_relay.specs.meaning.Messages.{Message, events_of, IsMessage, AreMessages}
-use Rattle.dsr_relay.specs.meaning.Rule.{received_of}
 use Rattle.dsr_relay.proofs.Messages.{append_nil, events_of-push, messages_back}
 
 pub has_ended-push : (xs : List Placed) (e : Placed) → has_ended xs ≡ false → is_ended e.part ≡ has_ended (xs ++ e ∷ [])

@@ -2,7 +2,6 @@
 -- relay, its ends as contracts see them, and its memory.
 pub mod Lanes
 pub mod Laws
-pub mod Messages
 pub mod Pool
 pub mod Rule
 pub mod Views

@@ -6,7 +6,7 @@
 //! the event of an empty block before a batch is filled for the first time.
 ghost use Rattle.std.specs.Prelude.{◌≡◌, ◌<◌, ◌^◌, ◌∷◌, ◌++◌, [], ℕ, List, true, false, MatchOption, MatchResult, IfOk};
 ghost use Rattle.dsr_events.specs.meaning.Blocks.{BlockParts};
-ghost use Rattle.dsr_events.specs.meaning.Placed.{Placed, block_event};
+ghost use Rattle.dsr_events.specs.meaning.Orderly.{Placed, block_event};
 
 use crate::slots::Slots;
 use dsr_cells::NoMemory;
@@ -50,7 +50,7 @@ impl Drop for Batch {
 
 impl Model for Batch {
     ghost use Rattle.std.specs.Prelude.{◌≤◌, List, length, take, drop};
-    ghost use Rattle.dsr_events.specs.meaning.Placed.{Placed};
+    ghost use Rattle.dsr_events.specs.meaning.Orderly.{Placed};
 
     ghost Value = { List Placed };
 

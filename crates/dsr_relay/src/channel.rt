@@ -3,8 +3,7 @@ ghost use Rattle.std.specs.Prelude.{◌≡◌, [], ◌∷◌, ◌++◌, OnOk, On
 ghost use Rattle.crossbeam_channel.specs.Ends.{sends_on, receives_on, ruled_capacity};
 ghost use Rattle.crossbeam_channel.specs.Claims.{view, IsSeatAt};
 ghost use Rattle.dsr_events.specs.meaning.Orderly.{IsOrderly};
-ghost use Rattle.dsr_relay.specs.meaning.Messages.{events_of, IsMessage, AreMessages};
-ghost use Rattle.dsr_relay.specs.meaning.Rule.{out_of, received_of};
+ghost use Rattle.dsr_relay.specs.meaning.Rule.{events_of, IsMessage, AreMessages, out_of, received_of};
 ghost use Rattle.dsr_relay.specs.declared.rule.Log.TheVariants.{Sends, Takes};
 
 use crate::batch::Batch;

@@ -3,7 +3,7 @@
 //! It takes 26 kB, so it is not made on the stack and moved: its memory is reserved as a vector with room for one array, and
 //! the array is made in there when the batch is filled for the first time. Until then the memory is not resident.
 ghost use Rattle.std.specs.Prelude.{◌≡◌, ◌<◌, ◌^◌, [], length, true, false, slice_set, slice_index_or, IfOk};
-ghost use Rattle.dsr_events.specs.meaning.Placed.{Placed, block_event};
+ghost use Rattle.dsr_events.specs.meaning.Orderly.{Placed, block_event};
 
 use arrayvec::ArrayVec;
 use dsr_cells::NoMemory;
@@ -31,7 +31,7 @@ impl Drop for Slots {
 
 impl Model for Slots {
     ghost use Rattle.std.specs.Prelude.{List};
-    ghost use Rattle.dsr_events.specs.meaning.Placed.{Placed};
+    ghost use Rattle.dsr_events.specs.meaning.Orderly.{Placed};
     ghost use Rattle.dsr_relay.specs.inner.Arrays.{events_in, IsFull};
 
     ghost Value = { List Placed };

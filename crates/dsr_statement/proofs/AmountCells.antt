@@ -1,9 +1,6 @@
 -- The cell of an amount, written into a room.
-use Rattle.std.proofs.Common.{arith, ◌≡◌, ◌<◌, ◌≤◌, ◌-◌, ◌+◌, ℕ, List, [], ◌∷◌, ◌++◌, Bool, true, false, length, take, drop, ap, sym, ◌∙◌, length-append}
-use Rattle.std.specs.Prelude.{slice_set}
-use Rattle.std.proofs.lemmas.List.{append-nil, take_all, drop-set, length-drop}
+use Rattle.dsr_statement.proofs.Common.{arith, ◌≡◌, ◌<◌, ◌≤◌, ◌-◌, ◌+◌, ℕ, List, [], ◌∷◌, ◌++◌, Bool, true, false, length, take, drop, ap, sym, ◌∙◌, length-append, slice_set, append-nil, take_all, drop-set, length-drop, end_of_line}
 use Rattle.std.proofs.Math.Seq.{take-append_seam}
-use Rattle.dsr_statement.specs.inner.Pieces.{end_of_line}
 
 -- the first bytes of a text and one more byte: all, or all but the last
 front : (count : ℕ) (text : List ℕ) (is_last : Bool) → count ≡ length text + length (end_of_line is_last)

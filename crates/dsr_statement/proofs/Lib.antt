@@ -1,3 +1,4 @@
+pub mod Common
 pub mod Sending
 pub mod LineLemmas
 pub mod AmountCells

@@ -1,17 +1,7 @@
 -- What is put, cell by cell and line by line.
-use Rattle.std.proofs.Common.{◌≡◌, ℕ, ◌+◌, ◌<◌, ◌≤◌, ◌++◌, ◌∙◌, List, [], ◌∷◌, length, take, get_or, suc, sym, subst, ap, refl, arith, append_assoc}
-use Rattle.std.specs.Prelude.{ℤ}
-use Rattle.std.specs.Fmt.{signed_decimal}
-use Rattle.std.specs.List.{flat_map}
-use Rattle.std.proofs.lemmas.List.{append-nil, take_all, take_more, length-take-le}
-use Rattle.std.proofs.lemmas.Grind.{flat_map-append}
+use Rattle.dsr_statement.proofs.Common.{◌≡◌, ℕ, ◌+◌, ◌<◌, ◌≤◌, ◌++◌, ◌∙◌, List, [], ◌∷◌, length, take, get_or, suc, sym, subst, ap, refl, arith, append_assoc, ℤ, signed_decimal, flat_map, append-nil, take_all, take_more, length-take-le, flat_map-append, LedgerLine, file_line, file_lines, ledger_lines, party_line, sums_line, unclaimed_line, Written, Puts, Pieces}
 use Rattle.dsr_ledger.specs.declared.report.FileLine.{FileLine}
-use Rattle.dsr_ledger.specs.declared.report.LedgerLine.{LedgerLine}
 use Rattle.dsr_ledger.specs.declared.report.PartyLine.{PartyLine}
-use Rattle.dsr_statement.specs.meaning.Statement.{file_line, file_lines, ledger_lines, party_line, sums_line, unclaimed_line}
-use Rattle.dsr_io.specs.meaning.Written.{Written}
-use Rattle.dsr_statement.specs.inner.Pieces.{Puts}
-use Rattle.dsr_statement.specs.declared.pieces.Pieces.{Pieces}
 
 pub nothing : {W : Type 0} {told : W → Written} (p : Pieces W) → Puts told p p []
 nothing {W} {told} p = record { same_outlet = refl; holds = λ put before h. rw (append-nil put) h }

@@ -1,12 +1,8 @@
 -- What was written, step by step.
-use Rattle.std.proofs.Common.{arith, ◌≡◌, ℕ, ◌+◌, ◌-◌, ◌^◌, ◌≤◌, ◌++◌, List, length, take, min, true, false, ◌∙◌, ap, sym, subst, refl, [], append_assoc, length-append, Result, Ok, Err, IfErr}
+use Rattle.dsr_statement.proofs.Common.{arith, ◌≡◌, ℕ, ◌+◌, ◌-◌, ◌^◌, ◌≤◌, ◌++◌, List, length, take, min, true, false, ◌∙◌, ap, sym, subst, refl, [], append_assoc, length-append, Result, Ok, Err, IfErr, append-nil, take-append-le, length-take-le, Written, IsTaken, IsCut, IsBroken, IsSent, Holds, Puts, Pieces}
 use Rattle.std.specs.Result.{OnOk}
 use Rattle.std.proofs.Math.Seq.{take-append-add}
-use Rattle.std.proofs.lemmas.List.{append-nil, take-append-le, length-take-le}
-use Rattle.dsr_io.specs.meaning.Written.{Written, IsTaken, IsCut}
 use Rattle.dsr_io.proofs.Taken.{taken_more, cut_after}
-use Rattle.dsr_statement.specs.inner.Pieces.{IsBroken, IsSent, Holds, Puts}
-use Rattle.dsr_statement.specs.declared.pieces.Pieces.{Pieces}
 
 -- what the outlet has counted fits into the count of what was written
 pub sent_after : (sent bytes : List ℕ) (w v : ℕ) (a b c : Written)

@@ -1,3 +1,2 @@
 -- The definitions that relate the code to those of `meaning`.
 pub mod Pieces
-pub mod Laid

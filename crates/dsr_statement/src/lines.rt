@@ -2,8 +2,7 @@
 ghost use Rattle.std.specs.Prelude.{◌≡◌, ◌∷◌, ◌++◌, [], IfSome};
 ghost use Rattle.std.specs.List.{flat_map};
 ghost use Rattle.dsr_statement.specs.meaning.Statement.{tabbed, head_line, report_line, number_cell, outcome_cells, column_cells, key_cells, file_line, missing_line, difference_line, ledger_lines, sums_line, party_line, unclaimed_line, reject_line};
-ghost use Rattle.dsr_statement.specs.inner.Laid.{day_cells};
-ghost use Rattle.dsr_statement.specs.inner.Pieces.{Puts};
+ghost use Rattle.dsr_statement.specs.inner.Pieces.{day_cells, Puts};
 
 use crate::cells::{put_amount, put_end, put_last_amount, put_number, put_signed, put_text};
 use crate::key::{laid_key, put_key};

@@ -1,7 +1,7 @@
 //! The memory that writing a statement needs.
 ghost use Rattle.std.specs.Prelude.{◌≡◌, ◌++◌, ◌∷◌, IfSome, IfOk, OnOk};
 ghost use Rattle.dsr_cells.specs.meaning.Written.{written_day};
-ghost use Rattle.dsr_statement.specs.inner.Laid.{day_cells};
+ghost use Rattle.dsr_statement.specs.inner.Pieces.{day_cells};
 
 use crate::key::KEY_ROOM;
 use crate::pieces::PIECE;

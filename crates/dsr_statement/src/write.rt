@@ -6,8 +6,7 @@ ghost use Rattle.dsr_ledger.specs.declared.report.Report.{Report as ReportValue}
 ghost use Rattle.dsr_ledger.specs.declared.report.LedgerLine.{LedgerLine as LedgerLineValue};
 ghost use Rattle.dsr_ledger.specs.inner.View.{AreGiven, IsReady, IsViewOf};
 ghost use Rattle.dsr_io.specs.meaning.Written.{IsFlushed, IsCut};
-ghost use Rattle.dsr_statement.specs.inner.Pieces.{Puts};
-ghost use Rattle.dsr_statement.specs.inner.Laid.{day_cells};
+ghost use Rattle.dsr_statement.specs.inner.Pieces.{Puts, day_cells};
 
 use crate::lines::{
     put_difference, put_file, put_head, put_ledger, put_missing, put_own_ledger, put_reject,

@@ -18,17 +18,16 @@ use Rattle.dsr_cells.proofs.SpelledDays.{written_day_spells}
 use Rattle.dsr_cells.proofs.Days.{civil_bounds}
 use Rattle.dsr_cells.proofs.Splits.{Lacks, pieces_first, pieces_plain}
 use Rattle.dsr_cells.specs.meaning.Cells.{cells}
-use Rattle.dsr_events.specs.meaning.Columns.{column_name}
+use Rattle.dsr_events.specs.meaning.Names.{column_name, name_of, column_named}
 use Rattle.dsr_events.specs.declared.kinds.Column.{Column}
 use Rattle.dsr_events.specs.declared.kinds.Column.TheVariants.{MessageId}
 use Rattle.std.proofs.lemmas.Slice.Eq.{bytes_eq-Decides}
 use Rattle.dsr_cells.proofs.Spelled.{all_digits}
-use Rattle.dsr_events.specs.meaning.Names.{name_of, column_named}
 use Rattle.dsr_events.specs.declared.fault.FileFault.{FileFault}
 use Rattle.dsr_events.specs.declared.fault.FileFault.TheVariants as file_faults
 use Rattle.dsr_events.specs.declared.fault.Outcome.{Outcome}
 use Rattle.dsr_events.specs.declared.fault.Outcome.TheVariants as outcomes
-use Rattle.dsr_ledger.specs.meaning.Keys.{Key}
+use Rattle.dsr_ledger.specs.meaning.Bookings.{Key}
 use Rattle.dsr_ledger.specs.declared.report.ReportKey.{ReportKey}
 use Rattle.dsr_ledger.specs.declared.report.FileLine.{FileLine}
 use Rattle.dsr_ledger.specs.declared.report.PartyLine.{PartyLine}

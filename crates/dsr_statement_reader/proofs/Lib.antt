@@ -1,5 +1,3 @@
-pub mod Rows
-pub mod Cuts
 pub mod KindLemmas
 pub mod Signs
 pub mod Digits

@@ -14,14 +14,13 @@ use Rattle.dsr_cells.specs.meaning.Days.{CivilDay, day_of}
 use Rattle.dsr_cells.specs.meaning.Texts.{is_identifier_text, is_territory_text, is_use_type_text, is_currency_text, is_isrc_text}
 use Rattle.dsr_cells.specs.meaning.Written.{written, written_day}
 use Rattle.dsr_cells.specs.meaning.Cells.{cells}
-use Rattle.dsr_events.specs.meaning.Columns.{column_name}
+use Rattle.dsr_events.specs.meaning.Names.{column_name, name_of, column_named}
 use Rattle.dsr_events.specs.declared.kinds.Column.{Column}
-use Rattle.dsr_events.specs.meaning.Names.{name_of, column_named}
 use Rattle.dsr_events.specs.declared.fault.FileFault.{FileFault}
 use Rattle.dsr_events.specs.declared.fault.FileFault.TheVariants as file_faults
 use Rattle.dsr_events.specs.declared.fault.Outcome.{Outcome}
 use Rattle.dsr_events.specs.declared.fault.Outcome.TheVariants as outcomes
-use Rattle.dsr_ledger.specs.meaning.Keys.{Key}
+use Rattle.dsr_ledger.specs.meaning.Bookings.{Key}
 use Rattle.dsr_ledger.specs.declared.report.ReportKey.{ReportKey}
 use Rattle.dsr_ledger.specs.declared.report.FileLine.{FileLine}
 use Rattle.dsr_ledger.specs.declared.report.Difference.{Difference}

@@ -7,12 +7,12 @@ use crate::fault::StatementFault;
 use crate::line::{LineKind, StatementLine};
 use crate::names::{column_named, fault_named, standing_named};
 use crate::number::{read_u32, read_u64};
-use crate::row::Row;
+use dsr_cells::FirstCells;
 use dsr_events::Outcome;
 use dsr_ledger::FileLine;
 
 /// Whether a file that ends so has this many cells after its name.
-fn has_file_cells(row: &Row<'_>) -> bool
+fn has_file_cells(row: &FirstCells<'_>) -> bool
     ensures { result ≡ has_file_cells (drop 1 row.now) }
 {
     match row.len() {
@@ -73,7 +73,7 @@ fn read_whole(word: &str) -> Option<Outcome>
 }
 
 /// How a file ended.
-fn read_outcome(row: &Row<'_>) -> Option<Outcome>
+fn read_outcome(row: &FirstCells<'_>) -> Option<Outcome>
     requires { 6 ≤ length row.now }
     ensures { result ≡ outcome_in (drop 5 row.now) }
 {
@@ -87,7 +87,7 @@ fn read_outcome(row: &Row<'_>) -> Option<Outcome>
 
 /// The line of a file.
 #[tactic(auto, unfolding(crate::specs::meaning::Readings::file_in))]
-fn read_file<'l>(row: &Row<'_>) -> Option<StatementLine<'l>>
+fn read_file<'l>(row: &FirstCells<'_>) -> Option<StatementLine<'l>>
     requires { 6 ≤ length row.now }
     ensures { result ≡ file_in (slice_index_or row.now 1 []) (slice_index_or row.now 2 [])
         (slice_index_or row.now 3 []) (slice_index_or row.now 4 []) (drop 5 row.now) }
@@ -109,7 +109,7 @@ fn read_file<'l>(row: &Row<'_>) -> Option<StatementLine<'l>>
 }
 
 /// The line of a file, if it has the cells of one.
-pub(crate) fn file_row<'l>(row: &Row<'_>) -> Result<StatementLine<'l>, StatementFault>
+pub(crate) fn file_row<'l>(row: &FirstCells<'_>) -> Result<StatementLine<'l>, StatementFault>
     requires { 0 < length row.now }
     ensures { result ≡ line_of_kind (drop 1 row.now) (Some LineKind.File) }
 {

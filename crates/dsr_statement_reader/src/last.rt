@@ -1,6 +1,6 @@
 //! What is kept of the lines read so far.
 ghost use Rattle.std.specs.Prelude.{◌≡◌, OnOk};
-ghost use Rattle.dsr_ledger.specs.meaning.Keys.{key_eq};
+ghost use Rattle.dsr_ledger.specs.meaning.Bookings.{key_eq};
 ghost use Rattle.dsr_statement_reader.specs.meaning.Readings.{is_key_below};
 ghost use Rattle.dsr_statement_reader.specs.inner.Lasts.{last_line, file_fits, fits_file, fits_missing, fits_summary, fits_ledger, missing_fits, summary_fits, ledger_fits, party_fits, unclaimed_fits, reject_fits, fits_start, ends};
 
@@ -174,7 +174,7 @@ pub(crate) struct LastKey {
 }
 
 impl Model for LastKey {
-    ghost use Rattle.dsr_ledger.specs.meaning.Keys.{Key};
+    ghost use Rattle.dsr_ledger.specs.meaning.Bookings.{Key};
 
     ghost Value = { Key };
 

@@ -1,8 +1,8 @@
 //! Reading a statement: its lines, one after another, exactly as dsr_statement writes them. Nothing is repaired.
 //!
-//! 1. `row` cuts a line at its TABs (`cut`). `number` reads the numbers, usages and amounts that cells spell, and `names` the names
-//!    of kinds of line, standings, faults, columns and reasons. `cells` and `file` make the lines (`line`) of cells, which
-//!    borrow their texts.
+//! 1. dsr_cells cuts a line at its TABs. `number` reads the numbers, usages and amounts that cells spell (`cut` finds the point),
+//!    and `names` the names of kinds of line, standings, faults, columns and reasons. `cells` and `file` make the lines
+//!    (`line`) of cells, which borrow their texts.
 //! 2. `reading` reads the line that a text spells, whatever stands before it, or its fault (`fault`).
 //! 3. `reader` has the public functions: it keeps of the lines that were read what the next one depends on (`last`, `left`), and
 //!    tests that it may stand there and that the amounts of a ledger line add up.
@@ -43,7 +43,6 @@ mod names;
 mod number;
 mod reader;
 mod reading;
-mod row;
 
 pub use fault::{ReadError, StatementFault};
 pub use line::{ReadDifference, ReadKey, ReadParty, ReadReject, ReadReport, StatementLine};

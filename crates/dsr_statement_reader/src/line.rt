@@ -75,7 +75,7 @@ pub struct ReadKey<'a> {
 }
 
 impl<'a> Model for ReadKey<'a> {
-    ghost use Rattle.dsr_ledger.specs.meaning.Keys.{Key};
+    ghost use Rattle.dsr_ledger.specs.meaning.Bookings.{Key};
 
     ghost Value = { Key };
 

@@ -11,7 +11,7 @@ use crate::fault::StatementFault;
 use crate::file::file_row;
 use crate::line::{LineKind, StatementLine};
 use crate::names::kind_named;
-use crate::row::Row;
+use dsr_cells::FirstCells;
 use dsr_texts::text_of;
 
 /// The most bytes of a line, without its line feed.
@@ -19,7 +19,7 @@ pub const LINE_LIMIT: usize = 16384;
 
 /// The line of no report, if it has no more cells.
 #[tactic(auto, using(crate::proofs::KindLemmas::no_report_cells, crate::proofs::KindLemmas::no_report_others))]
-fn no_report_row<'l>(row: &Row<'l>) -> Result<StatementLine<'l>, StatementFault>
+fn no_report_row<'l>(row: &FirstCells<'l>) -> Result<StatementLine<'l>, StatementFault>
     requires { 0 < length row.now }
     ensures { result ≡ line_of_kind (drop 1 row.now) (Some LineKind.NoReport) }
 {
@@ -31,7 +31,7 @@ fn no_report_row<'l>(row: &Row<'l>) -> Result<StatementLine<'l>, StatementFault>
 
 /// The line of the report, if it has its cells.
 #[tactic(auto, using(crate::proofs::KindLemmas::report_cells, crate::proofs::KindLemmas::report_others))]
-fn report_row<'l>(row: &Row<'l>) -> Result<StatementLine<'l>, StatementFault>
+fn report_row<'l>(row: &FirstCells<'l>) -> Result<StatementLine<'l>, StatementFault>
     requires { 0 < length row.now }
     ensures { result ≡ line_of_kind (drop 1 row.now) (Some LineKind.Report) }
 {
@@ -45,7 +45,7 @@ fn report_row<'l>(row: &Row<'l>) -> Result<StatementLine<'l>, StatementFault>
 
 /// The line of a missing file, if it has its cells.
 #[tactic(auto, using(crate::proofs::KindLemmas::missing_cells, crate::proofs::KindLemmas::missing_others))]
-fn missing_row<'l>(row: &Row<'l>) -> Result<StatementLine<'l>, StatementFault>
+fn missing_row<'l>(row: &FirstCells<'l>) -> Result<StatementLine<'l>, StatementFault>
     requires { 0 < length row.now }
     ensures { result ≡ line_of_kind (drop 1 row.now) (Some LineKind.Missing) }
 {
@@ -57,7 +57,7 @@ fn missing_row<'l>(row: &Row<'l>) -> Result<StatementLine<'l>, StatementFault>
 
 /// The line of a difference, if it has its cells.
 #[tactic(auto, using(crate::proofs::KindLemmas::difference_cells, crate::proofs::KindLemmas::difference_others))]
-fn difference_row<'l>(row: &Row<'l>) -> Result<StatementLine<'l>, StatementFault>
+fn difference_row<'l>(row: &FirstCells<'l>) -> Result<StatementLine<'l>, StatementFault>
     requires { 0 < length row.now }
     ensures { result ≡ line_of_kind (drop 1 row.now) (Some LineKind.Summary) }
 {
@@ -77,7 +77,7 @@ fn difference_row<'l>(row: &Row<'l>) -> Result<StatementLine<'l>, StatementFault
 
 /// The line of a ledger line's sums, if it has its cells.
 #[tactic(auto, using(crate::proofs::KindLemmas::ledger_cells, crate::proofs::KindLemmas::ledger_others))]
-fn ledger_row<'l>(row: &Row<'l>) -> Result<StatementLine<'l>, StatementFault>
+fn ledger_row<'l>(row: &FirstCells<'l>) -> Result<StatementLine<'l>, StatementFault>
     requires { 0 < length row.now }
     ensures { result ≡ line_of_kind (drop 1 row.now) (Some LineKind.Ledger) }
 {
@@ -97,7 +97,7 @@ fn ledger_row<'l>(row: &Row<'l>) -> Result<StatementLine<'l>, StatementFault>
 
 /// The line of a party, if it has its cells.
 #[tactic(auto, using(crate::proofs::KindLemmas::party_cells, crate::proofs::KindLemmas::party_others))]
-fn party_row<'l>(row: &Row<'l>) -> Result<StatementLine<'l>, StatementFault>
+fn party_row<'l>(row: &FirstCells<'l>) -> Result<StatementLine<'l>, StatementFault>
     requires { 0 < length row.now }
     ensures { result ≡ line_of_kind (drop 1 row.now) (Some LineKind.Party) }
 {
@@ -117,7 +117,7 @@ fn party_row<'l>(row: &Row<'l>) -> Result<StatementLine<'l>, StatementFault>
 
 /// The line of an unclaimed amount, if it has its cells.
 #[tactic(auto, using(crate::proofs::KindLemmas::unclaimed_cells, crate::proofs::KindLemmas::unclaimed_others))]
-fn unclaimed_row<'l>(row: &Row<'l>) -> Result<StatementLine<'l>, StatementFault>
+fn unclaimed_row<'l>(row: &FirstCells<'l>) -> Result<StatementLine<'l>, StatementFault>
     requires { 0 < length row.now }
     ensures { result ≡ line_of_kind (drop 1 row.now) (Some LineKind.Unclaimed) }
 {
@@ -131,7 +131,7 @@ fn unclaimed_row<'l>(row: &Row<'l>) -> Result<StatementLine<'l>, StatementFault>
 
 /// The line of a rejected block, if it has its cells.
 #[tactic(auto, using(crate::proofs::KindLemmas::reject_cells, crate::proofs::KindLemmas::reject_others))]
-fn reject_row<'l>(row: &Row<'l>) -> Result<StatementLine<'l>, StatementFault>
+fn reject_row<'l>(row: &FirstCells<'l>) -> Result<StatementLine<'l>, StatementFault>
     requires { 0 < length row.now }
     ensures { result ≡ line_of_kind (drop 1 row.now) (Some LineKind.Reject) }
 {
@@ -142,7 +142,7 @@ fn reject_row<'l>(row: &Row<'l>) -> Result<StatementLine<'l>, StatementFault>
 }
 
 /// The line of this kind that the cells spell.
-fn read_kind<'l>(kind: LineKind, row: &Row<'l>) -> Result<StatementLine<'l>, StatementFault>
+fn read_kind<'l>(kind: LineKind, row: &FirstCells<'l>) -> Result<StatementLine<'l>, StatementFault>
     requires { 0 < length row.now }
     ensures { result ≡ line_of_kind (drop 1 row.now) (Some kind) }
 {
@@ -161,7 +161,7 @@ fn read_kind<'l>(kind: LineKind, row: &Row<'l>) -> Result<StatementLine<'l>, Sta
 
 /// The line that cells spell, the first of which is its name.
 #[tactic(auto, using(crate::proofs::KindLemmas::by_name))]
-fn read_cells<'l>(row: &Row<'l>) -> Result<StatementLine<'l>, StatementFault>
+fn read_cells<'l>(row: &FirstCells<'l>) -> Result<StatementLine<'l>, StatementFault>
     requires { 0 < length row.now }
     ensures { result ≡ line_of_cells row.now }
 {
@@ -175,7 +175,7 @@ fn read_cells<'l>(row: &Row<'l>) -> Result<StatementLine<'l>, StatementFault>
 fn read_text(text: &str) -> Result<StatementLine<'_>, StatementFault>
     ensures { result ≡ line_of_cells (cells text.now) }
 {
-    let row = Row::of(text);
+    let row = FirstCells::of(text);
     read_cells(&row)
 }
 

@@ -10,7 +10,7 @@ use Rattle.std.specs.List.{AllByRecursion, flat_map}
 use Rattle.std.specs.Str.{bytes_eq}
 use Rattle.std.specs.Prelude.{ℤ, pos, ◌+ℤ◌, ◌-ℤ◌, map, Option, Some, None}
 use Rattle.dsr_ledger.proofs.EachLemmas.{int_sum_by-append}
-use Rattle.dsr_ledger.specs.meaning.Keys.{Key, key_eq}
+use Rattle.dsr_ledger.specs.meaning.Bookings.{Key, key_eq}
 use Rattle.dsr_ledger.specs.declared.report.PartyLine.{PartyLine}
 use Rattle.dsr_ledger.specs.declared.report.ReportKey.{ReportKey}
 use Rattle.dsr_statement_reader.proofs.LineTexts.{are_in_place}

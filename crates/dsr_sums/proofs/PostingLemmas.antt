@@ -8,7 +8,7 @@ use Rattle.indexmap.specs.IndexMap.{get}
 use Rattle.dsr_sums.specs.declared.account.Account.{Account}
 use Rattle.dsr_sums.specs.declared.book.Book.{Book}
 use Rattle.dsr_sums.specs.declared.sums.Sums.{Sums}
-use Rattle.dsr_ledger.specs.meaning.Sums.{int_sum_by}
+use Rattle.dsr_ledger.specs.meaning.Limits.{int_sum_by}
 use Rattle.dsr_sums.specs.inner.Books.{is_posted_to, entry_of, HoldsPostings, sums_in, IsPosted}
 use Rattle.dsr_sums.specs.inner.Plus.{plus, zero_sums}
 use Rattle.dsr_sums.specs.meaning.Accounts.{account_eq}

@@ -1,6 +1,5 @@
 -- The front and the back of a list of bytes are bytes.
-use Rattle.std.proofs.Common.{arith, ℕ, zero, suc, List, [], ◌∷◌, take, drop}
-use Rattle.dsr_texts.specs.inner.Bytes.{AreBytes}
+use Rattle.dsr_texts.proofs.Common.{arith, ℕ, zero, suc, List, [], ◌∷◌, take, drop, AreBytes}
 
 pub small_front : (n : ℕ) (xs : List ℕ) → AreBytes xs → AreBytes (take n xs)
 small_front zero xs small i = omega arith

@@ -1,5 +1,5 @@
 -- An item that is lent from a list.
-use Rattle.std.proofs.Common.{◌≡◌, ℕ, List, Option, None, Some, Bor, option_map, slice_get, length, refl, sym}
+use Rattle.dsr_texts.proofs.Common.{◌≡◌, ℕ, List, Option, None, Some, Bor, option_map, slice_get, length, refl, sym}
 use Rattle.std.specs.Slice.{IsItemAt}
 use Rattle.std.proofs.lemmas.Option.{slice_get_past, slice_get_read}
 

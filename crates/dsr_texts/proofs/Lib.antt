@@ -1,5 +1,5 @@
+pub mod Common
 pub mod Bytes
 pub mod Lent
 pub mod Shorts
 pub mod Views
-pub mod TabBits

@@ -1,5 +1,5 @@
 -- Lemmas on short texts.
-use Rattle.std.proofs.Common.{arith, ◌≡◌, ◌∙◌, ◌++◌, ◌&&◌, ◌≤◌, ◌-◌, refl, sym, ap, ℕ, List, length, take, drop, replicate, nat_eq, true}
+use Rattle.dsr_texts.proofs.Common.{arith, ◌≡◌, ◌∙◌, ◌++◌, ◌&&◌, ◌≤◌, ◌-◌, refl, sym, ap, ℕ, List, length, take, drop, replicate, nat_eq, true, drop-replicate, drop-drop, take-append-drop, length-take, length-drop, take_all, AreBytes}
 use Rattle.std.specs.Prelude.{IsUtf8}
 use Rattle.std.specs.Bool.{one_answer}
 use Rattle.std.specs.Int.{w64, from_le_bytes}
@@ -7,10 +7,8 @@ use Rattle.std.specs.Str.{bytes_eq}
 use Rattle.std.specs.Cmp.{both_ways, first_so, second_so}
 use Rattle.std.specs.Cmp.Derive.{both_true}
 use Rattle.std.proofs.lemmas.Bool.Decides.{Decides-eqb}
-use Rattle.std.proofs.lemmas.List.{drop-replicate, drop-drop, take-append-drop, length-take, length-drop, take_all}
 use Rattle.std.proofs.lemmas.Nat.{le_bytes_8}
 use Rattle.std.proofs.lemmas.Slice.Eq.{bytes_eq-Decides}
-use Rattle.dsr_texts.specs.inner.Bytes.{AreBytes}
 use Rattle.dsr_texts.specs.inner.Short.{HasZerosBehind}
 use Rattle.dsr_texts.proofs.Bytes.{small_front, small_back}
 

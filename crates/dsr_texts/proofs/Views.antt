@@ -1,6 +1,5 @@
 -- The items of a list, and the stale ones after them.
-use Rattle.std.proofs.Common.{◌≡◌, ℕ, ◌<◌, ◌≤◌, ◌+◌, ◌-◌, [], ◌∷◌, ◌++◌, length, slice_set, slice_index_or, List, take, arith, sym, ◌∙◌, ap, length-take-le, length-set}
-use Rattle.std.proofs.lemmas.List.{places, take_more_set, take_all}
+use Rattle.dsr_texts.proofs.Common.{◌≡◌, ℕ, ◌<◌, ◌≤◌, ◌+◌, ◌-◌, [], ◌∷◌, ◌++◌, length, slice_set, slice_index_or, List, take, arith, sym, ◌∙◌, ap, length-take-le, length-set, places, take_more_set, take_all}
 use Rattle.std.proofs.Math.Seq.{take-set-lt}
 use Rattle.dsr_texts.specs.inner.Views.{IsOneMore}
 

@@ -1,7 +1,6 @@
 //! The texts of a report: found in the bytes of a file, tested, and kept past their line.
 //!
-//! 1. `line_feed` finds the first line feed, which ends a line; `tabs` the TABs of a line's first 64 bytes, many bytes at a
-//!    time (SIMD); `utf8` tests that bytes are UTF-8 (RFC 3629).
+//! 1. `line_feed` finds the first line feed, which ends a line; `utf8` tests that bytes are UTF-8 (RFC 3629).
 //! 2. `text` keeps a text: up to 22 bytes in place (`short`), longer ones on the heap (`kept`). A text
 //!    takes 24 bytes, and can be written over, which reuses its memory.
 //! 3. `inline_items` is the list type of blocks, and of the parties of a report's line: its first items
@@ -12,11 +11,9 @@
 //! **Examples**, compiled and proved in `crates/dsr_reader_tests/src/examples/texts.rt`:
 //!
 //! ```
-//! /// The end of a line, its TABs, and whether bytes are a text.
-//! fn lines_tabs_and_texts(rt: HostRuntime) -> Result<(), Fail> {
+//! /// The end of a line, and whether bytes are a text.
+//! fn lines_and_texts(rt: HostRuntime) -> Result<(), Fail> {
 //!     assert_eq!(rt; line_end(b"S1\nS2\n"), 2);
-//!     // Bytes 4 and 7 are TABs.
-//!     assert_eq!(rt; tabs_of(b"SU01\tB1\tS1"), 0b1001_0000);
 //!     assert_eq!(rt; text_of(b"S1"), Some("S1"));
 //!     // The first byte of a character of two bytes, without the second.
 //!     assert!(rt; text_of(b"\xc3").is_none());
@@ -43,20 +40,18 @@
 //! equal, ordered and hashed by their bytes. Only calls that return `NoMemory`, and `push` of the two list types, take
 //! memory. If it is refused, they change nothing.
 //!
-//! **Where to begin.** `src/items.rt`, then `src/text.rt`; `src/tabs.rt` for what is found.
+//! **Where to begin.** `src/items.rt`, then `src/text.rt`; `src/line_feed.rt` for what is found.
 #![tactic(auto)]
 
 mod inline_items;
 mod items;
 mod line_feed;
 mod short;
-mod tabs;
 mod text;
 mod utf8;
 
 pub use inline_items::InlineItems;
 pub use items::Items;
 pub use line_feed::line_end;
-pub use tabs::tabs_of;
 pub use text::{NoMemory, Text, Texts};
 pub use utf8::text_of;

@@ -1,7 +1,12 @@
--- The state of an iterator over the raw parts of a list cell, and what it yields.
-use Rattle.std.specs.Prelude.{ℕ, List, [], ◌∷◌, Option, Some, None, ◌≡◌}
+-- The state of an iterator over the raw parts of a list cell, and bytes as numbers that have the same order.
+use Rattle.std.specs.Prelude.{ℕ, ◌+◌, ◌*◌, ◌^◌, List, [], ◌∷◌, length, Option, Some, None, ◌≡◌}
 use Rattle.std.specs.Borrow.{Bor}
-use Rattle.dsr_cells.specs.meaning.Values.{parts_after}
+use Rattle.dsr_cells.specs.meaning.Cells.{parts_after}
+
+-- the number whose base-256 digits are these, the most significant first
+abbrev pub number_of_bytes : List ℕ → ℕ
+number_of_bytes [] = 0
+number_of_bytes (b ∷ bytes) = b * 256 ^ length bytes + number_of_bytes bytes
 
 -- the parts that are left of a cell
 abbrev pub parts_left : Option (Bor (List ℕ)) → List (List ℕ)

@@ -1,10 +1,10 @@
 -- Blocks, as contracts see them.
-use Rattle.std.specs.Prelude.{◌≡◌, ℕ, List, [], ◌∷◌, ◌++◌}
+use Rattle.std.specs.Prelude.{ℕ, List, ◌≡◌, [], ◌∷◌, ◌++◌}
 use Rattle.dsr_events.specs.declared.record.Record.{Record}
-use Rattle.dsr_events.specs.declared.record.Record.TheVariants as the
 use Rattle.dsr_events.specs.declared.record.Resource.{Resource}
 use Rattle.dsr_events.specs.declared.record.Usage.{Usage}
 use Rattle.dsr_events.specs.meaning.Works.{WorkParts}
+use Rattle.dsr_events.specs.declared.record.Record.TheVariants as the
 
 pub record BlockParts : Type 0 where
   pub id : List ℕ

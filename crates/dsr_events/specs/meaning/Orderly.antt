@@ -1,9 +1,18 @@
--- Orderly lists of events.
-use Rattle.std.specs.Prelude.{◌≡◌, ℕ, ◌+◌, Bool, true, false, List, length, Some, slice_get}
-use Rattle.std.specs.List.{list_any}
-use Rattle.dsr_events.specs.meaning.Placed.{Placed}
+-- Events with their places in the file's list of events, and orderly lists of them.
+use Rattle.std.specs.Prelude.{ℕ, ◌≡◌, ◌+◌, Bool, true, false, List, length, Some, slice_get}
+use Rattle.dsr_events.specs.meaning.Blocks.{BlockParts}
 use Rattle.dsr_events.specs.declared.event.EventPart.{EventPart}
+use Rattle.std.specs.List.{list_any}
 use Rattle.dsr_events.specs.declared.event.EventPart.TheVariants.{Opened, Block, Ended}
+use Rattle.dsr_events.specs.declared.event.EventPart.TheVariants as tell
+
+pub record Placed : Type 0 where
+  pub place : ℕ
+  pub part : EventPart
+
+-- the event of a block with this place
+abbrev pub block_event : ℕ → BlockParts → Placed
+block_event place block = record { place = place; part = tell.Block block }
 
 abbrev pub is_ended : EventPart → Bool
 is_ended (Opened _) = false

@@ -4,7 +4,7 @@ use Rattle.std.specs.Option.{option_to_list}
 use Rattle.dsr_events.specs.declared.record.Foot as foot
 use Rattle.dsr_events.specs.declared.record.Record.{Record}
 use Rattle.dsr_events.specs.declared.record.Record.TheVariants.{Skipped}
-use Rattle.dsr_records.specs.meaning.Reads.{has_texts}
+use Rattle.dsr_records.specs.meaning.Values.{has_texts}
 use Rattle.dsr_records.specs.meaning.Records.{or_else}
 use Rattle.dsr_events.specs.declared.fault.FileFault.{FileFault}
 use Rattle.dsr_events.specs.declared.fault.FileFault.TheVariants as faults
@@ -12,8 +12,7 @@ use Rattle.dsr_events.specs.declared.event.EventPart.{EventPart}
 use Rattle.dsr_file.specs.declared.grammar.Grammar.{Grammar}
 use Rattle.dsr_file.specs.declared.grammar.Step.{Step}
 use Rattle.dsr_file.specs.declared.grammar.Step.TheVariants.{Good, Faulty, NoMemory}
-use Rattle.dsr_file.specs.meaning.Readings.{Reading, Holds, records, is_skipped_line, is_skipped_record}
-use Rattle.dsr_file.specs.meaning.Parts.{closed, summaries, events_of}
+use Rattle.dsr_file.specs.meaning.Readings.{Reading, Holds, records, is_skipped_line, is_skipped_record, closed, summaries, events_of}
 use Rattle.dsr_file.specs.meaning.Faults.{fault_if, fault_of, early_fault}
 use Rattle.dsr_file.specs.meaning.Texts.{AllGood, first_from, counts_fault}
 use Rattle.dsr_file.specs.inner.Stages.{KeepsStage}

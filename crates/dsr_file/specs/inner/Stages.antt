@@ -1,23 +1,27 @@
--- What a stage of the reader represents, and how it changes.
-use Rattle.std.specs.Prelude.{◌≡◌, ℕ, ◌+◌, ◌≤◌, ◌<◌, ◌==◌, true, false, List, [], ◌∷◌, ◌++◌, length, map, Option, None, Some, if◌then◌else◌}
+-- The stage of a file, what a record closes, and what it counts.
+use Rattle.std.specs.Prelude.{◌≡◌, ℕ, ◌+◌, ◌≤◌, ◌<◌, ◌==◌, true, false, List, [], ◌∷◌, ◌++◌, length, map, Option, None, Some, if◌then◌else◌, OnSome}
 use Rattle.std.specs.Str.{bytes_eq}
 use Rattle.std.specs.List.{list_any, list_all}
 use Rattle.dsr_events.specs.declared.kinds.Kind.{Kind}
-use Rattle.dsr_events.specs.declared.kinds.Kind.TheVariants as kinds
 use Rattle.dsr_events.specs.declared.record.Record.{Record}
-use Rattle.dsr_events.specs.declared.record.Record.TheVariants as the
-use Rattle.dsr_events.specs.declared.record.Head as head
 use Rattle.dsr_events.specs.meaning.Blocks.{BlockParts}
 use Rattle.dsr_records.specs.meaning.Records.{or_else}
 use Rattle.dsr_events.specs.declared.fault.FileFault.{FileFault}
 use Rattle.dsr_events.specs.declared.event.EventPart.{EventPart}
-use Rattle.dsr_events.specs.declared.event.EventPart.TheVariants as tell
 use Rattle.dsr_file.specs.declared.stage.Before.{Before}
-use Rattle.dsr_file.specs.declared.stage.Before.TheVariants as columns
 use Rattle.dsr_file.specs.declared.stage.Stage.{Stage}
 use Rattle.dsr_file.specs.declared.stage.Stage.TheVariants.{Start, Front, Open, Closed}
-use Rattle.dsr_file.specs.meaning.Parts.{parts, opens, last_of, block_limit, has_id}
+use Rattle.dsr_file.specs.meaning.Readings.{parts, opens, last_of, block_limit, has_id}
 use Rattle.dsr_file.specs.meaning.Faults.{column, place, summary_fault, member_fault}
+use Rattle.dsr_events.specs.declared.record.Record.TheVariants.{Summary, Foot}
+use Rattle.dsr_file.specs.declared.closed.Closed.TheInside.{Inside}
+use Rattle.dsr_events.specs.meaning.Orderly.{Placed}
+use Rattle.dsr_events.specs.declared.kinds.Kind.TheVariants as kinds
+use Rattle.dsr_events.specs.declared.record.Record.TheVariants as the
+use Rattle.dsr_events.specs.declared.record.Head as head
+use Rattle.dsr_events.specs.declared.event.EventPart.TheVariants as tell
+use Rattle.dsr_file.specs.declared.stage.Before.TheVariants as columns
+use Rattle.dsr_events.specs.declared.record.Foot as foot
 
 abbrev pub column_at : Stage → Before
 column_at Start = columns.Nothing
@@ -106,3 +110,34 @@ KeepsStage Start rs = rs ≡ []
 KeepsStage (Front o) rs = rs ≡ the.Head o.head ∷ map the.Summary o.summaries
 KeepsStage (Open b) rs = IsOpen b rs
 KeepsStage Closed rs = column (last_of rs) ≡ columns.Closed
+
+abbrev pub foot_in : Record → Option foot.Foot
+foot_in (Foot f) = Some f
+foot_in _ = None
+
+abbrev pub summary_count : Record → ℕ
+summary_count (Summary s) = 1
+summary_count _ = 0
+
+-- 1 for a block, otherwise 0
+abbrev pub block_count : Option EventPart → ℕ
+block_count (Some (tell.Block b)) = 1
+block_count _ = 0
+
+-- the block, or else the other part
+abbrev pub block_or : Option BlockParts → Option EventPart → Option EventPart
+block_or (Some block) other = Some (tell.Block block)
+block_or None other = other
+
+-- what is closed
+abbrev pub part_closed : Inside → Option EventPart
+part_closed c = block_or c.block c.other
+
+-- a block and another part are not closed at once
+abbrev pub IsOne : Inside → Type 0
+IsOne c = OnSome c.block (c.other ≡ None)
+
+-- the event of what is closed, with this place
+abbrev pub event_at : ℕ → Option EventPart → Option Placed
+event_at place None = None
+event_at place (Some part) = Some (record { place = place; part = part })

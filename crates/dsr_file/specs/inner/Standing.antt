@@ -7,10 +7,8 @@ use Rattle.dsr_events.specs.declared.event.EventPart.{EventPart}
 use Rattle.dsr_file.specs.declared.phase.Phase.{Phase}
 use Rattle.dsr_file.specs.declared.phase.Phase.TheVariants.{Reading, Waiting, Done}
 use Rattle.dsr_file.specs.declared.reader.FileReader.{FileReader}
-use Rattle.dsr_events.specs.meaning.Placed.{Placed}
-use Rattle.dsr_events.specs.meaning.Orderly.{has_ended}
-use Rattle.dsr_file.specs.meaning.Readings.{reading, records}
-use Rattle.dsr_file.specs.meaning.Parts.{events_of}
+use Rattle.dsr_events.specs.meaning.Orderly.{Placed, has_ended}
+use Rattle.dsr_file.specs.meaning.Readings.{reading, records, events_of}
 use Rattle.dsr_file.specs.meaning.Texts.{AllGood, first_from, placed}
 use Rattle.dsr_file.specs.meaning.Runs.{ended, known_events, HasEvents, EndsWith}
 use Rattle.dsr_file.specs.inner.Cutting.{CutsTo, CutSteps}

@@ -7,14 +7,13 @@ use Rattle.dsr_events.specs.declared.kinds.Kind.TheVariants as kinds
 use Rattle.dsr_events.specs.declared.record.Record.{Record}
 use Rattle.dsr_events.specs.declared.record.Record.TheVariants.{Head, Summary, Resource, Work, Usage, Foot, Skipped}
 use Rattle.dsr_events.specs.declared.record.Summary as summary
-use Rattle.dsr_records.specs.meaning.Reads.{id_of_record}
+use Rattle.dsr_records.specs.meaning.Values.{id_of_record}
 use Rattle.dsr_records.specs.meaning.Records.{or_else}
 use Rattle.dsr_events.specs.declared.fault.FileFault.{FileFault}
 use Rattle.dsr_events.specs.declared.fault.FileFault.TheVariants as faults
 use Rattle.dsr_file.specs.declared.stage.Before.{Before}
 use Rattle.dsr_file.specs.declared.stage.Before.TheVariants.{Nothing, Front, Open, Used, Closed}
-use Rattle.dsr_file.specs.meaning.Readings.{Reading, Faulty, SkippedLine, Holds, records, is_skipped_line, is_skipped_record}
-use Rattle.dsr_file.specs.meaning.Parts.{parts, closed, last_of, block_limit, summaries}
+use Rattle.dsr_file.specs.meaning.Readings.{Reading, Faulty, SkippedLine, Holds, records, is_skipped_line, is_skipped_record, parts, closed, last_of, block_limit, summaries}
 
 -- the maximum number of summaries in a file
 abbrev pub summary_limit : ℕ

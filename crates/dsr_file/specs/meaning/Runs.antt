@@ -2,7 +2,7 @@
 use Rattle.std.specs.Prelude.{◌≡◌, ℕ, ◌+◌, ◌⊎◌, true, false, List, [], ◌∷◌, ◌++◌, length, Option, None, Some}
 use mathlib.Core.List.{IsPrefix}
 use Rattle.dsr_events.specs.declared.record.Record.{Record}
-use Rattle.dsr_records.specs.meaning.Reads.{has_texts}
+use Rattle.dsr_records.specs.meaning.Values.{has_texts}
 use Rattle.dsr_records.specs.meaning.Records.{LayoutTable}
 use Rattle.dsr_events.specs.declared.fault.FileFault.TheVariants.{Memory}
 use Rattle.dsr_events.specs.declared.fault.Ending.{Ending}
@@ -10,11 +10,9 @@ use Rattle.dsr_events.specs.declared.fault.Ending.TheVariants.{Read}
 use Rattle.dsr_events.specs.declared.fault.Outcome.{Outcome}
 use Rattle.dsr_events.specs.declared.fault.Outcome.TheVariants.{Fault}
 use Rattle.dsr_events.specs.declared.event.EventPart.TheVariants.{Ended}
-use Rattle.dsr_events.specs.meaning.Placed.{Placed}
-use Rattle.dsr_events.specs.meaning.Orderly.{has_ended}
-use Rattle.dsr_file.specs.meaning.Readings.{Reading, Holds, records}
+use Rattle.dsr_events.specs.meaning.Orderly.{Placed, has_ended}
+use Rattle.dsr_file.specs.meaning.Readings.{Reading, Holds, records, events_of}
 use Rattle.dsr_file.specs.meaning.Faults.{early_fault}
-use Rattle.dsr_file.specs.meaning.Parts.{events_of}
 use Rattle.dsr_file.specs.meaning.Texts.{AllGood, first_from, placed, readings, text_events, so_far}
 
 -- the bytes of a file, and how they end

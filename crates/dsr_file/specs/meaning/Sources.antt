@@ -1,17 +1,17 @@
 -- The bytes that a source gave, and the events that were put while it was read.
-use Rattle.std.specs.Prelude.{◌≡◌, ℕ, ◌+◌, ◌-◌, ◌*◌, ◌<◌, ◌≤◌, ◌⊎◌, true, false, List, [], ◌∷◌, ◌++◌, length, take, Option, None, Some}
+use Rattle.std.specs.Prelude.{◌≡◌, ℕ, ◌+◌, ◌-◌, ◌*◌, ◌<◌, ◌≤◌, ◌⊎◌, true, false, List, [], ◌∷◌, ◌++◌, length, take, Option, None, Some, Result, Ok, Err}
 use Rattle.std.specs.Io.KnownBytes.{Consumes, IsAtEnd}
 use mathlib.Core.List.{IsPrefix}
 use Rattle.dsr_records.specs.meaning.Records.{LayoutTable}
 use Rattle.dsr_events.specs.declared.fault.Ending.{Ending}
 use Rattle.dsr_events.specs.declared.fault.Ending.TheVariants.{Whole, Read, Reads}
 use Rattle.dsr_io.specs.declared.read_count.ReadCount.{ReadCount}
-use Rattle.dsr_events.specs.meaning.Placed.{Placed}
-use Rattle.dsr_events.specs.meaning.Orderly.{has_ended}
-use Rattle.dsr_io.specs.meaning.ReadCounts.{Answered}
-use Rattle.dsr_io.specs.meaning.Told.{Told}
+use Rattle.dsr_events.specs.meaning.Orderly.{Placed, has_ended}
+use Rattle.dsr_io.specs.meaning.Told.{Answered, Told}
 use Rattle.dsr_file.specs.meaning.Texts.{text_events, so_far}
 use Rattle.dsr_file.specs.meaning.Runs.{FileText, events_of_text, known_lines, IsCutOff, BeginsEvents}
+use Rattle.dsr_file.specs.declared.reading.ReadFileError.{ReadFileError}
+use Rattle.dsr_file.specs.declared.reading.ReadFileError.TheVariants.{Memory, Refused}
 
 -- a source gave these bytes, and no read was made beyond the limit: each read gave some of them, or none, and the last one
 -- at most 4,096. Whoever reads cannot know which read will be the last, so this holds of each.
@@ -77,3 +77,13 @@ abbrev pub IsRefused : LayoutTable → ℕ → Told → Told → List Placed →
 IsRefused layout limit before after es e =
     (given : List ℕ) × (told : Option Ending) × Stopped layout limit before after given told
     × BeginsEvents layout given told (es ++ e ∷ []) × HasEarlier layout after.reads given es
+
+-- if memory was refused, nothing was read or put; a refused event comes after those that were put
+abbrev pub IsRefusal : LayoutTable → ℕ → Told → Told → List Placed → ReadFileError → Type 0
+IsRefusal layout limit before after es Memory = (after ≡ before) × (es ≡ [])
+IsRefusal layout limit before after es (Refused e) = IsRefused layout limit before after es e
+
+-- a result whose error is the event that the sink refused
+abbrev pub refused_event : {O : Type 0} → Result O Placed → Result O ReadFileError
+refused_event (Ok outcome) = Ok outcome
+refused_event (Err e) = Err (Refused e)

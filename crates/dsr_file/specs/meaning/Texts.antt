@@ -1,22 +1,40 @@
--- The events of a text.
-use Rattle.std.specs.Prelude.{ℕ, ◌+◌, Bool, true, false, List, [], ◌∷◌, ◌++◌, length, map, Option, None, Some, if◌then◌else◌}
+-- How a text is cut into lines, and the events of a text.
+use Rattle.std.specs.Prelude.{ℕ, nat_lt, ◌&&◌, ◌||◌, Bool, true, false, List, [], ◌∷◌, length, if◌then◌else◌, ◌+◌, ◌++◌, map, Option, None, Some}
+use Rattle.dsr_cells.specs.meaning.Lines.{pieces, is_long}
+use Rattle.dsr_events.specs.declared.fault.Ending.{Ending}
+use Rattle.dsr_events.specs.declared.fault.Ending.TheVariants.{Whole, Read, Reads}
 use Rattle.dsr_events.specs.declared.record.Record.{Record}
 use Rattle.dsr_records.specs.meaning.Records.{LayoutTable}
 use Rattle.dsr_events.specs.declared.fault.FileFault.{FileFault}
-use Rattle.dsr_events.specs.declared.fault.FileFault.TheVariants as faults
-use Rattle.dsr_events.specs.declared.fault.Ending.{Ending}
-use Rattle.dsr_events.specs.declared.fault.Ending.TheVariants as endings
 use Rattle.dsr_events.specs.declared.fault.Outcome.{Outcome}
-use Rattle.dsr_events.specs.declared.fault.Outcome.TheVariants as outcomes
 use Rattle.dsr_events.specs.declared.event.EventPart.{EventPart}
 use Rattle.dsr_events.specs.declared.event.EventPart.TheVariants.{Ended}
 use Rattle.dsr_file.specs.declared.stage.Before.{Before}
 use Rattle.dsr_file.specs.declared.stage.Before.TheVariants.{Nothing, Front, Open, Used, Closed}
-use Rattle.dsr_events.specs.meaning.Placed.{Placed}
-use Rattle.dsr_file.specs.meaning.Lines.{lines}
-use Rattle.dsr_file.specs.meaning.Readings.{Reading, reading, records}
+use Rattle.dsr_events.specs.meaning.Orderly.{Placed}
+use Rattle.dsr_file.specs.meaning.Readings.{Reading, reading, records, events_of, last_of}
 use Rattle.dsr_file.specs.meaning.Faults.{fault_of, column}
-use Rattle.dsr_file.specs.meaning.Parts.{events_of, last_of}
+use Rattle.dsr_events.specs.declared.fault.FileFault.TheVariants as faults
+use Rattle.dsr_events.specs.declared.fault.Ending.TheVariants as endings
+use Rattle.dsr_events.specs.declared.fault.Outcome.TheVariants as outcomes
+
+abbrev pub is_whole : Ending → Bool
+is_whole Whole = true
+is_whole Read = false
+is_whole Reads = false
+
+-- the piece after the last line feed is a line if it is not empty, and the text is whole or the piece is too long
+abbrev pub last_is_line : Ending → List ℕ → Bool
+last_is_line ending piece = nat_lt 0 (length piece) && (is_whole ending || is_long piece)
+
+abbrev pub lines_among : Ending → List (List ℕ) → List (List ℕ)
+lines_among ending [] = []
+lines_among ending (p ∷ []) = if last_is_line ending p then p ∷ [] else []
+lines_among ending (p ∷ q ∷ ps) = p ∷ lines_among ending (q ∷ ps)
+
+-- the lines of the text with these bytes and this ending; a carriage return at the end of a line is kept
+abbrev pub lines : List ℕ → Ending → List (List ℕ)
+lines bytes ending = lines_among ending (pieces bytes)
 
 -- the first line that is not good: the lines before it, what it is, and its fault
 pub data First : Type 0 where

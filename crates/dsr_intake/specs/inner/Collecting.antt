@@ -1,17 +1,90 @@
--- Invariants of the collector: what holds of a tap and of the books.
-use Rattle.std.specs.Prelude.{◌≡◌, ℕ, ◌+◌, ◌<◌, ◌^◌, Bool, true, false, List, [], ◌∷◌, ◌++◌, length, Some, None, IsSome, slice_get, slice_set}
+-- What is asked of options and readers, what a thread promises, what holds of a tap and of the books while they are collected, and why that stops.
+use Rattle.std.specs.Prelude.{Bool, true, false, not, List, [], ◌∷◌, Result, Ok, Err, ◌≡◌, ◌<◌, ◌≤◌, length, All, map, ℕ, ◌+◌, Some, slice_get, take, ◌^◌, ◌++◌, None, IsSome, slice_set}
 use Rattle.dsr_events.specs.declared.event.EventPart.{EventPart}
-use Rattle.dsr_events.specs.declared.event.EventPart.TheVariants as part
-use Rattle.dsr_events.specs.meaning.Orderly.{IsOrderly, has_ended}
-use Rattle.dsr_events.specs.meaning.Placed.{Placed}
+use Rattle.dsr_events.specs.declared.event.EventPart.TheVariants.{Opened, Block, Ended}
+use Rattle.dsr_events.specs.declared.fault.Outcome.{Outcome}
+use Rattle.dsr_events.specs.meaning.Orderly.{Placed, has_ended, IsOrderly}
+use Rattle.dsr_events.specs.meaning.Names.{is_memory}
+use Rattle.dsr_file.specs.declared.reading.ReadFileError.{ReadFileError}
+use Rattle.dsr_file.specs.meaning.Runs.{FileText, events_of_text}
+use Rattle.dsr_io.specs.meaning.Told.{Told}
+use Rattle.dsr_file.specs.meaning.Sources.{GaveText}
+use Rattle.dsr_intake.specs.declared.options.Options.{Options}
+use Rattle.dsr_intake.specs.declared.options.TheConstants.{MOST_READERS, MOST_MESSAGES, MOST_READS}
+use Rattle.dsr_ledger.specs.declared.closed.ClosedBooks.{ClosedBooks}
+use Rattle.dsr_ledger.specs.inner.BooksWords.{AreClosed, Stands, files_count}
+use Rattle.dsr_intake.specs.meaning.Texts.{GaveEach, file_of}
 use Rattle.dsr_relay.specs.meaning.Views.{TapView}
-use Rattle.dsr_ledger.specs.declared.books.Books.{Books}
-use Rattle.dsr_ledger.specs.meaning.Files.{File, opened, add_block, end_with}
-use Rattle.dsr_ledger.specs.inner.BooksWords.{Stands, files_count}
 use Rattle.dsr_intake.specs.declared.errors.CollectError.{CollectError}
 use Rattle.dsr_intake.specs.declared.errors.CollectError.TheVariants.{Memory, Closed}
-use Rattle.dsr_intake.specs.inner.Ends.{ends_clean}
-use Rattle.dsr_intake.specs.meaning.Texts.{file_of}
+use Rattle.dsr_intake.specs.declared.errors.IntakeError.{IntakeError}
+use Rattle.dsr_ledger.specs.declared.report.Report.{Report}
+use Rattle.dsr_intake.specs.declared.errors.RunError.{RunError}
+use Rattle.dsr_intake.specs.meaning.Outcomes.{IsUntouched}
+use Rattle.dsr_statement.specs.meaning.Statement.{statement_of}
+use Rattle.dsr_io.specs.meaning.Written.{Written, IsCut}
+use Rattle.dsr_ledger.specs.declared.books.Books.{Books}
+use Rattle.dsr_ledger.specs.meaning.Files.{File, opened, add_block, end_with}
+use Rattle.dsr_file.specs.declared.reading.ReadFileError.TheVariants as failed
+use Rattle.dsr_intake.specs.declared.errors.IntakeError.TheVariants as intake
+use Rattle.dsr_intake.specs.declared.errors.RunError.TheVariants as error
+use Rattle.dsr_events.specs.declared.event.EventPart.TheVariants as part
+
+-- the part is an Ended, and Memory is not its fault
+abbrev pub is_clean_end : EventPart → Bool
+is_clean_end (Opened opening) = false
+is_clean_end (Block block) = false
+is_clean_end (Ended outcome) = not (is_memory outcome)
+
+-- the last event is an Ended, and Memory is not its fault
+abbrev pub ends_clean : List Placed → Bool
+ends_clean [] = false
+ends_clean (e ∷ []) = is_clean_end e.part
+ends_clean (e ∷ f ∷ es) = ends_clean (f ∷ es)
+
+-- memory was refused for the reader, or while it read
+abbrev pub was_refused_memory : Result Outcome ReadFileError → Bool
+was_refused_memory (Ok outcome) = is_memory outcome
+was_refused_memory (Err failed.Memory) = true
+was_refused_memory (Err (failed.Refused event)) = false
+
+-- if what was sent has a clean end, it is the events of a text that the source gave
+pub record IsGiven (options : Options) (before after : Told) (sent : List Placed) : Type 0 where
+  pub given : ends_clean sent ≡ true → (text : FileText)
+      × GaveText options.layout options.max_reads before after text × (sent ≡ events_of_text options.layout text)
+
+pub record AreReady {R : Type 0} (told : R → Told) (options : Options) (readers : List R) : Type 0 where
+  pub some_files : 0 < length readers
+  pub most_files : length readers ≤ MOST_READERS
+  pub some_messages : 0 < options.capacity
+  pub most_messages : options.capacity ≤ MOST_MESSAGES
+  pub some_reads : 0 < options.max_reads
+  pub most_reads : options.max_reads ≤ MOST_READS
+  pub fresh : All (λ r. (told r).failed ≡ false) readers
+
+-- the books are closed, and represent the files of the texts that the readers gave
+abbrev pub AreBooksOf : {R : Type 0} → (R → Told) → Options → List R → List R → ClosedBooks → Type 0
+AreBooksOf told options readers left books =
+    (texts : List FileText) × GaveEach told options readers left texts
+    × AreClosed books (map (λ text. file_of (events_of_text options.layout text)) texts)
+
+-- an error Closed has the number, from 1, of a tap that has not ended
+abbrev pub IsStopped : List TapView → CollectError → Type 0
+IsStopped taps Memory = Unit {0}
+IsStopped taps (Closed k) =
+    (i : ℕ) × (t : TapView) × (k ≡ i + 1) × (slice_get taps i ≡ Some t) × (has_ended t.taken ≡ false)
+
+-- the error of an intake whose collector stopped: the same, of the file with the tap's number
+abbrev pub intake_error_of : CollectError → IntakeError
+intake_error_of Memory = intake.Memory
+intake_error_of (Closed k) = intake.Broken k
+
+-- memory was refused, and nothing was written; or the outlet took the first bytes of the report's statement, and failed
+abbrev pub IsUnfinished : Report → Written → Written → RunError → Type 0
+IsUnfinished report before after (error.Intake e) = (e ≡ intake.Memory) × IsUntouched before after
+IsUnfinished report before after error.Memory = IsUntouched before after
+IsUnfinished report before after (error.Write written) =
+    (written ≤ length (statement_of report)) × IsCut (take written (statement_of report)) before after
 
 -- the file with a later event added
 abbrev pub with_part : File → EventPart → File

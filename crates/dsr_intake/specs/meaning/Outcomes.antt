@@ -8,10 +8,9 @@ use Rattle.dsr_intake.specs.declared.options.Options.{Options}
 use Rattle.dsr_intake.specs.declared.errors.RunError.{RunError}
 use Rattle.dsr_intake.specs.declared.errors.RunError.TheVariants as error
 use Rattle.dsr_statement.specs.declared.verdict.Status.{Status}
-use Rattle.dsr_intake.specs.meaning.Options.{IsLate}
+use Rattle.dsr_intake.specs.meaning.Texts.{IsLate, GaveEach, report_of_texts}
 use Rattle.dsr_statement.specs.meaning.Statement.{statement_of}
 use Rattle.dsr_statement.specs.meaning.Status.{status_of}
-use Rattle.dsr_intake.specs.meaning.Texts.{GaveEach, report_of_texts}
 use Rattle.dsr_io.specs.meaning.Written.{Written, IsFlushed, IsCut}
 
 -- the report is the one of the texts that the readers gave

@@ -1,19 +1,45 @@
--- The texts of several files, and their report.
-use Rattle.std.specs.Prelude.{List, [], ◌∷◌, map, Option, Some, None}
+-- The options of an intake, and what is refused before anything is read; the texts of several files, and their report.
+use Rattle.std.specs.Prelude.{ℕ, Option, Some, None, ◌==◌, ◌||◌, nat_lt, if◌then◌else◌, List, [], ◌∷◌, map}
+use Rattle.dsr_records.specs.meaning.Layouts.{standard_layout}
+use Rattle.dsr_intake.specs.declared.options.Options.{Options}
+use Rattle.dsr_intake.specs.declared.options.TheConstants.{MOST_READERS, MOST_MESSAGES, MOST_READS}
+use Rattle.dsr_intake.specs.declared.errors.IntakeError.{IntakeError}
 use Rattle.std.specs.List.{filter_map}
 use Rattle.dsr_events.specs.meaning.Blocks.{BlockParts}
 use Rattle.dsr_records.specs.meaning.Records.{LayoutTable}
-use Rattle.dsr_events.specs.declared.event.EventPart.TheVariants as part
 use Rattle.dsr_events.specs.declared.fault.Outcome.{Outcome}
 use Rattle.dsr_events.specs.meaning.Openings.{OpeningParts}
-use Rattle.dsr_events.specs.meaning.Placed.{Placed}
+use Rattle.dsr_events.specs.meaning.Orderly.{Placed}
 use Rattle.dsr_file.specs.meaning.Runs.{FileText, events_of_text}
 use Rattle.dsr_io.specs.meaning.Told.{Told}
 use Rattle.dsr_file.specs.meaning.Sources.{GaveText}
 use Rattle.dsr_ledger.specs.declared.report.Report.{Report}
 use Rattle.dsr_ledger.specs.meaning.Files.{File}
 use Rattle.dsr_ledger.specs.meaning.Reports.{report_of}
-use Rattle.dsr_intake.specs.declared.options.Options.{Options}
+use Rattle.dsr_intake.specs.declared.errors.IntakeError.TheVariants as error
+use Rattle.dsr_events.specs.declared.event.EventPart.TheVariants as part
+
+abbrev pub standard_options : Options
+standard_options = record { capacity = 16; max_reads = 4194304; layout = standard_layout }
+
+-- the error of this number of files under these options, found before anything is read: the first that applies
+abbrev pub refusal_of : ℕ → Options → Option IntakeError
+refusal_of files o =
+    if files == 0 then Some error.NoFiles
+    else (if nat_lt MOST_READERS files then Some error.TooManyFiles
+    else (if (o.capacity == 0) || nat_lt MOST_MESSAGES o.capacity then Some error.Capacity
+    else (if (o.max_reads == 0) || nat_lt MOST_READS o.max_reads then Some error.Reads
+    else None)))
+
+-- an error that is not one of the options or of the number of files
+abbrev pub IsLate : IntakeError → Type 0
+IsLate error.NoFiles = ⊥
+IsLate error.TooManyFiles = ⊥
+IsLate error.Capacity = ⊥
+IsLate error.Reads = ⊥
+IsLate error.Memory = Unit {0}
+IsLate error.Thread = Unit {0}
+IsLate (error.Broken file) = Unit {0}
 
 -- each source gave the text at its place
 abbrev pub GaveEach : {R : Type 0} → (R → Told) → Options → List R → List R → List FileText → Type 0

@@ -1,5 +1,5 @@
--- The state of a source.
-use Rattle.std.specs.Prelude.{ℕ, Bool, List, Option}
+-- What a source tells: that a read failed; and the counts of its reads.
+use Rattle.std.specs.Prelude.{ℕ, Bool, List, Option, ◌≡◌, ◌+◌, ◌<◌, ◌^◌, min}
 use Rattle.dsr_io.specs.declared.read_count.ReadCount.{ReadCount}
 
 -- the bytes that it has left, if they are known, whether a read failed, and the count of its reads
@@ -7,3 +7,18 @@ pub record Told : Type 0 where
   pub remaining : Option (List ℕ)
   pub failed : Bool
   pub reads : ReadCount
+
+abbrev pub no_reads : ReadCount
+no_reads = record { answered = 0; filled = 0; last = 0 }
+
+-- a count grew by `more`, if it stays below 2^64; otherwise nothing is known
+abbrev pub Grew : ℕ → ℕ → ℕ → Type 0
+Grew old new more = old + more < 2 ^ 64 → new ≡ old + more
+
+-- this many reads were answered, of which `filled` gave bytes
+abbrev pub Answered : ReadCount → ReadCount → ℕ → ℕ → Type 0
+Answered old new reads filled = Grew old.answered new.answered reads × Grew old.filled new.filled filled
+
+-- one read was answered, which gave this many bytes
+abbrev pub AddsRead : ReadCount → ReadCount → ℕ → Type 0
+AddsRead old new bytes = Answered old new 1 (min 1 bytes) × (new.last ≡ bytes)

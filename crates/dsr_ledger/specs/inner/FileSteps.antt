@@ -1,20 +1,45 @@
--- What a block changes in the state of its file.
-use Rattle.std.specs.Prelude.{◌≡◌, ℕ, ◌+◌, ◌≤◌, List, [], ◌∷◌, ◌++◌, length, option_map}
-use Rattle.std.specs.List.{AllByRecursion}
+-- The plan of a block, made before anything is added, and what the block changes in the state of its file.
+use Rattle.std.specs.Prelude.{◌≡◌, ℕ, List, Option, Some, map, ◌+◌, ◌≤◌, [], ◌∷◌, ◌++◌, length, option_map}
+use Rattle.std.specs.List.{AllZip, AllByRecursion}
+use Rattle.dsr_events.specs.declared.record.Usage.{Usage}
 use Rattle.dsr_events.specs.meaning.Blocks.{BlockParts}
+use Rattle.dsr_events.specs.meaning.Works.{WorkParts}
+use Rattle.dsr_ledger.specs.declared.booking.Plan.{Plan}
+use Rattle.dsr_ledger.specs.declared.ledger.Ledger.{Ledger}
+use Rattle.dsr_ledger.specs.declared.ledger.parts.SeatShare.{SeatShare}
+use Rattle.dsr_ledger.specs.declared.file.summaries.Summaries.{Summaries}
+use Rattle.dsr_ledger.specs.declared.ledger.summary_key.SummaryKey.{SummaryKey}
+use Rattle.dsr_ledger.specs.inner.Recordings.{IsWideAt, line_at, recording_number, seat_at, tally_at}
+use Rattle.dsr_ledger.specs.inner.Seated.{AreSeated, shares_of}
+use Rattle.dsr_ledger.specs.inner.Summaries.{index_at, IsInRange, state_at, state_with, AreNumbered}
 use Rattle.dsr_ledger.specs.meaning.Limits.{most_usages}
 use Rattle.dsr_ledger.specs.declared.file.FileBooks.{FileBooks}
 use Rattle.dsr_ledger.specs.declared.verdict.Verdict.{Verdict}
 use Rattle.dsr_ledger.specs.inner.Ids.{is_in}
-use Rattle.dsr_ledger.specs.meaning.Bookings.{summary_key_named, verdict_bookings}
+use Rattle.dsr_ledger.specs.meaning.Bookings.{summary_key_named, verdict_bookings, Key}
 use Rattle.dsr_ledger.specs.meaning.Files.{summaries_of}
 use Rattle.dsr_ledger.specs.meaning.Findings.{rejects_from}
-use Rattle.dsr_ledger.specs.inner.Ranges.{IsInRange}
-use Rattle.dsr_ledger.specs.inner.Summaries.{state_at, state_with, AreNumbered}
 use Rattle.dsr_ledger.specs.inner.Tallies.{tally_plus, key_tally}
-use Rattle.dsr_ledger.specs.inner.Recordings.{tally_at}
-use Rattle.dsr_ledger.specs.declared.ledger.Ledger.{Ledger}
-use Rattle.dsr_ledger.specs.meaning.Keys.{Key}
+
+-- the recording's line for a usage whose summary has this key; it has a part for the seat of each share
+pub record IsLined (ledger : Ledger) (isrc : List ℕ) (shares : List SeatShare) (key : Option SummaryKey) (i : ℕ) : Type 0 where
+  pub summary_key : SummaryKey
+  pub key_is : key ≡ Some summary_key
+  pub line_is : line_at ledger isrc summary_key ≡ Some i
+  pub wide : IsWideAt ledger isrc shares i
+
+-- the line of each usage, where `key_of` gives the summary key of an identifier
+abbrev pub AreLined : Ledger → (List ℕ → Option SummaryKey) → List ℕ → List SeatShare → List Usage → List ℕ → Type 0
+AreLined ledger key_of isrc shares us is = AllZip (λ u i. IsLined ledger isrc shares (key_of u.summary_id) i) us is
+
+-- a plan has the number of the recording, the seats of the works' parties, and the summary and the line of each usage,
+-- where `key_of` gives the summary key of an identifier
+pub record IsPlanned (ledger : Ledger) (summaries : Summaries) (key_of : List ℕ → Option SummaryKey) (isrc : List ℕ) (works : List WorkParts)
+    (us : List Usage) (plan : Plan) : Type 0 where
+  pub recording_is : recording_number ledger isrc ≡ Some plan.recording
+  pub seated : AreSeated (seat_at ledger isrc) plan.shares.items (shares_of works)
+  pub counted : map (λ u. index_at summaries u.summary_id) us ≡ map Some plan.summaries.items
+  pub lined : AreLined ledger key_of isrc plan.shares.items us plan.lines.items
 
 -- each summary of the file has the number of its key in the ledger
 abbrev pub IsNumberedFile : Ledger → FileBooks → Type 0

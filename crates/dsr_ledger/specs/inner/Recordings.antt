@@ -1,18 +1,32 @@
 -- The ledger's tally of each key, and the numbers of its items.
-use Rattle.std.specs.Prelude.{◌≡◌, ℕ, List, Option, None, Some}
+use Rattle.std.specs.Prelude.{Bool, ◌&&◌, ◌≡◌, ℕ, List, Option, None, Some}
+use Rattle.std.specs.Ordering.{ordering_then}
+use Rattle.std.specs.declared.cmp.Ordering.{Ordering}
+use Rattle.std.specs.Str.{bytes_eq}
+use Rattle.dsr_ledger.specs.meaning.Bookings.{Key, text_cmp}
+use Rattle.dsr_ledger.specs.declared.ledger.summary_key.SummaryKey.{SummaryKey}
 use Rattle.std.specs.Option.{option_and_then}
 use Rattle.std.specs.List.{position}
-use Rattle.std.specs.Str.{bytes_eq}
 use Rattle.indexmap.specs.IndexMap.{get, index_of}
-use Rattle.dsr_ledger.specs.meaning.Keys.{Key}
-use Rattle.dsr_ledger.specs.declared.ledger.summary_key.SummaryKey.{SummaryKey}
 use Rattle.dsr_ledger.specs.declared.ledger.recording.Recording.{Recording}
 use Rattle.dsr_ledger.specs.declared.ledger.Ledger.{Ledger}
 use Rattle.dsr_ledger.specs.declared.ledger.parts.SeatShare.{SeatShare}
 use Rattle.dsr_ledger.specs.inner.Numbered.{Grows, place_by}
 use Rattle.dsr_ledger.specs.inner.Seated.{AreSeated, seat_numbers}
-use Rattle.dsr_ledger.specs.inner.SummaryKeys.{summary_key_eq, summary_key_in}
 use Rattle.dsr_ledger.specs.inner.Tallies.{Tally, no_tally, lines_tally, line_keys, IsWide}
+
+abbrev pub summary_key_eq : SummaryKey → SummaryKey → Bool
+summary_key_eq a b = bytes_eq a.territory b.territory && (bytes_eq a.use_type b.use_type && bytes_eq a.currency b.currency)
+
+-- the order of summary keys: by territory, then use type, then currency
+abbrev pub summary_key_cmp : SummaryKey → SummaryKey → Ordering
+summary_key_cmp a b =
+    ordering_then (text_cmp a.territory b.territory)
+    (ordering_then (text_cmp a.use_type b.use_type) (text_cmp a.currency b.currency))
+
+-- a key without its ISRC
+abbrev pub summary_key_in : Key → SummaryKey
+summary_key_in key = record { territory = key.territory; use_type = key.use_type; currency = key.currency }
 
 -- the number of a party
 abbrev pub party_number : Ledger → List ℕ → Option ℕ

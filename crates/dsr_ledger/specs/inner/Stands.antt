@@ -1,21 +1,21 @@
--- The state of the books represents a list of files.
-use Rattle.std.specs.Prelude.{◌≡◌, ℕ, Option, List, length, map}
-use Rattle.std.specs.List.{list_any, AllZip}
+-- The state of the books represents a list of files, and the ledger represents bookings, whose sums fit into 128 bits.
+use Rattle.std.specs.Prelude.{◌≡◌, ℕ, Option, List, length, map, ◌≤◌, ◌^◌}
+use Rattle.std.specs.List.{list_any, AllZip, AllByRecursion}
 use Rattle.dsr_events.specs.meaning.Blocks.{BlockParts}
 use Rattle.dsr_events.specs.meaning.Openings.{OpeningParts}
-use Rattle.dsr_ledger.specs.meaning.Keys.{Key}
+use Rattle.dsr_ledger.specs.meaning.Bookings.{Key, Booking, verdict_bookings}
 use Rattle.dsr_ledger.specs.declared.ledger.Ledger.{Ledger}
 use Rattle.dsr_ledger.specs.declared.file.FileBooks.{FileBooks}
 use Rattle.dsr_ledger.specs.declared.verdict.Verdict.{Verdict}
 use Rattle.dsr_ledger.specs.meaning.Files.{File, Filed, filed_after, summaries_of, with_one}
-use Rattle.dsr_ledger.specs.meaning.Verdicts.{has_id, verdict_of}
-use Rattle.dsr_ledger.specs.meaning.Bookings.{Booking, verdict_bookings}
+use Rattle.dsr_ledger.specs.meaning.Verdicts.{has_id, verdict_of, share_total}
 use Rattle.dsr_ledger.specs.meaning.Findings.{usages_in, rejects_in}
 use Rattle.dsr_ledger.specs.inner.Ids.{is_in}
-use Rattle.dsr_ledger.specs.inner.Summaries.{sums_at, found_in}
+use Rattle.dsr_ledger.specs.inner.Summaries.{sums_at, found_in, IsInRange}
 use Rattle.dsr_ledger.specs.inner.Tallies.{tally_plus, key_tally}
 use Rattle.dsr_ledger.specs.inner.Recordings.{tally_at}
 use Rattle.dsr_ledger.specs.inner.FileSteps.{IsBlockInRange}
+use Rattle.dsr_ledger.specs.meaning.Limits.{whole_share}
 
 -- the openings of these files
 abbrev pub openings_of : List FileBooks → List (Option OpeningParts)
@@ -46,3 +46,18 @@ pub record Took (d : Filed) (b : BlockParts) (v : Verdict) (g : FileBooks) (old 
   pub stands : FileStands g (with_one d b)
   pub tallies : (key : Key) → tally_at new key ≡ tally_plus (tally_at old key) (key_tally (verdict_bookings (summaries_of d.file.opening) (b, v)) key)
   pub range : IsBlockInRange b
+
+-- the usage of a booking is in range, and the shares of its works add up to at most 100 percent
+abbrev pub IsSmall : Booking → Type 0
+IsSmall b = IsInRange b.usage × (share_total b.works ≤ whole_share)
+
+-- at most 2^49 bookings, each small
+pub record AreSmall (bs : List Booking) : Type 0 where
+  pub few : length bs ≤ 2 ^ 49
+  pub each : AllByRecursion IsSmall bs
+
+-- the ledger represents some small bookings
+pub record AreOfSmall (ledger : Ledger) : Type 0 where
+  pub bookings : List Booking
+  pub stand : LedgerStands ledger bookings
+  pub small : AreSmall bookings

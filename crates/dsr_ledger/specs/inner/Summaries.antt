@@ -1,18 +1,27 @@
--- The state of a file's summaries.
-use Rattle.std.specs.Prelude.{◌≡◌, ℕ, pos, ◌+ℤ◌, Bool, is_some, List, Option, None, Some, option_map, find, if◌then◌else◌}
+-- The state of a file's summaries, and the ranges of the numbers that are added.
+use Rattle.std.specs.Prelude.{ℕ, ◌+◌, ◌*◌, ◌^◌, ◌<◌, ◌≤◌, unsigned_abs, ◌≡◌, pos, ◌+ℤ◌, Bool, is_some, List, Option, None, Some, option_map, find, if◌then◌else◌}
+use Rattle.dsr_events.specs.declared.record.Usage.{Usage}
+use Rattle.dsr_ledger.specs.meaning.Limits.{amount_bound, int_sum_by}
+use Rattle.dsr_ledger.specs.declared.sums.Sums.{Sums}
 use Rattle.std.specs.Str.{bytes_eq}
 use Rattle.indexmap.specs.IndexMap.{get, index_of}
 use Rattle.dsr_events.specs.declared.record.Summary.{Summary}
-use Rattle.dsr_events.specs.declared.record.Usage.{Usage}
-use Rattle.dsr_ledger.specs.declared.sums.Sums.{Sums}
 use Rattle.dsr_ledger.specs.declared.file.summaries.SummaryState.{SummaryState}
 use Rattle.dsr_ledger.specs.declared.file.summaries.Summaries.{Summaries}
 use Rattle.dsr_ledger.specs.declared.ledger.Ledger.{Ledger}
 use Rattle.dsr_ledger.specs.declared.ledger.summary_key.SummaryKey.{SummaryKey}
-use Rattle.dsr_ledger.specs.meaning.Sums.{int_sum_by}
 use Rattle.dsr_ledger.specs.meaning.Findings.{naming}
-use Rattle.dsr_ledger.specs.inner.Ranges.{SumsFit}
 use Rattle.dsr_ledger.specs.inner.Recordings.{key_number}
+
+-- a usage record's number of usages is at most 2^63, and its amount below 10^22 units, either way
+pub record IsInRange (u : Usage) : Type 0 where
+  pub usages : unsigned_abs u.usages ≤ 2 ^ 63
+  pub amount : unsigned_abs u.amount < amount_bound
+
+-- n more usages in range can be added within 128 bits
+pub record SumsFit (n : ℕ) (s : Sums) : Type 0 where
+  pub usages : unsigned_abs s.usages + n * 2 ^ 63 < 2 ^ 127
+  pub amount : unsigned_abs s.amount + n * amount_bound < 2 ^ 127
 
 -- the state with one more usage
 abbrev pub state_plus : Usage → SummaryState → SummaryState

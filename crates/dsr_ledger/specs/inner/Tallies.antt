@@ -3,15 +3,12 @@ use Rattle.std.specs.Prelude.{◌≡◌, ℕ, ◌+◌, ◌*◌, ◌^◌, ◌<◌
 use Rattle.std.specs.Option.{option_and_then}
 use Rattle.dsr_events.specs.declared.record.Usage.{Usage}
 use Rattle.dsr_ledger.specs.meaning.Limits.{amount_bound}
-use Rattle.dsr_ledger.specs.meaning.Keys.{Key}
+use Rattle.dsr_ledger.specs.meaning.Bookings.{Key, Booking}
 use Rattle.dsr_ledger.specs.declared.ledger.parts.SeatShare.{SeatShare}
 use Rattle.dsr_ledger.specs.declared.ledger.line.Line.{Line}
-use Rattle.dsr_ledger.specs.meaning.Bookings.{Booking}
-use Rattle.dsr_ledger.specs.meaning.Parts.{Part, all_parts}
-use Rattle.dsr_ledger.specs.meaning.Ledger.{at_key, usages_sum, amount_sum}
+use Rattle.dsr_ledger.specs.meaning.Ledger.{Part, all_parts, at_key, usages_sum, amount_sum}
 use Rattle.dsr_ledger.specs.inner.Numbered.{AreBelow, Grows, read_at, place_in}
-use Rattle.dsr_ledger.specs.inner.Owed.{Owed, owed_in, owed_for, owed_plus, part_seats}
-use Rattle.dsr_ledger.specs.inner.Seated.{HaveParts}
+use Rattle.dsr_ledger.specs.inner.Seated.{Owed, owed_in, owed_for, owed_plus, part_seats, HaveParts}
 
 -- whether there is a booking, the sums of usages and amounts (in units), and what each party is owed
 pub record Tally : Type 0 where

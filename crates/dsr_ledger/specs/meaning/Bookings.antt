@@ -1,17 +1,47 @@
--- What the booked blocks add to the ledger: one booking for each usage.
-use Rattle.std.specs.Prelude.{ℕ, Option, None, Some, List, [], ◌∷◌, find, option_map}
-use Rattle.std.specs.List.{flat_map}
+-- The bookings of a report's blocks, and the keys of the ledger, their equality and their order.
+use Rattle.std.specs.Prelude.{ℕ, List, Bool, ◌&&◌, map, Option, None, Some, [], ◌∷◌, find, option_map}
+use Rattle.std.specs.Cmp.Lexicographic.{slice_cmp}
+use Rattle.std.specs.Ordering.{nat_cmp, ordering_then}
+use Rattle.std.specs.declared.cmp.Ordering.{Ordering}
 use Rattle.std.specs.Str.{bytes_eq}
+use Rattle.std.specs.List.{flat_map}
 use Rattle.dsr_events.specs.declared.record.Summary.{Summary}
 use Rattle.dsr_events.specs.declared.record.Usage.{Usage}
-use Rattle.dsr_events.specs.meaning.Works.{WorkParts}
 use Rattle.dsr_events.specs.meaning.Blocks.{BlockParts}
-use Rattle.dsr_ledger.specs.meaning.Keys.{Key}
+use Rattle.dsr_events.specs.meaning.Works.{WorkParts}
 use Rattle.dsr_ledger.specs.declared.ledger.summary_key.SummaryKey.{SummaryKey}
 use Rattle.dsr_ledger.specs.declared.verdict.Verdict.{Verdict}
 use Rattle.dsr_ledger.specs.declared.verdict.Verdict.TheVariants.{Booked, Rejected}
 use Rattle.dsr_ledger.specs.meaning.Files.{File, Filed, filed, summaries_of}
 use Rattle.dsr_ledger.specs.meaning.Verdicts.{judged_in}
+use Rattle.std.specs.FinMap as finite
+
+-- the key of a ledger line: a recording, a territory, a use type and a currency
+pub record Key : Type 0 where
+  pub isrc : List ℕ
+  pub territory : List ℕ
+  pub use_type : List ℕ
+  pub currency : List ℕ
+
+abbrev pub key_eq : Key → Key → Bool
+key_eq a b =
+    bytes_eq a.isrc b.isrc
+    && (bytes_eq a.territory b.territory && (bytes_eq a.use_type b.use_type && bytes_eq a.currency b.currency))
+
+-- the order of texts: lexicographic by bytes, so a proper prefix comes first
+abbrev pub text_cmp : List ℕ → List ℕ → Ordering
+text_cmp = slice_cmp nat_cmp
+
+-- the order of keys: by ISRC, then territory, then use type, then currency
+abbrev pub key_cmp : Key → Key → Ordering
+key_cmp a b =
+    ordering_then (text_cmp a.isrc b.isrc)
+    (ordering_then (text_cmp a.territory b.territory)
+    (ordering_then (text_cmp a.use_type b.use_type) (text_cmp a.currency b.currency)))
+
+-- each of these keys once, in order, with its value by f: the entries of a finite map, in the order of its keys
+abbrev pub in_order : {K X : Type 0} → (K → K → Ordering) → (K → X) → List K → List (K × X)
+in_order cmp f ks = finite.entries (finite.from_entries {R = cmp} (map (λ k. (k, f k)) ks))
 
 -- the territory, use type and currency of a summary, under which its usages count
 abbrev pub summary_key_of : Summary → SummaryKey

@@ -16,7 +16,7 @@ use Rattle.dsr_ledger.specs.declared.verdict.Verdict.{Verdict}
 use Rattle.dsr_ledger.specs.declared.verdict.Verdict.TheVariants.{Booked, Rejected}
 use Rattle.dsr_ledger.specs.declared.report.Difference.{Difference}
 use Rattle.dsr_ledger.specs.declared.report.Reject.{Reject}
-use Rattle.dsr_ledger.specs.meaning.Sums.{int_sum_by}
+use Rattle.dsr_ledger.specs.meaning.Limits.{int_sum_by}
 use Rattle.dsr_ledger.specs.meaning.Files.{File, Filed, filed, summaries_of}
 use Rattle.dsr_ledger.specs.meaning.Verdicts.{judged_in}
 

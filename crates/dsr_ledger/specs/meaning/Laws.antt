@@ -1,13 +1,11 @@
 -- The laws of shares, over the ledger lines of a report.
 use Rattle.std.specs.Prelude.{◌≡◌, ◌*◌, ◌<◌, ℤ, pos, ◌+ℤ◌, ◌-ℤ◌, ◌*ℤ◌, ◌≤ℤ◌, ◌<ℤ◌, List, All, filter, length, unsigned_abs}
-use Rattle.dsr_ledger.specs.meaning.Keys.{Key}
+use Rattle.dsr_ledger.specs.meaning.Bookings.{Key, Booking, bookings}
 use Rattle.dsr_ledger.specs.declared.report.PartyLine.{PartyLine}
 use Rattle.dsr_ledger.specs.declared.report.LedgerLine.{LedgerLine}
-use Rattle.dsr_ledger.specs.meaning.Sums.{int_sum_by}
+use Rattle.dsr_ledger.specs.meaning.Limits.{int_sum_by}
 use Rattle.dsr_ledger.specs.meaning.Files.{File}
-use Rattle.dsr_ledger.specs.meaning.Bookings.{Booking, bookings}
-use Rattle.dsr_ledger.specs.meaning.Parts.{Part, all_parts, is_for}
-use Rattle.dsr_ledger.specs.meaning.Ledger.{at_key}
+use Rattle.dsr_ledger.specs.meaning.Ledger.{Part, all_parts, is_for, at_key}
 use Rattle.dsr_ledger.specs.meaning.Reports.{report_of}
 
 -- the key of a line

@@ -1,5 +1,5 @@
--- The limits of a report and of its numbers.
-use Rattle.std.specs.Prelude.{ℕ, ◌^◌}
+-- The limits of a report and of its numbers, and sums of integers.
+use Rattle.std.specs.Prelude.{ℕ, ◌^◌, ℤ, pos, ◌+ℤ◌, List, [], ◌∷◌}
 
 -- the most files of a report
 abbrev pub most_files : ℕ
@@ -20,3 +20,8 @@ whole_share = 1000000
 -- the amount of a usage, in units, is below this in absolute value
 abbrev pub amount_bound : ℕ
 amount_bound = 10 ^ 22
+
+-- the sum of f over the items
+abbrev pub int_sum_by : {X : Type 0} → (X → ℤ) → List X → ℤ
+int_sum_by f [] = pos 0
+int_sum_by f (x ∷ xs) = f x +ℤ int_sum_by f xs

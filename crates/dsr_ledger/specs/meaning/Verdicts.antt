@@ -5,8 +5,8 @@ use Rattle.std.specs.Str.{bytes_eq}
 use Rattle.dsr_cells.specs.meaning.Texts.{is_isrc_text}
 use Rattle.dsr_events.specs.declared.record.Summary.{Summary}
 use Rattle.dsr_events.specs.declared.record.Usage.{Usage}
-use Rattle.dsr_events.specs.meaning.Works.{WorkParts}
 use Rattle.dsr_events.specs.meaning.Blocks.{BlockParts}
+use Rattle.dsr_events.specs.meaning.Works.{WorkParts}
 use Rattle.dsr_ledger.specs.meaning.Limits.{whole_share}
 use Rattle.dsr_ledger.specs.meaning.Files.{File, Filed, filed, summaries_of}
 use Rattle.dsr_ledger.specs.declared.verdict.Standing.{Standing}

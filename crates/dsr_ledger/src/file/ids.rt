@@ -3,8 +3,7 @@ ghost use Rattle.std.specs.Prelude.{◌≡◌, ◌<◌, ◌^◌, ◌||◌, ℕ, 
 ghost use Rattle.std.specs.List.{fold, list_any};
 ghost use Rattle.std.specs.Str.{bytes_eq};
 ghost use Rattle.dsr_ledger.specs.inner.IdRanks.{number_of_id, rank_of, with_byte};
-ghost use Rattle.dsr_ledger.specs.inner.Indexes.{Rise};
-ghost use Rattle.dsr_ledger.specs.inner.Numbered.{place_in};
+ghost use Rattle.dsr_ledger.specs.inner.Numbered.{Rise, place_in};
 
 use crate::index::Seeded;
 use dsr_cells::{NoMemory, Text, read_number};

@@ -2,8 +2,7 @@
 ghost use Rattle.std.specs.Prelude.{◌≡◌, ℕ, List, [], ◌∷◌, option_map, length};
 ghost use Rattle.std.specs.List.{AllByRecursion};
 ghost use Rattle.std.specs.Option.{ForSome};
-ghost use Rattle.dsr_ledger.specs.inner.Ranges.{IsInRange, SumsFit};
-ghost use Rattle.dsr_ledger.specs.inner.Summaries.{state_plus, nothing_found, state_at, state_with, StateFits};
+ghost use Rattle.dsr_ledger.specs.inner.Summaries.{IsInRange, SumsFit, state_plus, nothing_found, state_at, state_with, StateFits};
 
 use crate::index::{Hints, Seeded};
 use crate::sums::{Sums, check_range};

@@ -1,10 +1,9 @@
 //! A line of a recording: the sums of the bookings of one summary key, and the parties' parts.
 ghost use Rattle.std.specs.Prelude.{◌≡◌, ◌≤◌, ℕ, List, Option, [], map};
 ghost use Rattle.dsr_ledger.specs.meaning.Limits.{amount_bound};
-ghost use Rattle.dsr_ledger.specs.inner.Owed.{part_seats, parts_size};
-ghost use Rattle.dsr_ledger.specs.meaning.Parts.{part_of};
-ghost use Rattle.dsr_ledger.specs.inner.Ranges.{IsInRange};
-ghost use Rattle.dsr_ledger.specs.inner.Seated.{HaveSeats, HaveParts};
+ghost use Rattle.dsr_ledger.specs.inner.Seated.{part_seats, parts_size, HaveSeats, HaveParts};
+ghost use Rattle.dsr_ledger.specs.meaning.Ledger.{part_of};
+ghost use Rattle.dsr_ledger.specs.inner.Summaries.{IsInRange};
 ghost use Rattle.dsr_ledger.specs.inner.Tallies.{no_tally, line_tally, tally_with, TallyFits};
 
 use crate::index::Numbered;

@@ -3,8 +3,7 @@ ghost use Rattle.std.specs.Prelude.{◌≡◌, ◌<◌, true, OnOk, nat_eq, leng
 ghost use Rattle.std.specs.Vec.{vec_len, vec_capacity};
 ghost use Rattle.std.proofs.Props.{props};
 ghost use Rattle.dsr_ledger.specs.meaning.Limits.{amount_bound};
-ghost use Rattle.dsr_ledger.specs.inner.Indexes.{AreIndexed};
-ghost use Rattle.dsr_ledger.specs.inner.Numbered.{AreApart, place_in};
+ghost use Rattle.dsr_ledger.specs.inner.Numbered.{AreIndexed, AreApart, place_in};
 ghost use Rattle.dsr_ledger.specs.inner.Seated.{seat_numbers};
 ghost use Rattle.dsr_ledger.specs.inner.Tallies.{line_in, line_keys, AreWithin};
 
@@ -54,10 +53,9 @@ fn reserve_line(lines: &mut Vec<Line>) -> Result<(), NoMemory>
 impl Recording {
     ghost use Rattle.std.specs.Prelude.{◌≤◌, ℕ, List, Option, Some, None, [], IfOk, map, if◌then◌else◌};
     ghost use Rattle.dsr_ledger.specs.inner.Numbered.{IsWithNumber};
-    ghost use Rattle.dsr_ledger.specs.inner.Owed.{parts_size};
-    ghost use Rattle.dsr_ledger.specs.meaning.Parts.{part_of};
-    ghost use Rattle.dsr_ledger.specs.inner.Ranges.{IsInRange};
-    ghost use Rattle.dsr_ledger.specs.inner.Seated.{HaveSeats, AreSeatsBelow};
+    ghost use Rattle.dsr_ledger.specs.inner.Seated.{parts_size, HaveSeats, AreSeatsBelow};
+    ghost use Rattle.dsr_ledger.specs.meaning.Ledger.{part_of};
+    ghost use Rattle.dsr_ledger.specs.inner.Summaries.{IsInRange};
     ghost use Rattle.dsr_ledger.specs.inner.Tallies.{lines_tally, tally_with, LinesGrow, IsWide, TallyFits};
 
     /// No parties and no lines, with room for this many lines.

@@ -1,8 +1,7 @@
 //! The seats of a recording's parties.
 ghost use Rattle.std.specs.Prelude.{◌≡◌, IfOk, OnOk, OnErr, Some, length};
 ghost use Rattle.std.proofs.Props.{props};
-ghost use Rattle.dsr_ledger.specs.inner.Indexes.{AreIndexed};
-ghost use Rattle.dsr_ledger.specs.inner.Numbered.{place_in, AreApart};
+ghost use Rattle.dsr_ledger.specs.inner.Numbered.{AreIndexed, place_in, AreApart};
 
 use crate::index::{Index, Seeded};
 use dsr_cells::NoMemory;

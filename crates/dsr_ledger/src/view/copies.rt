@@ -2,8 +2,7 @@
 ghost use Rattle.std.specs.Prelude.{◌≡◌, IfOk, List};
 ghost use Rattle.dsr_ledger.specs.meaning.Bookings.{Booking};
 ghost use Rattle.dsr_ledger.specs.meaning.Ledger.{ledger};
-ghost use Rattle.dsr_ledger.specs.inner.Order.{AreOfSmall};
-ghost use Rattle.dsr_ledger.specs.inner.Stands.{LedgerStands};
+ghost use Rattle.dsr_ledger.specs.inner.Stands.{AreOfSmall, LedgerStands};
 
 use crate::ledger::Ledger;
 use crate::report::{LedgerLine, LedgerLines, Parties, PartyLine, append};

@@ -4,14 +4,12 @@ ghost use Rattle.std.specs.Prelude.{◌≡◌, IfOk, ◌≤◌, ℕ, List, filte
 ghost use Rattle.std.specs.Str.{bytes_eq};
 ghost use Rattle.std.specs.List.{IsDistinct};
 ghost use Rattle.indexmap.specs.IndexMap.{get};
-ghost use Rattle.dsr_ledger.specs.meaning.Keys.{text_cmp};
-ghost use Rattle.dsr_ledger.specs.meaning.Bookings.{Booking};
-ghost use Rattle.dsr_ledger.specs.meaning.Ledger.{party_lines};
-ghost use Rattle.dsr_ledger.specs.meaning.Parts.{all_parts};
-ghost use Rattle.dsr_ledger.specs.inner.Sorted.{AreListed, lent, AreDistinctBelow, line_for, party_in};
+ghost use Rattle.dsr_ledger.specs.meaning.Bookings.{text_cmp, Booking};
+ghost use Rattle.dsr_ledger.specs.meaning.Ledger.{party_lines, all_parts};
+ghost use Rattle.dsr_ledger.specs.inner.View.{AreListed, lent, AreDistinctBelow, line_for, party_in};
 ghost use Rattle.dsr_ledger.specs.inner.Numbered.{place_by};
-ghost use Rattle.dsr_ledger.specs.inner.SummaryKeys.{summary_key_eq, summary_key_cmp};
-ghost use Rattle.dsr_ledger.specs.inner.Owed.{part_seats, owed_in, owed_for};
+ghost use Rattle.dsr_ledger.specs.inner.Recordings.{summary_key_eq, summary_key_cmp};
+ghost use Rattle.dsr_ledger.specs.inner.Seated.{part_seats, owed_in, owed_for};
 ghost use Rattle.dsr_ledger.specs.inner.Tallies.{line_keys};
 
 use crate::index::Seeded;

@@ -3,8 +3,7 @@ use Rattle.std.specs.Prelude.{ℕ, suc, ◌==◌, not, Bool, false, if◌then◌
 use Rattle.std.specs.List.{find, list_any}
 use Rattle.std.specs.Option.{unwrap_or}
 use Rattle.std.specs.Str.{bytes_eq}
-use Rattle.dsr_cells.specs.meaning.Cells.{cells}
-use Rattle.dsr_cells.specs.meaning.Values.{raw_parts}
+use Rattle.dsr_cells.specs.meaning.Cells.{cells, raw_parts}
 use Rattle.dsr_events.specs.declared.kinds.Column.{Column}
 use Rattle.dsr_events.specs.declared.kinds.Kind.{Kind}
 use Rattle.dsr_events.specs.declared.kinds.Kind.TheVariants.{Work}

@@ -6,7 +6,7 @@ use Rattle.std.specs.Option.{unwrap_or}
 use Rattle.dsr_cells.specs.meaning.Days.{CivilDay, day_of, day_number}
 use Rattle.dsr_cells.specs.meaning.Numbers.{number_of, usages_of, amount_of, share_of}
 use Rattle.dsr_cells.specs.meaning.Texts.{is_identifier_text, is_territory_text, is_use_type_text, is_currency_text}
-use Rattle.dsr_cells.specs.meaning.Values.{raw_parts}
+use Rattle.dsr_cells.specs.meaning.Cells.{raw_parts}
 use Rattle.dsr_events.specs.declared.kinds.Column.{Column}
 use Rattle.dsr_events.specs.declared.kinds.Column.TheVariants.{MessageId, FileNumber, NumberOfFiles, UsageStartDate, UsageEndDate, Sender, Recipient, SummaryRecordId, Territory, UseType, Currency, Usages, Amount, BlockId, Isrc, Titles, Artists, WorkId, Title, Parties, Shares, NumberOfLinesInFile, NumberOfSummaryRecords, NumberOfBlocksInFile}
 use Rattle.dsr_events.specs.declared.kinds.Kind.{Kind}

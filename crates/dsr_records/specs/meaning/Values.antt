@@ -1,25 +1,58 @@
 -- The record that a line spells, by a layout.
-use Rattle.std.specs.Prelude.{ℕ, nat_lt, if◌then◌else◌, List, map, length, Option, Some, None, Result, Ok, Err, ℤ, pos}
-use Rattle.std.specs.Option.{unwrap_or}
-use Rattle.dsr_cells.specs.meaning.Cells.{cells}
-use Rattle.dsr_cells.specs.meaning.Days.{CivilDay, day_of}
-use Rattle.dsr_cells.specs.meaning.Numbers.{number_of, usages_of, amount_of, share_of}
-use Rattle.dsr_cells.specs.meaning.Values.{raw_parts, value_of}
+use Rattle.std.specs.Prelude.{◌≡◌, ℕ, List, Option, Some, None, Bool, true, false, Result, Ok, Err, nat_lt, if◌then◌else◌, map, length, ℤ, pos}
 use Rattle.dsr_events.specs.declared.kinds.Kind.{Kind}
 use Rattle.dsr_events.specs.declared.kinds.Kind.TheVariants.{Head, Summary, Resource, Work, Usage, Foot, Skipped}
 use Rattle.dsr_records.specs.declared.fault.RecordFault.{RecordFault}
+use Rattle.dsr_records.specs.declared.fault.ReadRecordError.{ReadRecordError}
+use Rattle.dsr_records.specs.declared.fault.ReadRecordError.TheVariants.{Fault, Memory}
+use Rattle.dsr_events.specs.declared.record.Record.{Record}
+use Rattle.std.specs.Option.{unwrap_or}
+use Rattle.dsr_cells.specs.meaning.Cells.{cells, raw_parts, value_of}
+use Rattle.dsr_cells.specs.meaning.Days.{CivilDay, day_of}
+use Rattle.dsr_cells.specs.meaning.Numbers.{number_of, usages_of, amount_of, share_of}
 use Rattle.dsr_records.specs.declared.fault.RecordFault.TheVariants.{Many, Unknown}
 use Rattle.dsr_events.specs.declared.record.Head.{Head as HeadRecord}
 use Rattle.dsr_events.specs.declared.record.Summary.{Summary as SummaryRecord}
 use Rattle.dsr_events.specs.declared.record.Resource.{Resource as ResourceRecord}
 use Rattle.dsr_events.specs.declared.record.Usage.{Usage as UsageRecord}
 use Rattle.dsr_events.specs.declared.record.Foot.{Foot as FootRecord}
-use Rattle.dsr_events.specs.declared.record.Record.{Record}
-use Rattle.dsr_events.specs.declared.record.Record.TheVariants as of
 use Rattle.dsr_events.specs.meaning.Works.{WorkParts}
 use Rattle.dsr_records.specs.meaning.Records.{LayoutTable, RoleLine, role_of, is_skipped, type_of, cells_at, fault_of}
-use Rattle.dsr_records.specs.meaning.Reads.{kind_of_record, id_of_record}
 use Rattle.dsr_records.specs.meaning.Tables.{file_number_of, text_of}
+use Rattle.dsr_events.specs.declared.record.Record.TheVariants as of
+
+-- whether a record has texts, which may need memory
+abbrev pub has_texts : Record → Bool
+has_texts (of.Foot _) = false
+has_texts of.Skipped = false
+has_texts _ = true
+
+-- the result is the line's record or its fault, or out of memory if the record has texts
+abbrev pub AnswersRecord : Result Record RecordFault → Result Record ReadRecordError → Type 0
+AnswersRecord (Ok wanted) (Ok found) = found ≡ wanted
+AnswersRecord (Ok wanted) (Err (Fault fault)) = ⊥
+AnswersRecord (Ok wanted) (Err Memory) = has_texts wanted ≡ true
+AnswersRecord (Err wanted) (Ok found) = ⊥
+AnswersRecord (Err wanted) (Err (Fault fault)) = fault ≡ wanted
+AnswersRecord (Err wanted) (Err Memory) = ⊥
+
+-- the kind of a record
+abbrev pub kind_of_record : Record → Kind
+kind_of_record (of.Head _) = Head
+kind_of_record (of.Summary _) = Summary
+kind_of_record (of.Resource _) = Resource
+kind_of_record (of.Work _) = Work
+kind_of_record (of.Usage _) = Usage
+kind_of_record (of.Foot _) = Foot
+kind_of_record of.Skipped = Skipped
+
+-- the identifier of a record: that of a summary, or that of its block
+abbrev pub id_of_record : Record → Option (List ℕ)
+id_of_record (of.Summary r) = Some r.id
+id_of_record (of.Resource r) = Some r.block_id
+id_of_record (of.Work r) = Some r.block_id
+id_of_record (of.Usage r) = Some r.block_id
+id_of_record _ = None
 
 -- the value of a cell; the default is never used in a line without a fault
 abbrev pub number_or_zero : Option ℕ → ℕ

@@ -44,7 +44,7 @@ impl<'l> Model for HeadLine<'l> {
 
 /// The head that a row spells, or its first fault.
 #[inline(always)]
-pub(crate) fn check_head<'l>(row: &Row<'l>) -> Result<HeadLine<'l>, RecordFault>
+pub(crate) fn check_head<'l>(row: &Row<'_, 'l>) -> Result<HeadLine<'l>, RecordFault>
     ensures { MatchResult result (λ h. record_by_row row.now kinds.Head ≡ Ok (records.Head h))
         (λ fault. record_by_row row.now kinds.Head ≡ Err fault) }
 {

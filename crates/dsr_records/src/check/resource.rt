@@ -39,7 +39,7 @@ impl<'l> Model for ResourceLine<'l> {
 
 /// The resource that a row spells, or its first fault.
 #[inline(always)]
-pub(crate) fn check_resource<'l>(row: &Row<'l>) -> Result<ResourceLine<'l>, RecordFault>
+pub(crate) fn check_resource<'l>(row: &Row<'_, 'l>) -> Result<ResourceLine<'l>, RecordFault>
     ensures { MatchResult result
         (λ r. record_by_row row.now kinds.Resource ≡ Ok (records.Resource r))
         (λ fault. record_by_row row.now kinds.Resource ≡ Err fault) }

@@ -42,7 +42,7 @@ impl<'l> Model for SummaryLine<'l> {
 
 /// The summary that a row spells, or its first fault.
 #[inline(always)]
-pub(crate) fn check_summary<'l>(row: &Row<'l>) -> Result<SummaryLine<'l>, RecordFault>
+pub(crate) fn check_summary<'l>(row: &Row<'_, 'l>) -> Result<SummaryLine<'l>, RecordFault>
     ensures { MatchResult result (λ s. record_by_row row.now kinds.Summary ≡ Ok (records.Summary s))
         (λ fault. record_by_row row.now kinds.Summary ≡ Err fault) }
 {

@@ -38,7 +38,7 @@ impl<'l> Model for UsageLine<'l> {
 
 /// The usage that a row spells, or its first fault.
 #[inline(always)]
-pub(crate) fn check_usage<'l>(row: &Row<'l>) -> Result<UsageLine<'l>, RecordFault>
+pub(crate) fn check_usage<'l>(row: &Row<'_, 'l>) -> Result<UsageLine<'l>, RecordFault>
     ensures { MatchResult result (λ u. record_by_row row.now kinds.Usage ≡ Ok (records.Usage u))
         (λ fault. record_by_row row.now kinds.Usage ≡ Err fault) }
 {

@@ -5,7 +5,7 @@ ghost use Rattle.dsr_events.specs.declared.record.Record.TheVariants as records;
 ghost use Rattle.dsr_events.specs.meaning.Blocks.{with_member};
 ghost use Rattle.dsr_records.specs.meaning.Values.{record_by_row, shares_of, values_of};
 ghost use Rattle.std.specs.List.{list_all};
-ghost use Rattle.dsr_cells.specs.meaning.Values.{raw_parts};
+ghost use Rattle.dsr_cells.specs.meaning.Cells.{raw_parts};
 ghost use Rattle.dsr_records.specs.meaning.Tables.{is_share};
 
 use crate::fault::RecordFault;
@@ -32,7 +32,7 @@ pub struct WorkLine<'l> {
 impl<'l> Model for WorkLine<'l> {
     ghost use Rattle.std.specs.Prelude.{◌≡◌, true, length, take};
     ghost use Rattle.std.specs.List.{list_all};
-    ghost use Rattle.dsr_cells.specs.meaning.Values.{raw_parts};
+    ghost use Rattle.dsr_cells.specs.meaning.Cells.{raw_parts};
     ghost use Rattle.dsr_records.specs.meaning.Tables.{is_share};
     ghost use Rattle.dsr_records.specs.meaning.Values.{values_of, shares_of};
     ghost use Rattle.dsr_events.specs.meaning.Works.{WorkParts};
@@ -54,7 +54,7 @@ impl<'l> Model for WorkLine<'l> {
 
 /// The work that a row spells, or its first fault.
 #[inline(always)]
-pub(crate) fn check_work<'l>(row: &Row<'l>) -> Result<WorkLine<'l>, RecordFault>
+pub(crate) fn check_work<'l>(row: &Row<'_, 'l>) -> Result<WorkLine<'l>, RecordFault>
     ensures { MatchResult result (λ w. record_by_row row.now kinds.Work ≡ Ok (records.Work w))
         (λ fault. record_by_row row.now kinds.Work ≡ Err fault) }
 {

@@ -1,51 +1,23 @@
 //! A line of a layout: the record type that stands for a kind, and the positions of its columns.
 ghost use Rattle.std.specs.Prelude.{◌≡◌, ◌≤◌, length};
-ghost use Rattle.std.specs.Str.{bytes_eq};
-ghost use Rattle.dsr_records.specs.inner.Layouts.{start_of};
 
-use crate::layout::positions::Positions;
-use arrayvec::ArrayString;
+use crate::column::MOST_COLUMNS;
+use arrayvec::{ArrayString, ArrayVec};
 use dsr_events::Kind;
 use std::marker::Model;
 
-/// The first four bytes of a record type as a number; 0 if it is shorter.
-#[inline(always)]
-pub(crate) fn start(name: &str) -> u32
-    ensures { result ≡ start_of name.now }
-{
-    let bytes = name.as_bytes();
-    if bytes.len() < 4 {
-        return 0;
-    }
-    u32::from_le_bytes([bytes[0], bytes[1], bytes[2], bytes[3]])
-}
-
-/// Whether two texts are equal; not inlined, since only record types that do not have four bytes need it.
-#[cold]
-#[inline(never)]
-fn is_same(text: &str, other: &str) -> bool
-    ensures { result ≡ bytes_eq text.now other.now }
-{
-    text == other
-}
-
-/// A record type. Contracts see it as its bytes. Most have four bytes, so two are compared
-/// as numbers first.
+/// A record type. Contracts see it as its bytes.
 #[derive(Drop)]
 pub(crate) struct TypeName {
     text: ArrayString<16>,
-    start: u32,
 }
 
 impl Model for TypeName {
-    ghost use Rattle.std.specs.Prelude.{◌≡◌, List, ℕ};
-    ghost use Rattle.dsr_records.specs.inner.Layouts.{start_of};
+    ghost use Rattle.std.specs.Prelude.{List, ℕ};
 
     ghost Value = { List ℕ };
 
     ghost view = { λ a. a.text.bytes };
-
-    ghost invariant = { λ a. a.start ≡ start_of a.text.bytes };
 }
 
 impl TypeName {
@@ -56,10 +28,7 @@ impl TypeName {
     {
         let mut text = ArrayString::new();
         text.push_str(name);
-        TypeName {
-            text,
-            start: start(name),
-        }
+        TypeName { text }
     }
 
     /// The text.
@@ -69,34 +38,11 @@ impl TypeName {
         self.text.as_str()
     }
 
-    /// Whether this is the record type `name`, whose `start` is given with it.
-    #[inline(always)]
-    pub(crate) fn is(&self, name: &str, start: u32) -> bool
-        requires { start ≡ start_of name.now }
-        ensures { result ≡ bytes_eq self.now name.now }
-    {
-        self.start == start && self.continues_as(name)
-    }
-
-    /// The same, if the two starts are known to be equal: both names are shorter than four bytes, their first four bytes are
-    /// equal, or one is shorter and the other begins with four zero bytes.
-    #[inline(always)]
-    fn continues_as(&self, name: &str) -> bool
-        requires { start_of self.now ≡ start_of name.now }
-        ensures { result ≡ bytes_eq self.now name.now }
-    {
-        let own = self.text.as_str();
-        own.len() == name.len() && (name.len() == 4 || is_same(own, name))
-    }
-
     /// An equal record type.
     pub(crate) fn copy(&self) -> TypeName
         ensures { result ≡ self.now }
     {
-        TypeName {
-            text: self.text,
-            start: self.start,
-        }
+        TypeName { text: self.text }
     }
 }
 
@@ -104,7 +50,6 @@ impl Default for TypeName {
     fn default() -> TypeName {
         TypeName {
             text: ArrayString::new(),
-            start: 0,
         }
     }
 }
@@ -114,7 +59,7 @@ impl Default for TypeName {
 pub(crate) struct RoleLine {
     pub(crate) kind: Kind,
     pub(crate) name: TypeName,
-    pub(crate) positions: Positions,
+    pub(crate) positions: ArrayVec<Option<u8>, MOST_COLUMNS>,
 }
 
 impl Model for RoleLine {
@@ -122,7 +67,7 @@ impl Model for RoleLine {
 
     ghost Value = { Line };
 
-    ghost view = { λ a. record { kind = a.kind; name = a.name; positions = a.positions } };
+    ghost view = { λ a. record { kind = a.kind; name = a.name; positions = a.positions.items } };
 }
 
 impl RoleLine {
@@ -133,7 +78,7 @@ impl RoleLine {
         RoleLine {
             kind: self.kind,
             name: self.name.copy(),
-            positions: self.positions.copy(),
+            positions: self.positions.as_slice().try_into().unwrap(),
         }
     }
 }
@@ -143,7 +88,7 @@ impl Default for RoleLine {
         RoleLine {
             kind: Kind::Skipped,
             name: TypeName::default(),
-            positions: Positions::none(),
+            positions: ArrayVec::new(),
         }
     }
 }

@@ -1,38 +1,28 @@
 //! Reading a layout from its text.
-ghost use Rattle.std.specs.Prelude.{◌≡◌, ◌<◌, ◌≤◌, length, Ok, Err, MatchResult, Some, None, slice_get, if◌then◌else◌};
+ghost use Rattle.std.specs.Prelude.{◌≡◌, ◌<◌, ◌≤◌, ◌∷◌, length, Ok, Err, MatchResult, Some, None, slice_get, if◌then◌else◌};
 ghost use Rattle.std.specs.List.{list_all};
 ghost use Rattle.std.specs.Option.{option_map};
 ghost use Rattle.std.specs.Str.{is_utf8};
 ghost use Rattle.dsr_cells.specs.meaning.Cells.{cells};
-ghost use Rattle.dsr_cells.specs.meaning.Lines.{without_return};
+ghost use Rattle.dsr_cells.specs.meaning.Lines.{without_mark, without_return};
+ghost use Rattle.dsr_records.specs.inner.Rows.{pieces_left};
 ghost use Rattle.dsr_records.specs.meaning.Layouts.{empty_layout, is_type_text, is_type_byte, kind_named, position_of, positions_from, with_line, with_text, with_piece, with_lines, layout_of, cell_at};
 
 use crate::column::{MOST_COLUMNS, column_may_be_empty, columns};
-use crate::cursor::Cursor;
 use crate::fault::{LayoutError, LayoutFault};
 use crate::layout::line::{RoleLine, TypeName};
-use crate::layout::pieces::{Pieces, lines};
-use crate::layout::positions::Positions;
 use crate::layout::{Layout, place};
 use crate::line::{LINE_LIMIT, is_left_out, strip_return};
-use crate::rest::Rest;
 use arrayvec::ArrayVec;
-use dsr_cells::read_number;
+use dsr_cells::{cell, read_number};
 use dsr_events::{Column, Kind};
-use dsr_texts::text_of;
+use dsr_texts::{line_end, text_of};
 
 /// The maximum number of bytes of a layout.
 const MOST_BYTES: usize = 65536;
 
 /// The greatest position of a column.
 const LAST_POSITION: u64 = 63;
-
-/// The cell of a line at an index, from 0, if the line has it.
-fn cell(line: &str, i: u8) -> Option<&str>
-    ensures { option_map (λ c. c.now) result ≡ slice_get (cells line.now) i }
-{
-    Cursor::at(line, Rest::of(line)).cell(i)
-}
 
 /// The kind that a role's name stands for.
 fn read_kind_name(name: &str) -> Option<Kind>
@@ -87,7 +77,7 @@ fn read_positions(line: &str, columns: &[Column]) -> Option<ArrayVec<Option<u8>,
 {
     let mut positions = ArrayVec::new();
     for (i, column) in columns.iter().enumerate() {
-        positions.push(read_position(*column, cell(line, i as u8 + 2)?)?);
+        positions.push(read_position(*column, cell(line, i + 2)?)?);
     }
     Some(positions)
 }
@@ -118,7 +108,7 @@ impl Layout {
                 self.add_role(RoleLine {
                     kind,
                     name: TypeName::new(name),
-                    positions: Positions::of(positions),
+                    positions,
                 });
                 Ok(())
             }
@@ -159,7 +149,7 @@ impl Layout {
     /// # Errors
     ///
     /// The first faulty line, and its fault.
-    #[tactic(auto, using(crate::proofs::Cuts::few_lines))]
+    #[tactic(auto, using(crate::proofs::Cuts::few_bytes))]
     pub fn read(bytes: &[u8]) -> Result<Layout, LayoutError>
         ensures { result ≡ layout_of bytes.now }
     {
@@ -169,7 +159,7 @@ impl Layout {
                 fault: LayoutFault::Large,
             });
         }
-        read_pieces(lines(bytes))
+        read_lines(without_byte_order_mark(bytes))
     }
 }
 
@@ -184,17 +174,45 @@ fn read_text(piece: &[u8]) -> Option<&str>
     }
 }
 
-/// The layout that the pieces of a text spell.
-fn read_pieces(pieces: Pieces<'_>) -> Result<Layout, LayoutError>
-    requires { length pieces ≤ 65537 }
-    ensures { result ≡ with_lines 1 pieces.entry empty_layout }
+/// The bytes without a byte order mark.
+fn without_byte_order_mark(bytes: &[u8]) -> &[u8]
+    ensures { result.now ≡ without_mark bytes.now }
+{
+    if bytes.starts_with(&[0xEF, 0xBB, 0xBF]) {
+        &bytes[3..]
+    } else {
+        bytes
+    }
+}
+
+/// The first line of a text that is not empty, and what is behind its line feed.
+fn first_line(text: &[u8]) -> (&[u8], &[u8])
+    requires { 0 < length text.now }
+    ensures cut { pieces_left text.now ≡ result.0.now ∷ pieces_left result.1.now }
+    ensures shorter { length result.1.now < length text.now }
+{
+    let end = line_end(text);
+    if end < text.len() {
+        (&text[..end], &text[end + 1..])
+    } else {
+        (text, &[])
+    }
+}
+
+/// The layout that the lines of a text spell.
+fn read_lines(text: &[u8]) -> Result<Layout, LayoutError>
+    requires { length text.now ≤ 65536 }
+    ensures { result ≡ with_lines 1 (pieces_left text.now) empty_layout }
 {
     let mut layout = Layout::empty();
+    let mut rest = text;
     let mut line = 1;
-    for piece in pieces {
-        if let Err(fault) = layout.add_piece(piece) {
+    while !rest.is_empty() {
+        let (first, behind) = first_line(rest);
+        if let Err(fault) = layout.add_piece(first) {
             return Err(LayoutError { line, fault });
         }
+        rest = behind;
         line += 1;
     }
     if !layout.is_whole() {

@@ -1,7 +1,7 @@
 -- The array of a batch's slots, which is made in its memory.
 use Rattle.std.specs.Prelude.{◌≡◌, ⊤, List, [], ◌∷◌, length}
 use Rattle.arrayvec.specs.ArrayVec.{ArrayVec}
-use Rattle.dsr_events.specs.meaning.Placed.{Placed}
+use Rattle.dsr_events.specs.meaning.Orderly.{Placed}
 
 -- the events in the array, none if it is not made
 abbrev pub events_in : List (ArrayVec Placed) → List Placed

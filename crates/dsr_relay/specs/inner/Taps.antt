@@ -2,10 +2,8 @@
 use Rattle.std.specs.Prelude.{◌≡◌, ◌≤◌, List, ◌++◌, length, take}
 use Rattle.crossbeam_channel.specs.Ends.{receives_on, ruled_capacity}
 use Rattle.crossbeam_channel.specs.Claims.{view, IsSeatAt}
-use Rattle.dsr_events.specs.meaning.Placed.{Placed}
-use Rattle.dsr_events.specs.meaning.Orderly.{IsOrderly, has_ended}
-use Rattle.dsr_relay.specs.meaning.Messages.{events_of}
-use Rattle.dsr_relay.specs.meaning.Rule.{received_of}
+use Rattle.dsr_events.specs.meaning.Orderly.{Placed, IsOrderly, has_ended}
+use Rattle.dsr_relay.specs.meaning.Rule.{events_of, received_of}
 use Rattle.dsr_relay.specs.meaning.Views.{TapView}
 use Rattle.dsr_relay.specs.declared.rule.Log.TheVariants.{Takes}
 use Rattle.dsr_relay.specs.declared.tap.Tap.TheInside.{Inside}

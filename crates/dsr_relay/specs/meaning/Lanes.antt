@@ -1,8 +1,7 @@
 -- The relays of all files as one machine: its states, its steps, and its schedules.
 use Rattle.std.specs.Prelude.{◌≡◌, ℕ, ◌<◌, ◌≤◌, true, false, List, [], ◌∷◌, ◌++◌, length, Some, slice_get, slice_set}
-use Rattle.dsr_events.specs.meaning.Placed.{Placed}
-use Rattle.dsr_events.specs.meaning.Orderly.{IsOrderly, has_ended}
-use Rattle.dsr_relay.specs.meaning.Messages.{IsMessage}
+use Rattle.dsr_events.specs.meaning.Orderly.{Placed, IsOrderly, has_ended}
+use Rattle.dsr_relay.specs.meaning.Rule.{IsMessage}
 
 -- one file: its events, the capacity of its relay, what was sent, the messages in the queue, and what was taken
 pub record Lane : Type 0 where

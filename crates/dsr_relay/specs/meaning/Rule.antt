@@ -1,12 +1,28 @@
 -- The rule of a relay: what holds, between any two steps, of the messages in its channel and of what its ends know.
--- A pass is the token by which the channel distinguishes the ends. It has a number and a view: what its end knows.
-use Rattle.std.specs.Prelude.{◌≡◌, ℕ, ◌≤◌, List, [], ◌∷◌, ◌++◌, length}
+use Rattle.std.specs.Prelude.{◌<◌, ◌≤◌, List, [], ◌∷◌, ◌++◌, length, ◌≡◌, ℕ}
+use Rattle.dsr_events.specs.meaning.Orderly.{Placed, IsOrderly}
 use mathlib.Core.Option.{some}
 use lib.ListN.{get_elem?}
-use Rattle.dsr_events.specs.meaning.Orderly.{IsOrderly}
-use Rattle.dsr_relay.specs.meaning.Messages.{Message, events_of, AreMessages}
 use Rattle.dsr_relay.specs.declared.rule.Log.{Log}
 use Rattle.dsr_relay.specs.declared.rule.Log.TheVariants.{Fresh, Sends, Takes, Both, Spent}
+
+-- a message, as contracts see it, is the list of its events
+abbrev pub Message : Type 0
+Message = List Placed
+
+-- the events of the messages, one message after another
+abbrev pub events_of : List Message → List Placed
+events_of [] = []
+events_of (message ∷ messages) = message ++ events_of messages
+
+-- a message has 1 to 32 events
+abbrev pub IsMessage : List Placed → Type 0
+IsMessage events = (0 < length events) × (length events ≤ 32)
+
+-- each of these is a message
+abbrev pub AreMessages : List Message → Type 0
+AreMessages [] = Unit {0}
+AreMessages (message ∷ messages) = IsMessage message × AreMessages messages
 
 -- a view of pass number `pass` is true: only the pass `feed` sends, and only the pass `tap` receives
 module _ (feed tap : ℕ) (out received : List Message) (capacity : ℕ) (pass : ℕ) where

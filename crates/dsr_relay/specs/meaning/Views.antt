@@ -1,7 +1,6 @@
 -- The two ends of a relay, and the result of joining them, as contracts see them.
 use Rattle.std.specs.Prelude.{Bool, ◌==◌, ◌||◌, if◌then◌else◌, List, [], ◌∷◌, ◌++◌, length}
-use Rattle.dsr_events.specs.meaning.Placed.{Placed}
-use Rattle.dsr_events.specs.meaning.Orderly.{is_ended}
+use Rattle.dsr_events.specs.meaning.Orderly.{Placed, is_ended}
 use Rattle.dsr_relay.specs.declared.name.Name.{Name}
 
 -- the batch is sent with this event, since it then has 32 events or ends with Ended

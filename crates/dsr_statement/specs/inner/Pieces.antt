@@ -1,7 +1,14 @@
 -- What was put into pieces, and how much of it was written.
-use Rattle.std.specs.Prelude.{◌≡◌, ℕ, ◌≤◌, ◌++◌, ◌∷◌, [], Bool, true, false, if◌then◌else◌, List, length, take}
+use Rattle.std.specs.Prelude.{ℕ, List, [], ◌∷◌, ◌≡◌, ◌≤◌, ◌++◌, Bool, true, false, if◌then◌else◌, length, take}
+use Rattle.dsr_cells.specs.meaning.Written.{written_day}
+use Rattle.dsr_ledger.specs.declared.report.ReportKey.{ReportKey}
+use Rattle.dsr_statement.specs.meaning.Statement.{tabbed}
 use Rattle.dsr_io.specs.meaning.Written.{Written, IsTaken, IsCut}
 use Rattle.dsr_statement.specs.declared.pieces.Pieces.{Pieces}
+
+-- the cells of a report's days
+abbrev pub day_cells : ReportKey → List ℕ
+day_cells key = tabbed (written_day key.first_day ∷ written_day key.last_day ∷ [])
 
 -- the outlet took all that was sent
 pub record IsOut (sent : List ℕ) (written : ℕ) (before after : Written) : Type 0 where

@@ -4,9 +4,8 @@ use Rattle.std.specs.Fmt.{signed_decimal}
 use Rattle.std.specs.List.{flat_map}
 use Rattle.dsr_cells.specs.meaning.Days.{day_number}
 use Rattle.dsr_cells.specs.meaning.Written.{written, written_day}
-use Rattle.dsr_events.specs.meaning.Columns.{column_name}
+use Rattle.dsr_events.specs.meaning.Names.{column_name, name_of, column_named}
 use Rattle.dsr_events.specs.declared.kinds.Column.{Column}
-use Rattle.dsr_events.specs.meaning.Names.{name_of, column_named}
 use Rattle.dsr_events.specs.declared.fault.Outcome.{Outcome}
 use Rattle.dsr_events.specs.declared.fault.Outcome.TheVariants.{Whole, Fault}
 use Rattle.dsr_ledger.specs.declared.report.ReportKey.{ReportKey}

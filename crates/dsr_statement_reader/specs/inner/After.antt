@@ -1,6 +1,6 @@
 -- What a reader keeps of the lines that it has read, and the tests by it.
 use Rattle.std.specs.Prelude.{◌≡◌, ℕ, Bool, List, [], ◌∷◌, ℤ, ◌-ℤ◌, Result, Err}
-use Rattle.dsr_ledger.specs.meaning.Keys.{Key, key_eq}
+use Rattle.dsr_ledger.specs.meaning.Bookings.{Key, key_eq}
 use Rattle.dsr_statement_reader.specs.declared.line.StatementLine.{StatementLine}
 use Rattle.dsr_statement_reader.specs.declared.line.StatementLine.TheVariants as lines
 use Rattle.dsr_statement_reader.specs.declared.last.Last.{Last}

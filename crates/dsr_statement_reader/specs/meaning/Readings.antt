@@ -6,7 +6,7 @@ use Rattle.std.specs.Str.{bytes_eq, is_utf8}
 use Rattle.dsr_cells.specs.meaning.Cells.{cells}
 use Rattle.dsr_cells.specs.meaning.Days.{day_of}
 use Rattle.dsr_cells.specs.meaning.Texts.{is_identifier_text}
-use Rattle.dsr_ledger.specs.meaning.Keys.{Key, key_eq, key_cmp, text_cmp}
+use Rattle.dsr_ledger.specs.meaning.Bookings.{Key, key_eq, key_cmp, text_cmp}
 use Rattle.dsr_ledger.specs.declared.report.ReportKey.{ReportKey}
 use Rattle.dsr_statement_reader.specs.declared.line.StatementLine.{StatementLine}
 use Rattle.dsr_statement_reader.specs.declared.line.StatementLine.TheVariants as lines

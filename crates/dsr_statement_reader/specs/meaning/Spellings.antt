@@ -7,15 +7,14 @@ use Rattle.std.specs.Str.{bytes_eq}
 use Rattle.dsr_cells.specs.meaning.Days.{CivilDay, day_number}
 use Rattle.dsr_cells.specs.meaning.Numbers.{digits_sum, digits_of}
 use Rattle.dsr_cells.specs.meaning.Texts.{is_run_of, is_territory_text, is_use_type_text, is_currency_text, is_isrc_text}
-use Rattle.dsr_events.specs.meaning.Columns.{column_name}
+use Rattle.dsr_events.specs.meaning.Names.{column_name, name_of}
 use Rattle.dsr_events.specs.declared.kinds.Column.{Column}
 use Rattle.dsr_events.specs.declared.kinds.Column.TheVariants as columns
-use Rattle.dsr_events.specs.meaning.Names.{name_of}
 use Rattle.dsr_events.specs.declared.fault.FileFault.{FileFault}
 use Rattle.dsr_events.specs.declared.fault.FileFault.TheVariants as faults
 use Rattle.dsr_events.specs.declared.fault.Outcome.{Outcome}
 use Rattle.dsr_events.specs.declared.fault.Outcome.TheVariants as outcomes
-use Rattle.dsr_ledger.specs.meaning.Keys.{Key}
+use Rattle.dsr_ledger.specs.meaning.Bookings.{Key}
 use Rattle.dsr_ledger.specs.declared.verdict.Standing.{Standing}
 use Rattle.dsr_ledger.specs.declared.verdict.Standing.TheVariants as standings
 use Rattle.dsr_ledger.specs.declared.verdict.Reason.{Reason}

@@ -8,7 +8,7 @@ use Rattle.dsr_events.specs.declared.fault.FileFault.{FileFault}
 use Rattle.dsr_events.specs.declared.fault.FileFault.TheVariants as file_faults
 use Rattle.dsr_events.specs.declared.fault.Outcome.{Outcome}
 use Rattle.dsr_events.specs.declared.fault.Outcome.TheVariants as outcomes
-use Rattle.dsr_ledger.specs.meaning.Keys.{Key}
+use Rattle.dsr_ledger.specs.meaning.Bookings.{Key}
 use Rattle.dsr_ledger.specs.meaning.Laws.{key_of_line, AddsUp}
 use Rattle.dsr_ledger.specs.declared.report.ReportKey.{ReportKey}
 use Rattle.dsr_ledger.specs.declared.report.LedgerLine.{LedgerLine}

@@ -3,7 +3,7 @@ use Rattle.std.specs.Prelude.{ℕ, List, [], Bool, ◌&&◌}
 use Rattle.std.specs.Ordering.{ordering_then}
 use Rattle.std.specs.Str.{bytes_eq}
 use Rattle.std.specs.declared.cmp.Ordering.{Ordering}
-use Rattle.dsr_ledger.specs.meaning.Keys.{text_cmp}
+use Rattle.dsr_ledger.specs.meaning.Bookings.{text_cmp}
 use Rattle.dsr_sums.specs.declared.account.Account.{Account}
 
 -- the account of a currency

@@ -1,7 +1,7 @@
 -- What is posted to accounts, and what each account adds up to.
 use Rattle.std.specs.Prelude.{◌^◌, ℤ, pos, negsuc, ◌-ℤ◌, Bool, true, ◌&&◌, nat_lt, List, [], ◌∷◌, ◌++◌, filter, map}
-use Rattle.dsr_ledger.specs.meaning.Keys.{in_order}
-use Rattle.dsr_ledger.specs.meaning.Sums.{int_sum_by}
+use Rattle.dsr_ledger.specs.meaning.Bookings.{in_order}
+use Rattle.dsr_ledger.specs.meaning.Limits.{int_sum_by}
 use Rattle.dsr_sums.specs.declared.account.Account.{Account}
 use Rattle.dsr_sums.specs.declared.reports.Role.{Role}
 use Rattle.dsr_sums.specs.declared.reports.Role.TheVariants.{Given, Paid}

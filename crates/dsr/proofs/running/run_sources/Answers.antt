@@ -1,6 +1,6 @@
 use Rattle.std.specs.Prelude.{Option, Some, None, MatchOption, vec_len}
 use Rattle.std.proofs.lemmas.Result.{IfOk-weaker, IfErr-weaker}
-use Rattle.dsr_intake.specs.meaning.Options.{refusal_of}
+use Rattle.dsr_intake.specs.meaning.Texts.{refusal_of}
 use Rattle.dsr.proofs.running.run_sources.Goals as goal
 
 refused_weaker : {E : Type 0} (o : Option E) (A : Type 0) (C D : E → Type 0) → ((e : E) → C e → D e) → MatchOption o A C → MatchOption o A D

@@ -1,6 +1,4 @@
-use Rattle.std.proofs.Common.{◌≡◌, ◌+◌, ◌^◌, ◌++◌, ◌∷◌, List, ℕ, arith, rules, drop, ap, sym, ◌∙◌, subst}
-use Rattle.std.specs.Fmt.{decimal}
-use Rattle.std.proofs.lemmas.List.{drop-set, drop-drop}
+use Rattle.dsr_cells.proofs.Common.{◌≡◌, ◌+◌, ◌^◌, ◌++◌, ◌∷◌, List, ℕ, arith, rules, drop, ap, sym, ◌∙◌, subst, decimal, drop-set, drop-drop}
 use Rattle.dsr_cells.proofs.Elevens.{eleven_digits, eleven_long}
 use Rattle.dsr_cells.proofs.amount.fill_decimals.Goals as goal
 

@@ -1,6 +1,4 @@
-use Rattle.std.proofs.Common.{◌/◌, arith, rules}
-use Rattle.std.proofs.lemmas.Grind.{common_steps}
-use Rattle.std.proofs.lemmas.Fmt.{length-decimal-le}
+use Rattle.dsr_cells.proofs.Common.{◌/◌, arith, rules, common_steps, length-decimal-le}
 use Rattle.dsr_cells.proofs.amount.fill_units.Goals as goal
 
 pub write_digits-requires : goal.write_digits-requires

@@ -1,7 +1,4 @@
-use Rattle.std.proofs.Common.{ℕ, List, ◌^◌, arith, lit<, ◌∙◌, ◌≡◌, ◌≤◌, ◌<◌, ◌-◌, length, get_or, replicate, append_assoc}
-use Rattle.std.specs.Fmt.{decimal}
-use Rattle.std.proofs.lemmas.Fmt.{length-decimal-le_wide}
-use Rattle.std.proofs.lemmas.List.{get_or-replicate, drop-replicate}
+use Rattle.dsr_cells.proofs.Common.{ℕ, List, ◌^◌, arith, lit<, ◌∙◌, ◌≡◌, ◌≤◌, ◌<◌, ◌-◌, length, get_or, replicate, append_assoc, decimal, length-decimal-le_wide, get_or-replicate, drop-replicate}
 use Rattle.dsr_cells.proofs.amount.push_decimals.Goals as goal
 
 short : (units : ℕ) (digits : List ℕ) → digits ≡ decimal units → units < 10 ^ 10 → length digits ≤ 10

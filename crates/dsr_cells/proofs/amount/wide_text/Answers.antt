@@ -1,6 +1,4 @@
-use Rattle.std.proofs.Common.{arith, ◌%◌, ◌^◌, length, length-append, ap, ◌∙◌}
-use Rattle.std.proofs.lemmas.Grind.{common_steps}
-use Rattle.dsr_cells.specs.meaning.Written.{padded_number}
+use Rattle.dsr_cells.proofs.Common.{arith, ◌%◌, ◌^◌, length, length-append, ap, ◌∙◌, common_steps, padded_number}
 use Rattle.dsr_cells.proofs.Spelled.{padded_length}
 use Rattle.dsr_cells.proofs.amount.wide_text.Goals as goal
 

@@ -1,7 +1,4 @@
-use Rattle.std.proofs.Common.{None, Some, lit<, ap, ◌∙◌, rules, ◌++◌, arith}
-use Rattle.std.proofs.lemmas.Grind.{common_steps}
-use Rattle.std.specs.String.{string_bytes}
-use Rattle.std.proofs.lemmas.Str.Pattern.{split_parts}
+use Rattle.dsr_cells.proofs.Common.{None, Some, lit<, ap, ◌∙◌, rules, ◌++◌, arith, common_steps, string_bytes, split_parts}
 use Rattle.dsr_cells.proofs.Escapes.{unescape_step, unescape_end}
 use Rattle.dsr_cells.proofs.escape.without_escapes.Goals as goal
 

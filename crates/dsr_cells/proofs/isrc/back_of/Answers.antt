@@ -1,4 +1,4 @@
-use Rattle.std.proofs.Common.{◌∙◌, rules}
+use Rattle.dsr_cells.proofs.Common.{◌∙◌, rules}
 use Rattle.dsr_cells.proofs.Ordered.{back_number}
 use Rattle.dsr_cells.proofs.isrc.back_of.Goals as goal
 

@@ -1,5 +1,4 @@
-use Rattle.std.proofs.Common.{◌∙◌, ◌+◌, ◌-◌, ◌≤◌, length, arith}
-use Rattle.std.proofs.lemmas.Simd.{run_in_chunk_fails, run_in_chunk_stops}
+use Rattle.dsr_cells.proofs.Common.{◌∙◌, ◌+◌, ◌-◌, ◌≤◌, length, arith, run_in_chunk_fails, run_in_chunk_stops}
 use Rattle.dsr_cells.proofs.RawParts.{is_mark}
 use Rattle.dsr_cells.proofs.Marked.{found_mark, no_mark, plain_over}
 use Rattle.dsr_cells.proofs.marks.first_by.Goals as goal

@@ -1,4 +1,4 @@
-use Rattle.std.proofs.Common.{◌-◌}
+use Rattle.dsr_cells.proofs.Common.{◌-◌}
 use Rattle.dsr_cells.proofs.RawParts.{PlainTo}
 use Rattle.dsr_cells.proofs.marks.first_by.Given as goal
 

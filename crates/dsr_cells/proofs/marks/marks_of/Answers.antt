@@ -1,7 +1,4 @@
-use Rattle.std.proofs.Common.{◌∙◌, ◌%◌, ◌^◌, ap, cond, refl, eqb, map, List, replicate, bit_or, w8, ℕ}
-use Rattle.std.specs.Simd.Lanes.{chunk, mask_l, top, zip2}
-use Rattle.std.proofs.lemmas.List.{length-map}
-use Rattle.std.proofs.lemmas.Simd.{bitmask_splat, length-chunk, zip2_splat, map-map, chunk-fits}
+use Rattle.dsr_cells.proofs.Common.{◌∙◌, ◌%◌, ◌^◌, ap, cond, refl, eqb, map, List, replicate, bit_or, w8, ℕ, chunk, mask_l, top, zip2, length-map, bitmask_splat, length-chunk, zip2_splat, map-map, chunk-fits}
 use Rattle.dsr_cells.proofs.Lanes.{same_flags}
 use Rattle.dsr_cells.proofs.Marked.{is_pipe_with_bit}
 use Rattle.dsr_cells.proofs.RawParts.{is_mark}

@@ -1,8 +1,4 @@
-use Rattle.std.proofs.Common.{◌∙◌, ◌≡◌, ap, not, sym, arith}
-use Rattle.std.specs.Int.Count.{count_trailing_zeros}
-use Rattle.std.specs.List.{prefix_len}
-use Rattle.std.specs.Simd.Lanes.{chunk}
-use Rattle.std.proofs.lemmas.Simd.{length-chunk, leading_from_mask_l, trailing_mask_l}
+use Rattle.dsr_cells.proofs.Common.{◌∙◌, ◌≡◌, ap, not, sym, arith, prefix_len, chunk, length-chunk, leading_from_mask_l, trailing_mask_l, count_trailing_zeros}
 use Rattle.dsr_cells.proofs.Marked.{some_lane}
 use Rattle.dsr_cells.proofs.RawParts.{is_mark}
 use Rattle.dsr_cells.proofs.marks.plain_of.Goals as goal

@@ -1,5 +1,4 @@
-use Rattle.std.proofs.Common.{arith, ◌∙◌, ◌≡◌, ◌<◌, ◌^◌, length}
-use Rattle.std.proofs.lemmas.Bool.{le-leb}
+use Rattle.dsr_cells.proofs.Common.{arith, ◌∙◌, ◌≡◌, ◌<◌, ◌^◌, length, le-leb}
 use Rattle.dsr_cells.proofs.Numbers.{sum-lt, sum_small, sum_more, digits_more}
 use Rattle.dsr_cells.proofs.number.leading_digits.Goals as goal
 

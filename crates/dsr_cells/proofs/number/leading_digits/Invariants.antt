@@ -1,7 +1,4 @@
-use Rattle.std.proofs.Common.{◌≡◌, ◌≤◌, take, true}
-use Rattle.std.specs.Char.{is_ascii_digit}
-use Rattle.std.specs.List.{list_all}
-use Rattle.dsr_cells.specs.meaning.Numbers.{digits_sum}
+use Rattle.dsr_cells.proofs.Common.{◌≡◌, ◌≤◌, take, true, is_ascii_digit, list_all, digits_sum}
 use Rattle.dsr_cells.proofs.number.leading_digits.Given as goal
 
 abbrev pub invariant-loop-count : goal.invariant-loop-count

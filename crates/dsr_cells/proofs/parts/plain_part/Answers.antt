@@ -1,6 +1,4 @@
-use Rattle.std.proofs.Common.{◌≡◌, ◌-◌, ◌∙◌, ap, sym, arith, get_or}
-use Rattle.std.specs.List.{position}
-use Rattle.std.proofs.lemmas.Str.{IsCharBoundary-after_ascii}
+use Rattle.dsr_cells.proofs.Common.{◌≡◌, ◌-◌, ◌∙◌, ap, sym, arith, get_or, position, IsCharBoundary-after_ascii}
 use Rattle.dsr_cells.proofs.RawParts.{is_mark, cut_at, plain_text}
 use Rattle.dsr_cells.proofs.parts.plain_part.Goals as goal
 

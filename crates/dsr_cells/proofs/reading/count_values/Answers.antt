@@ -1,4 +1,4 @@
-use Rattle.std.proofs.Common.{arith, rules}
+use Rattle.dsr_cells.proofs.Common.{arith, rules}
 use Rattle.dsr_cells.proofs.RawParts.{few_raw_parts}
 use Rattle.dsr_cells.proofs.reading.count_values.Goals as goal
 

@@ -1,5 +1,4 @@
-use Rattle.std.proofs.Common.{◌≡◌, ◌+◌, length}
-use Rattle.dsr_cells.specs.meaning.Values.{raw_parts}
+use Rattle.dsr_cells.proofs.Common.{◌≡◌, ◌+◌, length, raw_parts}
 use Rattle.dsr_cells.proofs.reading.count_values.Given as goal
 
 abbrev pub invariant-loop-part : goal.invariant-loop-part

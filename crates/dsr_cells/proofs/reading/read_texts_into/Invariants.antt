@@ -1,6 +1,5 @@
-use Rattle.std.proofs.Common.{◌≡◌, ◌++◌, length, map}
+use Rattle.dsr_cells.proofs.Common.{◌≡◌, ◌++◌, length, map, raw_parts, value_of}
 use Rattle.dsr_cells.specs.inner.Parts.{parts_left}
-use Rattle.dsr_cells.specs.meaning.Values.{raw_parts, value_of}
 use Rattle.dsr_cells.proofs.reading.read_texts_into.Given as goal
 
 abbrev pub invariant-loop-rest : goal.invariant-loop-rest

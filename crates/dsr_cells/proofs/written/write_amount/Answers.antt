@@ -1,5 +1,4 @@
-use Rattle.std.proofs.Common.{arith}
-use Rattle.std.proofs.lemmas.Grind.{common_steps}
+use Rattle.dsr_cells.proofs.Common.{arith, common_steps}
 use Rattle.dsr_cells.proofs.Spelled.{written_total}
 use Rattle.dsr_cells.proofs.written.write_amount.Goals as goal
 

@@ -1,4 +1,4 @@
-use Rattle.std.proofs.Common.{refl, append_assoc}
+use Rattle.dsr_cells.proofs.Common.{refl, append_assoc}
 use Rattle.dsr_cells.proofs.SpelledDays.{written_day_spells}
 use Rattle.dsr_cells.proofs.WrittenAmounts.{styled_is_padded}
 use Rattle.dsr_cells.proofs.written.write_day.Goals as goal

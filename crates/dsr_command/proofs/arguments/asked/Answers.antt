@@ -1,12 +1,10 @@
-use Rattle.std.proofs.Common.{◌≡◌, ◌∙◌, ap, subst, sym, refl, inl, inr, true≢false, [], true, map}
+use Rattle.dsr_command.proofs.Common.{◌≡◌, ◌∙◌, ap, subst, sym, refl, inl, inr, true≢false, [], true, map, fault_of, is_simple, matches_of, Answers, IsAskedBy, IsFaultOf, bare_command, command_line, is_request}
 use Rattle.std.specs.String.{string_bytes}
 use Rattle.clap.specs.Faults.{is_simple_and_free}
-use Rattle.clap.specs.Words.{fault_of, is_simple, matches_of}
 use Rattle.clap.proofs.OnLiterals.{clap_on_literals}
 use Rattle.clap.specs.Kinds.{Kinds, HasKind}
 use Rattle.clap.specs.Values.{kind_of}
 use Rattle.clap.specs.declared.error.Error.{Error}
-use Rattle.dsr_command.specs.CommandLine.{Answers, IsAskedBy, IsFaultOf, bare_command, command_line, is_request}
 use Rattle.dsr_command.specs.declared.command.CommandFault.{CommandFault}
 use Rattle.dsr_command.specs.declared.command.CommandFault.TheVariants.{Help, Refused, Memory}
 use Rattle.dsr_command.proofs.arguments.asked.Goals as goal

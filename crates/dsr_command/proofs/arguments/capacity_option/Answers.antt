@@ -1,9 +1,7 @@
-use Rattle.std.proofs.Common.{◌≡◌, ◌∙◌, ap, ap₂, Some, pos, codes, rules}
+use Rattle.dsr_command.proofs.Common.{◌≡◌, ◌∙◌, ap, ap₂, Some, pos, codes, rules, Rule, rule_of, option_rule}
 use Rattle.std.specs.Int.{int_max, int_min}
 use Rattle.clap.specs.Values.{signed_between}
-use Rattle.clap.specs.Words.{Rule, rule_of}
 use Rattle.clap.specs.declared.builder.value_parser.ValueParser.TheVariants as vp
-use Rattle.dsr_command.specs.CommandLine.{option_rule}
 use Rattle.dsr_command.proofs.arguments.capacity_option.Goals as goal
 
 pub returns-clause-rule : goal.returns-clause-rule

@@ -1,7 +1,5 @@
-use Rattle.std.proofs.Common.{◌∙◌, ap₂}
+use Rattle.dsr_command.proofs.Common.{◌∙◌, ap₂, with_rule, command_line}
 use Rattle.std.proofs.lemmas.Result.{IfOk-weaker}
-use Rattle.clap.specs.Words.{with_rule}
-use Rattle.dsr_command.specs.CommandLine.{command_line}
 use Rattle.dsr_command.proofs.arguments.command.Goals as goal
 
 pub returns : goal.returns

@@ -1,5 +1,4 @@
-use Rattle.std.proofs.Common.{arith}
-use Rattle.std.proofs.lemmas.Grind.{common_steps}
+use Rattle.dsr_command.proofs.Common.{arith, common_steps}
 use Rattle.dsr_command.proofs.arguments.copy_names.Goals as goal
 
 pub loop-word-preserved : goal.loop-word-preserved

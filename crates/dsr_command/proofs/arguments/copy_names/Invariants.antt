@@ -1,4 +1,4 @@
-use Rattle.std.proofs.Common.{◌≡◌, map, take}
+use Rattle.dsr_command.proofs.Common.{◌≡◌, map, take}
 use Rattle.dsr_command.proofs.arguments.copy_names.Given as goal
 
 abbrev pub invariant-loop-word : goal.invariant-loop-word

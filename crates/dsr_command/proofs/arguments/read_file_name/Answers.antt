@@ -1,5 +1,4 @@
-use Rattle.std.proofs.Common.{rules}
-use Rattle.clap.specs.Words.{found_of}
+use Rattle.dsr_command.proofs.Common.{rules, found_of}
 use Rattle.clap.proofs.WalkLemmas.{first_value-rows}
 use Rattle.dsr_command.proofs.arguments.read_file_name.Goals as goal
 

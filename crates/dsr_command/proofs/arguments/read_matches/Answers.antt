@@ -1,7 +1,5 @@
-use Rattle.std.proofs.Common.{ap, subst, codes}
-use Rattle.clap.specs.Words.{found_of, one_text}
+use Rattle.dsr_command.proofs.Common.{ap, subst, codes, found_of, one_text, IsNumberAsked, IsFlagAsked}
 use Rattle.clap.proofs.WalkLemmas.{one_text-rows}
-use Rattle.dsr_command.specs.CommandLine.{IsNumberAsked, IsFlagAsked}
 use Rattle.dsr_command.proofs.arguments.read_matches.Goals as goal
 
 pub returns-clause-asked : goal.returns-clause-asked

@@ -1,5 +1,4 @@
-use Rattle.std.proofs.Common.{◌≡◌, ◌∙◌, ap, sym, subst, IfOk, [], Some, None, map, option_map, unwrap_or, rules}
-use Rattle.clap.specs.Words.{all_of, found_of, rows_of}
+use Rattle.dsr_command.proofs.Common.{◌≡◌, ◌∙◌, ap, sym, subst, IfOk, [], Some, None, map, option_map, unwrap_or, rules, all_of, found_of, rows_of}
 use Rattle.clap.proofs.WalkLemmas.{raw_values-rows}
 use Rattle.dsr_command.proofs.arguments.read_names.Goals as goal
 

@@ -1,7 +1,4 @@
-use Rattle.std.proofs.Common.{◌≡◌, ◌∙◌, ◌<◌, ◌++◌, [], ◌∷◌, Some, ap, subst, length, slice_index_or, false, rules, arith}
-use Rattle.std.proofs.lemmas.Grind.{common_steps}
-use Rattle.std.proofs.lemmas.List.Elements.{All-push}
-use Rattle.dsr_command.specs.Inputs.{IsRefusalOf}
+use Rattle.dsr_command.proofs.Common.{◌≡◌, ◌∙◌, ◌<◌, ◌++◌, [], ◌∷◌, Some, ap, subst, length, slice_index_or, false, rules, arith, common_steps, All-push, IsRefusalOf}
 use Rattle.dsr_command.proofs.Naming.{named_next, refused_among}
 use Rattle.dsr_command.proofs.inputs.open_inputs.Goals as goal
 

@@ -1,4 +1,4 @@
-use Rattle.std.proofs.Common.{◌≡◌, false, All, Some, map, take}
+use Rattle.dsr_command.proofs.Common.{◌≡◌, false, All, Some, map, take}
 use Rattle.dsr_command.proofs.inputs.open_inputs.Given as goal
 
 abbrev pub invariant-loop-name : goal.invariant-loop-name

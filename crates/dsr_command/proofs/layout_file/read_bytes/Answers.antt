@@ -1,5 +1,4 @@
-use Rattle.std.proofs.Common.{◌≤◌, ◌++◌, arith, length, take, length-append, length-take, rules}
-use Rattle.std.proofs.lemmas.Grind.{common_steps}
+use Rattle.dsr_command.proofs.Common.{◌≤◌, ◌++◌, arith, length, take, length-append, length-take, rules, common_steps}
 use Rattle.dsr_file.proofs.ReadLemmas.{consumes_more}
 use Rattle.dsr_command.proofs.layout_file.read_bytes.Goals as goal
 

@@ -1,7 +1,4 @@
-use Rattle.std.proofs.Common.{◌<◌, All, length, sym, subst, take, slice_index_or, rules}
-use Rattle.std.proofs.lemmas.List.{take_more}
-use Rattle.std.proofs.lemmas.List.Elements.{All-push}
-use Rattle.dsr_command.specs.NewFiles.{IsApart}
+use Rattle.dsr_command.proofs.Common.{◌<◌, All, length, sym, subst, take, slice_index_or, rules, take_more, All-push, IsApart}
 use Rattle.dsr_command.proofs.new_file.is_read.Goals as goal
 
 pub loop-input-preserved : goal.loop-input-preserved

@@ -1,5 +1,4 @@
-use Rattle.std.proofs.Common.{All, take}
-use Rattle.dsr_command.specs.NewFiles.{IsApart}
+use Rattle.dsr_command.proofs.Common.{All, take, IsApart}
 use Rattle.dsr_command.proofs.new_file.is_read.Given as goal
 
 abbrev pub invariant-loop-input : goal.invariant-loop-input

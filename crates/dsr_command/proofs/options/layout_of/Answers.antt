@@ -1,5 +1,4 @@
-use Rattle.std.proofs.Common.{inr, arith}
-use Rattle.std.proofs.lemmas.Grind.{common_steps}
+use Rattle.dsr_command.proofs.Common.{inr, arith, common_steps}
 use Rattle.dsr_command.proofs.options.layout_of.Goals as goal
 
 pub standard-requires : goal.standard-requires

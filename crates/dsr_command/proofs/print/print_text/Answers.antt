@@ -1,6 +1,4 @@
-use Rattle.std.proofs.Common.{length, arith}
-use Rattle.std.proofs.lemmas.List.{take_all}
-use Rattle.dsr_io.proofs.Taken.{flushed_after, cut_at_flush}
+use Rattle.dsr_command.proofs.Common.{length, arith, take_all, flushed_after, cut_at_flush}
 use Rattle.dsr_command.proofs.print.print_text.Goals as goal
 
 pub returns-in-Ok : goal.returns-in-Ok

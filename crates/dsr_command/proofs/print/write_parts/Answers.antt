@@ -1,8 +1,4 @@
-use Rattle.std.proofs.Common.{◌≡◌, ◌∙◌, ◌+◌, ◌++◌, ap, sym, subst, length, take, drop, arith}
-use Rattle.std.proofs.lemmas.List.{take_all}
-use Rattle.dsr_io.specs.meaning.Written.{IsTaken, IsFlushed, IsCut}
-use Rattle.dsr_command.specs.Printing.{joined}
-use Rattle.dsr_io.proofs.Taken.{taken_none, taken_more, cut_after, flushed_after, cut_at_flush}
+use Rattle.dsr_command.proofs.Common.{◌≡◌, ◌∙◌, ◌+◌, ◌++◌, ap, sym, subst, length, take, drop, arith, take_all, IsTaken, IsFlushed, IsCut, joined, taken_none, taken_more, cut_after, flushed_after, cut_at_flush}
 use Rattle.dsr_command.proofs.Printing.{joined_at, joined_next, written_in_part}
 use Rattle.dsr_command.proofs.print.write_parts.Goals as goal
 

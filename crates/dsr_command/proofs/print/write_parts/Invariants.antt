@@ -1,6 +1,4 @@
-use Rattle.std.proofs.Common.{take}
-use Rattle.dsr_io.specs.meaning.Written.{IsTaken}
-use Rattle.dsr_command.specs.Printing.{joined}
+use Rattle.dsr_command.proofs.Common.{take, IsTaken, joined}
 use Rattle.dsr_command.proofs.print.write_parts.Given as goal
 
 abbrev pub invariant-loop-part : goal.invariant-loop-part

@@ -1,7 +1,4 @@
-use Rattle.std.proofs.Common.{◌≡◌, ◌∙◌, [], sym, map, arith}
-use Rattle.std.proofs.lemmas.List.{append_assoc, append-nil, map-append}
-use Rattle.std.proofs.lemmas.Grind.{common_steps}
-use Rattle.std.specs.Vec.Iter.{into_iter_items}
+use Rattle.dsr_command.proofs.Common.{◌≡◌, ◌∙◌, [], sym, map, arith, append_assoc, append-nil, map-append, common_steps, into_iter_items}
 use Rattle.dsr_command.proofs.watched.watch.Goals as goal
 
 pub loop-input-preserved : goal.loop-input-preserved

@@ -1,5 +1,4 @@
-use Rattle.std.proofs.Common.{◌≡◌, ◌++◌, map}
-use Rattle.std.specs.Vec.Iter.{into_iter_items}
+use Rattle.dsr_command.proofs.Common.{◌≡◌, ◌++◌, map, into_iter_items}
 use Rattle.dsr_command.proofs.watched.watch.Given as goal
 
 abbrev pub invariant-loop-input : goal.invariant-loop-input

@@ -1,9 +1,4 @@
-use Rattle.std.proofs.Common.{◌≡◌, ◌∙◌, ◌++◌, ap, sym, subst, arith, length-drop}
-use Rattle.std.proofs.lemmas.Grind.{common_steps}
-use Rattle.std.proofs.lemmas.Result.{err_from_is_err_and}
-use Rattle.std.specs.Option.{option_to_list}
-use Rattle.dsr_file.specs.inner.Closing.{event_at}
-use Rattle.dsr_file.specs.inner.Feeding.{Fed}
+use Rattle.dsr_file.proofs.Common.{◌≡◌, ◌∙◌, ◌++◌, ap, sym, subst, arith, length-drop, common_steps, err_from_is_err_and, option_to_list, event_at, Fed}
 use Rattle.dsr_file.proofs.FeedLemmas.{prefix_part, part_run, fed_more, fed_all, fed_some}
 use Rattle.dsr_file.proofs.feeding.feed.Goals as goal
 

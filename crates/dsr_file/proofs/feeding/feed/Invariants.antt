@@ -1,7 +1,4 @@
-use Rattle.std.proofs.Common.{◌≡◌, ◌≤◌, ◌+◌, ◌-◌, ◌++◌, List, ℕ, length, take, None}
-use mathlib.Core.List.{IsPrefix}
-use Rattle.dsr_records.specs.meaning.Records.{LayoutTable}
-use Rattle.dsr_file.specs.inner.Standing.{Stands, bytes_used, ending_told, events_left}
+use Rattle.dsr_file.proofs.Common.{◌≡◌, ◌≤◌, ◌+◌, ◌-◌, ◌++◌, List, ℕ, length, take, None, IsPrefix, LayoutTable, Stands, bytes_used, ending_told, events_left}
 use Rattle.dsr_file.proofs.feeding.feed.Given as goal
 
 abbrev pub invariant-loop-sink : goal.invariant-loop-sink

@@ -1,7 +1,4 @@
-use Rattle.std.proofs.Common.{Some, arith}
-use Rattle.std.proofs.lemmas.Grind.{common_steps}
-use Rattle.std.proofs.lemmas.Result.{err_from_is_err_and}
-use Rattle.dsr_file.specs.inner.Standing.{first_ending}
+use Rattle.dsr_file.proofs.Common.{Some, arith, common_steps, err_from_is_err_and, first_ending}
 use Rattle.dsr_file.proofs.FeedLemmas.{event_run, end_some}
 use Rattle.dsr_file.proofs.feeding.finish_all.Goals as goal
 

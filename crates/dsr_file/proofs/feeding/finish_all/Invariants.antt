@@ -1,7 +1,4 @@
-use Rattle.std.proofs.Common.{◌≡◌, List, ℕ}
-use mathlib.Core.List.{IsPrefix}
-use Rattle.dsr_records.specs.meaning.Records.{LayoutTable}
-use Rattle.dsr_file.specs.inner.Standing.{Stands, first_ending, events_left}
+use Rattle.dsr_file.proofs.Common.{◌≡◌, List, ℕ, IsPrefix, LayoutTable, Stands, first_ending, events_left}
 use Rattle.dsr_file.proofs.feeding.finish_all.Given as goal
 
 abbrev pub invariant-loop-event : goal.invariant-loop-event

@@ -1,9 +1,4 @@
-use Rattle.std.proofs.Common.{◌≡◌, ◌≤◌, ◌∙◌, refl, sym, subst, arith, take, length, length-take}
-use Rattle.std.proofs.lemmas.Grind.{common_steps}
-use Rattle.std.proofs.lemmas.Result.{IfOk-weaker, IfErr-weaker, err_from_is_err_and}
-use Rattle.std.specs.Io.KnownBytes.{Consumes}
-use Rattle.dsr_file.specs.inner.Feeding.{Reads}
-use Rattle.dsr_io.specs.meaning.ReadCounts.{AddsRead}
+use Rattle.dsr_file.proofs.Common.{◌≡◌, ◌≤◌, ◌∙◌, refl, sym, subst, arith, take, length, length-take, common_steps, IfOk-weaker, IfErr-weaker, err_from_is_err_and, Consumes, Reads, AddsRead}
 use Rattle.dsr_file.proofs.ReadLemmas.{done_ends, no_reads, whole_read, whole_refused, failed_read, failed_refused, limit_read, limit_refused, fault_read, more_reads, piece_refused, not_done}
 use Rattle.dsr_file.proofs.reading.read_all.Goals as goal
 

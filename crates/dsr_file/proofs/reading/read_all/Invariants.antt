@@ -1,7 +1,4 @@
-use Rattle.std.proofs.Common.{◌≡◌, ◌≤◌, ◌*◌, [], None}
-use Rattle.dsr_records.specs.meaning.Records.{LayoutTable}
-use Rattle.dsr_file.specs.inner.Standing.{Stands, bytes_used, ending_told}
-use Rattle.dsr_file.specs.inner.Feeding.{Reads}
+use Rattle.dsr_file.proofs.Common.{◌≡◌, ◌≤◌, ◌*◌, [], None, LayoutTable, Stands, bytes_used, ending_told, Reads}
 use Rattle.dsr_file.proofs.reading.read_all.Given as goal
 
 abbrev pub invariant-loop : goal.invariant-loop

@@ -1,5 +1,4 @@
-use Rattle.std.proofs.Common.{subst, sym, []}
-use Rattle.dsr_file.specs.inner.Standing.{Stands}
+use Rattle.dsr_file.proofs.Common.{subst, sym, [], Stands}
 use Rattle.dsr_file.proofs.ResultLemmas.{if_given, if_refused}
 use Rattle.dsr_file.proofs.reading.read_file.Goals as goal
 

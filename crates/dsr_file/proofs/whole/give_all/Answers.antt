@@ -1,5 +1,4 @@
-use Rattle.std.proofs.Common.{arith}
-use Rattle.std.proofs.lemmas.Grind.{common_steps}
+use Rattle.dsr_file.proofs.Common.{arith, common_steps}
 use Rattle.dsr_file.proofs.ReadLemmas.{fed_done}
 use Rattle.dsr_file.proofs.whole.give_all.Goals as goal
 

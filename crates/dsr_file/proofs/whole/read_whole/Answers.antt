@@ -1,5 +1,4 @@
-use Rattle.std.proofs.Common.{◌≡◌, subst, sym, [], IfOk, Result, Ok, Err}
-use Rattle.dsr_file.specs.inner.Standing.{Stands}
+use Rattle.dsr_file.proofs.Common.{◌≡◌, subst, sym, [], IfOk, Result, Ok, Err, Stands}
 use Rattle.dsr_file.proofs.whole.read_whole.Goals as goal
 
 -- what follows for a result that is Ok follows for the one that it is taken from

@@ -1,10 +1,4 @@
-use Rattle.std.proofs.Common.{◌≡◌, ◌<◌, ◌^◌, true, [], ◌∷◌, ◌++◌, length, take, refl, ap, subst, ◌∙◌, arith}
-use Rattle.std.proofs.lemmas.List.{take_all}
-use Rattle.dsr_events.specs.meaning.Orderly.{is_ended}
-use Rattle.dsr_events.specs.inner.OrderlyLaws.{orderly_front, orderly_next}
-use Rattle.dsr_intake.specs.inner.Ends.{is_clean_end}
-use Rattle.dsr_intake.specs.meaning.Texts.{file_of}
-use Rattle.dsr_intake.specs.inner.Collecting.{is_opening, with_part, Changes, TakesAll}
+use Rattle.dsr_intake.proofs.Common.{◌≡◌, ◌<◌, ◌^◌, true, [], ◌∷◌, ◌++◌, length, take, refl, ap, subst, ◌∙◌, arith, take_all, is_ended, orderly_front, orderly_next, is_clean_end, file_of, is_opening, with_part, Changes, TakesAll}
 use Rattle.dsr_intake.proofs.Filing.{later_part, going, knows_more, follows_next, takes_none, takes_more}
 use Rattle.dsr_intake.proofs.collector.book_events.Goals as goal
 

@@ -1,7 +1,4 @@
-use Rattle.std.proofs.Common.{◌≡◌, List, take}
-use Rattle.dsr_events.specs.meaning.Placed.{Placed}
-use Rattle.dsr_ledger.specs.inner.BooksWords.{files_count}
-use Rattle.dsr_intake.specs.inner.Collecting.{IsFollowed, TakesAll}
+use Rattle.dsr_intake.proofs.Common.{◌≡◌, List, take, Placed, files_count, IsFollowed, TakesAll}
 use Rattle.dsr_intake.proofs.collector.book_events.Given as goal
 
 abbrev pub invariant-loop-event : goal.invariant-loop-event

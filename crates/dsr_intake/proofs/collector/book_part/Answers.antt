@@ -1,5 +1,4 @@
-use Rattle.std.proofs.Common.{subst}
-use Rattle.dsr_ledger.specs.inner.BooksWords.{Stands}
+use Rattle.dsr_intake.proofs.Common.{subst, Stands}
 use Rattle.dsr_intake.proofs.Rounds.{block_is_set, outcome_changes, on_any, going_books, going_ends}
 use Rattle.dsr_intake.proofs.collector.book_part.Goals as goal
 

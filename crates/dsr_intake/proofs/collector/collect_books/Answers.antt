@@ -1,5 +1,4 @@
-use Rattle.std.proofs.Common.{◌≡◌, length, arith}
-use Rattle.dsr_ledger.specs.inner.BooksWords.{files_count}
+use Rattle.dsr_intake.proofs.Common.{◌≡◌, length, arith, files_count}
 use Rattle.dsr_intake.proofs.Rounds.{files_ended, same_count}
 use Rattle.dsr_intake.proofs.collector.collect_books.Goals as goal
 use Rattle.dsr_intake.proofs.collector.collect_books.Goals.{In_default-book_all}

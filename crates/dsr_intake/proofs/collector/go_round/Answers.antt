@@ -1,8 +1,4 @@
-use Rattle.std.proofs.Common.{◌∙◌, arith}
-use Rattle.std.proofs.lemmas.List.{length-set}
-use Rattle.std.proofs.lemmas.Result.{err_from_is_err_and}
-use Rattle.std.proofs.lemmas.List.Elements.{All-set}
-use Rattle.dsr_intake.specs.inner.Collecting.{IsTapped}
+use Rattle.dsr_intake.proofs.Common.{◌∙◌, arith, length-set, err_from_is_err_and, All-set, IsTapped}
 use Rattle.dsr_intake.proofs.Rounds.{known_here, round_more, names_set, stopped_at, lent}
 use Rattle.dsr_intake.proofs.collector.go_round.Goals as goal
 

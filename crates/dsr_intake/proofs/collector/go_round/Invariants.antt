@@ -1,7 +1,4 @@
-use Rattle.std.proofs.Common.{◌≡◌, length, map, All}
-use Rattle.dsr_ledger.specs.inner.BooksWords.{Stands, files_count}
-use Rattle.dsr_intake.specs.meaning.Texts.{file_of}
-use Rattle.dsr_intake.specs.inner.Collecting.{IsTapped}
+use Rattle.dsr_intake.proofs.Common.{◌≡◌, length, map, All, Stands, files_count, file_of, IsTapped}
 use Rattle.dsr_intake.proofs.collector.go_round.Given as goal
 
 abbrev pub invariant-loop-k : goal.invariant-loop-k

@@ -1,5 +1,4 @@
-use Rattle.std.proofs.Common.{◌≡◌, ℕ, ◌<◌, true, get_or}
-use Rattle.dsr_events.specs.meaning.Orderly.{has_ended}
+use Rattle.dsr_intake.proofs.Common.{◌≡◌, ℕ, ◌<◌, true, get_or, has_ended}
 use Rattle.dsr_intake.proofs.collector.have_ended.Given as goal
 
 abbrev pub invariant-loop-k : goal.invariant-loop-k

@@ -1,6 +1,4 @@
-use Rattle.std.proofs.Common.{◌∙◌, arith}
-use Rattle.std.proofs.lemmas.List.{length-set}
-use Rattle.std.proofs.lemmas.Result.{err_from_is_err_and}
+use Rattle.dsr_intake.proofs.Common.{◌∙◌, arith, length-set, err_from_is_err_and}
 use Rattle.dsr_intake.proofs.Rounds.{opening_more, opening_done, names_set, stopped_at, lent}
 use Rattle.dsr_intake.proofs.collector.open_all.Goals as goal
 

@@ -1,7 +1,4 @@
-use Rattle.std.proofs.Common.{◌≡◌, [], ◌∷◌, ◌++◌, refl, ap, sym, subst, ◌∙◌}
-use Rattle.dsr_events.specs.meaning.Orderly.{IsOrderly, MayStandAt}
-use Rattle.dsr_intake.specs.meaning.Texts.{file_of}
-use Rattle.dsr_intake.specs.inner.Collecting.{Opens, first_file}
+use Rattle.dsr_intake.proofs.Common.{◌≡◌, [], ◌∷◌, ◌++◌, refl, ap, sym, subst, ◌∙◌, IsOrderly, MayStandAt, file_of, Opens, first_file}
 use Rattle.dsr_intake.proofs.Rounds.{file_first}
 use Rattle.dsr_intake.proofs.collector.open_one.Goals as goal
 

@@ -1,7 +1,4 @@
-use Rattle.std.proofs.Common.{◌≡◌, map, All}
-use Rattle.dsr_ledger.specs.inner.BooksWords.{Stands, files_count}
-use Rattle.dsr_intake.specs.meaning.Texts.{file_of}
-use Rattle.dsr_intake.specs.inner.Collecting.{IsTapped}
+use Rattle.dsr_intake.proofs.Common.{◌≡◌, map, All, Stands, files_count, file_of, IsTapped}
 use Rattle.dsr_intake.proofs.collector.take_all.Given as goal
 
 abbrev pub invariant-loop : goal.invariant-loop

@@ -1,6 +1,5 @@
-use Rattle.std.proofs.Common.{ap, ◌∙◌, subst}
-use Rattle.dsr_ledger.specs.inner.Closed.{AreClosed}
-use Rattle.dsr_intake.specs.meaning.Texts.{GaveEach}
+use Rattle.dsr_intake.proofs.Common.{ap, ◌∙◌, subst, GaveEach}
+use Rattle.dsr_ledger.specs.inner.BooksWords.{AreClosed}
 use Rattle.dsr_intake.proofs.Joining.{files_of}
 use Rattle.dsr_intake.proofs.gather.gather.Goals as goal
 

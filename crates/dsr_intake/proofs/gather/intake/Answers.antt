@@ -1,4 +1,4 @@
-use Rattle.dsr_intake.specs.meaning.Texts.{report_of_texts}
+use Rattle.dsr_intake.proofs.Common.{report_of_texts}
 use Rattle.dsr_intake.proofs.gather.intake.Goals as goal
 
 pub returns-in-Ok-clause-report : goal.returns-in-Ok-clause-report

@@ -1,6 +1,4 @@
-use Rattle.std.proofs.Common.{arith, ◌≡◌, []}
-use Rattle.std.proofs.lemmas.Grind.{common_steps}
-use Rattle.std.specs.Vec.Iter.{into_iter_items}
+use Rattle.dsr_intake.proofs.Common.{arith, ◌≡◌, [], common_steps, into_iter_items}
 use Rattle.dsr_intake.proofs.Joining.{joining_none, joining_more, joining_done}
 use Rattle.dsr_intake.proofs.gather.settle_all.Goals as goal
 

@@ -1,5 +1,4 @@
-use Rattle.std.proofs.Common.{arith, ap, ◌∙◌}
-use Rattle.std.proofs.lemmas.Grind.{common_steps}
+use Rattle.dsr_intake.proofs.Common.{arith, ap, ◌∙◌, common_steps}
 use Rattle.dsr_intake.proofs.Joining.{starting_more}
 use Rattle.dsr_intake.proofs.gather.start_all.Goals as goal
 

@@ -1,5 +1,4 @@
-use Rattle.std.proofs.Common.{◌+◌, ◌≤◌, vec_len, vec_capacity}
-use Rattle.std.specs.Vec.Iter.{into_iter_items, into_iter_len}
+use Rattle.dsr_intake.proofs.Common.{◌+◌, ◌≤◌, vec_len, vec_capacity, into_iter_items, into_iter_len}
 use Rattle.dsr_intake.proofs.Joining.{Starting}
 use Rattle.dsr_intake.proofs.gather.start_all.Given as goal
 

@@ -1,18 +1,13 @@
-use Rattle.std.proofs.Common.{◌≡◌, ◌∙◌, ap, false, true≢false, List, Result, Ok, Err}
-use Rattle.std.specs.Prelude.{Option, Some, None, OnOk, IfOk, IfErr, MatchOption, is_ok, vec_len}
-use Rattle.dsr_file.specs.meaning.Runs.{FileText}
-use Rattle.dsr_io.specs.meaning.Told.{Told}
+use Rattle.dsr_intake.proofs.Common.{◌≡◌, ◌∙◌, ap, false, true≢false, List, Result, Ok, Err, Option, Some, None, OnOk, IfOk, IfErr, MatchOption, is_ok, vec_len, FileText, Told, Options, GaveEach, report_of_texts}
 use Rattle.dsr_intake.specs.declared.errors.RunError.{RunError}
 use Rattle.dsr_intake.specs.declared.errors.RunError.TheVariants as error
-use Rattle.dsr_intake.specs.declared.options.Options.{Options}
 use Rattle.dsr_statement.specs.declared.verdict.Status.{Status}
-use Rattle.dsr_intake.specs.meaning.Options.{refusal_of}
+use Rattle.dsr_intake.specs.meaning.Texts.{refusal_of}
 use Rattle.dsr_intake.specs.meaning.Outcomes.{IsReported, IsUnwritten}
 use Rattle.dsr_statement.specs.meaning.Statement.{statement_of}
 use Rattle.dsr_statement.specs.meaning.Status.{status_of}
-use Rattle.dsr_intake.specs.meaning.Texts.{GaveEach, report_of_texts}
 use Rattle.dsr_io.specs.meaning.Written.{Written, IsFlushed}
-use Rattle.dsr_intake.specs.inner.Unfinished.{IsUnfinished}
+use Rattle.dsr_intake.specs.inner.Collecting.{IsUnfinished}
 use Rattle.dsr_intake.proofs.stages.run.Goals as goal
 
 not_refused : {E : Type 0} (o : Option E) (A B : Type 0) (C D : E → Type 0) → MatchOption o A C → ((e : E) → C e → ⊥) → B → MatchOption o B D

@@ -1,4 +1,4 @@
-use Rattle.std.proofs.Common.{ap, ◌∙◌}
+use Rattle.dsr_intake.proofs.Common.{ap, ◌∙◌}
 use Rattle.dsr_intake.proofs.Promises.{given_from_answer, given_at_end, nothing_was_put}
 use Rattle.dsr_intake.proofs.threads.read_and_send.Goals as goal
 

@@ -1,5 +1,4 @@
-use Rattle.dsr_ledger.proofs.Common.{◌≡◌, ◌<◌, length, sym, ap, ◌∙◌, subst, arith, rules, Some, key_under, booked_under, parts_size, tally_at, shares_of, tally_plus, key_tally}
-use Rattle.std.specs.Vec.{vec_len}
+use Rattle.dsr_ledger.proofs.Common.{◌≡◌, ◌<◌, length, sym, ap, ◌∙◌, subst, arith, rules, Some, key_under, booked_under, parts_size, tally_at, shares_of, tally_plus, key_tally, vec_len}
 use Rattle.dsr_ledger.proofs.TallyLemmas.{parts_within, tally_with-key}
 use Rattle.dsr_ledger.proofs.SeatedLemmas.{parts_of_shares}
 use Rattle.dsr_ledger.proofs.PlanLemmas.{step_of}

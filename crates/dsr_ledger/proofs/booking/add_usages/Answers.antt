@@ -1,5 +1,4 @@
-use Rattle.std.proofs.lemmas.Grind.{common_steps}
-use Rattle.dsr_ledger.proofs.Common.{◌≡◌, ◌+◌, [], ◌∷◌, ◌++◌, take, length, refl, sym, ap, ◌∙◌, subst, arith, option_map, Some, slice_get, AllByRecursion, take_more, length-take, slice_get_read, usage_bookings, IsSmall, IsInRange, tally_at, state_at, state_with, tally_plus, key_tally, TallyFits}
+use Rattle.dsr_ledger.proofs.Common.{common_steps, ◌≡◌, ◌+◌, [], ◌∷◌, ◌++◌, take, length, refl, sym, ap, ◌∙◌, subst, arith, option_map, Some, slice_get, AllByRecursion, take_more, length-take, slice_get_read, usage_bookings, IsSmall, IsInRange, tally_at, state_at, state_with, tally_plus, key_tally, TallyFits}
 use Rattle.dsr_ledger.proofs.EachLemmas.{each_append}
 use Rattle.dsr_ledger.proofs.KeepsLemmas.{numbers_stay, numbers_twice, planned_stays}
 use Rattle.dsr_ledger.proofs.PlanLemmas.{states_none}

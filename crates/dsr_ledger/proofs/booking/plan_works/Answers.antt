@@ -1,6 +1,4 @@
-use Rattle.std.proofs.Common.{arith}
-use Rattle.std.proofs.lemmas.Grind.{common_steps}
-use Rattle.dsr_ledger.proofs.Common.{[], ◌∷◌, ◌++◌, take, sym, ap, ◌∙◌, append-nil, zip, take_more, flat_map-append, WorkParts, seat_at, shares_of}
+use Rattle.dsr_ledger.proofs.Common.{arith, common_steps, [], ◌∷◌, ◌++◌, take, sym, ap, ◌∙◌, append-nil, zip, take_more, flat_map-append, WorkParts, seat_at, shares_of}
 use Rattle.dsr_ledger.proofs.KeepsLemmas.{seats_twice}
 use Rattle.dsr_ledger.proofs.SeatedLemmas.{seated_more}
 use Rattle.dsr_ledger.proofs.booking.plan_works.Goals as goal

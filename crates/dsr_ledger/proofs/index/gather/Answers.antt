@@ -1,6 +1,4 @@
-use Rattle.std.proofs.Common.{arith}
-use Rattle.std.proofs.lemmas.Grind.{common_steps}
-use Rattle.dsr_ledger.proofs.Common.{map, nat_eq, ap, sym, ◌∙◌, Some, insert_key}
+use Rattle.dsr_ledger.proofs.Common.{arith, common_steps, map, nat_eq, ap, sym, ◌∙◌, Some, insert_key}
 use Rattle.dsr_ledger.proofs.IndexLemmas.{next_number}
 use Rattle.dsr_ledger.proofs.NumberedLemmas.{number_at_place}
 use Rattle.dsr_ledger.proofs.index.gather.Goals as goal

@@ -1,7 +1,4 @@
-use Rattle.std.proofs.Common.{arith}
-use Rattle.std.proofs.lemmas.Grind.{common_steps}
-use Rattle.dsr_ledger.proofs.Common.{rules, ◌≡◌, ◌-◌, ◌<◌, length, ap, sym, ◌∙◌, subst, map, Some, slice_get, length-map, same_Some, slice_get-map}
-use Rattle.std.specs.Option.{option_map}
+use Rattle.dsr_ledger.proofs.Common.{arith, common_steps, rules, ◌≡◌, ◌-◌, ◌<◌, length, ap, sym, ◌∙◌, subst, map, Some, slice_get, length-map, same_Some, slice_get-map, option_map}
 use Rattle.dsr_ledger.proofs.IndexLemmas.{rise_more}
 use Rattle.dsr_ledger.proofs.index.is_above.Goals as goal
 

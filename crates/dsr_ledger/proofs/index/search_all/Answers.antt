@@ -1,6 +1,4 @@
-use Rattle.std.proofs.Common.{arith}
-use Rattle.std.proofs.lemmas.Grind.{common_steps}
-use Rattle.dsr_ledger.proofs.Common.{rules, ◌≡◌, None, Some, map, sym, ap, ◌∙◌, subst, drop-map, Rise, place_in}
+use Rattle.dsr_ledger.proofs.Common.{arith, common_steps, rules, ◌≡◌, None, Some, map, sym, ap, ◌∙◌, subst, drop-map, Rise, place_in}
 use Rattle.dsr_ledger.proofs.IndexLemmas.{found_first, found_later}
 use Rattle.dsr_ledger.proofs.index.search_all.Goals as goal
 

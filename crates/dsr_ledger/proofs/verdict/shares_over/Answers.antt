@@ -1,5 +1,4 @@
-use Rattle.std.proofs.lemmas.Grind.{common_steps}
-use Rattle.dsr_ledger.proofs.Common.{arith, sum, sym, ap, ◌∙◌, sum_by_more_le, lt-ltb, WorkParts, share_total}
+use Rattle.dsr_ledger.proofs.Common.{common_steps, arith, sum, sym, ap, ◌∙◌, sum_by_more_le, lt-ltb, WorkParts, share_total}
 use Rattle.dsr_ledger.proofs.verdict.shares_over.Goals as goal
 
 pub returns-then-parts-total : goal.returns-then-parts-total

@@ -1,5 +1,4 @@
-use Rattle.std.proofs.lemmas.Grind.{common_steps}
-use Rattle.dsr_ledger.proofs.Common.{◌≡◌, suc, ◌+◌, take, sym, ap, ◌∙◌, subst, to_z, of_z, arith, ℤ, ◌-ℤ◌, ◌+ℤ◌, w128, FitsSigned, ints, to_z-of_z, int_sum_by}
+use Rattle.dsr_ledger.proofs.Common.{common_steps, ◌≡◌, suc, ◌+◌, take, sym, ap, ◌∙◌, subst, to_z, of_z, arith, ℤ, ◌-ℤ◌, ◌+ℤ◌, w128, FitsSigned, ints, to_z-of_z, int_sum_by}
 use Rattle.dsr_ledger.proofs.PartyLemmas.{left_fits, amount_fits, taken_more}
 use Rattle.dsr_ledger.proofs.view.unclaimed.Goals as goal
 

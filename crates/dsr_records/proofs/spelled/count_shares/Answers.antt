@@ -1,7 +1,5 @@
-use Rattle.std.proofs.Common.{◌≡◌, ◌++◌, ◌∷◌, [], ℕ, zero, suc, List, length, map, take, rules, arith, refl, sym, ap, ◌∙◌, append_assoc, length-take}
-use Rattle.std.proofs.lemmas.List.{take_all, append-nil}
+use Rattle.dsr_records.proofs.Common.{◌≡◌, ◌++◌, ◌∷◌, [], ℕ, zero, suc, List, length, map, take, rules, arith, refl, sym, ap, ◌∙◌, append_assoc, length-take, take_all, append-nil, number_or_zero, share_or_zero}
 use Rattle.dsr_cells.proofs.RawParts.{few_raw_parts}
-use Rattle.dsr_records.specs.meaning.Values.{number_or_zero, share_or_zero}
 use Rattle.dsr_records.proofs.spelled.count_shares.Goals as goal
 
 -- what follows the first n is cut off again

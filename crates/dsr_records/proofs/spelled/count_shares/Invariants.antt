@@ -1,8 +1,4 @@
-use Rattle.std.proofs.Common.{◌≡◌, ◌+◌, ◌++◌, ◌≤◌, length, map, take}
-use Rattle.std.specs.List.{list_all}
-use Rattle.dsr_cells.specs.meaning.Values.{raw_parts}
-use Rattle.dsr_records.specs.meaning.Tables.{is_share}
-use Rattle.dsr_records.specs.meaning.Values.{shares_of, share_or_zero}
+use Rattle.dsr_records.proofs.Common.{◌≡◌, ◌+◌, ◌++◌, ◌≤◌, length, map, take, list_all, raw_parts, is_share, shares_of, share_or_zero}
 use Rattle.dsr_records.proofs.spelled.count_shares.Given as goal
 
 abbrev pub invariant-loop-part : goal.invariant-loop-part

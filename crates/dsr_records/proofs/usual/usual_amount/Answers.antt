@@ -1,4 +1,4 @@
-use Rattle.std.proofs.Common.{◌∙◌, ap, arith, sym, Some}
+use Rattle.dsr_records.proofs.Common.{◌∙◌, ap, arith, sym, Some}
 use Rattle.dsr_records.proofs.UsualLines.{amount_is}
 use Rattle.dsr_records.proofs.usual.usual_amount.Goals as goal
 

@@ -1,8 +1,5 @@
-use Rattle.std.proofs.Common.{arith, refl, take, w64}
-use Rattle.std.specs.Prelude.{codes}
-use Rattle.std.specs.Simd.Lanes.{chunk}
+use Rattle.dsr_records.proofs.Common.{arith, refl, take, w64, codes, chunk, BeginsWithType}
 use Rattle.std.proofs.lemmas.Int.{to_z_pos}
-use Rattle.dsr_records.specs.inner.Usual.{BeginsWithType}
 use Rattle.dsr_records.proofs.UsualLines.{usage_of_cells, usages_are}
 use Rattle.dsr_records.proofs.usual.usual_usage.Goals as goal
 

@@ -1,6 +1,4 @@
-use Rattle.std.proofs.Common.{arith, refl, take}
-use Rattle.std.specs.Prelude.{codes}
-use Rattle.dsr_records.specs.inner.Usual.{BeginsWithType}
+use Rattle.dsr_records.proofs.Common.{arith, refl, take, codes, BeginsWithType}
 use Rattle.dsr_records.proofs.UsualLines.{counted_shares, work_of_cells}
 use Rattle.dsr_records.proofs.usual.usual_work.Goals as goal
 

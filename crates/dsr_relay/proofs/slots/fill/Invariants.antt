@@ -1,4 +1,4 @@
-use Rattle.std.proofs.Common.{◌≡◌, length}
+use Rattle.dsr_relay.proofs.Common.{◌≡◌, length}
 use Rattle.dsr_relay.proofs.slots.fill.Given as goal
 
 abbrev pub invariant-loop : goal.invariant-loop

@@ -1,6 +1,6 @@
 use Rattle.std.proofs.Common.{arith}
 use Rattle.std.proofs.lemmas.Grind.{common_steps}
-use Rattle.dsr_events.specs.inner.OrderlyLaws.{orderly_push}
+use Rattle.dsr_events.proofs.OrderlyLaws.{orderly_push}
 use Rattle.dsr_relay_tests.proofs.reuse.exchanged_for.Goals as goal
 
 pub send_block-requires-clause-orderly : goal.send_block-requires-clause-orderly

@@ -1,4 +1,4 @@
-use Rattle.dsr_events.specs.inner.OrderlyLaws.{orderly_push}
+use Rattle.dsr_events.proofs.OrderlyLaws.{orderly_push}
 use Rattle.dsr_relay_tests.proofs.sending.ended_comes_back.Goals as goal
 
 pub send-requires : goal.send-requires

@@ -1,6 +1,6 @@
 use Rattle.std.proofs.Common.{arith}
 use Rattle.std.proofs.lemmas.Grind.{common_steps}
-use Rattle.dsr_events.specs.inner.OrderlyLaws.{orderly_push}
+use Rattle.dsr_events.proofs.OrderlyLaws.{orderly_push}
 use Rattle.dsr_relay_tests.proofs.sending.send_part.Goals as goal
 
 pub send-requires : goal.send-requires

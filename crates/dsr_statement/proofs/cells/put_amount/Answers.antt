@@ -1,5 +1,4 @@
-use Rattle.std.proofs.Common.{rules}
-use Rattle.std.proofs.lemmas.List.{append-nil}
+use Rattle.dsr_statement.proofs.Common.{rules, append-nil}
 use Rattle.dsr_statement.proofs.LineLemmas.{turn}
 use Rattle.dsr_statement.proofs.cells.put_amount.Goals as goal
 

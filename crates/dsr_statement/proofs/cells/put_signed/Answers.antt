@@ -1,6 +1,4 @@
-use Rattle.std.proofs.Common.{rules, FitsSigned}
-use Rattle.std.specs.Int.{w128}
-use Rattle.std.proofs.lemmas.Int.{to_z-of_z}
+use Rattle.dsr_statement.proofs.Common.{rules, FitsSigned, w128, to_z-of_z}
 use Rattle.dsr_statement.proofs.LineLemmas.{then, signed}
 use Rattle.dsr_statement.proofs.cells.put_signed.Goals as goal
 

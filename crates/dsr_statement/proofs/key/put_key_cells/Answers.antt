@@ -1,5 +1,4 @@
-use Rattle.std.proofs.Common.{append_assoc, rules}
-use Rattle.std.proofs.lemmas.List.{append-nil}
+use Rattle.dsr_statement.proofs.Common.{append_assoc, rules, append-nil}
 use Rattle.dsr_statement.proofs.LineLemmas.{then, turn}
 use Rattle.dsr_statement.proofs.key.put_key_cells.Goals as goal
 

@@ -1,4 +1,4 @@
-use Rattle.dsr_statement.specs.meaning.Statement.{number_cell}
+use Rattle.dsr_statement.proofs.Common.{number_cell}
 use Rattle.dsr_statement.proofs.lines.put_file_number.Goals as goal
 
 pub returns-in-Some : goal.returns-in-Some

@@ -1,4 +1,4 @@
-use Rattle.std.proofs.Common.{rules}
+use Rattle.dsr_statement.proofs.Common.{rules}
 use Rattle.dsr_statement.proofs.LineLemmas.{then, turn}
 use Rattle.dsr_statement.proofs.lines.put_head.Goals as goal
 

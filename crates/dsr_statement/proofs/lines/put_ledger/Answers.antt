@@ -1,5 +1,4 @@
-use Rattle.std.proofs.Common.{◌++◌}
-use Rattle.dsr_statement.specs.meaning.Statement.{ledger_lines}
+use Rattle.dsr_statement.proofs.Common.{◌++◌, ledger_lines}
 use Rattle.dsr_statement.proofs.LineLemmas.{then, turn, two_parts}
 use Rattle.dsr_statement.proofs.lines.put_ledger.Goals as goal
 

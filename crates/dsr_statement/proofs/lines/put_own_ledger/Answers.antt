@@ -1,6 +1,4 @@
-use Rattle.std.proofs.Common.{◌≡◌, rules, to_z, of_z}
-use Rattle.std.specs.Int.{w128}
-use Rattle.dsr_statement.specs.meaning.Statement.{ledger_lines}
+use Rattle.dsr_statement.proofs.Common.{◌≡◌, rules, to_z, of_z, w128, ledger_lines}
 use Rattle.dsr_statement.proofs.LineLemmas.{turn}
 use Rattle.dsr_statement.proofs.lines.put_own_ledger.Goals as goal
 

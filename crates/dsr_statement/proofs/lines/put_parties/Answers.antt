@@ -1,6 +1,4 @@
-use Rattle.std.proofs.Common.{◌≡◌, ◌<◌, ◌≤◌, length, subst, ap}
-use Rattle.dsr_ledger.specs.declared.report.LedgerLine.{LedgerLine}
-use Rattle.dsr_statement.specs.meaning.Statement.{party_line}
+use Rattle.dsr_statement.proofs.Common.{◌≡◌, ◌<◌, ◌≤◌, length, subst, ap, LedgerLine, party_line}
 use Rattle.dsr_statement.proofs.LineLemmas.{more, all}
 use Rattle.dsr_statement.proofs.lines.put_parties.Goals as goal
 

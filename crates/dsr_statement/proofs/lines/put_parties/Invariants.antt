@@ -1,7 +1,4 @@
-use Rattle.std.proofs.Common.{take}
-use Rattle.std.specs.List.{flat_map}
-use Rattle.dsr_statement.specs.meaning.Statement.{party_line}
-use Rattle.dsr_statement.specs.inner.Pieces.{Puts}
+use Rattle.dsr_statement.proofs.Common.{take, flat_map, party_line, Puts}
 use Rattle.dsr_statement.proofs.lines.put_parties.Given as goal
 
 abbrev pub invariant-loop-party : goal.invariant-loop-party

@@ -1,6 +1,4 @@
-use Rattle.std.proofs.Common.{append_assoc, rules}
-use Rattle.std.proofs.lemmas.List.{append-nil}
-use Rattle.dsr_statement.specs.meaning.Statement.{reject_line}
+use Rattle.dsr_statement.proofs.Common.{append_assoc, rules, append-nil, reject_line}
 use Rattle.dsr_statement.proofs.LineLemmas.{then, turn}
 use Rattle.dsr_statement.proofs.lines.put_reject.Goals as goal
 

@@ -1,9 +1,5 @@
-use Rattle.std.specs.Prelude.{◌∷◌, [], codes, decimal}
-use Rattle.std.proofs.Common.{rules, arith}
-use Rattle.std.proofs.lemmas.Grind.{common_steps}
-use Rattle.std.specs.Fmt.{signed_decimal}
+use Rattle.dsr_statement.proofs.Common.{◌∷◌, [], codes, decimal, rules, arith, common_steps, signed_decimal, report_line, days_in}
 use Rattle.dsr_cells.specs.meaning.Written.{written_day}
-use Rattle.dsr_statement.specs.meaning.Statement.{report_line, days_in}
 use Rattle.dsr_statement.proofs.LineLemmas.{then, turn, cell, signed, days_within}
 use Rattle.dsr_statement.proofs.lines.put_report.Goals as goal
 

@@ -1,4 +1,4 @@
-use Rattle.dsr_statement.specs.meaning.Statement.{difference_line}
+use Rattle.dsr_statement.proofs.Common.{difference_line}
 use Rattle.dsr_statement.proofs.LineLemmas.{more, all}
 use Rattle.dsr_statement.proofs.write.put_differences.Goals as goal
 

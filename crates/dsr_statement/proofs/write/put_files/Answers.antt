@@ -1,6 +1,4 @@
-use Rattle.std.proofs.Common.{refl, ap, arith}
-use Rattle.std.proofs.lemmas.List.{take_all}
-use Rattle.dsr_statement.specs.meaning.Statement.{file_lines}
+use Rattle.dsr_statement.proofs.Common.{refl, ap, arith, take_all, file_lines}
 use Rattle.dsr_statement.proofs.LineLemmas.{turn, more_files}
 use Rattle.dsr_statement.proofs.write.put_files.Goals as goal
 

@@ -1,6 +1,4 @@
-use Rattle.std.proofs.Common.{◌≡◌, ◌+◌, take}
-use Rattle.dsr_statement.specs.meaning.Statement.{file_lines}
-use Rattle.dsr_statement.specs.inner.Pieces.{Puts}
+use Rattle.dsr_statement.proofs.Common.{◌≡◌, ◌+◌, take, file_lines, Puts}
 use Rattle.dsr_statement.proofs.write.put_files.Given as goal
 
 abbrev pub invariant-loop-file : goal.invariant-loop-file

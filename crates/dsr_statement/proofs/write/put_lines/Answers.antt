@@ -1,4 +1,4 @@
-use Rattle.dsr_statement.specs.meaning.Statement.{ledger_lines}
+use Rattle.dsr_statement.proofs.Common.{ledger_lines}
 use Rattle.dsr_statement.proofs.LineLemmas.{more, all}
 use Rattle.dsr_statement.proofs.write.put_lines.Goals as goal
 

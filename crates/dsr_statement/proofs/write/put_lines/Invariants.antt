@@ -1,7 +1,4 @@
-use Rattle.std.proofs.Common.{take}
-use Rattle.std.specs.List.{flat_map}
-use Rattle.dsr_statement.specs.meaning.Statement.{ledger_lines}
-use Rattle.dsr_statement.specs.inner.Pieces.{Puts}
+use Rattle.dsr_statement.proofs.Common.{take, flat_map, ledger_lines, Puts}
 use Rattle.dsr_statement.proofs.write.put_lines.Given as goal
 
 abbrev pub invariant-loop-line : goal.invariant-loop-line

@@ -1,5 +1,4 @@
-use Rattle.std.proofs.Common.{get_or, refl}
-use Rattle.dsr_statement.specs.meaning.Statement.{missing_line}
+use Rattle.dsr_statement.proofs.Common.{get_or, refl, missing_line}
 use Rattle.dsr_statement.proofs.LineLemmas.{more, all}
 use Rattle.dsr_statement.proofs.write.put_missing_files.Goals as goal
 

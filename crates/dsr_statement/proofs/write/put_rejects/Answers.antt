@@ -1,4 +1,4 @@
-use Rattle.dsr_statement.specs.meaning.Statement.{reject_line}
+use Rattle.dsr_statement.proofs.Common.{reject_line}
 use Rattle.dsr_statement.proofs.LineLemmas.{more, all}
 use Rattle.dsr_statement.proofs.write.put_rejects.Goals as goal
 

@@ -1,7 +1,4 @@
-use Rattle.std.proofs.Common.{take}
-use Rattle.std.specs.List.{flat_map}
-use Rattle.dsr_statement.specs.meaning.Statement.{reject_line}
-use Rattle.dsr_statement.specs.inner.Pieces.{Puts}
+use Rattle.dsr_statement.proofs.Common.{take, flat_map, reject_line, Puts}
 use Rattle.dsr_statement.proofs.write.put_rejects.Given as goal
 
 abbrev pub invariant-loop-reject : goal.invariant-loop-reject

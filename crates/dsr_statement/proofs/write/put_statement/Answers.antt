@@ -1,7 +1,4 @@
-use Rattle.std.proofs.Common.{append_assoc, rules, ap}
-use Rattle.std.specs.List.{flat_map}
-use Rattle.std.proofs.lemmas.List.{append-nil}
-use Rattle.dsr_statement.specs.meaning.Statement.{statement_of, head_line, file_lines, missing_line, difference_line, reject_line}
+use Rattle.dsr_statement.proofs.Common.{append_assoc, rules, ap, flat_map, append-nil, statement_of, head_line, file_lines, missing_line, difference_line, reject_line}
 use Rattle.dsr_statement.proofs.LineLemmas.{then, turn}
 use Rattle.dsr_statement.proofs.write.put_statement.Goals as goal
 

@@ -1,7 +1,4 @@
-use Rattle.std.proofs.Common.{[], ◌∷◌, ◌++◌, ap}
-use Rattle.std.specs.List.{flat_map}
-use Rattle.std.proofs.lemmas.List.{append-nil}
-use Rattle.dsr_statement.specs.meaning.Statement.{ledger_lines}
+use Rattle.dsr_statement.proofs.Common.{[], ◌∷◌, ◌++◌, ap, flat_map, append-nil, ledger_lines}
 use Rattle.dsr_statement.proofs.LineLemmas.{nothing, one_more, turn}
 use Rattle.dsr_statement.proofs.write.put_viewed_lines.Goals as goal
 

@@ -1,9 +1,5 @@
-use Rattle.std.proofs.Common.{List, []}
-use Rattle.std.specs.List.{flat_map}
-use Rattle.dsr_ledger.specs.declared.report.LedgerLine.{LedgerLine}
+use Rattle.dsr_statement.proofs.Common.{List, [], flat_map, LedgerLine, ledger_lines, Puts}
 use Rattle.dsr_ledger.specs.inner.View.{AreGiven, IsReady, most_left}
-use Rattle.dsr_statement.specs.meaning.Statement.{ledger_lines}
-use Rattle.dsr_statement.specs.inner.Pieces.{Puts}
 use Rattle.dsr_statement.proofs.write.put_viewed_lines.Given as goal
 
 abbrev pub invariant-loop-line : goal.invariant-loop-line

@@ -1,6 +1,4 @@
-use Rattle.std.proofs.Common.{[], ap, rules}
-use Rattle.std.specs.List.{flat_map}
-use Rattle.dsr_statement.specs.meaning.Statement.{statement_of, file_lines, missing_line, difference_line, ledger_lines, reject_line}
+use Rattle.dsr_statement.proofs.Common.{[], ap, rules, flat_map, statement_of, file_lines, missing_line, difference_line, ledger_lines, reject_line}
 use Rattle.dsr_statement.proofs.LineLemmas.{then, turn}
 use Rattle.dsr_statement.proofs.Sending.{if_ok}
 use Rattle.dsr_statement.proofs.write.write_report.Goals as goal

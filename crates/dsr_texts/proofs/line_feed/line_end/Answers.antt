@@ -1,4 +1,4 @@
-use Rattle.std.proofs.Common.{arith, eqb, length, sym}
+use Rattle.dsr_texts.proofs.Common.{arith, eqb, length, sym}
 use Rattle.std.proofs.lemmas.Bool.{false_from_ne_true}
 use Rattle.std.proofs.lemmas.List.Sums.{position_or_len_is}
 use Rattle.dsr_texts.proofs.line_feed.line_end.Goals as goal

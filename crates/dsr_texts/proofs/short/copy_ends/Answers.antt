@@ -1,7 +1,4 @@
-use Rattle.std.proofs.Common.{arith, ◌≡◌, ◌≤◌, ◌+◌, ◌-◌, ℕ, List, ◌++◌, length, take, drop, ap, ◌∙◌, length-append, length-drop}
-use Rattle.std.proofs.lemmas.List.{take-append-le, take-append-drop, take-take, take_all, length-take, length-take-le}
-use Rattle.std.proofs.lemmas.Simd.{put_chunk_whole}
-use Rattle.std.specs.Simd.Lanes.{chunk, put_chunk}
+use Rattle.dsr_texts.proofs.Common.{arith, ◌≡◌, ◌≤◌, ◌+◌, ◌-◌, ℕ, List, ◌++◌, length, take, drop, ap, ◌∙◌, length-append, length-drop, take-append-le, take-append-drop, take-take, take_all, length-take, length-take-le, put_chunk_whole, chunk, put_chunk}
 use Rattle.std.proofs.lemmas.Slice.{take-put_mid, drop-put_mid, drop-append-drop}
 use borrow.Rule.Slice.PartMut.{put_mid, mid_of}
 use Rattle.dsr_texts.proofs.short.copy_ends.Goals as goal

@@ -1,4 +1,4 @@
-use Rattle.std.proofs.Common.{rules}
+use Rattle.dsr_texts.proofs.Common.{rules}
 use Rattle.dsr_texts.proofs.Shorts.{same_words}
 use Rattle.dsr_texts.proofs.short.same_bytes.Goals as goal
 

@@ -1,5 +1,4 @@
-use Rattle.std.proofs.Common.{◌∙◌, ap, sym, ◌≡◌, length}
-use Rattle.std.proofs.lemmas.Bool.{eqb-true}
+use Rattle.dsr_cells.proofs.Common.{◌∙◌, ap, sym, ◌≡◌, length, eqb-true}
 use Rattle.dsr_cells.proofs.Ordered.{same_by_numbers}
 use Rattle.dsr_cells.proofs.isrc.Isrc.is_text.Goals as goal
 

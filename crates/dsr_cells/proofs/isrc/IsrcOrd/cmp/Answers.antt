@@ -1,4 +1,4 @@
-use Rattle.std.proofs.Common.{◌∙◌, sym}
+use Rattle.dsr_cells.proofs.Common.{◌∙◌, sym}
 use Rattle.dsr_cells.proofs.Ordered.{by_numbers}
 use Rattle.dsr_cells.proofs.isrc.IsrcOrd.cmp.Goals as goal
 

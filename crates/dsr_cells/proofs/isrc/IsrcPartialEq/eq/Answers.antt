@@ -1,6 +1,4 @@
-use Rattle.std.proofs.Common.{◌∙◌, ap}
-use Rattle.std.specs.Ordering.{is_eq}
-use Rattle.std.proofs.lemmas.Map.Text.{is_eq-slice_cmp}
+use Rattle.dsr_cells.proofs.Common.{◌∙◌, ap, is_eq, is_eq-slice_cmp}
 use Rattle.dsr_cells.proofs.isrc.IsrcPartialEq.eq.Goals as goal
 
 pub returns : goal.returns

@@ -1,5 +1,4 @@
-use Rattle.std.proofs.Common.{arith}
-use Rattle.std.proofs.lemmas.Grind.{common_steps}
+use Rattle.dsr_file.proofs.Common.{arith, common_steps}
 use Rattle.dsr_file.proofs.closed.Closed.exchange_into.Goals as goal
 
 pub put_block-requires-clause-run : goal.put_block-requires-clause-run

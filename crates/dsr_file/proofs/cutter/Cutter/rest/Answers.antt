@@ -1,6 +1,4 @@
-use Rattle.std.proofs.Common.{◌≡◌, ◌++◌, ◌∷◌, [], false, ◌+◌, ◌∙◌, sym, subst, arith, take, take_all, length-append, length-take}
-use Rattle.std.proofs.lemmas.Grind.{common_steps}
-use Rattle.dsr_file.specs.inner.Cutting.{CutsTo}
+use Rattle.dsr_file.proofs.Common.{◌≡◌, ◌++◌, ◌∷◌, [], false, ◌+◌, ◌∙◌, sym, subst, arith, take, take_all, length-append, length-take, common_steps, CutsTo}
 use Rattle.dsr_file.proofs.CutLemmas.{more_bytes, none_before, feed_there, fed_line, here_line, within, empty_is}
 use Rattle.dsr_file.proofs.cutter.Cutter.rest.Goals as goal
 

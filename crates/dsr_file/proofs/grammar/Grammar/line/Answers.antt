@@ -1,9 +1,6 @@
-use Rattle.std.proofs.Common.{◌≡◌, ◌∙◌, ap, refl, subst}
-use Rattle.std.specs.Str.{IsUtf8}
-use Rattle.dsr_cells.specs.meaning.Lines.{without_return}
+use Rattle.dsr_file.proofs.Common.{◌≡◌, ◌∙◌, ap, refl, subst, IsUtf8, without_return, is_utf8-from_IsUtf8}
 use Rattle.dsr_events.specs.declared.fault.FileFault.TheVariants.{NotUtf8}
 use Rattle.dsr_file.proofs.TestLemmas.{reading_text, reading_garbled, faulty_steps, utf8_false, utf8_with_return}
-use Rattle.std.proofs.lemmas.Str.{is_utf8-from_IsUtf8}
 use Rattle.dsr_file.proofs.grammar.Grammar.line.Goals as goal
 
 pub returns-in-Some-clause-steps : goal.returns-in-Some-clause-steps

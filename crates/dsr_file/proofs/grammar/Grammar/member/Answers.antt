@@ -1,7 +1,4 @@
-use Rattle.std.proofs.Common.{◌+◌, ◌∙◌, sym, ap, refl}
-use Rattle.std.specs.Prelude.{option_and_then}
-use Rattle.dsr_records.specs.inner.Checked.{record_seen}
-use Rattle.dsr_file.specs.inner.Grammars.{kept_count_fault}
+use Rattle.dsr_file.proofs.Common.{◌+◌, ◌∙◌, sym, ap, refl, option_and_then, record_seen, kept_count_fault}
 use Rattle.dsr_file.proofs.AddLemmas.{added_good, plain_member}
 use Rattle.dsr_file.proofs.StepLemmas.{fault_free}
 use Rattle.dsr_file.proofs.TestLemmas.{early_steps, early_none, fault_found}

@@ -1,5 +1,4 @@
-use Rattle.std.proofs.Common.{◌+◌, ◌∙◌, ap, refl}
-use Rattle.dsr_records.specs.inner.Checked.{record_seen}
+use Rattle.dsr_file.proofs.Common.{◌+◌, ◌∙◌, ap, refl, record_seen}
 use Rattle.dsr_file.proofs.AddLemmas.{added_good, added_faulty}
 use Rattle.dsr_file.proofs.StepLemmas.{fault_free}
 use Rattle.dsr_file.proofs.TestLemmas.{early_steps, early_none, fault_found}

@@ -1,4 +1,4 @@
-use Rattle.std.proofs.Common.{refl}
+use Rattle.dsr_file.proofs.Common.{refl}
 use Rattle.dsr_file.proofs.TestLemmas.{skip_line_steps}
 use Rattle.dsr_file.proofs.grammar.Grammar.skip_line.Goals as goal
 

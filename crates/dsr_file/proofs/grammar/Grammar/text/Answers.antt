@@ -1,6 +1,4 @@
-use Rattle.std.proofs.Common.{◌∙◌, ap, sym}
-use Rattle.dsr_records.specs.inner.Checked.{found_by}
-use Rattle.dsr_file.specs.meaning.Readings.{file_fault, of_record}
+use Rattle.dsr_file.proofs.Common.{◌∙◌, ap, sym, found_by, file_fault, of_record}
 use Rattle.dsr_file.proofs.TestLemmas.{of_utf8_skipped, of_utf8_record, faulty_steps, own_not_count}
 use Rattle.dsr_file.proofs.grammar.Grammar.text.Goals as goal
 

@@ -1,4 +1,4 @@
-use Rattle.std.proofs.Common.{◌∙◌, refl}
+use Rattle.dsr_file.proofs.Common.{◌∙◌, refl}
 use Rattle.dsr_file.proofs.StandLemmas.{good_stands}
 use Rattle.dsr_file.proofs.reader.FileReader.answer.Goals as goal
 

@@ -1,8 +1,5 @@
-use Rattle.std.proofs.Common.{◌∙◌, ◌++◌, ◌∷◌, [], refl, subst, sym}
+use Rattle.dsr_file.proofs.Common.{◌∙◌, ◌++◌, ◌∷◌, [], refl, subst, sym, option_to_list, EndsAfter, Stands, placed}
 use Rattle.dsr_events.specs.declared.fault.Outcome.TheVariants.{Fault}
-use Rattle.std.specs.Option.{option_to_list}
-use Rattle.dsr_file.specs.inner.Standing.{EndsAfter, Stands}
-use Rattle.dsr_file.specs.meaning.Texts.{placed}
 use Rattle.dsr_file.proofs.StandLemmas.{good_stands, faulty_stands, memory_stands, given_again}
 use Rattle.dsr_file.proofs.reader.FileReader.answer_apart.Goals as goal
 

@@ -1,10 +1,4 @@
-use Rattle.std.proofs.Common.{◌++◌, refl, subst, sym, List}
-use Rattle.std.specs.Option.{option_to_list}
-use Rattle.dsr_file.specs.inner.Cutting.{CutSteps, FitsCut}
-use Rattle.dsr_file.specs.inner.Grammars.{Keeps, LineSteps}
-use Rattle.dsr_file.specs.inner.Standing.{Stands}
-use Rattle.dsr_file.specs.meaning.Readings.{Reading, reading}
-use Rattle.dsr_file.specs.meaning.Texts.{placed}
+use Rattle.dsr_file.proofs.Common.{◌++◌, refl, subst, sym, List, option_to_list, CutSteps, FitsCut, Keeps, LineSteps, Stands, Reading, reading, placed}
 use Rattle.dsr_file.proofs.StandLemmas.{line_taken, long_stands}
 use Rattle.dsr_file.proofs.reader.FileReader.cut.Goals as goal
 

@@ -1,4 +1,4 @@
-use Rattle.std.proofs.Common.{◌∙◌, sym}
+use Rattle.dsr_file.proofs.Common.{◌∙◌, sym}
 use Rattle.dsr_file.proofs.StandLemmas.{done_told}
 use Rattle.dsr_file.proofs.reader.FileReader.done.Goals as goal
 

@@ -1,5 +1,4 @@
-use Rattle.std.proofs.Common.{◌∙◌, sym, rules, arith}
-use Rattle.std.proofs.lemmas.Grind.{common_steps}
+use Rattle.dsr_file.proofs.Common.{◌∙◌, sym, rules, arith, common_steps}
 use Rattle.dsr_file.proofs.reader.FileReader.finish.Goals as goal
 
 pub returns-in-Waiting-clause-all : goal.returns-in-Waiting-clause-all

@@ -1,5 +1,4 @@
-use Rattle.std.proofs.Common.{subst}
-use Rattle.dsr_file.specs.inner.Standing.{AtEnd}
+use Rattle.dsr_file.proofs.Common.{subst, AtEnd}
 use Rattle.dsr_file.proofs.reader.FileReader.finish_lines.Goals as goal
 
 pub returns-in-Whole-clause-stands : goal.returns-in-Whole-clause-stands

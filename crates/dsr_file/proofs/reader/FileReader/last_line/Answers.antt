@@ -1,6 +1,4 @@
-use Rattle.std.proofs.Common.{subst, List}
-use Rattle.dsr_file.specs.inner.Grammars.{Keeps, LineSteps}
-use Rattle.dsr_file.specs.meaning.Readings.{Reading, reading}
+use Rattle.dsr_file.proofs.Common.{subst, List, Keeps, LineSteps, Reading, reading}
 use Rattle.dsr_file.proofs.EndLemmas.{good_last, faulty_last, memory_last, same_text}
 use Rattle.dsr_file.proofs.reader.FileReader.last_line.Goals as goal
 

@@ -1,5 +1,4 @@
-use Rattle.std.proofs.Common.{refl, []}
-use Rattle.dsr_file.specs.meaning.Parts.{events_of}
+use Rattle.dsr_file.proofs.Common.{refl, [], events_of}
 use Rattle.dsr_file.proofs.reader.FileReader.new.Goals as goal
 
 pub returns-clause-stands : goal.returns-clause-stands

@@ -1,5 +1,4 @@
-use Rattle.std.proofs.Common.{◌∙◌, ap}
-use Rattle.dsr_file.specs.meaning.Runs.{ended}
+use Rattle.dsr_file.proofs.Common.{◌∙◌, ap, ended}
 use Rattle.dsr_file.specs.declared.phase.Phase.TheVariants.{Done}
 use Rattle.dsr_file.proofs.EndLemmas.{no_line_stands}
 use Rattle.dsr_file.proofs.reader.FileReader.no_line.Goals as goal

@@ -1,9 +1,5 @@
-use Rattle.std.proofs.Common.{◌≡◌, ◌∙◌, ◌++◌, [], ◌+◌, take, None, sym, ap, subst, arith, length-drop}
-use Rattle.std.specs.Option.{IfNone, option_to_list}
-use Rattle.std.proofs.lemmas.List.{append-nil}
+use Rattle.dsr_file.proofs.Common.{◌≡◌, ◌∙◌, ◌++◌, [], ◌+◌, take, None, sym, ap, subst, arith, length-drop, IfNone, option_to_list, append-nil, Stands, placed}
 use Rattle.dsr_file.specs.declared.phase.Phase.TheVariants.{Reading}
-use Rattle.dsr_file.specs.inner.Standing.{Stands}
-use Rattle.dsr_file.specs.meaning.Texts.{placed}
 use Rattle.dsr_file.proofs.StandLemmas.{stands_more}
 use Rattle.dsr_file.proofs.ClosedLemmas.{not_some}
 use Rattle.dsr_file.proofs.reader.FileReader.read.Goals as goal

@@ -1,8 +1,5 @@
-use Rattle.std.proofs.Common.{◌≡◌, ◌≤◌, ◌+◌, ◌-◌, ◌++◌, List, ℕ, length, take, None}
-use Rattle.dsr_records.specs.meaning.Records.{LayoutTable}
-use Rattle.dsr_events.specs.meaning.Placed.{Placed}
+use Rattle.dsr_file.proofs.Common.{◌≡◌, ◌≤◌, ◌+◌, ◌-◌, ◌++◌, List, ℕ, length, take, None, LayoutTable, Placed, Stands}
 use Rattle.dsr_file.specs.declared.phase.Phase.TheVariants.{Reading}
-use Rattle.dsr_file.specs.inner.Standing.{Stands}
 use Rattle.dsr_file.proofs.reader.FileReader.read.Given as goal
 
 abbrev pub invariant-loop-used : goal.invariant-loop-used

@@ -1,4 +1,4 @@
-use Rattle.std.proofs.Common.{refl}
+use Rattle.dsr_file.proofs.Common.{refl}
 use Rattle.dsr_file.proofs.EndLemmas.{ending_set, is_none_is}
 use Rattle.dsr_file.proofs.reader.FileReader.set_ending.Goals as goal
 

@@ -1,6 +1,4 @@
-use Rattle.std.proofs.Common.{◌∙◌, ap, refl, take}
-use Rattle.dsr_records.specs.inner.Checked.{record_seen}
-use Rattle.dsr_records.specs.meaning.Values.{record_of}
+use Rattle.dsr_file.proofs.Common.{◌∙◌, ap, refl, take, record_seen, record_of}
 use Rattle.dsr_file.proofs.StandLemmas.{at_cut}
 use Rattle.dsr_file.proofs.UsualLemmas.{usual_taken}
 use Rattle.dsr_file.proofs.reader.FileReader.step.Goals as goal

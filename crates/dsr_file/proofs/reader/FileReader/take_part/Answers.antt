@@ -1,5 +1,4 @@
-use Rattle.std.proofs.Common.{◌∙◌, inl, rules, arith}
-use Rattle.std.proofs.lemmas.Grind.{common_steps}
+use Rattle.dsr_file.proofs.Common.{◌∙◌, inl, rules, arith, common_steps}
 use Rattle.dsr_file.proofs.StandLemmas.{first_given, all_read, if_none}
 use Rattle.dsr_file.proofs.reader.FileReader.take_part.Goals as goal
 

@@ -1,8 +1,4 @@
-use Rattle.std.proofs.Common.{◌≡◌, ap, sym, subst, false}
-use Rattle.std.specs.List.{list_any}
-use Rattle.std.specs.Str.{bytes_eq}
-use Rattle.dsr_events.specs.meaning.Openings.{HasDistinctIds}
-use Rattle.dsr_file.specs.inner.Stages.{IsNew}
+use Rattle.dsr_file.proofs.Common.{◌≡◌, ap, sym, subst, false, list_any, bytes_eq, HasDistinctIds, IsNew}
 use Rattle.dsr_file.proofs.OpeningLemmas.{distinct_push, pushed}
 use Rattle.dsr_file.proofs.stage.Stage.add_summary.Goals as goal
 

@@ -1,5 +1,4 @@
-use Rattle.std.proofs.Common.{◌∙◌}
-use Rattle.dsr_records.specs.inner.Checked.{record_seen}
+use Rattle.dsr_file.proofs.Common.{◌∙◌, record_seen}
 use Rattle.dsr_file.proofs.StageLemmas.{opens_stage, opens_given}
 use Rattle.dsr_file.proofs.stage.Stage.open.Goals as goal
 

@@ -1,4 +1,4 @@
-use Rattle.dsr_file.proofs.RunLemmas.{run_orderly}
+use Rattle.dsr_intake.proofs.Common.{run_orderly}
 use Rattle.dsr_intake.proofs.feed_sink.FeedSinkSink.put.Goals as goal
 
 pub send-requires : goal.send-requires

@@ -1,5 +1,4 @@
-use Rattle.dsr_ledger.proofs.Common.{◌<◌, ◌^◌, refl, arith, subst, is_some, option_map_or, ∥∥₁_map, with_item}
-use Rattle.std.proofs.Math.ListN.{length-set}
+use Rattle.dsr_ledger.proofs.Common.{◌<◌, ◌^◌, refl, arith, subst, is_some, option_map_or, ∥∥₁_map, with_item, length-set}
 use Rattle.dsr_ledger.proofs.FilesLemmas.{open_at}
 use Rattle.dsr_ledger.proofs.BooksLemmas.{summaries_fit_reached, Answered, answered_stands, answered_reached, numbered_reached}
 use Rattle.dsr_ledger.proofs.books.Books.book.Goals.{After-book}

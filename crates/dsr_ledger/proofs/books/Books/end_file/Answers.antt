@@ -1,5 +1,4 @@
-use Rattle.dsr_ledger.proofs.Common.{refl, arith, ∥∥₁_map, with_item, Kept, slice_get_read}
-use Rattle.std.proofs.Math.ListN.{length-set}
+use Rattle.dsr_ledger.proofs.Common.{refl, arith, ∥∥₁_map, with_item, Kept, slice_get_read, length-set}
 use Rattle.dsr_ledger.proofs.BooksLemmas.{ended, stands_ended, reached_ended}
 use Rattle.dsr_ledger.proofs.books.Books.end_file.Goals as goal
 

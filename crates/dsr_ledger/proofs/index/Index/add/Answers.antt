@@ -1,5 +1,4 @@
-use Rattle.std.proofs.lemmas.Grind.{common_steps}
-use Rattle.dsr_ledger.proofs.Common.{rules, ◌≡◌, ◌≤◌, ◌<◌, ◌++◌, ◌∷◌, [], drop, length, map, nat_eq, sym, ap, ◌∙◌, subst, arith, None, drop-map, length-map, insert_key, Rise, AreIndexed}
+use Rattle.dsr_ledger.proofs.Common.{common_steps, rules, ◌≡◌, ◌≤◌, ◌<◌, ◌++◌, ◌∷◌, [], drop, length, map, nat_eq, sym, ap, ◌∙◌, subst, arith, None, drop-map, length-map, insert_key, Rise, AreIndexed}
 use Rattle.dsr_ledger.proofs.IndexLemmas.{goes_last, few_more, more_rise}
 use Rattle.dsr_ledger.proofs.index.Index.add.Goals.{then-items-lt-FEW-via-then-items-lt-FEW, then-items-lt-FEW-via-else-items-lt-FEW+then-is_above}
 use Rattle.dsr_ledger.proofs.index.Index.add.Goals as goal

@@ -1,6 +1,4 @@
-use Rattle.std.proofs.Common.{arith}
-use Rattle.std.proofs.lemmas.Grind.{common_steps}
-use Rattle.dsr_ledger.proofs.Common.{◌≡◌, cond, ◌&&◌, refl, sym, ap, subst, ◌∙◌, length, Option, Some, map, option_and_then, position, bytes_eq, same_Some, bytes_eq-Decides, keys-with_value_at, Recording, SummaryKey, AreBelow, place_by, part_of, seat_numbers, summary_key_eq, summary_key_in, Tally, line_keys, lines_tally, IsWide, tally_with, TallyFits, party_number, key_number, seat_of, recording_tally}
+use Rattle.dsr_ledger.proofs.Common.{arith, common_steps, ◌≡◌, cond, ◌&&◌, refl, sym, ap, subst, ◌∙◌, length, Option, Some, map, option_and_then, position, bytes_eq, same_Some, bytes_eq-Decides, keys-with_value_at, Recording, SummaryKey, AreBelow, place_by, part_of, seat_numbers, summary_key_eq, summary_key_in, Tally, line_keys, lines_tally, IsWide, tally_with, TallyFits, party_number, key_number, seat_of, recording_tally}
 use Rattle.dsr_ledger.proofs.LedgerLemmas.{got, each_put, each_related, related, summary_keys_are_numbered, changed_tally, line_here, got_here}
 use Rattle.dsr_ledger.proofs.IndexMapLemmas.{key_is}
 use Rattle.dsr_ledger.proofs.TextLemmas.{text_itself}

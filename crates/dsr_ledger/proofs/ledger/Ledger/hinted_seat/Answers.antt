@@ -1,6 +1,4 @@
-use Rattle.std.proofs.Common.{arith}
-use Rattle.std.proofs.lemmas.Grind.{common_steps}
-use Rattle.dsr_ledger.proofs.Common.{◌≡◌, ℕ, List, refl, ap, sym, subst, ◌∙◌, rules, true, Some, slice_get, option_and_then, bytes_eq, nat_list_eq_equiv, bytes_eq-Decides, slice_get_read, IsUnique, place_in, seat_numbers, party_number, seat_of}
+use Rattle.dsr_ledger.proofs.Common.{arith, common_steps, ◌≡◌, ℕ, List, refl, ap, sym, subst, ◌∙◌, rules, true, Some, slice_get, option_and_then, bytes_eq, nat_list_eq_equiv, bytes_eq-Decides, slice_get_read, IsUnique, place_in, seat_numbers, party_number, seat_of}
 use Rattle.indexmap.specs.IndexSet.{IsUnique as IsUniqueSet}
 use Rattle.dsr_ledger.proofs.TextLemmas.{same_text}
 use Rattle.dsr_ledger.proofs.IndexMapLemmas.{number_at, value_here}

@@ -1,6 +1,4 @@
-use Rattle.std.proofs.Common.{arith}
-use Rattle.std.proofs.lemmas.Grind.{common_steps}
-use Rattle.dsr_ledger.proofs.Common.{◌≡◌, ℕ, refl, sym, ap, subst, ◌∙◌, length, Option, Some, option_and_then, position, bytes_eq, same_Some, IfOk-weaker, keys-with_value_at, Recording, SummaryKey, AreBelow, place_in, place_by, seat_numbers, summary_key_in, line_keys, IsWide, party_number, key_number, seat_of, seat_at, recording_tally, AreSeated}
+use Rattle.dsr_ledger.proofs.Common.{arith, common_steps, ◌≡◌, ℕ, refl, sym, ap, subst, ◌∙◌, length, Option, Some, option_and_then, position, bytes_eq, same_Some, IfOk-weaker, keys-with_value_at, Recording, SummaryKey, AreBelow, place_in, place_by, seat_numbers, summary_key_in, line_keys, IsWide, party_number, key_number, seat_of, seat_at, recording_tally, AreSeated}
 use Rattle.dsr_ledger.proofs.RecordingLemmas.{below_with}
 use Rattle.dsr_ledger.proofs.LedgerLemmas.{got, got_here, put_here, each_put, each_related, parties_are_numbered, summary_keys_are_numbered, grown_tally, grown_lines}
 use Rattle.dsr_ledger.proofs.NumberedLemmas.{by_numbered}

@@ -1,6 +1,4 @@
-use Rattle.std.proofs.Common.{arith}
-use Rattle.std.proofs.lemmas.Grind.{common_steps}
-use Rattle.dsr_ledger.proofs.Common.{rules, ◌≡◌, ◌++◌, ◌∷◌, [], ap, ◌∙◌, cond, length, None, Some, position, bytes_eq, bytes_eq-Decides, summary_key_in, party_number, key_number}
+use Rattle.dsr_ledger.proofs.Common.{arith, common_steps, rules, ◌≡◌, ◌++◌, ◌∷◌, [], ap, ◌∙◌, cond, length, None, Some, position, bytes_eq, bytes_eq-Decides, summary_key_in, party_number, key_number}
 use Rattle.dsr_ledger.proofs.NumberedLemmas.{place_more}
 use Rattle.dsr_ledger.proofs.TextLemmas.{text_itself}
 use Rattle.dsr_ledger.proofs.LedgerLemmas.{party_tally}

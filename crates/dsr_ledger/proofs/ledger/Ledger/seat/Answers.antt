@@ -1,6 +1,4 @@
-use Rattle.std.proofs.Common.{arith}
-use Rattle.std.proofs.lemmas.Grind.{common_steps}
-use Rattle.dsr_ledger.proofs.Common.{◌≡◌, ℕ, List, refl, ap, ◌∙◌, length, Option, Some, option_and_then, position, bytes_eq, IfOk-weaker, index_of, keys-with_value_at, Recording, AreBelow, place_in, seat_numbers, summary_key_in, line_keys, party_number, key_number, seat_of, recording_tally, KeepsSeats}
+use Rattle.dsr_ledger.proofs.Common.{arith, common_steps, ◌≡◌, ℕ, List, refl, ap, ◌∙◌, length, Option, Some, option_and_then, position, bytes_eq, IfOk-weaker, index_of, keys-with_value_at, Recording, AreBelow, place_in, seat_numbers, summary_key_in, line_keys, party_number, key_number, seat_of, recording_tally, KeepsSeats}
 use Rattle.dsr_ledger.proofs.KeepsLemmas.{seats_twice}
 use Rattle.dsr_ledger.proofs.RecordingLemmas.{below_with}
 use Rattle.dsr_ledger.proofs.LedgerLemmas.{got, put_here, each_put, each_related, parties_are_numbered, seated_tally, seated_grows}

@@ -1,5 +1,4 @@
-use Rattle.std.proofs.lemmas.Grind.{common_steps}
-use Rattle.dsr_ledger.proofs.Common.{◌≡◌, suc, ◌+◌, [], ◌∷◌, take, get_or, cond, sym, ap, ◌∙◌, subst, arith, ◌^◌, Some, map, ◌+ℤ◌, slice_get, w128, FitsSigned, bytes_eq, take_all, map-append, slice_get-get_or, AllZip-long, SeatShare, owed_in, owed_plus, owed_for, owed_with, part_of, rounded, IsSeated}
+use Rattle.dsr_ledger.proofs.Common.{common_steps, ◌≡◌, suc, ◌+◌, [], ◌∷◌, take, get_or, cond, sym, ap, ◌∙◌, subst, arith, ◌^◌, Some, map, ◌+ℤ◌, slice_get, w128, FitsSigned, bytes_eq, take_all, map-append, slice_get-get_or, AllZip-long, SeatShare, owed_in, owed_plus, owed_for, owed_with, part_of, rounded, IsSeated}
 use Rattle.dsr_ledger.proofs.TallyLemmas.{part_fits, owed_more}
 use Rattle.dsr_ledger.proofs.PartLemmas.{prefix_size}
 use Rattle.dsr_ledger.proofs.SeatedLemmas.{zip_step, take_next}

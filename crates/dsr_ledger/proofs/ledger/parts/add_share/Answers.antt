@@ -1,6 +1,4 @@
-use Rattle.std.proofs.Common.{arith}
-use Rattle.std.proofs.lemmas.Grind.{common_steps}
-use Rattle.dsr_ledger.proofs.Common.{rules, ◌≡◌, ℕ, List, cond, ap, ◌∙◌, to_z, of_z, Option, Some, pos, ◌*ℤ◌, option_and_then, w128, int_div, bytes_eq, to_z-of_z, place_in, place_by, owed_at_place, owed_in, owed_with, part_in, part_seats}
+use Rattle.dsr_ledger.proofs.Common.{arith, common_steps, rules, ◌≡◌, ℕ, List, cond, ap, ◌∙◌, to_z, of_z, Option, Some, pos, ◌*ℤ◌, option_and_then, w128, int_div, bytes_eq, to_z-of_z, place_in, place_by, owed_at_place, owed_in, owed_with, part_in, part_seats}
 use Rattle.dsr_ledger.proofs.PartLemmas.{places_are_numbered_by}
 use Rattle.dsr_ledger.proofs.ledger.parts.add_share.Goals as goal
 

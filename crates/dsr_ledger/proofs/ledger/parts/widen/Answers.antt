@@ -1,6 +1,4 @@
-use Rattle.std.proofs.Common.{arith}
-use Rattle.std.proofs.lemmas.Grind.{common_steps}
-use Rattle.dsr_ledger.proofs.Common.{◌≡◌, ◌<◌, [], ◌∷◌, take, get_or, sym, subst, Some, slice_get, take_more, slice_get-get_or, SeatShare, HasPart, HaveParts}
+use Rattle.dsr_ledger.proofs.Common.{arith, common_steps, ◌≡◌, ◌<◌, [], ◌∷◌, take, get_or, sym, subst, Some, slice_get, take_more, slice_get-get_or, SeatShare, HasPart, HaveParts}
 use Rattle.dsr_ledger.proofs.NumberedLemmas.{each_at}
 use Rattle.dsr_ledger.proofs.PartLemmas.{parts_kept, parts_twice}
 use Rattle.dsr_ledger.proofs.EachLemmas.{each_append}

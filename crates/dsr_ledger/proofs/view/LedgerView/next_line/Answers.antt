@@ -1,5 +1,4 @@
-use Rattle.dsr_ledger.proofs.Common.{◌≡◌, ℕ, List, Bor, Recording, ◌+◌, ◌<◌, sum_by, get_or, IsBookedLine, ◌≤◌, ◌∷◌, rules, arith, common_steps, length, refl, subst, ap, Some, filter, AreListed, length-map, lent, line_for, summary_key_cmp, sum_by-cons}
-use Rattle.std.specs.Vec.Iter.{into_iter_items}
+use Rattle.dsr_ledger.proofs.Common.{◌≡◌, ℕ, List, Bor, Recording, ◌+◌, ◌<◌, sum_by, get_or, IsBookedLine, ◌≤◌, ◌∷◌, rules, arith, common_steps, length, refl, subst, ap, Some, filter, AreListed, length-map, lent, line_for, summary_key_cmp, sum_by-cons, into_iter_items}
 use Rattle.dsr_ledger.proofs.SortedLemmas.{few_below}
 use Rattle.dsr_ledger.proofs.ViewLemmas.{its_numbers, lines_laid, line_at_hand}
 use Rattle.dsr_ledger.proofs.view.LedgerView.next_line.Goals as goal

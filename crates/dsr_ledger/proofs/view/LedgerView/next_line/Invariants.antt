@@ -1,5 +1,4 @@
-use Rattle.dsr_ledger.proofs.Common.{◌≡◌, ◌≤◌, List, Key, HaveGiven, most_left}
-use Rattle.std.specs.Vec.Iter.{into_iter_len}
+use Rattle.dsr_ledger.proofs.Common.{◌≡◌, ◌≤◌, List, Key, HaveGiven, most_left, into_iter_len}
 use Rattle.dsr_ledger.proofs.view.LedgerView.next_line.Given as goal
 
 abbrev pub invariant-loop-self : goal.invariant-loop-self

@@ -1,5 +1,4 @@
-use Rattle.dsr_ledger.proofs.Common.{◌≡◌, Bool, subst, append-nil, vec_len, vec_capacity, ℕ, ◌+◌, ◌<◌, List, ◌∷◌, [], ◌++◌, map, take, filter, get_or, length, sym, ap, ◌∙◌, arith, Bor, All, Some, is_lt, cond, map_push, take_all, All-push, ranks_by, answers_always, slice_get-get_or, Line, SummaryKey, summary_key_eq, line_keys, AreDistinctBelow, key_in}
-use Rattle.std.proofs.lemmas.List.Elements.{filter_more}
+use Rattle.dsr_ledger.proofs.Common.{◌≡◌, Bool, subst, append-nil, vec_len, vec_capacity, ℕ, ◌+◌, ◌<◌, List, ◌∷◌, [], ◌++◌, map, take, filter, get_or, length, sym, ap, ◌∙◌, arith, Bor, All, Some, is_lt, cond, map_push, take_all, All-push, ranks_by, answers_always, slice_get-get_or, Line, SummaryKey, summary_key_eq, line_keys, AreDistinctBelow, key_in, filter_more}
 use Rattle.dsr_ledger.proofs.IndexMapLemmas.{number_at}
 use Rattle.dsr_ledger.proofs.NumberedLemmas.{places_are_numbered}
 use Rattle.dsr_ledger.proofs.KeyLemmas.{same_summary_key, summary_key_total, summary_key_ties}

@@ -1,5 +1,4 @@
-use Rattle.dsr_ledger.proofs.Common.{◌≡◌, to_z, of_z, w128, rules, ℕ, ◌+◌, ◌<◌, Bool, List, [], ◌∷◌, ◌++◌, append-nil, arith, cond, map, take, filter, get_or, get_or_default, length, sym, ap, ◌∙◌, subst, is_lt, nat_list_cmp_total, map-append, take_all, ranks_by, answers_always, PartyLine, SeatPart, part_seats, AreDistinctBelow, IsPermutation, vec_len, vec_capacity}
-use Rattle.std.proofs.lemmas.List.Elements.{filter_more}
+use Rattle.dsr_ledger.proofs.Common.{◌≡◌, to_z, of_z, w128, rules, ℕ, ◌+◌, ◌<◌, Bool, List, [], ◌∷◌, ◌++◌, append-nil, arith, cond, map, take, filter, get_or, get_or_default, length, sym, ap, ◌∙◌, subst, is_lt, nat_list_cmp_total, map-append, take_all, ranks_by, answers_always, PartyLine, SeatPart, part_seats, AreDistinctBelow, IsPermutation, vec_len, vec_capacity, filter_more}
 use Rattle.dsr_ledger.proofs.SortedLemmas.{below_number, own_below}
 use Rattle.dsr_ledger.proofs.LineLemmas.{party_of, party_lines_are}
 use Rattle.dsr_ledger.proofs.view.sorted.parties_by_name.Goals.{then-part, else-part}

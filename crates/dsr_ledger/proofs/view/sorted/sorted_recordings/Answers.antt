@@ -1,6 +1,4 @@
-use Rattle.std.proofs.Common.{arith}
-use Rattle.std.proofs.lemmas.Grind.{common_steps}
-use Rattle.dsr_ledger.proofs.Common.{◌≡◌, ◌++◌, append-nil, sym, ap, ◌∙◌, subst, List, ℕ, Bor, is_some, option_map, slice_get, Contains, IsDistinct, keys_of, is_lt, bytes_eq, nat_list_cmp_total, nat_list_eq_equiv, ranks_by, answers_always, lookup_from_place, Contains-keys_from_lookup, slice_get-get_or, slice_get-map, map-map, bytes_eq-Decides, get, Recording, lent, is_eq-slice_cmp}
+use Rattle.dsr_ledger.proofs.Common.{arith, common_steps, ◌≡◌, ◌++◌, append-nil, sym, ap, ◌∙◌, subst, List, ℕ, Bor, is_some, option_map, slice_get, Contains, IsDistinct, keys_of, is_lt, bytes_eq, nat_list_cmp_total, nat_list_eq_equiv, ranks_by, answers_always, lookup_from_place, Contains-keys_from_lookup, slice_get-get_or, slice_get-map, map-map, bytes_eq-Decides, get, Recording, lent, is_eq-slice_cmp}
 use Rattle.dsr_ledger.proofs.TextLemmas.{same_text}
 use Rattle.dsr_ledger.proofs.SortedLemmas.{put_in_order}
 use Rattle.dsr_ledger.proofs.view.sorted.sorted_recordings.Goals as goal

@@ -1,4 +1,4 @@
-use Rattle.std.proofs.Common.{◌≡◌, take}
+use Rattle.dsr_records.proofs.Common.{◌≡◌, take}
 use Rattle.dsr_records.proofs.check.work.copy_shares.Given as goal
 
 abbrev pub invariant-loop-share : goal.invariant-loop-share

@@ -1,7 +1,5 @@
-use Rattle.std.proofs.Common.{sym, ap, get_or}
-use Rattle.std.specs.Option.{option_and_then}
+use Rattle.dsr_records.proofs.Common.{sym, ap, get_or, option_and_then, position_of}
 use Rattle.dsr_events.specs.declared.kinds.Column.TheVariants.{MessageId}
-use Rattle.dsr_records.specs.meaning.Layouts.{position_of}
 use Rattle.dsr_records.proofs.Placed.{placed_fault}
 use Rattle.dsr_records.proofs.layout.read.read_positions.Goals as goal
 

@@ -1,8 +1,5 @@
-use Rattle.std.proofs.Common.{◌≡◌, ap, ◌∙◌, refl, Some, false}
-use Rattle.std.specs.Str.{is_utf8}
+use Rattle.dsr_records.proofs.Common.{◌≡◌, ap, ◌∙◌, refl, Some, false, is_utf8, false_from_ne_true, IsUtf8-from_is_utf8, is_utf8-from_IsUtf8}
 use Rattle.dsr_cells.specs.meaning.Lines.{without_return}
-use Rattle.std.proofs.lemmas.Bool.{false_from_ne_true}
-use Rattle.std.proofs.lemmas.Str.{IsUtf8-from_is_utf8, is_utf8-from_IsUtf8}
 use Rattle.dsr_records.proofs.layout.read.read_text.Goals as goal
 
 pub returns-in-Some : goal.returns-in-Some

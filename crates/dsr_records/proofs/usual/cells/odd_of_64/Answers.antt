@@ -1,8 +1,4 @@
-use Rattle.std.proofs.Common.{◌∙◌, ◌+◌, ◌-◌, ◌%◌, ◌^◌, ap, arith, cond, refl, leb, map, replicate, List, ℕ, w8}
-use Rattle.std.specs.Simd.Lanes.{chunk, mask_l, top, zip2}
-use Rattle.std.proofs.lemmas.List.{length-map}
-use Rattle.std.proofs.lemmas.Simd.{tops_compared, zip2_splat, zip2_splat_left, mask_l-mod, length-chunk, map-map, chunk-fits}
-use Rattle.dsr_cells.proofs.Lanes.{same_flags}
+use Rattle.dsr_records.proofs.Common.{◌∙◌, ◌+◌, ◌-◌, ◌%◌, ◌^◌, ap, arith, cond, refl, leb, map, replicate, List, ℕ, w8, chunk, mask_l, top, zip2, length-map, tops_compared, zip2_splat, zip2_splat_left, mask_l-mod, length-chunk, map-map, chunk-fits, same_flags}
 use Rattle.dsr_records.proofs.usual.cells.odd_of_64.Goals as goal
 
 pub returns : goal.returns

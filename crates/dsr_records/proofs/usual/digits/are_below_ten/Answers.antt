@@ -1,6 +1,4 @@
-use Rattle.std.proofs.Common.{◌∙◌, ◌+◌, ◌%◌, ◌^◌, ap, sym}
-use Rattle.std.specs.Int.Bits.{bit_and}
-use Rattle.std.proofs.lemmas.Bool.{eqb-true}
+use Rattle.dsr_records.proofs.Common.{◌∙◌, ◌+◌, ◌%◌, ◌^◌, ap, sym, bit_and, eqb-true}
 use Rattle.dsr_records.proofs.Eights.{below_ten_8}
 use Rattle.dsr_records.proofs.usual.digits.are_below_ten.Goals as goal
 

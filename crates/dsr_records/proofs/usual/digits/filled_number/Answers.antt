@@ -1,5 +1,4 @@
-use Rattle.std.proofs.Common.{ap}
-use Rattle.std.specs.Int.Bits.{bit_xor}
+use Rattle.dsr_records.proofs.Common.{ap, bit_xor}
 use Rattle.dsr_records.proofs.Eights.{behind_is}
 use Rattle.dsr_records.proofs.usual.digits.filled_number.Goals as goal
 

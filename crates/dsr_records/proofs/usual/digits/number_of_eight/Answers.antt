@@ -1,4 +1,4 @@
-use Rattle.std.proofs.Common.{refl}
+use Rattle.dsr_records.proofs.Common.{refl}
 use Rattle.dsr_records.proofs.Eights.{eight_is}
 use Rattle.dsr_records.proofs.usual.digits.number_of_eight.Goals as goal
 

@@ -1,7 +1,4 @@
-use Rattle.std.proofs.Common.{◌∙◌, ap, sym, arith, eqb}
-use Rattle.std.specs.Int.Count.{count_trailing_zeros}
-use Rattle.std.specs.Simd.Lanes.{chunk}
-use Rattle.std.proofs.lemmas.Simd.{trailing_mask_l, leading_from_mask_l, length-chunk}
+use Rattle.dsr_records.proofs.Common.{◌∙◌, ap, sym, arith, eqb, count_trailing_zeros, chunk, trailing_mask_l, leading_from_mask_l, length-chunk}
 use Rattle.dsr_records.proofs.usual.digits.point_in_16.Goals as goal
 
 pub returns-then-points-eq0 : goal.returns-then-points-eq0

@@ -1,6 +1,4 @@
-use Rattle.std.proofs.Common.{arith, eqb, w8}
-use Rattle.std.specs.Simd.Lanes.{chunk}
-use Rattle.std.proofs.lemmas.Simd.{bitmask_splat, length-chunk}
+use Rattle.dsr_records.proofs.Common.{arith, eqb, w8, chunk, bitmask_splat, length-chunk}
 use Rattle.dsr_records.proofs.usual.digits.points_in_16.Goals as goal
 
 pub returns : goal.returns

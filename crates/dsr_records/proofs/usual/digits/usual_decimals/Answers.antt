@@ -1,4 +1,4 @@
-use Rattle.std.proofs.Common.{arith}
+use Rattle.dsr_records.proofs.Common.{arith}
 use Rattle.dsr_records.proofs.UsualDecimals.{decimals_are, filled_small}
 use Rattle.dsr_records.proofs.usual.digits.usual_decimals.Goals as goal
 

@@ -1,5 +1,4 @@
-use Rattle.std.proofs.Common.{arith, ap}
-use Rattle.std.specs.Int.Bits.{bit_xor}
+use Rattle.dsr_records.proofs.Common.{arith, ap, bit_xor}
 use Rattle.dsr_records.proofs.Eights.{before_is}
 use Rattle.dsr_records.proofs.usual.digits.usual_number.Goals as goal
 

@@ -1,5 +1,4 @@
-use Rattle.std.proofs.Common.{◌∷◌, ◌+◌, take, drop, sym, ap, ◌∙◌, arith}
-use Rattle.std.proofs.lemmas.Grind.{common_steps}
+use Rattle.dsr_relay.proofs.Common.{◌∷◌, ◌+◌, take, drop, sym, ap, ◌∙◌, arith, common_steps}
 use Rattle.dsr_relay.proofs.Batches.{first_taken}
 use Rattle.dsr_relay.proofs.batch.Batch.take_first.Goals as goal
 

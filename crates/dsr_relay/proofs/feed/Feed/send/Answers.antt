@@ -1,13 +1,4 @@
-use Rattle.std.proofs.Common.{◌≡◌, ◌+◌, [], ◌∷◌, ◌++◌, length, sym, ap, ◌∙◌, subst, arith, append_assoc, length-append}
-use Rattle.std.proofs.lemmas.Grind.{common_steps}
-use Rattle.crossbeam_channel.specs.Claims.{view}
-use Rattle.dsr_events.specs.meaning.Placed.{Placed}
-use Rattle.dsr_events.specs.meaning.Orderly.{IsOrderly}
-use Rattle.dsr_events.specs.inner.OrderlyLaws.{orderly_next}
-use Rattle.dsr_relay.specs.meaning.Messages.{events_of}
-use Rattle.dsr_relay.specs.meaning.Rule.{out_of}
-use Rattle.dsr_relay.specs.meaning.Views.{FeedView, batch_after}
-use Rattle.dsr_relay.specs.inner.Feeds.{feed_view, sent_of}
+use Rattle.dsr_relay.proofs.Common.{◌≡◌, ◌+◌, [], ◌∷◌, ◌++◌, length, sym, ap, ◌∙◌, subst, arith, append_assoc, length-append, common_steps, view, Placed, IsOrderly, orderly_next, events_of, out_of, FeedView, batch_after, feed_view, sent_of}
 use Rattle.dsr_relay.proofs.Sending.{sends_again, sent_out, has_room, batch_goes}
 use Rattle.dsr_relay.proofs.feed.Feed.send.Goals as goal
 

@@ -1,13 +1,4 @@
-use Rattle.std.proofs.Common.{◌≡◌, ◌+◌, ◌≤◌, [], ◌∷◌, ◌++◌, length, sym, ap, ◌∙◌, subst, arith, append_assoc, length-append, rules}
-use Rattle.std.proofs.lemmas.Grind.{common_steps}
-use Rattle.crossbeam_channel.specs.Claims.{view}
-use Rattle.dsr_events.specs.meaning.Placed.{block_event}
-use Rattle.dsr_events.specs.meaning.Orderly.{IsOrderly}
-use Rattle.dsr_events.specs.inner.OrderlyLaws.{orderly_next}
-use Rattle.dsr_relay.specs.meaning.Messages.{events_of}
-use Rattle.dsr_relay.specs.meaning.Rule.{out_of}
-use Rattle.dsr_relay.specs.meaning.Views.{FeedView, batch_after}
-use Rattle.dsr_relay.specs.inner.Feeds.{feed_view, sent_of}
+use Rattle.dsr_relay.proofs.Common.{◌≡◌, ◌+◌, ◌≤◌, [], ◌∷◌, ◌++◌, length, sym, ap, ◌∙◌, subst, arith, append_assoc, length-append, rules, common_steps, view, block_event, IsOrderly, orderly_next, events_of, out_of, FeedView, batch_after, feed_view, sent_of}
 use Rattle.dsr_relay.proofs.Sending.{sends_again, sent_out, batch_goes, full_goes}
 use Rattle.dsr_relay.proofs.feed.Feed.send_block.Goals as goal
 

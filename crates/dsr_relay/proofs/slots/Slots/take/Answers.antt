@@ -1,5 +1,4 @@
-use Rattle.std.proofs.Common.{arith}
-use Rattle.std.proofs.lemmas.Grind.{common_steps}
+use Rattle.dsr_relay.proofs.Common.{arith, common_steps}
 use Rattle.dsr_relay.proofs.slots.Slots.take.Goals as goal
 
 pub returns-clause-after : goal.returns-clause-after

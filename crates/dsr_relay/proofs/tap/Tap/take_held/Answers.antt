@@ -1,7 +1,4 @@
-use Rattle.std.proofs.Common.{◌≡◌, ◌+◌, [], ◌∷◌, ◌++◌, length, take, sym, ap, ◌∙◌, arith}
-use Rattle.dsr_events.specs.meaning.Orderly.{has_ended}
-use Rattle.dsr_relay.specs.meaning.Views.{TapView}
-use Rattle.dsr_relay.specs.inner.Taps.{tap_view, arrived}
+use Rattle.dsr_relay.proofs.Common.{◌≡◌, ◌+◌, [], ◌∷◌, ◌++◌, length, take, sym, ap, ◌∙◌, arith, has_ended, TapView, tap_view, arrived}
 use Rattle.dsr_relay.proofs.Taking.{takes_next}
 use Rattle.dsr_relay.proofs.tap.Tap.take_held.Goals as goal
 

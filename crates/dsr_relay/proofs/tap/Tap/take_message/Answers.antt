@@ -1,8 +1,4 @@
-use Rattle.std.proofs.Common.{◌≡◌, ◌+◌, [], ◌++◌, length, take, sym, ap, ◌∙◌, arith}
-use Rattle.std.proofs.lemmas.Grind.{common_steps}
-use Rattle.crossbeam_channel.specs.Claims.{view}
-use Rattle.dsr_relay.specs.meaning.Views.{TapView}
-use Rattle.dsr_relay.specs.inner.Taps.{tap_view, arrived}
+use Rattle.dsr_relay.proofs.Common.{◌≡◌, ◌+◌, [], ◌++◌, length, take, sym, ap, ◌∙◌, arith, common_steps, view, TapView, tap_view, arrived}
 use Rattle.dsr_relay.proofs.Taking.{lot_next, takes_again, has_size}
 use Rattle.dsr_relay.proofs.tap.Tap.take_message.Goals as goal
 

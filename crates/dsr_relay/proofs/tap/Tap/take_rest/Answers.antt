@@ -1,6 +1,4 @@
-use Rattle.std.proofs.Common.{◌≡◌, ◌+◌, [], ◌++◌, length, take, sym, ap, ◌∙◌, arith}
-use Rattle.dsr_relay.specs.meaning.Views.{TapView}
-use Rattle.dsr_relay.specs.inner.Taps.{tap_view, arrived}
+use Rattle.dsr_relay.proofs.Common.{◌≡◌, ◌+◌, [], ◌++◌, length, take, sym, ap, ◌∙◌, arith, TapView, tap_view, arrived}
 use Rattle.dsr_relay.proofs.Taking.{takes_lot}
 use Rattle.dsr_relay.proofs.tap.Tap.take_rest.Goals as goal
 

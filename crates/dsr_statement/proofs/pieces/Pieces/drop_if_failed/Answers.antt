@@ -1,4 +1,4 @@
-use Rattle.std.proofs.Common.{refl}
+use Rattle.dsr_statement.proofs.Common.{refl}
 use Rattle.dsr_statement.proofs.Sending.{put_failed}
 use Rattle.dsr_statement.proofs.pieces.Pieces.drop_if_failed.Goals as goal
 

@@ -1,5 +1,4 @@
-use Rattle.std.proofs.Common.{◌≡◌, length, arith}
-use Rattle.std.proofs.lemmas.List.{take_all}
+use Rattle.dsr_statement.proofs.Common.{◌≡◌, length, arith, take_all}
 use Rattle.dsr_io.proofs.Taken.{flushed_after, cut_at_flush}
 use Rattle.dsr_statement.proofs.Sending.{all_sent_too}
 use Rattle.dsr_statement.proofs.pieces.Pieces.finish.Goals as goal

@@ -1,9 +1,5 @@
-use Rattle.std.proofs.Common.{rules, FitsSigned, [], ◌∷◌, ◌++◌, ap, ◌∙◌}
-use Rattle.std.specs.Prelude.{ℤ}
-use Rattle.std.specs.Int.{w128}
-use Rattle.std.proofs.lemmas.Int.{to_z-of_z}
+use Rattle.dsr_statement.proofs.Common.{rules, FitsSigned, [], ◌∷◌, ◌++◌, ap, ◌∙◌, ℤ, w128, to_z-of_z, amount_cell}
 use Rattle.dsr_cells.specs.meaning.Written.{written}
-use Rattle.dsr_statement.specs.meaning.Statement.{amount_cell}
 use Rattle.dsr_statement.proofs.AmountCells.{cell_in}
 use Rattle.dsr_statement.proofs.LineLemmas.{turn}
 use Rattle.dsr_statement.proofs.pieces.Pieces.put_amount.Goals as goal

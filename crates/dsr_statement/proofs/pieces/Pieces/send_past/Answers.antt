@@ -1,5 +1,4 @@
-use Rattle.std.proofs.Common.{◌++◌, ◌∙◌, refl}
-use Rattle.std.proofs.lemmas.List.{append-nil}
+use Rattle.dsr_statement.proofs.Common.{◌++◌, ◌∙◌, refl, append-nil}
 use Rattle.dsr_statement.proofs.Sending.{all_sent_too}
 use Rattle.dsr_statement.proofs.pieces.Pieces.send_past.Goals as goal
 

@@ -1,5 +1,4 @@
-use Rattle.std.proofs.Common.{arith}
-use Rattle.std.proofs.lemmas.Grind.{common_steps}
+use Rattle.dsr_statement.proofs.Common.{arith, common_steps}
 use Rattle.dsr_statement.proofs.pieces.Sender.send.Goals as goal
 use Rattle.dsr_statement.proofs.Sending.{sent_after, broken_after, broken_more}
 

@@ -1,7 +1,7 @@
 use Rattle.std.proofs.Common.{ap, ◌∙◌, refl, rules, FitsSigned}
 use Rattle.std.proofs.lemmas.Int.{to_z-of_z}
 use Rattle.std.specs.Int.{w128}
-use Rattle.dsr_ledger.specs.meaning.Keys.{Key}
+use Rattle.dsr_ledger.specs.meaning.Bookings.{Key}
 use Rattle.dsr_ledger.specs.declared.report.PartyLine.{PartyLine}
 use Rattle.dsr_sums.specs.meaning.Accounts.{currency_account, party_account}
 use Rattle.dsr_sums.proofs.LineLemmas.{party_added}

@@ -1,7 +1,7 @@
 use Rattle.std.proofs.Common.{ap, ◌∙◌, refl}
 use Rattle.std.proofs.lemmas.Int.{to_z-of_z}
 use Rattle.std.specs.Int.{w128}
-use Rattle.dsr_ledger.specs.meaning.Keys.{Key}
+use Rattle.dsr_ledger.specs.meaning.Bookings.{Key}
 use Rattle.dsr_sums.specs.meaning.Accounts.{currency_account}
 use Rattle.dsr_sums.proofs.LineLemmas.{unclaimed_added}
 use Rattle.dsr_sums.proofs.totals.Totals.add_unclaimed.Goals as goal

@@ -1,4 +1,4 @@
-use Rattle.std.proofs.Common.{◌∙◌, ap, slice_get}
+use Rattle.dsr_texts.proofs.Common.{◌∙◌, ap, slice_get}
 use Rattle.dsr_texts.proofs.Lent.{lent_item}
 use Rattle.dsr_texts.proofs.inline_items.InlineItems.get.Goals as goal
 

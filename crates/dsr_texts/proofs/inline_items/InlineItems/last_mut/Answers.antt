@@ -1,4 +1,4 @@
-use Rattle.std.proofs.Common.{refl, ◌∙◌, arith}
+use Rattle.dsr_texts.proofs.Common.{refl, ◌∙◌, arith}
 use Rattle.std.proofs.lemmas.Grind.{common_steps}
 use Rattle.dsr_texts.proofs.Views.{take-set_last, take-last}
 use Rattle.dsr_texts.proofs.inline_items.InlineItems.last_mut.Goals as goal

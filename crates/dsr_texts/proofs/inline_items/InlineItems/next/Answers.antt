@@ -1,4 +1,4 @@
-use Rattle.std.proofs.Common.{inl}
+use Rattle.dsr_texts.proofs.Common.{inl}
 use Rattle.dsr_texts.proofs.Views.{set_one_more}
 use Rattle.dsr_texts.proofs.inline_items.InlineItems.next.Goals as goal
 

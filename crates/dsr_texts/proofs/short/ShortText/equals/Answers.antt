@@ -1,4 +1,4 @@
-use Rattle.std.proofs.Common.{rules, ◌∙◌}
+use Rattle.dsr_texts.proofs.Common.{rules, ◌∙◌}
 use Rattle.dsr_texts.proofs.Shorts.{same_in_place}
 use Rattle.dsr_texts.proofs.short.ShortText.equals.Goals as goal
 

@@ -1,5 +1,4 @@
-use Rattle.dsr_ledger.proofs.Common.{cond, ap, ◌∙◌, option_map, bytes_eq, nat_list_eq_equiv, bytes_eq-Decides, keys-with_value_at, state_at, state_plus}
-use Rattle.std.specs.Prelude.{position}
+use Rattle.dsr_ledger.proofs.Common.{cond, ap, ◌∙◌, option_map, bytes_eq, nat_list_eq_equiv, bytes_eq-Decides, keys-with_value_at, state_at, state_plus, position}
 use Rattle.dsr_ledger.proofs.IndexMapLemmas.{key_is, value_here, changed}
 use Rattle.dsr_ledger.proofs.StateLemmas.{counted}
 use Rattle.dsr_ledger.proofs.file.summaries.Summaries.count.Goals as goal

@@ -1,6 +1,4 @@
-use Rattle.std.proofs.Common.{arith}
-use Rattle.std.proofs.lemmas.Grind.{common_steps}
-use Rattle.dsr_ledger.proofs.Common.{◌≡◌, List, ◌++◌, length, take, drop, sym, ap, subst, ◌∙◌, refill, length-map, take-append_seam, SeatPart, AreIndexed, AreApart, part_seats}
+use Rattle.dsr_ledger.proofs.Common.{arith, common_steps, ◌≡◌, List, ◌++◌, length, take, drop, sym, ap, subst, ◌∙◌, refill, length-map, take-append_seam, SeatPart, AreIndexed, AreApart, part_seats}
 use Rattle.dsr_ledger.proofs.PartLemmas.{seat_of_part}
 use Rattle.dsr_ledger.proofs.ledger.parts.Parts.add.Goals as goal
 

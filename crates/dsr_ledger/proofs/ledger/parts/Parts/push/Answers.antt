@@ -1,6 +1,4 @@
-use Rattle.std.proofs.Common.{arith}
-use Rattle.std.proofs.lemmas.Grind.{common_steps}
-use Rattle.dsr_ledger.proofs.Common.{rules, ◌≡◌, ◌++◌, ◌∷◌, [], sym, ap, ◌∙◌, subst, nat_eq, map_push, AreIndexed, AreApart, part_in, part_seats, PartsGrow}
+use Rattle.dsr_ledger.proofs.Common.{arith, common_steps, rules, ◌≡◌, ◌++◌, ◌∷◌, [], sym, ap, ◌∙◌, subst, nat_eq, map_push, AreIndexed, AreApart, part_in, part_seats, PartsGrow}
 use Rattle.dsr_ledger.proofs.NumberedLemmas.{apart_more, same_number}
 use Rattle.dsr_ledger.proofs.PartLemmas.{seat_of_part, parts_more}
 use Rattle.dsr_ledger.proofs.ledger.parts.Parts.push.Goals as goal

@@ -1,6 +1,4 @@
-use Rattle.std.proofs.Common.{arith}
-use Rattle.std.proofs.lemmas.Grind.{common_steps}
-use Rattle.dsr_ledger.proofs.Common.{refl, sym, ap, ◌∙◌, subst, length, map, slice_get_read, AreIndexed, AreApart, AreBelow, place_in, part_of, seat_numbers, tally_with}
+use Rattle.dsr_ledger.proofs.Common.{arith, common_steps, refl, sym, ap, ◌∙◌, subst, length, map, slice_get_read, AreIndexed, AreApart, AreBelow, place_in, part_of, seat_numbers, tally_with}
 use Rattle.dsr_ledger.proofs.NumberedLemmas.{numbers_kept}
 use Rattle.dsr_ledger.proofs.PartLemmas.{parts_kept}
 use Rattle.dsr_ledger.proofs.RecordingLemmas.{key_of, tally_changed, within_written, wide_written, wide_below}

@@ -1,6 +1,4 @@
-use Rattle.std.proofs.Common.{arith}
-use Rattle.std.proofs.lemmas.Grind.{common_steps}
-use Rattle.dsr_ledger.proofs.Common.{rules, ◌≡◌, ◌++◌, ◌∷◌, [], ap, sym, subst, ◌∙◌, length, nat_eq, None, Some, map_push, AreIndexed, AreApart, AreBelow, part_seats, seat_numbers, line_in, line_keys, AreWithin, LinesGrow}
+use Rattle.dsr_ledger.proofs.Common.{arith, common_steps, rules, ◌≡◌, ◌++◌, ◌∷◌, [], ap, sym, subst, ◌∙◌, length, nat_eq, None, Some, map_push, AreIndexed, AreApart, AreBelow, part_seats, seat_numbers, line_in, line_keys, AreWithin, LinesGrow}
 use Rattle.dsr_ledger.proofs.NumberedLemmas.{item_there, apart_more, same_number}
 use Rattle.dsr_ledger.proofs.RecordingLemmas.{key_of, grow_pushed, within_pushed}
 use Rattle.dsr_ledger.proofs.ledger.recording.Recording.add_line.Goals as goal

@@ -1,5 +1,4 @@
-use Rattle.std.proofs.Common.{arith}
-use Rattle.std.proofs.lemmas.Grind.{common_steps}
+use Rattle.dsr_ledger.proofs.Common.{arith, common_steps}
 use Rattle.dsr_ledger.proofs.RecordingLemmas.{grow_twice}
 use Rattle.dsr_ledger.proofs.ledger.recording.Recording.line.Goals as goal
 

@@ -1,6 +1,4 @@
-use Rattle.std.proofs.Common.{arith}
-use Rattle.std.proofs.lemmas.Grind.{common_steps}
-use Rattle.dsr_ledger.proofs.Common.{rules, ◌≡◌, ◌++◌, ◌∷◌, [], sym, ap, ◌∙◌, subst, nat_eq, map-id, AreIndexed, AreApart}
+use Rattle.dsr_ledger.proofs.Common.{arith, common_steps, rules, ◌≡◌, ◌++◌, ◌∷◌, [], sym, ap, ◌∙◌, subst, nat_eq, map-id, AreIndexed, AreApart}
 use Rattle.dsr_ledger.proofs.NumberedLemmas.{apart_more, same_number}
 use Rattle.dsr_ledger.proofs.ledger.seats.Seats.add.Goals as goal
 

@@ -1,6 +1,4 @@
-use Rattle.std.proofs.Common.{arith, ap, ◌∙◌, ◌≡◌, ◌+◌, ◌-◌}
-use Rattle.std.specs.Simd.Lanes.{chunk}
-use Rattle.dsr_records.specs.inner.Usual.{odd_bits}
+use Rattle.dsr_records.proofs.Common.{arith, ap, ◌∙◌, ◌≡◌, ◌+◌, ◌-◌, chunk, odd_bits}
 use Rattle.dsr_records.proofs.UsualCells.{left_behind}
 use Rattle.dsr_records.proofs.usual.cells.Cells.behind.Goals as goal
 

@@ -1,4 +1,4 @@
-use Rattle.std.proofs.Common.{arith}
+use Rattle.dsr_records.proofs.Common.{arith}
 use Rattle.dsr_records.proofs.UsualCells.{behind_type}
 use Rattle.dsr_records.proofs.UsualLines.{type_front}
 use Rattle.dsr_records.proofs.usual.cells.Cells.behind_type.Goals as goal

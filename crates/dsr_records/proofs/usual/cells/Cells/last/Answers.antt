@@ -1,7 +1,4 @@
-use Rattle.std.proofs.Common.{arith, ◌≡◌, true}
-use Rattle.std.specs.List.{list_all}
-use Rattle.std.specs.Simd.Lanes.{chunk}
-use Rattle.dsr_records.specs.inner.Usual.{is_printable}
+use Rattle.dsr_records.proofs.Common.{arith, ◌≡◌, true, list_all, chunk, is_printable}
 use Rattle.dsr_records.proofs.UsualCells.{printable_utf8, shown_all}
 use Rattle.dsr_records.proofs.UsualLines.{last_of_line}
 use Rattle.dsr_records.proofs.usual.cells.Cells.last.Goals as goal

@@ -1,7 +1,4 @@
-use Rattle.std.proofs.Common.{arith, subst, ap, ◌∙◌, ◌≡◌, ◌+◌, ◌-◌, ◌∷◌, [], ◌++◌, slice_index}
-use Rattle.std.specs.Simd.Lanes.{chunk}
-use Rattle.std.specs.Str.{IsUtf8}
-use Rattle.dsr_records.specs.inner.Usual.{IsFront}
+use Rattle.dsr_records.proofs.Common.{arith, subst, ap, ◌∙◌, ◌≡◌, ◌+◌, ◌-◌, ◌∷◌, [], ◌++◌, slice_index, chunk, IsUtf8, IsFront}
 use Rattle.dsr_records.proofs.UsualLines.{next_front}
 use Rattle.dsr_records.proofs.usual.cells.Cells.next_text.Goals as goal
 

@@ -1,4 +1,4 @@
-use Rattle.std.proofs.Common.{arith}
+use Rattle.dsr_records.proofs.Common.{arith}
 use Rattle.dsr_records.proofs.UsualCells.{cell_within, cell_printable}
 use Rattle.dsr_records.proofs.usual.cells.Cells.run.Goals as goal
 

@@ -1,7 +1,4 @@
-use Rattle.std.proofs.Common.{arith, refl, ◌≡◌, ◌+◌, true}
-use Rattle.std.specs.List.{list_all}
-use Rattle.std.specs.Simd.Lanes.{chunk}
-use Rattle.dsr_records.specs.inner.Usual.{is_printable}
+use Rattle.dsr_records.proofs.Common.{arith, refl, ◌≡◌, ◌+◌, true, list_all, chunk, is_printable}
 use Rattle.dsr_records.proofs.UsualCells.{shown_all, shown_past, shown_to}
 use Rattle.dsr_records.proofs.usual.cells.Cells.text_end.Goals as goal
 

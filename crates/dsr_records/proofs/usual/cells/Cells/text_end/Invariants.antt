@@ -1,7 +1,4 @@
-use Rattle.std.proofs.Common.{◌≡◌, ◌-◌, ◌≤◌, true}
-use Rattle.std.specs.List.{list_all}
-use Rattle.std.specs.Simd.Lanes.{chunk}
-use Rattle.dsr_records.specs.inner.Usual.{is_shown}
+use Rattle.dsr_records.proofs.Common.{◌≡◌, ◌-◌, ◌≤◌, true, list_all, chunk, is_shown}
 use Rattle.dsr_records.proofs.usual.cells.Cells.text_end.Given as goal
 
 abbrev pub invariant-loop-end : goal.invariant-loop-end

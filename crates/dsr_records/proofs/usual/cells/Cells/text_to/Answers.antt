@@ -1,6 +1,4 @@
-use Rattle.std.proofs.Common.{arith, subst, ◌≡◌, ◌-◌, take, drop}
-use Rattle.std.specs.Str.{IsUtf8}
-use Rattle.std.specs.Simd.Lanes.{chunk}
+use Rattle.dsr_records.proofs.Common.{arith, subst, ◌≡◌, ◌-◌, take, drop, IsUtf8, chunk}
 use Rattle.dsr_records.proofs.UsualCells.{printable_utf8}
 use Rattle.dsr_records.proofs.usual.cells.Cells.text_to.Goals as goal
 
