@@ -16,8 +16,8 @@ use Rattle.dsr_intake.specs.meaning.Texts.{GaveEach}
 use Rattle.dsr_io.specs.meaning.Written.{Written}
 use Rattle.dsr_command.specs.declared.replacement.Stage.{Stage}
 use Rattle.dsr_command.specs.declared.replacement.Stage.TheVariants.{Removed}
-use Rattle.dsr_command.specs.Faults.{fault_line, IsSettled}
-use Rattle.dsr_command.specs.LayoutFile.{IsTold}
+use Rattle.dsr_command.specs.Faults.{fault_line, IsTold}
+use Rattle.dsr_command.specs.NewFiles.{IsSettled}
 use Rattle.dsr.specs.Serving.{outputs, HadAnswer, stage_after}
 
 -- what holds of each source holds of its watched source

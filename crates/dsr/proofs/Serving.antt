@@ -6,9 +6,9 @@ use Rattle.std.specs.declared.fs.File.{File}
 use Rattle.dsr_command.specs.declared.inputs.OpenError.{OpenError}
 use Rattle.dsr_command.specs.declared.inputs.OpenError.TheVariants.{CannotOpen, Memory}
 use Rattle.dsr_command.specs.declared.layout_file.LayoutFile.{LayoutFile}
-use Rattle.dsr_command.specs.Faults.{cannot_open_line, dsr, layout_refused_line, line_of, unopened_line, unopened_status}
+use Rattle.dsr_command.specs.Faults.{cannot_open_line, dsr, layout_refused_line, line_of, unopened_line, unopened_status, IsTold}
 use Rattle.dsr_command.specs.Inputs.{IsLayoutUnopened, IsRefusal}
-use Rattle.dsr_command.specs.LayoutFile.{IsLayoutGiven, IsOpened, AreRefused, IsTold}
+use Rattle.dsr_command.specs.LayoutFile.{IsLayoutGiven, IsOpened, AreRefused}
 use Rattle.dsr_intake.specs.declared.options.Options.{Options}
 use Rattle.dsr_io.specs.meaning.Written.{Written, IsFlushed, IsCut}
 use Rattle.dsr.specs.Serving.{outputs, IsOnlyTold, IsLayoutAsked, IsLayoutUnused, IsWithoutMemory}

@@ -14,9 +14,10 @@ use Rattle.dsr_command.specs.declared.new_file.NewFile.{NewFile}
 use Rattle.dsr_command.specs.declared.new_file.NewFileError.{NewFileError}
 use Rattle.dsr_command.specs.declared.replacement.Stage.{Stage}
 use Rattle.dsr_command.specs.declared.replacement.Stage.TheVariants.{InPlace, Removed}
-use Rattle.dsr_command.specs.Faults.{cannot_open_line, dsr, failed_line, fault_line, layout_refused_line, layout_refused_status, line_of, status_number, IsApart, cannot_replace_line, new_file_line, new_file_status}
+use Rattle.dsr_command.specs.Faults.{cannot_open_line, dsr, failed_line, fault_line, layout_refused_line, layout_refused_status, line_of, status_number, IsTold}
+use Rattle.dsr_command.specs.NewFiles.{IsApart, cannot_replace_line, new_file_line, new_file_status}
 use Rattle.dsr_command.specs.Inputs.{sources_of}
-use Rattle.dsr_command.specs.LayoutFile.{IsLayoutGiven, IsNoLayout, IsTold}
+use Rattle.dsr_command.specs.LayoutFile.{IsLayoutGiven, IsNoLayout}
 use Rattle.dsr_file.specs.meaning.Runs.{FileText}
 use Rattle.dsr_io.specs.declared.to_write.ToWrite.{ToWrite}
 use Rattle.dsr_io.specs.meaning.Told.{Told}

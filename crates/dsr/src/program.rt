@@ -1,7 +1,7 @@
 //! From the program's arguments to its exit status.
 ghost use Rattle.std.specs.Prelude.{◌≡◌, false, IfErr, OnOk, map};
 ghost use Rattle.std.specs.String.{string_bytes};
-ghost use Rattle.dsr_command.specs.LayoutFile.{IsTold};
+ghost use Rattle.dsr_command.specs.Faults.{IsTold};
 ghost use Rattle.dsr.specs.Serving.{outputs, system, AreUnread, IsRead, IsServed, IsShown, IsDone, IsAnswered};
 
 use crate::running::{Reading, run_into, run_printed};

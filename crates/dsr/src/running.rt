@@ -3,8 +3,7 @@ ghost use Rattle.std.specs.Prelude.{◌≡◌, false, List, All, IfOk, IfErr, Er
 ghost use Rattle.dsr_file.specs.meaning.Runs.{FileText};
 ghost use Rattle.dsr_intake.specs.meaning.Texts.{refusal_of};
 ghost use Rattle.dsr_intake.specs.meaning.Outcomes.{IsReported, IsUnwritten, IsLateRun};
-ghost use Rattle.dsr_command.specs.Faults.{fault_line, status_number};
-ghost use Rattle.dsr_command.specs.LayoutFile.{IsTold};
+ghost use Rattle.dsr_command.specs.Faults.{fault_line, status_number, IsTold};
 ghost use Rattle.dsr.specs.Serving.{outputs, HadRun, HadRunInto};
 
 use dsr_cells::{NoMemory, Text};

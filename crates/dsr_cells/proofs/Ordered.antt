@@ -6,7 +6,7 @@ use Rattle.std.specs.Int.{w32, w64, from_be_bytes}
 use Rattle.std.proofs.lemmas.Slice.Eq.{bytes_eq-Decides}
 use Rattle.std.proofs.lemmas.Nat.{mul-add-lt}
 use Rattle.dsr_texts.specs.inner.Bytes.{AreBytes}
-use Rattle.dsr_texts.proofs.Bytes.{small_front, small_back}
+use Rattle.dsr_texts.proofs.ByteLists.{small_front, small_back}
 use Rattle.dsr_cells.specs.inner.Parts.{number_of_bytes}
 
 below : (bytes : List ℕ) → AreBytes bytes → number_of_bytes bytes < 256 ^ length bytes

@@ -10,5 +10,5 @@ pub use Rattle.dsr_io.specs.meaning.Written.{IsCut, IsFlushed, IsTaken, Written}
 pub use Rattle.dsr_command.specs.CommandLine.{Answers, IsAskedBy, IsFaultOf, IsFlagAsked, IsNumberAsked, is_request, option_rule}
 unfoldable pub use Rattle.dsr_command.specs.CommandLine.{bare_command, command_line}
 pub use Rattle.dsr_command.specs.Inputs.{IsRefusal, IsRefusalOf}
-pub use Rattle.dsr_command.specs.Faults.{IsApart}
-pub use Rattle.dsr_command.specs.LayoutFile.{IsWritten, joined}
+pub use Rattle.dsr_command.specs.NewFiles.{IsApart}
+pub use Rattle.dsr_command.specs.Faults.{IsWritten, joined}

@@ -1,5 +1,8 @@
--- The exit status of a run, and the line for its error; new files that take the place of others.
-use Rattle.std.specs.Prelude.{ℕ, List, [], ◌∷◌, ◌++◌, codes, decimal, Result, Ok, Err, ◌≡◌, ◌≢◌, Option, None, Some}
+-- The exit status of a run, the line for its error, and how a line is told.
+use Rattle.std.specs.Prelude.{ℕ, List, [], ◌∷◌, ◌++◌, codes, decimal, Result, Ok, Err, ◌≤◌, length, Bool, true, false, map, take}
+use Rattle.std.specs.List.{concat}
+use Rattle.std.specs.Borrow.{Bor}
+use Rattle.dsr_io.specs.meaning.Written.{Written, IsFlushed, IsCut}
 use Rattle.dsr_intake.specs.declared.errors.IntakeError.{IntakeError}
 use Rattle.dsr_intake.specs.declared.errors.RunError.{RunError}
 use Rattle.dsr_statement.specs.declared.verdict.Status.{Status}
@@ -9,16 +12,10 @@ use Rattle.dsr_records.specs.declared.fault.LayoutFault.{LayoutFault}
 use Rattle.dsr_command.specs.declared.layout_file.LayoutReadError.{LayoutReadError}
 use Rattle.dsr_command.specs.declared.layout_file.LayoutReadError.TheVariants.{Read, Bad, Memory}
 use Rattle.dsr_command.specs.declared.inputs.OpenError.{OpenError}
-use Rattle.dsr_io.specs.declared.source.Failed.{Failed}
-use Rattle.dsr_command.specs.declared.identity.FileIdentity.{FileIdentity}
-use Rattle.dsr_command.specs.declared.new_file.NewFileError.{NewFileError}
-use Rattle.dsr_command.specs.declared.replacement.Stage.{Stage}
-use Rattle.dsr_command.specs.declared.replacement.Stage.TheVariants.{InPlace, Removed}
 use Rattle.dsr_intake.specs.declared.errors.IntakeError.TheVariants as intake
 use Rattle.dsr_intake.specs.declared.errors.RunError.TheVariants as run
 use Rattle.dsr_records.specs.declared.fault.LayoutFault.TheVariants as layout
 use Rattle.dsr_command.specs.declared.inputs.OpenError.TheVariants as unopened
-use Rattle.dsr_command.specs.declared.new_file.NewFileError.TheVariants as no_file
 
 -- the exit status of a run: 0 clean, 1 with remarks, 3 if it failed
 abbrev pub status_number : Result Status RunError → ℕ
@@ -103,31 +100,15 @@ abbrev pub unopened_status : OpenError → ℕ
 unopened_status (unopened.CannotOpen name) = 2
 unopened_status unopened.Memory = 3
 
--- where a new file ends: only after an Ok is it in the place of the other file, and else it is removed. Failed says that it
--- could not be put there
-abbrev pub IsSettled : {T E : Type 0} → Result T E → Result (Unit {0}) Failed → Stage → Type 0
-IsSettled (Ok value) (Ok done) stage = stage ≡ InPlace
-IsSettled (Ok value) (Err failed) stage = stage ≡ Removed
-IsSettled (Err error) (Ok done) stage = stage ≡ Removed
-IsSettled (Err error) (Err failed) stage = ⊥
+-- the parts, one after another
+abbrev pub joined : List (Bor (List ℕ)) → List ℕ
+joined parts = concat (map (λ p. p.now) parts)
 
--- the replaced file, if there is one, is not this one
-abbrev pub IsApart : Option FileIdentity → Option FileIdentity → Type 0
-IsApart None read = Unit {0}
-IsApart (Some file) read = read ≢ Some file
+-- the whole line was written and flushed; or only its first n bytes were written, and the outlet failed
+abbrev pub IsWritten : Bool → Written → Written → List ℕ → Type 0
+IsWritten true before after line = IsFlushed line before after
+IsWritten false before after line = (n : ℕ) × (n ≤ length line) × IsCut (take n line) before after
 
--- the line for a file that cannot be put in its place
-abbrev pub cannot_replace_line : List ℕ → List ℕ → List ℕ
-cannot_replace_line program name = program ++ (codes ": cannot replace " ++ (name ++ 10 ∷ []))
-
--- the line for a new file that cannot be had
-abbrev pub new_file_line : List ℕ → List ℕ → NewFileError → List ℕ
-new_file_line program name no_file.IsRead = program ++ (codes ": cannot write to " ++ (name ++ (codes ", which is read" ++ 10 ∷ [])))
-new_file_line program name no_file.CannotCreate = program ++ (codes ": cannot create " ++ (name ++ 10 ∷ []))
-new_file_line program name no_file.Memory = line_of program (codes "out of memory")
-
--- the exit status for a new file that cannot be had
-abbrev pub new_file_status : NewFileError → ℕ
-new_file_status no_file.IsRead = 2
-new_file_status no_file.CannotCreate = 2
-new_file_status no_file.Memory = 3
+-- the whole line was written and flushed, or the outlet failed in it
+abbrev pub IsTold : Written → Written → List ℕ → Type 0
+IsTold before after line = (taken : Bool) × IsWritten taken before after line

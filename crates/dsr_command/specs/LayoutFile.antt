@@ -1,15 +1,13 @@
--- Reading the layout's file, and what is written of a line.
-use Rattle.std.specs.Prelude.{◌≡◌, ℕ, ◌≤◌, ◌⊎◌, List, length, Option, None, Some, Result, Ok, Err, Bool, true, false, codes, map, take}
+-- Reading the layout's file.
+use Rattle.std.specs.Prelude.{◌≡◌, ℕ, ◌≤◌, ◌⊎◌, List, length, Option, None, Some, Result, Ok, Err, codes}
 use Rattle.std.specs.Io.KnownBytes.{Consumes, IsAtEnd}
 use Rattle.dsr_records.specs.meaning.Records.{LayoutTable}
 use Rattle.dsr_records.specs.meaning.Layouts.{layout_of, standard_layout}
 use Rattle.dsr_command.specs.declared.layout_file.LayoutFile.{LayoutFile}
 use Rattle.dsr_command.specs.declared.layout_file.LayoutReadError.{LayoutReadError}
 use Rattle.dsr_command.specs.declared.layout_file.LayoutReadError.TheVariants.{Read, Bad, Memory}
-use Rattle.std.specs.List.{concat}
-use Rattle.std.specs.Borrow.{Bor}
-use Rattle.dsr_command.specs.Faults.{dsr, layout_refused_line, layout_refused_status, line_of}
-use Rattle.dsr_io.specs.meaning.Written.{Written, IsFlushed, IsCut}
+use Rattle.dsr_command.specs.Faults.{dsr, layout_refused_line, layout_refused_status, line_of, IsTold}
+use Rattle.dsr_io.specs.meaning.Written.{Written}
 
 -- these bytes were read: all bytes of the reader, or the first 65,537 of them
 pub record IsTaken (before after : Option (List ℕ)) (bytes : List ℕ) : Type 0 where
@@ -49,19 +47,6 @@ IsLayoutGiven remaining (Some file) layout = (left : Option (List ℕ)) × IsLay
 -- the file gave no layout, for this reason
 abbrev pub IsNoLayout : {R : Type 0} → (R → Option (List ℕ)) → LayoutFile R → LayoutReadError → Type 0
 IsNoLayout remaining file error = (left : Option (List ℕ)) × IsLayoutAnswer (remaining file.reader) left (Err error)
-
--- the parts, one after another
-abbrev pub joined : List (Bor (List ℕ)) → List ℕ
-joined parts = concat (map (λ p. p.now) parts)
-
--- the whole line was written and flushed; or only its first n bytes were written, and the outlet failed
-abbrev pub IsWritten : Bool → Written → Written → List ℕ → Type 0
-IsWritten true before after line = IsFlushed line before after
-IsWritten false before after line = (n : ℕ) × (n ≤ length line) × IsCut (take n line) before after
-
--- the whole line was written and flushed, or the outlet failed in it
-abbrev pub IsTold : Written → Written → List ℕ → Type 0
-IsTold before after line = (taken : Bool) × IsWritten taken before after line
 
 -- the layout's file gave none: the exit status is this, and its line was told
 abbrev pub IsLayoutRefused : {R : Type 0} → (R → Option (List ℕ)) → Option (LayoutFile R) → Written → Written → ℕ → Type 0

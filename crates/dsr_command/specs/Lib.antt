@@ -3,3 +3,4 @@ pub mod CommandLine
 pub mod Inputs
 pub mod Faults
 pub mod LayoutFile
+pub mod NewFiles

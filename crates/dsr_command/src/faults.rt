@@ -1,7 +1,6 @@
 //! The line for a run that failed, and the exit status.
 ghost use Rattle.std.specs.Prelude.{◌≡◌};
-ghost use Rattle.dsr_command.specs.Faults.{status_number, fault_line, line_of, closed_line, failed_line, bad_layout_line, layout_fault_text};
-ghost use Rattle.dsr_command.specs.LayoutFile.{IsWritten};
+ghost use Rattle.dsr_command.specs.Faults.{status_number, fault_line, line_of, closed_line, failed_line, bad_layout_line, layout_fault_text, IsWritten};
 
 use crate::print::write_parts;
 use dsr_intake::{IntakeError, Outlet, RunError, Status};

@@ -1,6 +1,6 @@
 //! A new file for `--output`, beside the one whose place it takes once it is whole.
 ghost use Rattle.std.specs.Prelude.{◌≡◌, false, All, IfOk, IfErr};
-ghost use Rattle.dsr_command.specs.Faults.{IsApart};
+ghost use Rattle.dsr_command.specs.NewFiles.{IsApart};
 
 use crate::identity::FileIdentity;
 use crate::inputs::Input;

@@ -1,7 +1,7 @@
 //! Printing a text that the command line asks for, and lines.
 ghost use Rattle.std.specs.Prelude.{◌≤◌, MatchResult, length, take};
 ghost use Rattle.dsr_io.specs.meaning.Written.{IsFlushed, IsCut};
-ghost use Rattle.dsr_command.specs.LayoutFile.{IsWritten, joined};
+ghost use Rattle.dsr_command.specs.Faults.{IsWritten, joined};
 
 use dsr_file::Failed;
 use dsr_intake::{Outlet, write_all};

@@ -1,7 +1,7 @@
 //! What ends the program before a file of the report is read.
 ghost use Rattle.std.specs.Prelude.{◌≡◌, codes};
-ghost use Rattle.dsr_command.specs.Faults.{layout_refused_line, layout_refused_status, line_of, unopened_line, unopened_status, cannot_replace_line, new_file_line, new_file_status};
-ghost use Rattle.dsr_command.specs.LayoutFile.{IsTold};
+ghost use Rattle.dsr_command.specs.Faults.{layout_refused_line, layout_refused_status, line_of, unopened_line, unopened_status, IsTold};
+ghost use Rattle.dsr_command.specs.NewFiles.{cannot_replace_line, new_file_line, new_file_status};
 
 use crate::faults::{DSR, REFUSED, UNFINISHED, write_bad_layout, write_line};
 use crate::inputs::OpenError;

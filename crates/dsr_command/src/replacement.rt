@@ -1,6 +1,6 @@
 //! Putting a new file in another one's place, or removing it.
 ghost use Rattle.std.specs.Prelude.{◌≡◌, MatchResult};
-ghost use Rattle.dsr_command.specs.Faults.{IsSettled};
+ghost use Rattle.dsr_command.specs.NewFiles.{IsSettled};
 
 use dsr_file::Failed;
 

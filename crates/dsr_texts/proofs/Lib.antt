@@ -1,5 +1,5 @@
 pub mod Common
-pub mod Bytes
+pub mod ByteLists
 pub mod Lent
 pub mod Shorts
 pub mod Views

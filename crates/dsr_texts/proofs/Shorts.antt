@@ -10,7 +10,7 @@ use Rattle.std.proofs.lemmas.Bool.Decides.{Decides-eqb}
 use Rattle.std.proofs.lemmas.Nat.{le_bytes_8}
 use Rattle.std.proofs.lemmas.Slice.Eq.{bytes_eq-Decides}
 use Rattle.dsr_texts.specs.inner.Short.{HasZerosBehind}
-use Rattle.dsr_texts.proofs.Bytes.{small_front, small_back}
+use Rattle.dsr_texts.proofs.ByteLists.{small_front, small_back}
 
 -- a text copied to the front of zeros has zeros after it
 pub copied_zeros : (text given bytes : List ℕ) → given ≡ text → drop (length given) bytes ≡ drop (length given) (replicate 22 0)

@@ -1,6 +1,6 @@
 //! The texts of a report: found in the bytes of a file, tested, and kept past their line.
 //!
-//! 1. `line_feed` finds the first line feed, which ends a line; `utf8` tests that bytes are UTF-8 (RFC 3629).
+//! 1. `bytes` finds the first line feed, which ends a line, and tests that bytes are UTF-8 (RFC 3629).
 //! 2. `text` keeps a text: up to 22 bytes in place (`short`), longer ones on the heap (`kept`). A text
 //!    takes 24 bytes, and can be written over, which reuses its memory.
 //! 3. `inline_items` is the list type of blocks, and of the parties of a report's line: its first items
@@ -40,18 +40,16 @@
 //! equal, ordered and hashed by their bytes. Only calls that return `NoMemory`, and `push` of the two list types, take
 //! memory. If it is refused, they change nothing.
 //!
-//! **Where to begin.** `src/items.rt`, then `src/text.rt`; `src/line_feed.rt` for what is found.
+//! **Where to begin.** `src/items.rt`, then `src/text.rt`; `src/bytes.rt` for what is found.
 #![tactic(auto)]
 
+mod bytes;
 mod inline_items;
 mod items;
-mod line_feed;
 mod short;
 mod text;
-mod utf8;
 
+pub use bytes::{line_end, text_of};
 pub use inline_items::InlineItems;
 pub use items::Items;
-pub use line_feed::line_end;
 pub use text::{NoMemory, Text, Texts};
-pub use utf8::text_of;

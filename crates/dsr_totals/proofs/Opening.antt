@@ -3,9 +3,8 @@ use Rattle.std.proofs.Common.{◌≡◌, ℕ, List, true, false, refl, subst, in
 use Rattle.std.specs.Prelude.{◌⊎◌, ◌≤◌, Result, Ok, Err, MatchResult, take}
 use Rattle.dsr_command.specs.declared.inputs.OpenError.{OpenError}
 use Rattle.dsr_command.specs.declared.inputs.OpenError.TheVariants.{CannotOpen, Memory}
-use Rattle.dsr_command.specs.Faults.{cannot_open_line, line_of, unopened_line, unopened_status}
+use Rattle.dsr_command.specs.Faults.{cannot_open_line, line_of, unopened_line, unopened_status, IsTold}
 use Rattle.dsr_command.specs.Inputs.{IsRefusal}
-use Rattle.dsr_command.specs.LayoutFile.{IsTold}
 use Rattle.dsr_io.specs.meaning.Written.{Written, IsFlushed, IsCut}
 use Rattle.dsr_totals.specs.Refusals.{dsr_totals}
 use Rattle.dsr_totals.specs.Serving.{IsOnlyTold, IsUnopened, IsWithoutMemory, outputs}

@@ -3,7 +3,7 @@ use Rattle.std.proofs.Common.{◌≡◌, ℕ, List}
 use Rattle.std.specs.Prelude.{Result, Ok, Err}
 use Rattle.dsr_command.specs.declared.replacement.Stage.{Stage}
 use Rattle.dsr_command.specs.declared.replacement.Stage.TheVariants.{Removed}
-use Rattle.dsr_command.specs.Faults.{IsSettled}
+use Rattle.dsr_command.specs.NewFiles.{IsSettled}
 use Rattle.dsr_io.specs.declared.source.Failed.{Failed}
 use Rattle.dsr_io.specs.meaning.Told.{Told}
 use Rattle.dsr_io.specs.meaning.Written.{Written, IsFlushed}

@@ -8,9 +8,9 @@ use Rattle.dsr_command.specs.declared.command.CommandFault.TheVariants.{Help, Re
 use Rattle.dsr_command.specs.declared.inputs.Input.{Input}
 use Rattle.dsr_command.specs.declared.new_file.NewFile.{NewFile}
 use Rattle.dsr_command.specs.declared.new_file.NewFileError.{NewFileError}
-use Rattle.dsr_command.specs.Faults.{cannot_open_line, failed_line, line_of, IsApart, new_file_line, new_file_status}
+use Rattle.dsr_command.specs.Faults.{cannot_open_line, failed_line, line_of, IsTold}
+use Rattle.dsr_command.specs.NewFiles.{IsApart, new_file_line, new_file_status}
 use Rattle.dsr_command.specs.Inputs.{sources_of}
-use Rattle.dsr_command.specs.LayoutFile.{IsTold}
 use Rattle.dsr_io.specs.declared.to_write.ToWrite.{ToWrite}
 use Rattle.dsr_io.specs.meaning.Told.{Told}
 use Rattle.dsr_io.specs.meaning.Written.{Written, IsFlushed, IsCut}

@@ -2,8 +2,8 @@
 use Rattle.std.specs.Prelude.{◌≡◌, ◌≤◌, ◌⊎◌, ◌-◌, ℕ, Bool, nat_lt, if◌then◌else◌, List, [], ◌∷◌, codes, length, take, slice_get, Result, Ok, Err, unwrap_or}
 use Rattle.dsr_command.specs.declared.replacement.Stage.{Stage}
 use Rattle.dsr_command.specs.declared.replacement.Stage.TheVariants.{InPlace, Removed}
-use Rattle.dsr_command.specs.Faults.{failed_line, cannot_replace_line}
-use Rattle.dsr_command.specs.LayoutFile.{IsTold}
+use Rattle.dsr_command.specs.Faults.{failed_line, IsTold}
+use Rattle.dsr_command.specs.NewFiles.{cannot_replace_line}
 use Rattle.dsr_io.specs.meaning.Told.{Told}
 use Rattle.dsr_io.specs.meaning.Written.{Written, IsFlushed, IsCut}
 use Rattle.dsr_sums.specs.declared.answer.TotalsError.{TotalsError}

@@ -1,6 +1,6 @@
 //! The lines for totals that cannot be had.
 ghost use Rattle.std.specs.Prelude.{◌≡◌};
-ghost use Rattle.dsr_command.specs.LayoutFile.{IsTold, IsWritten};
+ghost use Rattle.dsr_command.specs.Faults.{IsTold, IsWritten};
 ghost use Rattle.dsr_totals.specs.Refusals.{fault_text, no_totals_line, no_totals_status, refusal_line};
 
 use dsr_command::{UNFINISHED, no_memory, write_line, write_parts};

@@ -1,7 +1,7 @@
 //! From the program's arguments to its exit status.
 ghost use Rattle.std.specs.Prelude.{◌≡◌, IfErr, OnOk, map};
 ghost use Rattle.std.specs.String.{string_bytes};
-ghost use Rattle.dsr_command.specs.LayoutFile.{IsTold};
+ghost use Rattle.dsr_command.specs.Faults.{IsTold};
 ghost use Rattle.dsr_totals.specs.Serving.{AreUnread, IsAnswered, IsDone, IsServed, IsShown, outputs};
 
 use crate::arguments::asked;

@@ -1,7 +1,7 @@
 //! The totals, and where they go.
 ghost use Rattle.std.specs.Prelude.{◌≡◌, ◌⊎◌, ◌++◌, false, All, IfErr, IfOk, Some, map};
 ghost use Rattle.dsr_command.specs.Inputs.{IsRefusal, sources_of};
-ghost use Rattle.dsr_command.specs.LayoutFile.{IsTold};
+ghost use Rattle.dsr_command.specs.Faults.{IsTold};
 ghost use Rattle.dsr_totals.specs.Totaling.{HadTotals, HadTotalsInto, IsAnswerTold, WroteTotals, error_line, error_status, given_count, name_at, name_in, refused_name, status_after};
 
 use crate::command::Asked;

@@ -4,7 +4,6 @@ use Rattle.dsr_events.specs.meaning.Blocks.{BlockParts}
 use Rattle.dsr_events.specs.declared.event.EventPart.{EventPart}
 use Rattle.std.specs.List.{list_any}
 use Rattle.dsr_events.specs.declared.event.EventPart.TheVariants.{Opened, Block, Ended}
-use Rattle.dsr_events.specs.declared.event.EventPart.TheVariants as tell
 
 pub record Placed : Type 0 where
   pub place : ℕ
@@ -12,7 +11,7 @@ pub record Placed : Type 0 where
 
 -- the event of a block with this place
 abbrev pub block_event : ℕ → BlockParts → Placed
-block_event place block = record { place = place; part = tell.Block block }
+block_event place block = record { place = place; part = Block block }
 
 abbrev pub is_ended : EventPart → Bool
 is_ended (Opened _) = false

@@ -13,7 +13,6 @@ use Rattle.dsr_file.specs.declared.stage.Stage.{Stage}
 use Rattle.dsr_file.specs.declared.stage.Stage.TheVariants.{Start, Front, Open, Closed}
 use Rattle.dsr_file.specs.meaning.Readings.{parts, opens, last_of, block_limit, has_id}
 use Rattle.dsr_file.specs.meaning.Faults.{column, place, summary_fault, member_fault}
-use Rattle.dsr_events.specs.declared.record.Record.TheVariants.{Summary, Foot}
 use Rattle.dsr_file.specs.declared.closed.Closed.TheInside.{Inside}
 use Rattle.dsr_events.specs.meaning.Orderly.{Placed}
 use Rattle.dsr_events.specs.declared.kinds.Kind.TheVariants as kinds
@@ -112,11 +111,11 @@ KeepsStage (Open b) rs = IsOpen b rs
 KeepsStage Closed rs = column (last_of rs) ≡ columns.Closed
 
 abbrev pub foot_in : Record → Option foot.Foot
-foot_in (Foot f) = Some f
+foot_in (the.Foot f) = Some f
 foot_in _ = None
 
 abbrev pub summary_count : Record → ℕ
-summary_count (Summary s) = 1
+summary_count (the.Summary s) = 1
 summary_count _ = 0
 
 -- 1 for a block, otherwise 0

@@ -2,7 +2,6 @@
 use Rattle.std.specs.Prelude.{ℕ, nat_lt, ◌&&◌, ◌||◌, Bool, true, false, List, [], ◌∷◌, length, if◌then◌else◌, ◌+◌, ◌++◌, map, Option, None, Some}
 use Rattle.dsr_cells.specs.meaning.Lines.{pieces, is_long}
 use Rattle.dsr_events.specs.declared.fault.Ending.{Ending}
-use Rattle.dsr_events.specs.declared.fault.Ending.TheVariants.{Whole, Read, Reads}
 use Rattle.dsr_events.specs.declared.record.Record.{Record}
 use Rattle.dsr_records.specs.meaning.Records.{LayoutTable}
 use Rattle.dsr_events.specs.declared.fault.FileFault.{FileFault}
@@ -19,9 +18,9 @@ use Rattle.dsr_events.specs.declared.fault.Ending.TheVariants as endings
 use Rattle.dsr_events.specs.declared.fault.Outcome.TheVariants as outcomes
 
 abbrev pub is_whole : Ending → Bool
-is_whole Whole = true
-is_whole Read = false
-is_whole Reads = false
+is_whole endings.Whole = true
+is_whole endings.Read = false
+is_whole endings.Reads = false
 
 -- the piece after the last line feed is a line if it is not empty, and the text is whole or the piece is too long
 abbrev pub last_is_line : Ending → List ℕ → Bool

@@ -1,7 +1,6 @@
 -- What is asked of options and readers, what a thread promises, what holds of a tap and of the books while they are collected, and why that stops.
 use Rattle.std.specs.Prelude.{Bool, true, false, not, List, [], ◌∷◌, Result, Ok, Err, ◌≡◌, ◌<◌, ◌≤◌, length, All, map, ℕ, ◌+◌, Some, slice_get, take, ◌^◌, ◌++◌, None, IsSome, slice_set}
 use Rattle.dsr_events.specs.declared.event.EventPart.{EventPart}
-use Rattle.dsr_events.specs.declared.event.EventPart.TheVariants.{Opened, Block, Ended}
 use Rattle.dsr_events.specs.declared.fault.Outcome.{Outcome}
 use Rattle.dsr_events.specs.meaning.Orderly.{Placed, has_ended, IsOrderly}
 use Rattle.dsr_events.specs.meaning.Names.{is_memory}
@@ -32,9 +31,9 @@ use Rattle.dsr_events.specs.declared.event.EventPart.TheVariants as part
 
 -- the part is an Ended, and Memory is not its fault
 abbrev pub is_clean_end : EventPart → Bool
-is_clean_end (Opened opening) = false
-is_clean_end (Block block) = false
-is_clean_end (Ended outcome) = not (is_memory outcome)
+is_clean_end (part.Opened opening) = false
+is_clean_end (part.Block block) = false
+is_clean_end (part.Ended outcome) = not (is_memory outcome)
 
 -- the last event is an Ended, and Memory is not its fault
 abbrev pub ends_clean : List Placed → Bool

@@ -1,5 +1,5 @@
 use Rattle.dsr_cells.proofs.Common.{◌≡◌, ◌++◌, map, length, shadow, Utf8, cells}
-use Rattle.dsr_cells.proofs.cut.FirstCells.of.Given as goal
+use Rattle.dsr_cells.proofs.first_cells.FirstCells.of.Given as goal
 
 abbrev pub invariant-loop-index : goal.invariant-loop-index
 invariant-loop-index l = record {

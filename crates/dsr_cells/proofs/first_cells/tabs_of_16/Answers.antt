@@ -1,5 +1,5 @@
 use Rattle.dsr_cells.proofs.Common.{arith, eqb, w8, chunk, bitmask_splat, length-chunk}
-use Rattle.dsr_cells.proofs.cut.tabs_of_16.Goals as goal
+use Rattle.dsr_cells.proofs.first_cells.tabs_of_16.Goals as goal
 
 pub returns : goal.returns
 returns c =

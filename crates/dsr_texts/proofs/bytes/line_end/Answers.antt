@@ -1,7 +1,7 @@
 use Rattle.dsr_texts.proofs.Common.{arith, eqb, length, sym}
 use Rattle.std.proofs.lemmas.Bool.{false_from_ne_true}
 use Rattle.std.proofs.lemmas.List.Sums.{position_or_len_is}
-use Rattle.dsr_texts.proofs.line_feed.line_end.Goals as goal
+use Rattle.dsr_texts.proofs.bytes.line_end.Goals as goal
 
 pub returns-in-Some-clause-value : goal.returns-in-Some-clause-value
 returns-in-Some-clause-value c =

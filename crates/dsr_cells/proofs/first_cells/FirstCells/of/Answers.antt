@@ -1,6 +1,6 @@
 use Rattle.dsr_cells.proofs.Common.{arith, rules, ◌++◌, ◌∷◌, [], ◌≤◌, length, refl, ℕ, List, Bor, length_push, cells}
 use Rattle.dsr_cells.proofs.Rows.{one_more, last_one, first_ten, all_of_ten}
-use Rattle.dsr_cells.proofs.cut.FirstCells.of.Goals as goal
+use Rattle.dsr_cells.proofs.first_cells.FirstCells.of.Goals as goal
 
 pub loop-index-preserved : goal.loop-index-preserved
 loop-index-preserved c =

@@ -1,6 +1,6 @@
 use Rattle.dsr_cells.proofs.Common.{◌∷◌, ◌∙◌, sym, subst, Some, None, List, ℕ, IsFirstByte, is_byte, cells}
 use Rattle.dsr_cells.proofs.Cuts.{first_found, none_found}
-use Rattle.dsr_cells.proofs.cut.first_cell.Goals as goal
+use Rattle.dsr_cells.proofs.first_cells.first_cell.Goals as goal
 
 pub returns-in-Some : goal.returns-in-Some
 returns-in-Some c =

@@ -1,5 +1,5 @@
 use Rattle.dsr_cells.proofs.Common.{IsCharBoundary-after_ascii, IsCharBoundary-before_ascii}
-use Rattle.dsr_cells.proofs.cut.around.Goals as goal
+use Rattle.dsr_cells.proofs.first_cells.around.Goals as goal
 
 pub range-requires-clause-end_boundary : goal.range-requires-clause-end_boundary
 range-requires-clause-end_boundary c = IsCharBoundary-before_ascii c.args.text.now c.args.place c.requires.within c.requires.ascii
