@@ -7,7 +7,7 @@
 //!    flushes. [`write_all`] writes all bytes, or says how many were written.
 //! 3. `to_write`: [`ToWrite`] makes an outlet of a `std::io::Write`.
 //!
-//! dsr_file passes on what reads, and dsr_statement what writes.
+//! dsr_file passes on what reads, and dsr_intake what writes.
 //!
 //! **Example**, compiled and proved in `crates/dsr_reader_tests/src/reads.rt`; `Page` in `crates/dsr_tests/src/page.rt` is
 //! an outlet:

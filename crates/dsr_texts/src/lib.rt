@@ -1,12 +1,12 @@
 //! The texts of a report: found in the bytes of a file, tested, and kept past their line.
 //!
 //! 1. `bytes` finds the first line feed, which ends a line, and tests that bytes are UTF-8 (RFC 3629).
-//! 2. `text` keeps a text: up to 22 bytes in place (`short`), longer ones on the heap (`kept`). A text
+//! 2. `text` keeps a text: up to 22 bytes in place (`short`), longer ones on the heap. A text
 //!    takes 24 bytes, and can be written over, which reuses its memory.
 //! 3. `inline_items` is the list type of blocks, and of the parties of a report's line: its first items
 //!    are in place, and its memory is reused. `items` is that of openings and reports.
 //!
-//! dsr_cells passes the texts and lists on, and dsr_records `text_of`.
+//! dsr_cells passes `Text`, `Texts` and `NoMemory` on.
 //!
 //! **Examples**, compiled and proved in `crates/dsr_reader_tests/src/examples/texts.rt`:
 //!
