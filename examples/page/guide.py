@@ -45,12 +45,20 @@ def answered(entries, entry):
     return found
 
 
+def entries_of(section):
+    """The entries of a section by their names. Those that lack a point of the section's beginning have it too."""
+    begin, *parts = re.split(r'^### (.*)$', section, flags=re.M)
+    shared = entry_of(begin).points
+    for title, text in zip(parts[::2], parts[1::2]):
+        entry = entry_of(text)
+        own = [label for label, _ in entry.points]
+        yield title.strip('`'), Entry(entry.meaning, entry.points + [point for point in shared if point[0] not in own])
+
+
 def read_guide(path=GUIDE):
     """The entries by their names."""
     with open(path, encoding='utf-8') as file:
-        parts = re.split(r'^### (.*)$', file.read(), flags=re.M)
-    entries = Guide((title.strip('`'), entry_of(re.split(r'^## ', text, flags=re.M)[0]))
-                    for title, text in zip(parts[1::2], parts[2::2]))
+        entries = Guide(entry for section in re.split(r'^## ', file.read(), flags=re.M) for entry in entries_of(section))
     for entry in entries.values():
         entry.points = answered(entries, entry)
     return entries
