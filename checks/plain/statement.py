@@ -1,10 +1,23 @@
+#!/usr/bin/env python3
 """A second program: reads the files of a report and makes the statement, plainly and slowly.
 
-It is written from docs/PROFILE.md alone, section by section, and shares nothing with the program that it is
-compared with. Texts are bytes throughout.
-"""
-import re
+  statement.py [--seal] [--layout LAYOUT] [--output FILE] [FILE]...
 
+It is written from docs/PROFILE.md alone, section by section, and shares nothing with the program that it is
+compared with. Texts are bytes throughout. --seal, which only the second programs have so far, puts lines behind the
+statement that say of which bytes it is, and that it is whole. With no FILE standard input is the one. The exit status is 0
+for Clean, 1 for Remarks, 2 for the command line, a bad layout or a file that cannot be opened, and 3 if a write fails.
+"""
+import argparse
+import hashlib
+import os
+import re
+import sys
+
+from files import Answered, ending_with, opened, print_to
+
+MARK = b'\xef\xbb\xbf'
+PIECE = 4096
 MOST_LINE = 8192
 MOST_CELLS = 64
 MOST_BLOCK = 64
@@ -53,8 +66,8 @@ class Bad(Exception):
 
 def cut(text, whole):
     """The lines of a text, each as its bytes before the checks of a line."""
-    if text.startswith(b'\xef\xbb\xbf'):
-        text = text[3:]
+    if text.startswith(MARK):
+        text = text[len(MARK):]
     pieces = text.split(b'\n')
     last = pieces.pop()
     if last and (whole or len(last) > MOST_LINE):
@@ -310,10 +323,12 @@ class Block:
 
 
 class File:
-    """What a file says: its head and summaries where it is opened, its blocks, and its fault and line, or None."""
+    """What a file says: its head and summaries where it is opened, its blocks, and its fault and line, or None; and what
+    was read of it."""
 
     def __init__(self, layout, content, ending):
         self.layout = layout
+        self.was_read = content
         self.head = None
         self.summaries = []
         self.opened = False
@@ -329,6 +344,7 @@ class File:
                 self.take(checked(line))
             except Fault as fault:
                 self.fault = at, fault
+                self.was_read = content[:-(-end_of(content, lines[:at]) // PIECE) * PIECE]
                 return
         if ending != 'Whole':
             self.fault = len(lines) + 1, Fault(ending)
@@ -393,6 +409,12 @@ class File:
     def key(self):
         head = self.head
         return head['MessageId'], head['NumberOfFiles'], head['UsageStartDate'], head['UsageEndDate']
+
+
+def end_of(content, lines):
+    """The number of bytes of a text to the end of its first lines, or to the byte with which the last of them is too long."""
+    mark = len(MARK) if content.startswith(MARK) else 0
+    return mark + sum(min(len(line), MOST_LINE) + 1 for line in lines)
 
 
 # ------------------------------------------------------------ section 7: statement
@@ -522,9 +544,62 @@ def cell_bytes(cell):
     return cell if isinstance(cell, bytes) else str(cell).encode()
 
 
-def statement(texts, layout=STANDARD):
+def text_of(lines):
+    return b''.join(b'\t'.join(cell_bytes(cell) for cell in cells) + b'\n' for cells in lines)
+
+
+def digest(content):
+    """The cells that say of which bytes."""
+    return len(content), hashlib.sha256(content).hexdigest()
+
+
+def seal(layout, report, count):
+    """The lines behind a statement of so many lines: of its layout, if it has one of its own, of each file, and its end."""
+    before = [('LAYOUT', *digest(layout))] if layout is not None else []
+    before += [('INPUT', at, *digest(file.was_read)) for at, file in enumerate(report.files, 1)]
+    return [*before, ('END', count + len(before), 'Clean' if report.is_clean() else 'Remarks')]
+
+
+def statement(texts, layout=None, sealed=False):
     """Exit status and statement of a report whose files are pairs of bytes and ending."""
-    layout = Layout(layout)
-    report = Report([File(layout, content, ending) for content, ending in texts])
-    lines = [b'\t'.join(cell_bytes(cell) for cell in cells) + b'\n' for cells in report.lines()]
-    return 0 if report.is_clean() else 1, b''.join(lines)
+    table = Layout(STANDARD if layout is None else layout)
+    report = Report([File(table, content, ending) for content, ending in texts])
+    lines = list(report.lines())
+    if sealed:
+        lines += seal(layout, report, len(lines))
+    return 0 if report.is_clean() else 1, text_of(lines)
+
+
+# ------------------------------------------------------------ the command line
+
+def answer(asked):
+    """Exit status and statement of what was asked for."""
+    layouts = opened([asked.layout] if asked.layout is not None else [])
+    sources = opened(asked.files) or [(b'-', sys.stdin.buffer)]
+    layout, ending = ending_with(layouts[0][1]) if layouts else (None, 'Whole')
+    if ending != 'Whole':
+        raise Answered(2, b'cannot read ' + asked.layout)
+    try:
+        return statement([ending_with(file) for _, file in sources], layout, asked.seal)
+    except LayoutFault as fault:
+        raise Answered(2, b'bad layout at line %d: %s' % (fault.line, fault.name.encode())) from None
+
+
+def main():
+    parser = argparse.ArgumentParser(description=__doc__, formatter_class=argparse.RawDescriptionHelpFormatter)
+    parser.add_argument('--seal', action='store_true')
+    parser.add_argument('--layout', type=os.fsencode)
+    parser.add_argument('--output', type=os.fsencode)
+    parser.add_argument('files', nargs='*', type=os.fsencode)
+    asked = parser.parse_args()
+    try:
+        status, text = answer(asked)
+        print_to(asked.output, text)
+    except Answered as answered:
+        sys.stderr.buffer.write(b'dsr: ' + answered.line + b'\n')
+        status = answered.status
+    sys.exit(status)
+
+
+if __name__ == '__main__':
+    main()

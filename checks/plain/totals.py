@@ -1,28 +1,32 @@
 #!/usr/bin/env python3
 """A second program for the totals of statements: reads statements strictly and adds them up, plainly and slowly.
 
-  totals.py [--paid STATEMENT]... [--with-remarks] [--output FILE] [STATEMENT]...
+  totals.py [--paid=STATEMENT]... [--paid-from LIST]... [--with-remarks] [--unsealed] [--same-message] [--output FILE] [STATEMENT]...
 
 It is written from docs/PROFILE.md alone, shares nothing with the program that it is compared with, and takes one line
 after another. Texts are bytes; amounts are whole numbers of units of 10^-10. With no STATEMENT standard input is the one.
-The exit status is 0; 1 if a statement was refused, with a line on standard error; 2 for the command line or a file that
-cannot be opened; 3 if a total leaves 128 bits or a write fails. Where it is not 0, nothing was written.
+A statement has to be sealed, unless --unsealed is given. --paid-from LIST names statements that were paid, one a line, or
+each ended by a zero byte. The exit status is 0; 1 if a statement was refused, with a line on standard error; 2 for the
+command line or a file that cannot be opened; 3 if a total leaves 128 bits or a write fails. Where it is not 0, nothing was
+written.
 """
 import argparse
-import contextlib
-import io
 import os
 import re
-import secrets
 import sys
+from dataclasses import dataclass
 
+from files import Answered, ending_with, open_file, opened, print_to
 from statement import COLUMNS, Bad, day, is_isrc, pattern, written
 
 MOST_LINE = 16_384
 UNITS_BOUND = 2 ** 123
 RANGE = range(-2 ** 127, 2 ** 127)
 REMARKS = ('MISSING', 'SUMMARY', 'REJECT')
+WHOLE = ('FILE', 'MISSING', 'SUMMARY', 'UNCLAIMED', 'REJECT')  # the lines with which an unsealed statement may end
+SEAL = ('LAYOUT', 'INPUT', 'END')
 NAMED = {
+    'status': ('Clean', 'Remarks'),
     'standing': ('Ours', 'Foreign', 'Doubled', 'Headless'),
     'reason': ('ForeignFile', 'DoubledFile', 'DoubledBlock', 'NoIsrc', 'BadIsrc', 'UnknownSummary', 'ShareOver'),
     'fault': ('LongLine', 'NotUtf8', 'ManyCells', 'UnknownRecord', 'MissingCell', 'BadCell', 'Uneven', 'NoHead', 'SecondHead',
@@ -92,6 +96,7 @@ def any_text(cell):
 
 
 IDENTIFIER = pattern('[ -~]{1,32}')
+DIGEST = pattern('[0-9a-f]{64}')
 KEY = (isrc, pattern('[A-Za-z0-9-]{1,16}'), pattern('[A-Za-z0-9]{1,64}'), pattern('[A-Z]{3}'))
 SPELLINGS = {
     'REPORT': (pattern('[ -~]{1,64}'), number(2 ** 32), day, day, number(2 ** 64)),
@@ -103,7 +108,19 @@ SPELLINGS = {
     'PARTY': (*KEY, any_text, units),
     'UNCLAIMED': (*KEY, units),
     'REJECT': (number(2 ** 64), number(2 ** 64), IDENTIFIER, name_of('reason')),
+    'LAYOUT': (number(2 ** 64), DIGEST),
+    'INPUT': (number(2 ** 64), number(2 ** 64), DIGEST),
+    'END': (number(2 ** 64), name_of('status')),
 }
+
+
+@dataclass
+class Rules:
+    """What is let through. Without seals no statement is sealed, and their lines are unknown."""
+    with_remarks: bool = False
+    unsealed: bool = False
+    same_message: bool = False
+    seals: bool = True
 
 
 def has_cells(kind, cells):
@@ -143,7 +160,8 @@ def spelled(kind, cells):
 class Reader:
     """Reads one statement, and hands each line of its ledger to `add`, as its kind and its values."""
 
-    def __init__(self, add):
+    def __init__(self, rules, add):
+        self.rules = rules
         self.add = add
         self.lines = 0
         self.kind = None
@@ -166,7 +184,7 @@ class Reader:
             raise Refused(self.lines, 'NotUtf8') from None
         first, *cells = line[:-1].split(b'\t')
         kind = first.decode()
-        if kind not in SPELLINGS:
+        if kind not in SPELLINGS or kind in SEAL and not self.rules.seals:
             raise Refused(self.lines, 'UnknownLine')
         if not has_cells(kind, cells):
             raise Refused(self.lines, 'Cells')
@@ -193,14 +211,23 @@ class Reader:
         if kind == 'LEDGER':
             return before in ('FILE', 'MISSING', 'SUMMARY', 'UNCLAIMED') and (not last or last[:4] < values[:4])
         if kind == 'REJECT':
-            return before in ('FILE', 'MISSING', 'SUMMARY', 'UNCLAIMED', 'REJECT') and (
+            return before in WHOLE and (
                 not last or last[0] < values[0] or last[0] == values[0] and last[1] < values[1])
+        if kind == 'LAYOUT':
+            return before in WHOLE
+        if kind == 'INPUT':
+            return before in (*WHOLE, 'LAYOUT', 'INPUT') and values[0] == self.inputs() + 1 <= self.last['FILE'][0]
+        if kind == 'END':
+            return before == 'INPUT' and self.inputs() == self.last['FILE'][0]
         if before not in ('LEDGER', 'PARTY') or values[:4] != self.ledger[:4]:
             return False
         return kind == 'UNCLAIMED' or before == 'LEDGER' or self.last['PARTY'][4] < values[4]
 
+    def inputs(self):
+        return self.last['INPUT'][0] if 'INPUT' in self.last else 0
+
     def keep(self, kind, values):
-        """A line in its place: tests its sum, and counts it."""
+        """A line in its place: tests its sum or seal, and counts it."""
         self.kind = kind
         self.last[kind] = values
         if kind == 'NOREPORT':
@@ -214,14 +241,18 @@ class Reader:
             self.rest -= values[-1]
         if kind == 'UNCLAIMED' and self.rest:
             raise Refused(self.lines, 'Sum')
+        if kind == 'END' and values != [self.lines - 1, b'Remarks' if self.remark else b'Clean']:
+            raise Refused(self.lines, 'Seal')
         if self.remark is None and (kind in REMARKS or kind == 'FILE' and (values[2] != b'Ours' or not values[4])):
             self.remark = self.lines
         if kind in ('LEDGER', 'PARTY', 'UNCLAIMED'):
             self.add(kind, values)
 
     def end(self):
-        if self.kind in (None, 'REPORT', 'LEDGER', 'PARTY'):
+        if self.kind in (None, 'REPORT', 'LEDGER', 'PARTY', 'LAYOUT', 'INPUT'):
             raise Refused(self.lines + 1, 'Cut')
+        if self.kind != 'END' and self.rules.seals and not self.rules.unsealed:
+            raise Refused(self.lines + 1, 'Unsealed')
 
 
 def next_line(file, at):
@@ -277,100 +308,101 @@ class Totals:
             yield b'PARTY', party, currency, written(amount)
 
 
-class Answered(Exception):
-    """The program's answer is an exit status and a line on standard error."""
-
-    def __init__(self, status, line):
-        super().__init__(status, line)
-        self.status = status
-        self.line = line
+@dataclass
+class Statement:
+    """A statement that was read: its name, and whether it has remarks."""
+    name: bytes
+    remarks: bool
 
 
-def read_all(named, with_remarks, paid, known, totals):
-    """Reads statements, each a name and an open file. Returns their reports with whether they have remarks."""
+def of_earlier(fault, found, report, rules):
+    """A fault that names an earlier statement."""
+    return f'{fault} of {os.fsdecode(found[report].name)}' if rules.seals else fault
+
+
+def test(reader, found, paid, known, rules):
+    """The tests of a statement that was read whole, against those that were read before it."""
+    if reader.report in found:
+        raise Refused(1, of_earlier('Twice', found, reader.report, rules))
+    other = next((report for report in found if report[0] == reader.report[0]), None)
+    if other and not paid and rules.seals and not rules.same_message:
+        raise Refused(1, of_earlier('SameMessage', found, other, rules))
+    if paid and reader.report not in known:
+        raise Refused(1, 'NotGiven')
+    if not paid and reader.remark and not rules.with_remarks:
+        raise Refused(reader.remark, 'Remarks')
+
+
+def read_all(named, rules, paid, known, totals):
+    """Reads statements, each a name and an open file or how to open it. Returns what was read, by the reports."""
     found = {}
     for name, file in named:
-        reader = Reader(totals.adder(-1 if paid else 1))
+        reader = Reader(rules, totals.adder(-1 if paid else 1))
         try:
-            reader.read(file)
-            if reader.report in found:
-                raise Refused(1, 'Twice')
-            if paid and reader.report not in known:
-                raise Refused(1, 'NotGiven')
-            if not paid and reader.remark and not with_remarks:
-                raise Refused(reader.remark, 'Remarks')
+            reader.read(file() if callable(file) else file)
+            test(reader, found, paid, known, rules)
         except Refused as refused:
-            raise Answered(1, b'%s: line %d: %s' % (name, refused.line, refused.fault.encode())) from None
-        found[reader.report] = reader.remark is not None
+            raise Answered(1, b'%s: line %d: %s' % (name, refused.line, os.fsencode(refused.fault))) from None
+        found[reader.report] = Statement(name, reader.remark is not None)
     return found
 
 
-def totals_of(given, paid, with_remarks):
-    """The text of the totals of statements, each a pair of its name (bytes) and an open file."""
+def totals_of(given, paid, rules):
+    """The text of the totals of statements, each a pair of its name (bytes) and a file."""
     totals = Totals()
-    known = read_all(given, with_remarks, False, (), totals)
-    were_paid = read_all(paid, True, True, known, totals)
+    known = read_all(given, rules, False, (), totals)
+    were_paid = read_all(paid, rules, True, known, totals)
     if totals.out_of_range:
         raise Answered(3, b'total out of range')
     lines = [(b'STATEMENT', b'%d' % at, message, b'%d' % files, first[1], last[1],
-              b'Remarks' if remarks else b'Clean', b'Paid' if (message, files, first, last) in were_paid else b'-')
-             for at, ((message, files, first, last), remarks) in enumerate(known.items(), 1)]
+              b'Remarks' if found.remarks else b'Clean', b'Paid' if (message, files, first, last) in were_paid else b'-')
+             for at, ((message, files, first, last), found) in enumerate(known.items(), 1)]
     return b''.join(b'\t'.join(cells) + b'\n' for cells in [*lines, *totals.lines()])
 
 
 # ------------------------------------------------------------ the command line
 
-class Folder(io.RawIOBase):
-    """A folder: it can be opened, and its reads fail."""
-
-    def readline(self, most=-1):
-        raise IsADirectoryError
-
-
-def opened(names, stack):
-    """The files of these names, opened in their order."""
-    found = []
-    for name in names:
-        try:
-            file = Folder() if os.path.isdir(name) else open(name, 'rb')
-        except OSError:
-            raise Answered(2, b'cannot open ' + name) from None
-        found.append((name, stack.enter_context(file)))
-    return found
+def names_of(lists):
+    """The names in files that have one on each line, or each ended by a zero byte if they have one."""
+    names = []
+    for name, file in lists:
+        content, ending = ending_with(file)
+        if ending != 'Whole':
+            raise Answered(2, b'cannot read ' + name)
+        pieces = content.split(b'\0' if b'\0' in content else b'\n')
+        names += pieces if pieces[-1] else pieces[:-1]
+    return names
 
 
-def write_to(name, text):
-    """The text under a name of its own beside the file, which then gets the file's name."""
-    part = b'%s.%s.part' % (name, secrets.token_hex(8).encode())
-    try:
-        with open(part, 'xb') as out:
-            out.write(text)
-            out.flush()
-            os.fsync(out.fileno())
-        os.rename(part, name)
-    except OSError:
-        with contextlib.suppress(OSError):
-            os.unlink(part)
-        raise Answered(3, b'write failed after 0 bytes') from None
+def at_its_turn(name):
+    """A statement that is there, and is opened when it is its turn: there may be more than can be open at a time."""
+    if not os.path.exists(name):
+        raise Answered(2, b'cannot open ' + name)
+    return name, lambda: open_file(name)
+
+
+def arguments():
+    parser = argparse.ArgumentParser(description=__doc__, formatter_class=argparse.RawDescriptionHelpFormatter, allow_abbrev=False)
+    parser.add_argument('--paid', action='append', default=[], type=os.fsencode)
+    parser.add_argument('--paid-from', action='append', default=[], type=os.fsencode)
+    parser.add_argument('--with-remarks', action='store_true')
+    parser.add_argument('--unsealed', action='store_true')
+    parser.add_argument('--same-message', action='store_true')
+    parser.add_argument('--output', type=os.fsencode)
+    parser.add_argument('statements', nargs='*', type=os.fsencode)
+    words = sys.argv[1:]
+    if '--paid' in words[:words.index('--')] if '--' in words else '--paid' in words:
+        parser.error('--paid wants its equals sign: --paid=STATEMENT')
+    return parser.parse_args(words)
 
 
 def main():
-    parser = argparse.ArgumentParser(description=__doc__, formatter_class=argparse.RawDescriptionHelpFormatter)
-    parser.add_argument('--paid', action='append', default=[], type=os.fsencode)
-    parser.add_argument('--with-remarks', action='store_true')
-    parser.add_argument('--output', type=os.fsencode)
-    parser.add_argument('statements', nargs='*', type=os.fsencode)
-    asked = parser.parse_args()
+    asked = arguments()
+    rules = Rules(asked.with_remarks, asked.unsealed, asked.same_message)
     try:
-        with contextlib.ExitStack() as stack:
-            given = opened(asked.statements, stack)
-            paid = opened(asked.paid, stack)
-            text = totals_of(given or [(b'-', sys.stdin.buffer)], paid, asked.with_remarks)
-        if asked.output is None:
-            sys.stdout.buffer.write(text)
-            sys.stdout.buffer.flush()
-        else:
-            write_to(asked.output, text)
+        given = [at_its_turn(name) for name in asked.statements]
+        paid = [at_its_turn(name) for name in asked.paid + names_of(opened(asked.paid_from))]
+        print_to(asked.output, totals_of(given or [(b'-', sys.stdin.buffer)], paid, rules))
     except Answered as answered:
         sys.stderr.buffer.write(b'dsr_totals: ' + answered.line + b'\n')
         sys.exit(answered.status)

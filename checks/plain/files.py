@@ -1,0 +1,68 @@
+"""What both second programs do with files: open them, read them to their end, and write a text to one."""
+import contextlib
+import io
+import os
+import secrets
+import sys
+
+
+class Answered(Exception):
+    """The program's answer is an exit status and a line on standard error."""
+
+    def __init__(self, status, line):
+        super().__init__(status, line)
+        self.status = status
+        self.line = line
+
+
+class Folder(io.RawIOBase):
+    """A folder: it can be opened, and its reads fail."""
+
+    def readline(self, most=-1):
+        raise IsADirectoryError
+
+    def read(self, most=-1):
+        raise IsADirectoryError
+
+
+def open_file(name):
+    """The file of this name, opened."""
+    try:
+        return Folder() if os.path.isdir(name) else open(name, 'rb')
+    except OSError:
+        raise Answered(2, b'cannot open ' + name) from None
+
+
+def opened(names):
+    """The files of these names, opened in their order, each with its name."""
+    return [(name, open_file(name)) for name in names]
+
+
+def ending_with(file):
+    """The bytes of a file to its end, and how it ended: Whole, or Read where a read failed."""
+    content = bytearray()
+    try:
+        while piece := file.read(4096):
+            content += piece
+    except OSError:
+        return bytes(content), 'Read'
+    return bytes(content), 'Whole'
+
+
+def print_to(name, text):
+    """The text on standard output, or in the file of this name: under a name of its own beside it, which then gets its name."""
+    if name is None:
+        sys.stdout.buffer.write(text)
+        sys.stdout.buffer.flush()
+        return
+    part = b'%s.%s.part' % (name, secrets.token_hex(8).encode())
+    try:
+        with open(part, 'xb') as out:
+            out.write(text)
+            out.flush()
+            os.fsync(out.fileno())
+        os.rename(part, name)
+    except OSError:
+        with contextlib.suppress(OSError):
+            os.unlink(part)
+        raise Answered(3, b'write failed after 0 bytes') from None
