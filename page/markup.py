@@ -97,7 +97,7 @@ class RejectedBlocks:
         counts = collections.Counter(reject.reason for reject in file.rejects)
         for reason, blocks in self.blocks.items():
             count, more = counts[reason], counts[reason] - len(blocks)
-            left = f'<p>{more} more blocks are not shown: <code>explain</code> prints all.</p>' if more else ''
+            left = f'<p>{more} more blocks are not shown: <code>dsr_explain</code> prints all.</p>' if more else ''
             how_many = f'{count} block{"s" if count > 1 else ""}'
             yield (f'<article><h3>{escaped(file.called())}, {how_many} left out <code>{reason}</code></h3>\n'
                    f'<details{" open" if count <= 3 else ""}><summary>{how_many}</summary>\n'

@@ -4,7 +4,7 @@ import re
 
 from lines import Refused
 
-GUIDE = os.path.join(os.path.dirname(os.path.realpath(__file__)), '..', '..', 'docs', 'GUIDE.md')
+GUIDE = os.path.join(os.path.dirname(os.path.realpath(__file__)), '..', 'docs', 'GUIDE.md')
 
 
 class Entry:

@@ -1,7 +1,7 @@
 """Which record types and columns a report's files have (docs/PROFILE.md, sections 2 and 8)."""
 import os
 
-STANDARD = os.path.join(os.path.dirname(os.path.realpath(__file__)), '..', 'layout.tsv')
+STANDARD = os.path.join(os.path.dirname(os.path.realpath(__file__)), '..', 'examples', 'layout.tsv')
 COLUMNS = {
     'HEAD': 'MessageId FileNumber NumberOfFiles UsageStartDate UsageEndDate Sender Recipient'.split(),
     'SY': 'SummaryRecordId Territory UseType Currency Usages Amount'.split(),

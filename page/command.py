@@ -1,4 +1,4 @@
-"""The command line that `statement` and `explain` share."""
+"""The command line that `dsr_page` and `dsr_explain` share."""
 import argparse
 import contextlib
 import signal
