@@ -1,21 +1,19 @@
 """The completions of a program's words, for bash, zsh and fish."""
 import re
 
+# The names of values that are paths.
+PATHS = ('FILE', 'FOLDER', 'LIST', 'REPORTS', 'STATEMENT')
+
 
 def first_clause(entry):
-    """What an option is, up to its first full stop, colon or semicolon."""
-    return re.split(r'[.:;](?:\s|$)', entry.text)[0]
+    """What an option is, up to its first full stop, colon, semicolon or bracket."""
+    return re.split(r'[.:;](?:\s|$)| \(', entry.text)[0]
 
 
 def choices(entry):
     """The words of which an option takes one, if it says so."""
     value = entry.value() or ''
     return value.strip('{}').split(',') if value.startswith('{') else []
-
-
-def takes_files(interface):
-    """Whether an argument of the program, or one of its commands, is a name that is completed."""
-    return bool(interface.arguments)
 
 
 def bash(name, interface):
@@ -34,7 +32,7 @@ def zsh_options(interface):
     """The specifications of options for `_arguments`."""
     for entry in interface.options:
         value, words = entry.value(), choices(entry)
-        action = '' if value is None else f':value:({" ".join(words)})' if words else f':{value}:' + ('_files' if value != 'N' else ' ')
+        action = '' if value is None else f':value:({" ".join(words)})' if words else f':{value}:' + ('_files' if value in PATHS else ' ')
         for word in entry.names():
             yield f"'*{word}[{zsh_text(first_clause(entry))}]{action}'"
 
@@ -44,8 +42,9 @@ def zsh(name, interface):
     if not interface.commands:
         yield ' \\\n  '.join(['_arguments', *zsh_options(interface), "'*:file:_files'"])
         return
-    told = ' '.join(f"'{entry.written}\\:\"{zsh_text(first_clause(entry))}\"'" for entry, _ in interface.commands)
-    yield ' \\\n  '.join(['_arguments -C', *zsh_options(interface), f'"1:command:(({told}))"', "'*::word:->words'"])
+    told = ' '.join(f'{entry.written}\\:"{zsh_text(first_clause(entry))}"' for entry, _ in interface.commands)
+    yield 'local context state state_descr line'
+    yield ' \\\n  '.join(['_arguments -C', *zsh_options(interface), f"'1:command:(({told}))'", "'*::word:->words'"])
     yield 'case $words[1] in'
     for entry, own in interface.commands:
         yield f'{entry.written})'
@@ -58,7 +57,7 @@ def fish_options(name, interface, condition):
     for entry in interface.options:
         value, words = entry.value(), choices(entry)
         names = ' '.join(f'-l {word[2:]}' if word.startswith('--') else f'-s {word[1:]}' for word in entry.names())
-        takes = '' if value is None else f" -x -a '{' '.join(words)}'" if words else ' -x' if value == 'N' else ' -r -F'
+        takes = '' if value is None else f" -x -a '{' '.join(words)}'" if words else ' -r -F' if value in PATHS else ' -x'
         text = first_clause(entry).replace('\\', '\\\\').replace("'", "\\'")
         yield f"complete -c {name}{condition} {names}{takes} -d '{text}'"
 
