@@ -9,6 +9,10 @@ import time
 
 NAMES = ('chromium', 'chromium-browser', 'google-chrome', 'chrome')
 SECONDS = 300
+KEYS = {'Tab': 9, 'Enter': 13, 'Escape': 27, ' ': 32, 'PageUp': 33, 'PageDown': 34, 'End': 35, 'Home': 36, 'ArrowLeft': 37,
+        'ArrowUp': 38, 'ArrowRight': 39, 'ArrowDown': 40}
+TEXTS = {'Enter': '\r', ' ': ' '}
+MODIFIERS = {'Alt': 1, 'Control': 2, 'Meta': 4, 'Shift': 8}
 
 
 def installed():
@@ -89,6 +93,50 @@ class Browser:
             if time.monotonic() - began > seconds:
                 raise RuntimeError(f'not true in time: {script}')
             time.sleep(0.01)
+
+    def press(self, key, modifier=None, times=1):
+        """Presses a key as a hand does, with Shift or Control if it is named."""
+        held = MODIFIERS[modifier] if modifier else 0
+        told = {'key': key, 'code': 'Space' if key == ' ' else key, 'windowsVirtualKeyCode': KEYS[key], 'modifiers': held}
+        text = {'text': TEXTS[key]} if key in TEXTS else {}
+        for _ in range(times):
+            self.ask('Input.dispatchKeyEvent', type='keyDown' if text else 'rawKeyDown', **told, **text)
+            self.ask('Input.dispatchKeyEvent', type='keyUp', **told)
+
+    def type(self, text):
+        """Types a text into what has the focus."""
+        for mark in text:
+            self.ask('Input.dispatchKeyEvent', type='keyDown', text=mark, key=mark)
+            self.ask('Input.dispatchKeyEvent', type='keyUp', key=mark)
+
+    def place(self, expression):
+        """The middle of an element on the screen, which is scrolled into view."""
+        return self.run(f'''(() => {{
+            const element = {expression};
+            element.scrollIntoView({{ block: 'center' }});
+            const box = element.getBoundingClientRect();
+            return [box.left + box.width / 2, box.top + box.height / 2];
+        }})()''')
+
+    def click(self, expression):
+        """Clicks on an element with the mouse."""
+        x, y = self.place(expression)
+        for kind in ('mousePressed', 'mouseReleased'):
+            self.ask('Input.dispatchMouseEvent', type=kind, x=x, y=y, button='left', clickCount=1)
+
+    def wheel(self, expression, by):
+        """Turns the wheel of the mouse over an element."""
+        x, y = self.place(expression)
+        self.ask('Input.dispatchMouseEvent', type='mouseWheel', x=x, y=y, deltaX=0, deltaY=by)
+
+    def show(self, width=1200, height=900, media='', scheme='light'):
+        """Shows the page in this size, on a screen or as it is printed, light or dark."""
+        self.ask('Emulation.setDeviceMetricsOverride', width=width, height=height, deviceScaleFactor=1, mobile=False)
+        self.ask('Emulation.setEmulatedMedia', media=media, features=[{'name': 'prefers-color-scheme', 'value': scheme}])
+
+    def save_to(self, folder):
+        """Has what the page saves put into a folder."""
+        self.ask('Page.setDownloadBehavior', behavior='allow', downloadPath=folder)
 
     def open(self, path, seconds=SECONDS):
         """Opens a page from disk, and waits until it is ready; answers the seconds that it took."""

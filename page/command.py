@@ -1,31 +1,69 @@
 """The command line that `dsr_page` and `dsr_explain` share."""
 import argparse
 import contextlib
+import os
 import signal
 import sys
 
-from layouts import STANDARD, Layout
+from layouts import Layout
+from refused import Refused
+from remarks import Report
+from showing import CleanStream
+from statement import read_statement
 
 
-def arguments(text):
-    """The words: the statement, the files that `dsr` was given, and the layout."""
+VERSION = '0.9.0'
+
+
+class Parser(argparse.ArgumentParser):
+    """A parser whose lines on standard error go through the stream that passes no control character on."""
+
+    def error(self, message):
+        sys.stderr.write(f'{self.prog}: {message}\n{self.format_usage()}')
+        sys.exit(2)
+
+
+def parser_of(name, text):
+    """The words that both programs have: the statement, the files that `dsr` was given, and the layout."""
     signal.signal(signal.SIGPIPE, signal.SIG_DFL)
-    sys.stdout.reconfigure(encoding='utf-8', errors='backslashreplace', newline='\n')
-    parser = argparse.ArgumentParser(description=text, formatter_class=argparse.RawDescriptionHelpFormatter)
-    parser.add_argument('--layout', default=STANDARD, metavar='FILE', type=layout_of,
-                        help='the layout that dsr was given')
-    parser.add_argument('statement', metavar='STATEMENT')
-    parser.add_argument('files', metavar='FILE', nargs='*')
-    return parser.parse_args()
+    sys.stderr = CleanStream(sys.stderr)
+    purpose, _, more = text.partition('\n\n')
+    parser = Parser(prog=name, description=purpose, epilog=more, formatter_class=argparse.RawDescriptionHelpFormatter)
+    parser.add_argument('--layout', metavar='FILE', help='the layout that dsr was given')
+    parser.add_argument('--version', action='version', version=f'{name} {VERSION}', help='print the version and exit')
+    parser.add_argument('--unsealed', action='store_true', help='take a statement without a seal, too; dsr writes none yet')
+    parser.add_argument('statement', metavar='STATEMENT', help='a statement of dsr; - is standard input')
+    parser.add_argument('files', metavar='FILE', nargs='*', help='the files that dsr was given, in their order')
+    return parser
 
 
 def layout_of(path):
+    """The layout of this file, or the standard one."""
+    if path is None:
+        return Layout()
     try:
-        return Layout(path)
+        with open(path, 'rb') as file:
+            return Layout(file.read())
     except (OSError, ValueError, IndexError) as error:
-        raise argparse.ArgumentTypeError(f'{path} is not a layout: {error}') from None
+        raise Refused(f'{path} is not a layout: {error}') from None
 
 
-def opened(name):
-    """The statement, as a file of bytes."""
-    return contextlib.nullcontext(sys.stdin.buffer) if name == '-' else open(name, 'rb')
+def report_of(given, on_booked):
+    """The report of the statement that was given, with its files."""
+    file = contextlib.nullcontext(sys.stdin.buffer) if given.statement == '-' else open(given.statement, 'rb')
+    with file as lines:
+        statement = read_statement(given.statement, lines, on_booked, given.unsealed)
+    layout = layout_of(given.layout)
+    if given.files:
+        statement.seal.check_layout(layout, given.layout)
+    return Report(statement, given.files, layout)
+
+
+def ending(name, run):
+    """Runs a program; a refusal is its exit status 1, with a line on standard error."""
+    try:
+        run()
+    except Refused as refused:
+        sys.exit(f'{name}: {refused}')
+    except OSError as error:
+        sys.exit(f'{name}: {os.fspath(error.filename or "")}: {error.strerror}')

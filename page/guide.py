@@ -2,9 +2,10 @@
 import os
 import re
 
-from lines import Refused
+from refused import Refused
 
-GUIDE = os.path.join(os.path.dirname(os.path.realpath(__file__)), '..', 'docs', 'GUIDE.md')
+HERE = os.path.dirname(os.path.realpath(__file__))
+GUIDE = os.path.join(HERE, '..', 'docs', 'GUIDE.md')
 
 
 class Entry:

@@ -1,33 +1,27 @@
 """Which record types and columns a report's files have (docs/PROFILE.md, sections 2 and 8)."""
-import os
-
-STANDARD = os.path.join(os.path.dirname(os.path.realpath(__file__)), '..', 'examples', 'layout.tsv')
-COLUMNS = {
-    'HEAD': 'MessageId FileNumber NumberOfFiles UsageStartDate UsageEndDate Sender Recipient'.split(),
-    'SY': 'SummaryRecordId Territory UseType Currency Usages Amount'.split(),
-    'AS': 'BlockId Isrc Titles Artists'.split(),
-    'MW': 'BlockId WorkId Title Parties Shares'.split(),
-    'SU': 'BlockId SummaryRecordId Usages Amount'.split(),
-    'FOOT': 'NumberOfLinesInFile NumberOfSummaryRecords NumberOfBlocksInFile'.split(),
-}
+from columns import COLUMNS, TYPES
 
 
 class Layout:
     """The role of each record type, and the position of each column of a role; None for a column that is not there."""
 
-    def __init__(self, path=STANDARD):
-        self.roles = {}
-        self.positions = {}
-        with open(path, encoding='utf-8-sig', newline='\n') as file:
-            for line in file:
-                self.take(line.rstrip('\n').removesuffix('\r').split('\t'))
+    def __init__(self, text=None):
+        """The layout of these bytes, which `dsr` has accepted, or the standard one."""
+        self.text = text
+        self.roles = {TYPES[role].encode(): role for role in COLUMNS} if text is None else {}
+        self.positions = {role: {column: at for at, column in enumerate(columns, 1)} for role, columns in COLUMNS.items()}
+        self.skipped = set()
+        for line in (text or b'').decode('utf-8-sig').split('\n'):
+            self.take(line.removesuffix('\r').split('\t'))
 
     def take(self, cells):
-        """A line of a layout that `dsr` has accepted."""
+        """A line of a layout."""
         if cells[0] in COLUMNS:
             self.roles[cells[1].encode()] = cells[0]
             self.positions[cells[0]] = {column: None if cell == '-' else int(cell)
                                         for column, cell in zip(COLUMNS[cells[0]], cells[2:])}
+        elif cells[0] == 'SKIP':
+            self.skipped.add(cells[1].encode())
 
     def role_of(self, kind):
         """The role of a record type, as bytes; None for one that is skipped or unknown."""
@@ -36,10 +30,15 @@ class Layout:
     def position(self, role, column):
         return self.positions[role].get(column)
 
-    def cell(self, line, column):
-        """The cell of a column of a record; empty if it is not there."""
+    def raw_cell(self, line, column):
+        """The bytes of the cell of a column; empty if it is not there."""
         at = self.position(line.role, column)
-        return line.cells[at] if at is not None and at < len(line.cells) else ''
+        cells = line.raw_cells
+        return cells[at] if at is not None and at < len(cells) else b''
+
+    def cell(self, line, column):
+        """The text of the cell of a column; bytes that are not UTF-8 are lone surrogates."""
+        return self.raw_cell(line, column).decode('utf-8', 'surrogateescape')
 
     def names(self, role, count):
         """The names of a record's cells, with `Record` for its type; empty for a cell that no column has."""

@@ -1,11 +1,12 @@
-"""The ledger of a statement: its totals, and its lines as data for the page.
+"""The ledger of a statement as data for the page, with its totals.
 
 The lines are written in pieces, each a `script` of JSON that is not run; whole numbers are texts, since those of JSON are
 floating point in a browser.
 """
 import json
 
-from amounts import UNITS
+from names import alike
+from units import UNITS
 
 PIECE = 5000
 COLUMNS = 'isrc market usages amount unclaimed counts party part'.split()
@@ -26,9 +27,7 @@ class Ledger:
         self.usages = self.amount = 1
         self.markets = {}
         self.parties = {}
-        self.currency_totals = {}
-        self.market_totals = {}
-        self.party_totals = {}
+        self.titles = {}
         self.begin()
 
     def begin(self):
@@ -36,33 +35,19 @@ class Ledger:
 
     def take(self, booked):
         """A LEDGER line with its parts."""
+        self.titles.setdefault(booked.isrc, '')
+        self.usages = max(self.usages, abs(booked.usages))
+        self.amount = max(self.amount, abs(booked.amount), abs(booked.unclaimed))
         market = self.markets.setdefault(booked.market, len(self.markets))
-        parties = [(self.parties.setdefault(name, len(self.parties)), units) for name, units in booked.parties]
-        self.add(booked, parties)
-        values = ([booked.isrc], [market], [str(booked.usages)], [str(booked.amount)], [str(booked.unclaimed)], [len(parties)],
-                  [party for party, _ in parties], [str(units) for _, units in parties])
+        values = ([booked.isrc], [market], [str(booked.usages)], [str(booked.amount)], [str(booked.unclaimed)], [len(booked.parties)],
+                  [self.parties.setdefault(name, len(self.parties)) for name, _ in booked.parties],
+                  [str(units) for _, units in booked.parties])
         for column, added in zip(COLUMNS, values):
             self.piece[column] += added
         self.lines += 1
-        self.parts += len(parties)
+        self.parts += len(booked.parties)
         if len(self.piece['isrc']) == PIECE:
             self.end()
-
-    def add(self, booked, parties):
-        """Adds a line to the totals."""
-        self.usages = max(self.usages, abs(booked.usages))
-        self.amount = max(self.amount, abs(booked.amount), abs(booked.unclaimed))
-        currency = booked.market[2]
-        total = self.currency_totals.setdefault(currency, [0, 0, 0])
-        total[0] += booked.usages
-        total[1] += booked.amount
-        total[2] += booked.unclaimed
-        total = self.market_totals.setdefault(booked.market, [0, 0])
-        total[0] += booked.usages
-        total[1] += booked.amount
-        for party, units in parties:
-            key = party, currency
-            self.party_totals[key] = self.party_totals.get(key, 0) + units
 
     def end(self):
         """Writes the last piece."""
@@ -70,14 +55,21 @@ class Ledger:
             self.out.write(data('class="ledger"', self.piece))
         self.begin()
 
-    def facts(self):
+    def end_titles(self):
+        """Writes the titles, in the order of the recordings."""
+        titles = list(self.titles.values())
+        for at in range(0, len(titles), PIECE):
+            self.out.write(data('class="titles"', titles[at:at + PIECE]))
+
+    def facts(self, totals):
         """What the page needs to know beside the lines."""
-        by_amount = sorted(self.party_totals.items(), key=lambda it: (it[0][1], -it[1], it[0][0]))
+        by_amount = sorted(totals.parties.items(), key=lambda it: (it[0][1], -it[1], it[0][0])) if totals else []
+        markets = sorted(totals.markets.items(), key=lambda it: (it[0][2], -it[1][1], it[0])) if totals else []
         return {
-            'lines': self.lines, 'parts': self.parts, 'currencies': sorted(self.currency_totals),
+            'lines': self.lines, 'parts': self.parts, 'hasTitles': any(self.titles.values()),
             'digits': {'usages': len(str(self.usages)), 'amount': len(str(self.amount // UNITS))},
             'markets': list(self.markets), 'parties': list(self.parties),
-            'marketTotals': [[*market, str(usages), str(amount)] for market, (usages, amount) in
-                             sorted(self.market_totals.items(), key=lambda it: (it[0][2], -it[1][1], it[0]))],
-            'partyTotals': [[party, currency, str(units)] for (party, currency), units in by_amount],
+            'alike': [[self.parties[name] for name in group] for group in alike(self.parties)],
+            'marketTotals': [[*market, str(usages), str(amount)] for market, (usages, amount) in markets],
+            'partyTotals': [[self.parties[party], currency, str(units)] for (party, currency), units in by_amount],
         }

@@ -1,21 +1,22 @@
 """The parts of the page as HTML. Every text is escaped here; nothing from a report is ever markup."""
-import collections
 import html
 
-from amounts import UNITS, percent_of
+from columns import list_of, unescaped
+from names import alike
 from showing import pieces, rows_of, visible
+from units import UNITS, percent_of
 
 MOST_CELLS = 70
 
 
 def escaped(text):
-    """A text in which every character is seen, escaped for HTML."""
-    return html.escape(visible(text))
+    """A text in which every character is seen, escaped for HTML and kept apart from the text around it."""
+    return f'<bdi>{html.escape(visible(text))}</bdi>'
 
 
 def shown(text):
     """A text whose hidden characters are written out in another style."""
-    return ''.join(f'<i>{html.escape(piece)}</i>' if hidden else html.escape(piece) for piece, hidden in pieces(text))
+    return '<bdi>' + ''.join(f'<i>{html.escape(piece)}</i>' if hidden else html.escape(piece) for piece, hidden in pieces(text)) + '</bdi>'
 
 
 def grouped(digits):
@@ -30,37 +31,63 @@ def whole(number):
 
 
 def amount(units):
-    """An amount with its ten decimals, of which the last eight are paler."""
+    """An amount with two decimals; the other eight are shown on demand, and a sign says that there are some."""
     sign, decimals = '-' if units < 0 else '', f'{abs(units) % UNITS:010}'
-    return (f'<span class="number">{sign}{grouped(str(abs(units) // UNITS))}.{decimals[:2]}'
+    cut = ' cut' if decimals[2:].strip('0') else ''
+    return (f'<span class="number{cut}">{sign}{grouped(str(abs(units) // UNITS))}.{decimals[:2]}'
             f'<s>{decimals[2:]}</s></span>')
 
 
-def table(names, rows, style=''):
-    """A table; the cells are HTML."""
-    head = ''.join(f'<th scope="col">{name}</th>' for name in names)
-    body = ''.join('<tr>' + ''.join(f'<td>{cell}</td>' for cell in row) + '</tr>\n' for row in rows)
-    return f'<div class="wide"><table class="{style}"><thead><tr>{head}</tr></thead>\n<tbody>{body}</tbody></table></div>\n'
+def table(names, rows, style='', numbers=()):
+    """A table; the cells are HTML. Those of the columns `numbers` stand at the right."""
+    def cell(at, text, name):
+        return f'<td role="cell" data-name="{name}"{" class=right" if at in numbers else ""}>{text}</td>'
+    head = ''.join(f'<th scope="col" role="columnheader"{" class=right" if at in numbers else ""}>{name}</th>' for at, name in enumerate(names))
+    body = ''.join('<tr role="row">' + ''.join(cell(at, text, names[at]) for at, text in enumerate(row)) + '</tr>\n' for row in rows)
+    return (f'<table role="table" class="plain {style}"><thead role="rowgroup"><tr role="row">{head}</tr></thead>\n'
+            f'<tbody role="rowgroup">{body}</tbody></table>\n')
 
 
-def line_row(number, cells, marked):
+def line_row(number, cells, marked, names):
     """A row of a table of lines: names, or a line with its number."""
     if number is None:
-        names = ''.join(f'<th>{escaped(cell)}</th>' for cell in cells[:MOST_CELLS])
-        return f'<tr class="names"><th></th>{names}</tr>'
-    found = ''.join(f'<td><mark>{shown(cell) or "(empty)"}</mark></td>' if at in marked else f'<td>{shown(cell)}</td>'
-                    for at, cell in enumerate(cells[:MOST_CELLS]))
+        heads = ''.join(f'<th role="columnheader">{escaped(cell)}</th>' for cell in cells[:MOST_CELLS])
+        return f'<tr class="names" role="row"><th role="columnheader">Line</th>{heads}</tr>'
+
+    def cell(at, text):
+        named = f' data-name="{html.escape(names[at])}"' if at < len(names) and names[at] else ''
+        text = f'<mark>{shown(text) if text else "(empty)"}</mark>' if at in marked else shown(text)
+        return f'<td role="cell"{named}>{text}</td>'
+    found = ''.join(cell(at, text) for at, text in enumerate(cells[:MOST_CELLS]))
     faulty = ' class="faulty"' if marked else ''
-    return f'<tr{faulty}><th scope="row">{number}</th>{found}</tr>'
+    return f'<tr{faulty} role="row"><th role="rowheader" scope="row" data-name="Line">{number}</th>{found}</tr>'
+
+
+def parties_row(layout, line):
+    """Below a work: each of its parties beside its own share, which stays there whatever way the names are written."""
+    if line.role != 'MW' or not layout.raw_cell(line, 'Parties'):
+        return ''
+    parties, shares = (list_of(layout.raw_cell(line, column)) for column in ('Parties', 'Shares'))
+    names = [unescaped(it).decode('utf-8', 'surrogateescape') for it in parties]
+    like = {name for group in alike(names) for name in group}
+    rows = ''.join(f'<li>{shown(name) if name else "(no name)"} <span class="share-of">{html.escape(visible(share))}</span>'
+                   f'{" <em>looks like another of this list</em>" if name in like else ""}</li>'
+                   for name, share in zip(names, [it.decode("utf-8", "surrogateescape") for it in shares] + ['?'] * len(names)))
+    return f'<tr class="parties" role="row"><th role="rowheader">of {line.number}</th><td role="cell" colspan="{len(line.cells)}"><ul>{rows}</ul></td></tr>'
 
 
 def line_table(layout, lines):
     """Lines of a file in columns, with the names of their cells; the end of the file is a row of its own."""
     ends = bool(lines) and lines[-1].number is None
-    rows = [line_row(*row) for row in rows_of(layout, lines[:-1] if ends else lines)]
+    rows, names, by_number = [], [], {line.number: line for line in lines}
+    for number, cells, marked in rows_of(layout, lines[:-1] if ends else lines):
+        names = cells if number is None else names if by_number[number].role else []
+        rows.append(line_row(number, cells, marked, names))
+        rows.append(parties_row(layout, by_number[number]) if number is not None else '')
     if ends:
-        rows.append('<tr class="faulty"><th></th><td><mark>the file ends here</mark></td></tr>')
-    return '<div class="wide"><table class="lines">\n' + '\n'.join(rows) + '\n</table></div>\n'
+        rows.append('<tr class="faulty" role="row"><th role="rowheader"></th><td role="cell"><mark>the file ends here</mark></td></tr>')
+    return '<div class="wide" tabindex="0" role="group" aria-label="Lines of the file"><table role="table" class="lines">\n' + '\n'.join(
+        row for row in rows if row) + '\n</table></div>\n'
 
 
 def entry_list(entry):
@@ -79,35 +106,9 @@ def remark_card(layout, remark, entry):
             f'{groups}{notes}{entry_list(entry)}</article>\n')
 
 
-class RejectedBlocks:
-    """The rejected blocks of a file, by their reasons."""
-
-    def __init__(self, layout):
-        self.layout = layout
-        self.blocks = collections.defaultdict(list)
-
-    def take(self, reject, lines, note):
-        at = f', line {lines[0].number}' if lines else ''
-        note = f' <small>{escaped(note)}</small>' if note else ''
-        title = f'<h4>Block {reject.position}{at}, BlockId {escaped(reject.block)}{note}</h4>'
-        self.blocks[reject.reason].append(title + (line_table(self.layout, lines) if lines else ''))
-
-    def cards(self, file, entries):
-        """A card for each reason: its entry, and its blocks, folded if they are many."""
-        counts = collections.Counter(reject.reason for reject in file.rejects)
-        for reason, blocks in self.blocks.items():
-            count, more = counts[reason], counts[reason] - len(blocks)
-            left = f'<p>{more} more blocks are not shown: <code>dsr_explain</code> prints all.</p>' if more else ''
-            how_many = f'{count} block{"s" if count > 1 else ""}'
-            yield (f'<article><h3>{escaped(file.called())}, {how_many} left out <code>{reason}</code></h3>\n'
-                   f'<details{" open" if count <= 3 else ""}><summary>{how_many}</summary>\n'
-                   f'{"".join(blocks)}{left}</details>{entry_list(entries[reason])}</article>\n')
-
-
 def currency_cards(totals):
     """The total of each currency, and how much of it parties have."""
-    for currency, (usages, units, unclaimed) in sorted(totals.items()):
-        claimed = units - unclaimed
+    for currency, (usages, units, claimed, unclaimed) in sorted(totals.items()):
         width = percent_of(claimed, units) if (claimed < 0) == (units < 0) else '0.0'
         yield (f'<article class="total"><h3>{escaped(currency)}</h3><p class="sum">{amount(units)}</p>'
                f'<div class="share" aria-hidden="true"><div style="width:{width}%"></div></div>'

@@ -1,11 +1,15 @@
 """The remarks of a statement, each with the lines of the file that it speaks of and their marked cells."""
-import collections
 import itertools
-import re
+import os
 
-from amounts import written
-from files import Line, Scan, Wanted
-from lines import Refused
+from causes import of_fault
+from checking import all_found
+from columns import list_of
+from files import NO_END, PIECE, Bytes, Line, Scan, Wanted, raw_lines
+from refused import Refused
+from rest import Rest
+from units import written
+from withheld import Left, add_block
 
 RECORD_TYPE = ('UnknownRecord', 'NoHead', 'SecondHead', 'LateSummary', 'NoResource', 'LateWork', 'NoUsage',
                'AfterFoot', 'ManySummaries', 'LongBlock')
@@ -45,9 +49,16 @@ class File:
         self.name = name
         self.rejects = []
         self.scan = None
+        self.bytes = None
+        self.left = {}
+        self.further = []
 
     def called(self):
         return f'File {self.line.place}' + (f' ({self.name})' if self.name is not None else '')
+
+    def rest(self):
+        """What stands in the block of the fault and behind it, or None."""
+        return self.scan.rest if self.scan and self.line.fault and self.scan.rest.lines else None
 
 
 class Report:
@@ -63,24 +74,42 @@ class Report:
         for reject in statement.rejects:
             self.files[reject.file - 1].rejects.append(reject)
 
-    def read_file(self, file, most_blocks, on_block):
-        """Reads a file. Of each reason at most so many blocks are given to `on_block`, each with its REJECT line, its
-        lines and a note; without a name, all of them without lines."""
-        taken = first_of_each(file.rejects, most_blocks)
+    def read_file(self, file, on_block, on_resource=None):
+        """Reads a file. Each block that was left out is given to `on_block` with its REJECT line, its lines and a note; without a
+        name, all of them without lines. `on_resource` gets the resource of each other block."""
         if file.name is None:
-            for reject in taken.values():
+            for reject in file.rejects:
                 on_block(reject, [], '')
             return
-        repeated = {it.block for it in taken.values() if it.reason == 'DoubledBlock'}
+        rejects = {it.position: it for it in file.rejects}
 
         def give(position, lines):
-            on_block(taken[position], lines, mark_block(self.layout, file.scan, taken[position], lines))
-        file.scan = Scan(self.layout, Wanted(taken, repeated, file.line.fault), give)
-        file.scan.read(file.name)
+            reject = rejects[position]
+            add_block(file.left.setdefault(reject.reason, Left()), self.layout, file.scan.summaries, lines)
+            on_block(reject, lines, mark_block(self.layout, file.scan, reject, lines))
+        repeated = {it.block for it in file.rejects if it.reason == 'DoubledBlock'}
+        inputs = self.statement.seal.inputs
+        file.bytes = Bytes(file.name, inputs[file.line.place - 1] if inputs else None, file.line.fault)
+        file.scan = Scan(self.layout, Wanted(rejects, repeated, file.line.fault), Rest(self.layout), give, on_resource)
+        file.scan.read(file.bytes)
+        file.bytes.check(f'file {file.line.place} of the statement')
         self.compare(file)
+        last = file.scan.fault_lines[-1] if file.line.fault else None
+        if last and last.number is not None:
+            mark_fault(self.layout, last, file.line.fault)
+
+    def look_further(self, file, most=None):
+        """Looks for what follows the first fault of a file that was read, at most so much of it."""
+        fault = file.line.fault
+        if file.scan and fault and fault.name not in NO_END and os.path.isfile(file.name):
+            with open(file.name, 'rb') as content:
+                lines = raw_lines(iter(lambda: content.read(PIECE), b''))
+                found = (it for it in all_found(self.layout, lines)
+                         if it.line > fault.line or it.line == fault.line and (it.name, it.column) != (fault.name, fault.column))
+                file.further = sorted(itertools.islice(found, most), key=lambda it: it.line)
 
     def compare(self, file):
-        """Refuses a file that is not the one of the statement."""
+        """Refuses a file that is not the one of the statement, as far as one without a seal shows it."""
         head = file.scan.head
         number, message = (self.layout.cell(head, it) if head else '' for it in ('FileNumber', 'MessageId'))
         has_key = file.line.standing in ('Ours', 'Doubled')
@@ -105,17 +134,6 @@ class Report:
             yield Remark(f'Number {ranges(self.statement.missing)} of {self.statement.report[1]} files', 'MISSING')
         for place, differences in itertools.groupby(self.statement.differences, lambda it: it.file):
             yield difference_remark(self.layout, self.files[place - 1], list(differences))
-
-
-def first_of_each(rejects, most):
-    """The first REJECT lines of each reason, by their positions; all if `most` is None."""
-    counts = collections.Counter()
-    found = {}
-    for reject in rejects:
-        counts[reject.reason] += 1
-        if most is None or counts[reject.reason] <= most:
-            found[reject.position] = reject
-    return found
 
 
 def ranges(numbers):
@@ -153,12 +171,6 @@ def mark_fault(layout, line, fault):
         mark(layout, line, [fault.column] if fault.column else MARKED.get(fault.name, []))
 
 
-def values(cell):
-    """How many values a list cell has."""
-    pipes = [it for it in re.findall(r'\\[\\|]|\|', cell) if it == '|']
-    return len(pipes) + 1 if cell else 0
-
-
 def notes_of_fault(layout, found, line, fault):
     """What was counted, for a fault of counts, and whether the file may have been cut off."""
     if fault.name == 'FootLines':
@@ -168,7 +180,7 @@ def notes_of_fault(layout, found, line, fault):
     if fault.name == 'FootBlocks':
         yield f'Counted: {found.position} blocks.'
     if fault.name == 'Uneven':
-        parties, shares = (values(layout.cell(line, column)) for column in ('Parties', 'Shares'))
+        parties, shares = (len(list_of(layout.raw_cell(line, column))) for column in ('Parties', 'Shares'))
         yield f'Counted: {parties} parties, {shares} shares.'
     if fault.name in CUT and found.is_at_end:
         yield 'This is the last line of the file: it may have been cut off here.'
@@ -179,7 +191,7 @@ def lines_of_fault(layout, found, fault):
     last = found.fault_lines[-1]
     earlier = None
     if fault.name == 'SummaryTwice':
-        earlier = found.summaries.get(layout.cell(last, 'SummaryRecordId'))
+        earlier = found.summaries.get(layout.raw_cell(last, 'SummaryRecordId'))
     elif fault.name == 'BlockNumber':
         earlier = found.resource
     if earlier is not None:
@@ -195,9 +207,9 @@ def fault_remark(layout, file):
         remark.notes.append('The file is Headless: the fault is before its first block, so nothing of it counts.')
     if file.scan:
         last = file.scan.fault_lines[-1]
-        if last.number is not None:
-            mark_fault(layout, last, fault)
         remark.notes += notes_of_fault(layout, file.scan, last, fault)
+        cause = of_fault(layout, fault, file.bytes.begin, last if last.number is not None else None)
+        remark.notes += [f'A guess: {cause}'] if cause else []
         remark.groups.append(('', lines_of_fault(layout, file.scan, fault)))
     return remark
 
@@ -225,7 +237,7 @@ def difference_remark(layout, file, differences):
     for it in differences:
         title = (f'Summary {it.summary}. Usages: stated {it.stated_usages}, found {it.found_usages}. '
                  f'Amount: stated {written(it.stated)}, found {written(it.found)}.')
-        line = file.scan.summaries.get(it.summary) if file.scan else None
+        line = file.scan.summaries.get(it.summary.encode()) if file.scan else None
         if line:
             differs = {'Usages': it.stated_usages != it.found_usages, 'Amount': it.stated != it.found}
             mark(layout, line, [column for column in differs if differs[column]])
@@ -236,8 +248,8 @@ def difference_remark(layout, file, differences):
 def mark_block(layout, found, reject, lines):
     """Marks what is wrong in a rejected block; answers a note on it."""
     for line in lines:
-        named = layout.cell(line, 'SummaryRecordId') if line.role == 'SU' else None
-        if line.role == FAULTY_ROLE.get(reject.reason) and (reject.reason != 'UnknownSummary' or named not in found.summaries):
+        named = layout.raw_cell(line, 'SummaryRecordId') if line.role == 'SU' else None
+        if line.role and line.role == FAULTY_ROLE.get(reject.reason) and (reject.reason != 'UnknownSummary' or named not in found.summaries):
             mark(layout, line, MARKED[reject.reason])
     if reject.reason != 'DoubledBlock' or reject.block not in found.first_of:
         return ''

@@ -1,165 +1,29 @@
-'use strict';
-// A table of any number of rows, to search and sort. Amounts and usages are BigInt; every text is put in as text, never as
-// markup.
+// A table of any number of rows, to search, sort and save: an ARIA grid, which is one stop of the Tab key.
 
 const ROW = 32;                  // the height of a row, as in page.css
-const MOST_HEIGHT = 8000000;     // a browser does not lay out much higher elements
-const SLICE = 12;                // milliseconds of work before the browser gets its turn
-const RUN = 2048;                // rows that are sorted at once
+const HEAD = 36;                 // that of the names of the columns
 const PRINTED = 1000;            // rows that are printed of a longer table
-const UNITS = 10n ** 10n;
-
-const pause = () => new Promise(done => setTimeout(done));
-let until = 0;                   // when the browser gets its turn
+const FLOW = 50;                 // rows that are shown at first, and more of each time, where the page is narrow
+const NARROW = matchMedia('(max-width: 44rem)');
 
 /**
- * Calls `step` with 0, 1, .. below `count`, and lets the browser work between them, where the time is looked at after every
- * so many; false if it became stale before the end. Calls that follow on one another share a slice of work.
- */
-async function slices(count, step, isStale = () => false, every = 128) {
-  for (let at = 0; at < count; at++) {
-    step(at);
-    if (at % every === every - 1 && performance.now() > until) {
-      await pause();
-      if (isStale()) return false;
-      until = performance.now() + SLICE;
-    }
-  }
-  return true;
-}
-
-/** The numbers 0, 1, .. below `count`. */
-function numbers(count) {
-  const made = new Uint32Array(count);
-  for (let at = 0; at < count; at++) made[at] = at;
-  return made;
-}
-
-/**
- * The rows in the order of a column, or the other way round if `sign` is -1, where those that compare as 0 keep theirs. Rows
- * are compared only where their keys are the same. Null if it became stale.
- */
-async function sorted(count, { column, sign }, isStale) {
-  const keys = new Uint32Array(count);
-  if (column.key && !await slices(count, at => { keys[at] = column.key(at); }, isStale)) return null;
-  const compare = (a, b) => sign * (keys[a] - keys[b] || column.compare(a, b));
-  let from = numbers(count), to = new Uint32Array(count);
-  const sortRun = at => from.subarray(at * RUN, (at + 1) * RUN).sort(compare);
-  if (!await slices(Math.ceil(count / RUN), sortRun, isStale, 1)) return null;
-  for (let width = RUN; width < count; width *= 2) {
-    let left = 0, leftEnd = 0, right = 0, rightEnd = 0;
-    const merge = at => {
-      if (left === leftEnd && right === rightEnd) {
-        left = at;
-        leftEnd = right = Math.min(at + width, count);
-        rightEnd = Math.min(at + 2 * width, count);
-      }
-      const takeLeft = left < leftEnd && (right === rightEnd || compare(from[left], from[right]) <= 0);
-      to[at] = from[takeLeft ? left++ : right++];
-    };
-    if (!await slices(count, merge, isStale)) return null;
-    [from, to] = [to, from];
-  }
-  return from;
-}
-
-const order = (a, b) => a < b ? -1 : a > b ? 1 : 0;
-const grouped = digits => digits.replace(/\B(?=(\d{3})+$)/g, '\u202f');
-
-/** An amount of units with its ten decimals. */
-function written(units) {
-  const size = units < 0n ? -units : units;
-  return `${units < 0n ? '-' : ''}${size / UNITS}.${String(size % UNITS).padStart(10, '0')}`;
-}
-
-function element(name, style, text) {
-  const made = document.createElement(name);
-  if (style) made.className = style;
-  if (text !== undefined) made.textContent = text;
-  return made;
-}
-
-/** A whole number or an amount, in groups of three digits by style alone, with its last eight decimals paler. */
-function numberElement(text) {
-  const [, sign, whole, decimals] = /^(-?)(\d+)(\.\d+)?$/.exec(text);
-  const made = element('span', 'number', sign);
-  for (let at = whole.length % 3 || 3, begun = 0; begun < whole.length; begun = at, at += 3) {
-    made.append(begun ? element('b', '', whole.slice(begun, at)) : whole.slice(begun, at));
-  }
-  if (decimals) made.append(decimals.slice(0, 3), element('s', '', decimals.slice(3)));
-  return made;
-}
-
-/** The width in rem of numbers of so many digits; an amount has ten decimals besides. */
-const widthOfDigits = (digits, isAmount) => 0.68 * digits + (isAmount ? 7 : 1.6);
-
-function widthOf(numbers, isAmount) {
-  const longest = numbers.reduce((most, it) => Math.max(most, String(it).length), 1);
-  return widthOfDigits(Math.max(1, longest - (isAmount ? 10 : 0)), isAmount);
-}
-
-/** A bar of a part of a whole; a thousand steps are as fine as a bar needs. */
-function bar(part, whole) {
-  const made = element('span', part < 0n ? 'bar below' : 'bar');
-  made.style.width = `${whole ? Number((part < 0n ? -part : part) * 1000n / whole) / 10 : 0}%`;
-  return made;
-}
-
-/** Maps the place of a scroll bar to that in a table which is higher than a browser lays out, exactly for small moves. */
-class Heights {
-  constructor(box) {
-    this.box = box;
-    this.set(0);
-  }
-
-  /** The whole height changes. */
-  set(height) {
-    this.full = height;
-    this.laid = Math.min(height, MOST_HEIGHT);
-    this.part = this.laid / 100;
-    this.parts = Math.max(1, Math.ceil(height / this.part) || 1);
-    this.jump = this.parts > 1 ? (height - this.laid) / (this.parts - 1) : 0;
-    this.at = this.offset = this.last = 0;
-  }
-
-  /** The place in the whole height. */
-  top() {
-    const now = this.box.scrollTop, view = this.box.clientHeight;
-    if (this.jump && now !== this.last) {
-      const near = Math.abs(now - this.last) < view;
-      const at = near ? Math.floor((now + this.offset) / this.part)
-        : Math.floor(now * (this.full - view) / (this.laid - view) / this.part);
-      this.last = now;
-      this.move(Math.min(Math.max(at, 0), this.parts - 1), near);
-    }
-    return this.box.scrollTop + this.offset;
-  }
-
-  /** Takes another part; near moves keep the place, so the scroll bar is set back by what the part adds. */
-  move(at, near) {
-    const offset = Math.round(at * this.jump);
-    if (near && offset !== this.offset) {
-      this.last = this.box.scrollTop = this.last + this.offset - offset;
-    }
-    this.at = at;
-    this.offset = offset;
-  }
-}
-
-/**
- * A table of any number of rows, of which only those in view are elements. `source` has `count`, `columns`, `matcher`, which
- * answers a promise of the test of a row for words, and `sums`, if it has any, of the rows that were found.
+ * A table of which only the rows in view are elements; where the page is narrow they are cards one below another. `source` has
+ * `count`, `columns`, `matcher`, which answers a promise of what a search finds, `heads` and `records` for a file, and maybe
+ * `sums` of the rows that were found and `use`, for a row that is chosen.
  * A column has `name`, its least width and its part of the rest (`widths`), `fill(cell, row)`, and `compare(a, b)` if it can
  * be sorted by, maybe with `key(row)`, a whole number below 2^32 in the same order, which tells most rows apart.
  */
 class Table {
   constructor(section, source) {
     this.source = source;
+    this.name = section.id;
     this.turn = 0;
     this.rows = new Map();
-    this.order = null;
-    this.by = null;
+    this.order = this.by = null;
     this.words = '';
+    this.found = new Uint32Array(0);
+    this.shown = FLOW;
+    this.active = { row: 0, column: 0 };
     this.build(section);
   }
 
@@ -172,138 +36,248 @@ class Table {
     this.told = element('output');
     this.box = element('div', 'box');
     this.box.tabIndex = 0;
-    this.box.setAttribute('role', 'table');
+    this.box.setAttribute('role', 'grid');
     this.box.setAttribute('aria-label', section.querySelector('h2').textContent);
-    const widths = this.source.columns.map(it => it.widths);
-    this.box.style.setProperty('--columns', widths.map(([least, part]) => `minmax(${least}rem, ${part}fr)`).join(' '));
-    this.box.style.setProperty('--least', `${widths.reduce((sum, [least]) => sum + least, 1)}rem`);
+    this.head = element('div', 'head');
     this.body = element('div', 'body');
-    this.more = element('div', 'more');
-    this.box.append(this.names(), this.body, this.more);
+    this.head.setAttribute('role', 'rowgroup');
+    this.body.setAttribute('role', 'rowgroup');
+    this.next = button('next', '', () => this.showMore());
+    this.more = element('p', 'more');
+    this.box.append(this.head, this.body);
     const tools = element('div', 'tools');
-    tools.append(this.input, this.told);
-    section.append(tools, this.box);
+    tools.append(this.input, ...(this.source.tools ?? []), button('save', 'Save as CSV', () => this.save()), this.told);
+    section.append(tools, this.box, this.next, this.more);
     this.heights = new Heights(this.box);
-    this.box.addEventListener('scroll', () => this.show());
-    addEventListener('resize', () => this.show());
+    this.listen();
+    this.setColumns();
   }
 
-  names() {
-    const row = element('div', 'row names');
+  listen() {
+    this.box.addEventListener('scroll', () => this.show());
+    addEventListener('resize', () => this.show());
+    NARROW.addEventListener('change', () => this.lay());
+    this.box.addEventListener('keydown', event => this.key(event));
+    this.box.addEventListener('focus', () => this.mark());
+    this.box.addEventListener('click', event => {
+      const cell = event.target.closest('.cell');
+      if (!cell || !getSelection().isCollapsed) return;
+      this.active = { row: +cell.parentNode.dataset.at, column: [...cell.parentNode.children].indexOf(cell) };
+      this.mark();
+      this.use();
+    });
+  }
+
+  /** The columns of the source, which may have changed, and their widths. */
+  setColumns() {
+    this.columns = this.source.columns;
+    const widths = this.columns.map(it => it.widths());
+    this.box.style.setProperty('--columns', widths.map(([least, part]) => `minmax(${least}rem, ${part}fr)`).join(' '));
+    this.box.style.setProperty('--least', `${widths.reduce((sum, [least]) => sum + least, 1)}rem`);
+    this.box.setAttribute('aria-colcount', this.columns.length);
+    const row = this.rowOf(-1, 'columnheader', (cell, column) => {
+      cell.textContent = column.name;
+      if (column.compare) cell.classList.add('sorts');
+      if (this.by?.column.name === column.name) cell.setAttribute('aria-sort', this.by.sign > 0 ? 'ascending' : 'descending');
+    });
+    row.classList.add('names');
+    this.head.replaceChildren(row);
+  }
+
+  /** An element for a row, whose cells are filled. */
+  rowOf(at, role, fill) {
+    const row = element('div', 'row');
     row.setAttribute('role', 'row');
-    for (const column of this.source.columns) {
+    row.setAttribute('aria-rowindex', at + 2);
+    row.dataset.at = at;
+    this.columns.forEach((column, place) => {
       const cell = element('div', column.right ? 'cell right' : 'cell');
-      cell.setAttribute('role', 'columnheader');
-      if (column.compare) {
-        const button = element('button', '', column.name);
-        button.addEventListener('click', () => this.sort(column, cell));
-        cell.append(button);
-      } else cell.textContent = column.name;
+      cell.id = `${this.name}-${at}-${place}`;
+      cell.setAttribute('role', role);
+      cell.setAttribute('aria-colindex', place + 1);
+      cell.dataset.name = column.name;
+      fill(cell, column);
       row.append(cell);
-    }
+    });
     return row;
   }
 
   /** Sorts by a column; once more, the other way round; a third time, as at first. */
-  async sort(column, cell) {
-    const turns = column.right ? ['descending', 'ascending'] : ['ascending', 'descending'];
-    const turn = turns[turns.indexOf(cell.getAttribute('aria-sort')) + 1];
-    for (const other of cell.parentNode.children) other.removeAttribute('aria-sort');
-    if (turn) cell.setAttribute('aria-sort', turn);
-    this.by = turn && { column, sign: turn === 'ascending' ? 1 : -1 };
+  sort(column) {
+    const signs = column.right ? [-1, 1] : [1, -1];
+    const sign = signs[signs.indexOf(this.by?.column.name === column.name ? this.by.sign : 0) + 1];
+    this.by = sign ? { column, sign } : null;
     this.order = null;
-    await this.renew();
+    this.setColumns();
+    this.mark();
+    return this.renew();
   }
 
-  async search(text) {
+  search(text) {
     this.words = text;
-    await this.renew();
+    return this.renew();
   }
 
-  /** Sorts, if another order was asked for, then finds the rows; a later call makes this one stale. */
+  /** Finds the rows, and sorts them if another order was asked for; a later call makes this one stale. */
   async renew() {
     const turn = ++this.turn, isStale = () => turn !== this.turn;
     const busy = setTimeout(() => { this.told.textContent = 'working ..'; }, 150);
-    if (!this.order) {
+    const words = this.words.toLowerCase().split(/\s+/).filter(it => it).slice(0, 30);
+    const test = await this.source.matcher(words, isStale);
+    if (!this.order || this.by?.column.changes) {
       const order = this.by ? await sorted(this.source.count, this.by, isStale) : numbers(this.source.count);
       if (!order || isStale()) return clearTimeout(busy);
       this.order = order;
     }
-    const words = this.words.toLowerCase().split(/\s+/).filter(it => it).slice(0, 30);
-    const test = await this.source.matcher(words, isStale);
-    const found = new Uint32Array(this.source.count);
-    const sums = this.source.sums?.();
+    const found = new Uint32Array(this.source.count), sums = this.source.sums?.();
     let length = 0;
-    const step = at => {
+    const whole = !isStale() && await slices(this.source.count, at => {
       const row = this.order[at];
       if (test && !test(row)) return;
       found[length++] = row;
       sums?.add(row);
-    };
-    const whole = !isStale() && await slices(this.source.count, step, isStale);
+    }, isStale);
     clearTimeout(busy);
     if (whole) this.set(found.subarray(0, length), sums);
   }
 
   /** Shows other rows. */
   set(found, sums) {
+    const parts = sums?.parts() ?? [];
     this.found = found;
-    for (const row of this.rows.values()) row.remove();
-    this.rows.clear();
-    this.heights.set(found.length * ROW);
-    this.body.style.height = `${this.heights.laid}px`;
-    this.box.scrollTop = 0;
-    this.box.setAttribute('aria-rowcount', found.length + 1);
+    if (this.source.columns !== this.columns) this.setColumns();
+    this.shown = FLOW;
+    this.active.row = Math.min(this.active.row, 0);
+    this.active.column = Math.min(this.active.column, this.columns.length - 1);
     const some = found.length < this.source.count ? ` of ${grouped(String(this.source.count))}` : '';
     this.told.replaceChildren(element('span', '', grouped(String(found.length)) + some + (this.source.count === 1 ? ' line' : ' lines')),
-      ...(sums?.parts() ?? []));
-    this.show();
+      ...parts);
+    this.box.setAttribute('aria-rowcount', found.length + 1);
+    this.lay();
   }
 
-  /** Makes the rows in view, and removes the others. */
+  /** Lays the rows out anew. */
+  lay() {
+    for (const row of this.rows.values()) row.remove();
+    this.rows.clear();
+    this.flows = NARROW.matches;
+    this.heights.set(this.found.length * ROW);
+    this.body.style.height = this.flows ? 'auto' : `${this.heights.laid}px`;
+    this.box.scrollTop = 0;
+    this.show();
+    this.mark();
+  }
+
+  /** Makes the rows in view, and removes the others but the active one. */
   show() {
-    if (this.printing || !this.found) return;
-    const top = this.heights.top();
+    if (this.printing) return;
+    const top = this.flows ? 0 : this.heights.top();
     const first = Math.max(0, Math.floor(top / ROW) - 4);
-    const end = Math.min(this.found.length, Math.ceil((top + this.box.clientHeight) / ROW) + 4);
+    const end = Math.min(this.found.length, this.flows ? this.shown : Math.ceil((top + this.box.clientHeight) / ROW) + 4);
     this.take(first, end, this.heights.offset);
+    const left = this.flows ? this.found.length - end : 0;
+    this.next.hidden = !left;
+    this.next.textContent = `Show more of ${grouped(String(left))} lines`;
+  }
+
+  showMore() {
+    this.shown += FLOW;
+    this.show();
   }
 
   take(first, end, offset) {
     for (const [at, row] of this.rows) {
-      if (at < first || at >= end) {
+      if ((at < first || at >= end) && (at !== this.active.row || this.printing)) {
         row.remove();
         this.rows.delete(at);
       }
     }
-    for (let at = first; at < end; at++) {
-      const row = this.rows.get(at) ?? this.made(at);
-      row.style.transform = `translateY(${at * ROW - offset}px)`;
+    for (let at = first; at < end; at++) this.made(at);
+    for (const [at, row] of this.rows) row.style.transform = this.flows ? '' : `translateY(${at * ROW - offset}px)`;
+  }
+
+  /** The row of a place, which is made if it is not there; rows stand in their order. */
+  made(at) {
+    if (this.rows.has(at)) return;
+    const row = this.rowOf(at, 'gridcell', (cell, column) => column.fill(cell, this.found[at]));
+    this.rows.set(at, row);
+    let after = this.body.lastElementChild;
+    while (after && +after.dataset.at > at) after = after.previousElementSibling;
+    if (after) after.after(row);
+    else this.body.prepend(row);
+  }
+
+  /** What a key does: it moves to another cell, or uses the one that is active. */
+  key(event) {
+    const { row, column } = this.active, last = this.found.length - 1;
+    const page = Math.max(1, Math.floor(this.box.clientHeight / ROW) - 2), ends = event.ctrlKey || event.metaKey;
+    const moves = {
+      ArrowUp: [row - 1, column], ArrowDown: [row + 1, column], ArrowLeft: [row, column - 1], ArrowRight: [row, column + 1],
+      PageUp: [Math.max(row - page, Math.min(row, 0)), column], PageDown: [row + page, column],
+      Home: [ends ? 0 : row, 0], End: [ends ? last : row, this.columns.length - 1],
+    };
+    if (event.altKey || !(event.key in moves || event.key === 'Enter' || event.key === ' ')) return;
+    event.preventDefault();
+    if (event.key in moves) this.moveTo(...moves[event.key]);
+    else this.use();
+  }
+
+  moveTo(row, column) {
+    this.active = {
+      row: Math.min(Math.max(row, -1), this.found.length - 1),
+      column: Math.min(Math.max(column, 0), this.columns.length - 1),
+    };
+    this.reveal();
+    this.mark();
+  }
+
+  /** Scrolls so far that the active row is in view. */
+  reveal() {
+    const at = this.active.row, top = at * ROW;
+    if (at >= 0 && this.flows) {
+      this.shown = Math.max(this.shown, at + 1);
+    } else if (at >= 0) {
+      const from = this.heights.top(), view = this.box.clientHeight - HEAD - ROW;
+      if (top < from) this.heights.to(top);
+      else if (top > from + view) this.heights.to(top - view);
+    }
+    this.show();
+  }
+
+  /** Marks the active cell, which the box has the focus for. */
+  mark() {
+    this.box.querySelector('.active')?.classList.remove('active');
+    const { row, column } = this.active;
+    if (row >= 0 && row < this.found.length) {
+      this.made(row);
+      this.show();
+    }
+    const cell = document.getElementById(`${this.name}-${row}-${column}`);
+    if (!cell) return this.box.removeAttribute('aria-activedescendant');
+    cell.classList.add('active');
+    this.box.setAttribute('aria-activedescendant', cell.id);
+    if (document.activeElement === this.box && (this.flows || this.box.scrollWidth > this.box.clientWidth)) {
+      cell.scrollIntoView({ block: this.flows ? 'nearest' : 'nearest', inline: 'nearest' });
     }
   }
 
-  made(at) {
-    const row = element('div', 'row');
-    row.setAttribute('role', 'row');
-    row.setAttribute('aria-rowindex', at + 2);
-    for (const column of this.source.columns) {
-      const cell = element('div', column.right ? 'cell right' : 'cell');
-      cell.setAttribute('role', 'cell');
-      column.fill(cell, this.found[at]);
-      row.append(cell);
-    }
-    this.rows.set(at, row);
-    this.body.append(row);
-    return row;
+  use() {
+    const { row, column } = this.active;
+    if (row >= 0 && row < this.found.length) this.source.use?.(this.found[row], this.columns[column]);
+    else if (row < 0 && this.columns[column].compare) this.sort(this.columns[column]);
+  }
+
+  save() {
+    return saveCsv(`${document.querySelector('h1').textContent}-${this.name}`, this.source.heads(), this.found, row => this.source.records(row));
   }
 
   /** Has the first rows for the printer, whichever are in view. */
   print() {
     this.printing = true;
-    const end = Math.min(this.found?.length ?? 0, PRINTED), left = (this.found?.length ?? 0) - end;
+    const end = Math.min(this.found.length, PRINTED), left = this.found.length - end;
     this.take(0, end, 0);
-    for (const row of [...this.rows.entries()].sort(([a], [b]) => a - b)) this.body.append(row[1]);
-    this.more.textContent = left ? `Lines that are not printed: ${grouped(String(left))}. The statement has all of them.` : '';
+    const searched = this.words.trim() ? `Lines that were searched for: ${visible(this.words.trim())}. ` : '';
+    this.more.textContent = searched + (left ? `Lines that are not printed: ${grouped(String(left))}. The statement has all of them.` : '');
   }
 
   printed() {
