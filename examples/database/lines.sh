@@ -1,5 +1,5 @@
 #!/usr/bin/env bash
-# lines.sh STATEMENT: prints the lines of a statement that dsr_totals accepts, remarks or not, for load.sh and sqlite.sh: the
+# lines.sh STATEMENT: prints the lines of a statement that dsr_totals accepts, remarks or not, for sqlite.sh: the
 # number of the line, its cells, and as many further empty cells as make ten, with TABs between.
 # Exit status 1, and nothing printed, if dsr_totals refuses the statement or it has a zero byte, which a database cannot hold.
 set -euo pipefail

@@ -4,10 +4,12 @@ create domain amount as numeric(38, 10);
 create domain usages as numeric(39);
 create table report (
     id bigint generated always as identity primary key,
+    -- whose statement it is: the register's identifier, and the report's name there; a later statement has a greater turn
+    register text not null, name bytea not null, sha256 text not null, turn bigint not null,
     message_id text not null, number_of_files bigint not null, first_day date not null, last_day date not null,
     days bigint not null check (days = last_day - first_day + 1),
     loaded_at timestamptz not null default now(),
-    unique (message_id, number_of_files, first_day, last_day)
+    unique (register, name), unique (message_id, number_of_files, first_day, last_day)
 );
 create table file (
     report bigint references report on delete cascade, file bigint, number bigint,

@@ -1,0 +1,128 @@
+"""Payment runs: what is owed over the current statements that count, less what was paid; and what was confirmed."""
+import collections
+import contextlib
+import getpass
+import os
+import resource
+import shutil
+import subprocess
+import sys
+
+from folder import digest_at
+from outside import Programs, Refused, note, now, one_line, shown
+from states import KEY, looked_up, state_of
+
+FREE = 20
+
+
+def accept(table, asked):
+    """Lets a current statement with remarks through."""
+    table.lock()
+    one = state_of(table, table.called(asked.name))
+    if one.state != 'remarks':
+        raise Refused(1, f'{shown(one.name)} is {one.state}: only a current statement with remarks is accepted')
+    with table.base:
+        table.base.execute('insert into accepted values (?, ?, ?, ?)', (one.newest['id'], getpass.getuser(), now(), asked.why))
+    return 0
+
+
+def rows_of(one):
+    """A report's newest statement, and the one that was paid."""
+    return [row for row in (one.newest, one.paid) if row]
+
+
+def wrong(table, found, given, left_out):
+    """What would pay wrongly: the names of reports, each with the reason."""
+    of_message, names = collections.defaultdict(set), {one.name for one in given}
+    for one in found:
+        for row in rows_of(one) if one.paid or (one.state != 'withdrawn' and one.name not in left_out) else []:
+            of_message[row['message']].add(one.name)
+        if one.state == 'withdrawn' and one.paid and one.name not in left_out:
+            yield one.name, 'it was paid, and its folder is gone'
+    for message, those in of_message.items():
+        if len(those) > 1 and those & names:
+            yield from ((name, f'MessageId {message} is also that of {", ".join(map(shown, sorted(those - {name})))}') for name in sorted(those))
+    for one in given:
+        if one.paid and any(one.paid[key] != one.newest[key] for key in KEY):
+            yield one.name, f'it was paid as {" ".join(str(one.paid[key]) for key in KEY)}: dsr_totals takes off what the same report gave, and no other'
+        for row in rows_of(one):
+            if digest_at(table.place_of(row)) != row['sha256']:
+                yield one.name, f'the bytes of {row["path"]} are not those that were made'
+
+
+def make_room(count):
+    """Lets dsr_totals open this many files at once, as far as the system allows."""
+    soft, hard = resource.getrlimit(resource.RLIMIT_NOFILE)
+    for limits in ((count, max(count, hard)), (hard, hard)):
+        with contextlib.suppress(ValueError, OSError):
+            return soft < count and resource.setrlimit(resource.RLIMIT_NOFILE, limits)
+
+
+def add_up(table, given, out):
+    """Runs dsr_totals over the statements of these reports, less those that were paid. What it refuses."""
+    programs, rows = Programs(), [row for one in given for row in rows_of(one)]
+    make_room(len(rows) + FREE)
+    words = [programs.totals, *['--unsealed'][:programs.wants_seals and not all(row['sealed'] for row in rows)],
+             *['--with-remarks'][:any(one.newest['remarks'] for one in given)], '--output', out,
+             *(b'--paid=' + os.path.basename(table.place_of(one.paid)) for one in given if one.paid), '--',
+             *(os.path.basename(table.place_of(one.newest)) for one in given)]
+    ended = subprocess.run(words, cwd=table.statements, stdin=subprocess.DEVNULL, stdout=subprocess.DEVNULL, stderr=subprocess.PIPE)
+    if ended.returncode not in (0, 1):
+        raise Refused(3, f'{one_line(ended.stderr)} ({len(rows)} statements; `ulimit -n` says how many files may be open)')
+    refused = [one.name for one in given if any(os.path.basename(table.place_of(row)) in ended.stderr for row in rows_of(one))]
+    return [(name, one_line(ended.stderr)) for name in refused or [b'-']] if ended.returncode else []
+
+
+def prepare(table, given, new):
+    """Keeps a payment run, whose totals get its number for a name. The number, and the path."""
+    with table.base:
+        number = table.base.execute('insert into payment (path, sha256, prepared) values (?, ?, ?)', ('', digest_at(new), now())).lastrowid
+        table.base.execute('update payment set path = ? where id = ?', (f'payments/{number}.tsv', number))
+        parts = [(number, one.newest['id'], 0) for one in given] + [(number, one.paid['id'], 1) for one in given if one.paid]
+        table.base.executemany('insert into part values (?, ?, ?)', parts)
+        os.rename(new, os.path.join(table.payments, b'%d.tsv' % number))
+    return number, os.path.join(table.payments, b'%d.tsv' % number)
+
+
+def owed(table, asked):
+    """Prepares a payment run, or prints what would pay wrongly."""
+    table.lock()
+    os.makedirs(table.payments, exist_ok=True)
+    found, left_out, new = list(looked_up(table)), set(map(table.called, asked.but)), os.path.join(table.payments, b'.new')
+    given = [one for one in found if one.state in ('clean', 'accepted') and one.name not in left_out]
+    refused = list(wrong(table, found, given, left_out)) or (add_up(table, given, new) if given else [])
+    for name, reason in refused:
+        print(f'{shown(name)}\t{reason}')
+    if refused or not given:
+        note('no payment run was prepared' if refused else 'nothing is owed: each statement that counts was paid')
+        return int(bool(refused))
+    number, path = prepare(table, given, new)
+    with open(path, 'rb') as totals, open(asked.output + b'.part', 'wb') if asked.output else contextlib.nullcontext(sys.stdout.buffer) as out:
+        shutil.copyfileobj(totals, out)
+    if asked.output:
+        os.rename(asked.output + b'.part', asked.output)
+    note(f'payment run {number}, of {len(given)} reports; `dsr_register paid {number}` confirms it')
+    return 0
+
+
+def paid(table, asked):
+    """Confirms a payment run, unless one of its reports was paid by another since."""
+    table.lock()
+    run = table.first('select * from payment where id = ?', asked.run)
+    if run is None:
+        raise Refused(2, f'there is no payment run {asked.run}')
+    if run['confirmed']:
+        note(f'payment run {asked.run} was confirmed already, at {run["confirmed"]}')
+        return 0
+    if digest_at(table.place_of(run)) != run['sha256']:
+        raise Refused(1, f'{run["path"]} is not what was prepared')
+    parts = table.rows('select statement.id, report, name, subtracted from part join statement on statement.id = part.statement'
+                       ' join report on report.id = statement.report where payment = ?', asked.run)
+    taken_off = {row['report']: row['id'] for row in parts if row['subtracted']}
+    stale = [row['name'] for row in parts if not row['subtracted'] and (table.last_paid(row['report']) or {'id': None})['id'] != taken_off.get(row['report'])]
+    for name in stale:
+        print(f'{shown(name)}\tit was paid by another run since this one was prepared')
+    if not stale:
+        with table.base:
+            table.base.execute('update payment set confirmed = ? where id = ?', (now(), asked.run))
+    return int(bool(stale))
