@@ -37,8 +37,11 @@ fn print_event<P: Print>(rt: &P, event: Event) -> io::Result<()> {
 
 /// Passes a piece to the reader, and prints each event that it returns.
 fn feed<P: Print>(rt: &P, file: &mut FileReader, piece: &[u8]) -> io::Result<()>
+    // the reader was not told yet that the file has ended
     requires open { ending_told file.old ≡ None }
+    // with this piece it has been given at most 2^36 bytes, the most that it takes
     requires room { bytes_used file.old + length piece.now ≤ 2 ^ 36 }
+    // it was still not told afterwards, so more pieces may follow
     ensures open { ending_told file.new ≡ None }
 {
     let mut used = 0;
@@ -55,6 +58,7 @@ fn feed<P: Print>(rt: &P, file: &mut FileReader, piece: &[u8]) -> io::Result<()>
 
 /// Reads until the end, a failed read, the first fault or the limit. Returns how the text ends.
 fn drain<P: Print, R: Read>(rt: &P, file: &mut FileReader, reader: &mut R) -> io::Result<Ending>
+    // the file is not ended before its bytes are read, nor by this function: `end` does that
     requires open { ending_told file.old ≡ None }
     ensures open { ending_told file.new ≡ None }
 {
@@ -74,6 +78,7 @@ fn drain<P: Print, R: Read>(rt: &P, file: &mut FileReader, reader: &mut R) -> io
 
 /// Reports the end of the text to the reader, and prints the remaining events.
 fn end<P: Print>(rt: &P, file: &mut FileReader, ending: Ending) -> io::Result<()>
+    // a file is ended once
     requires { ending_told file.old ≡ None }
 {
     while let Some(event) = file.finish(ending) {
