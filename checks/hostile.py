@@ -1,5 +1,5 @@
-"""A hostile surrounding for a program: names, outputs, closed descriptors and limits. checks/outside has it for dsr, checks/totals_outside
-for dsr_totals."""
+"""A hostile surrounding for a program: names, outputs, closed descriptors and limits. checks/outside and checks/output have it for
+dsr, checks/totals_outside for dsr_totals."""
 import os
 import resource
 import shutil
@@ -46,6 +46,13 @@ class Outside:
 
     def path(self, name):
         return os.path.join(self.folder, name)
+
+    def parts(self):
+        """The new files of --output that are left, which are removed."""
+        found = [os.path.join(at, name) for at, _, names in os.walk(self.folder) for name in names if name.endswith('.part')]
+        for path in found:
+            os.remove(path)
+        return found
 
     def run(self, *words, **given):
         return run([self.program, *words], self.seconds, folder=self.folder, **given)
