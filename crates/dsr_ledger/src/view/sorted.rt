@@ -3,7 +3,7 @@
 ghost use Rattle.std.specs.Prelude.{◌≡◌, IfOk, ◌≤◌, ℕ, List, filter, length, vec_capacity};
 ghost use Rattle.std.specs.Str.{bytes_eq};
 ghost use Rattle.std.specs.List.{IsDistinct};
-ghost use Rattle.indexmap.specs.IndexMap.{get};
+ghost use Rattle.indexmap.specs.IndexMap.{get, index_of};
 ghost use Rattle.dsr_ledger.specs.meaning.Bookings.{text_cmp, Booking};
 ghost use Rattle.dsr_ledger.specs.meaning.Ledger.{party_lines, all_parts};
 ghost use Rattle.dsr_ledger.specs.inner.View.{AreListed, lent, AreDistinctBelow, line_for, party_in};
@@ -12,7 +12,7 @@ ghost use Rattle.dsr_ledger.specs.inner.Recordings.{summary_key_eq, summary_key_
 ghost use Rattle.dsr_ledger.specs.inner.Seated.{part_seats, owed_in, owed_for};
 ghost use Rattle.dsr_ledger.specs.inner.Tallies.{line_keys};
 
-use crate::index::Seeded;
+use crate::index::{Seeded, to_u32};
 use crate::ledger::line::Line;
 use crate::ledger::parts::SeatPart;
 use crate::ledger::recording::Recording;
@@ -23,11 +23,29 @@ use indexmap::IndexMap;
 use std::alloc::Global;
 use std::cmp::Ordering;
 
-/// The order of two recordings with their ISRCs: the order of the ISRCs.
-fn by_isrc(one: &(&Isrc, &Recording), other: &(&Isrc, &Recording)) -> Ordering
-    ensures { result ≡ text_cmp one.now.0.now other.now.0.now }
+/// The order of two numbered ISRCs: the order of the ISRCs.
+fn by_isrc(one: &(Isrc, u32), other: &(Isrc, u32)) -> Ordering
+    ensures { result ≡ text_cmp one.now.0 other.now.0 }
 {
-    one.0.cmp(other.0)
+    one.0.cmp(&other.0)
+}
+
+/// The ISRCs in order, with the numbers of their recordings. They are copies, so that sorting reads them where they
+/// lie. A number past 32 bits is reported as `NoMemory`.
+fn sorted_isrcs(
+    alloc: Global,
+    recordings: &IndexMap<Isrc, Recording, Seeded>,
+) -> Result<Vec<(Isrc, u32)>, NoMemory>
+    ensures { IfOk result (λ list. AreListed text_cmp (index_of bytes_eq recordings.now)
+        list.items) }
+{
+    let mut list = Vec::with_capacity(alloc, recordings.len())?;
+    for (isrc, _) in recordings.iter() {
+        let number = to_u32(list.len())?;
+        list.push((*isrc, number))?;
+    }
+    list.sort_unstable_by(by_isrc);
+    Ok(list)
 }
 
 /// The recordings in order, with their ISRCs. The recordings themselves stay in the order of arrival, in which
@@ -39,11 +57,13 @@ pub(crate) fn sorted_recordings<'a>(
     ensures { IfOk result (λ list. AreListed text_cmp (get bytes_eq recordings.now)
         (lent list.items)) }
 {
+    let sorted = sorted_isrcs(alloc, recordings)?;
     let mut list = Vec::with_capacity(alloc, recordings.len())?;
-    for (isrc, recording) in recordings.iter() {
-        list.push((isrc, recording))?;
+    for (_, number) in sorted.as_slice() {
+        if let Some(found) = recordings.get_index(*number as usize) {
+            list.push(found)?;
+        }
     }
-    list.sort_unstable_by(by_isrc);
     Ok(list)
 }
 
