@@ -67,7 +67,7 @@ pub use Rattle.dsr_ledger.specs.declared.file.summaries.Summaries.{Summaries}
 pub use Rattle.dsr_ledger.specs.declared.file.summaries.SummaryState.{SummaryState}
 pub use Rattle.dsr_ledger.specs.declared.ledger.Ledger.{Ledger}
 pub use Rattle.dsr_ledger.specs.declared.ledger.line.Line.{Line}
-pub use Rattle.dsr_ledger.specs.declared.ledger.parts.SeatPart.{SeatPart}
+pub use Rattle.dsr_ledger.specs.declared.ledger.part.SeatPart.{SeatPart}
 pub use Rattle.dsr_ledger.specs.declared.ledger.parts.SeatShare.{SeatShare}
 pub use Rattle.dsr_ledger.specs.declared.ledger.recording.Recording.{Recording}
 pub use Rattle.dsr_ledger.specs.declared.ledger.summary_key.SummaryKey.{SummaryKey}

@@ -3,13 +3,13 @@ use Rattle.dsr_ledger.proofs.Common.{◌≡◌, ℕ, ◌<◌, List, [], ◌∷�
 use Rattle.dsr_ledger.proofs.NumberedLemmas.{items_grow, items_pushed, none_any, place_more, read_changed, by_new_key, numbers_kept, items_are_numbered, items_written, same_number}
 
 abbrev pub key_of : Line → ℕ
-key_of l = l.key
+key_of l = l.sums.key
 
 -- the seats of a line's parts are below a bound
 abbrev pub IsWithin : ℕ → Line → Type 0
 IsWithin seats l = AreBelow seats (part_seats l.parts.items.items)
 
-pub grow_pushed : (ls : List Line) (l : Line) → line_in ls l.key ≡ None → ((seat : List ℕ → Option ℕ) → line_tally seat l ≡ no_tally)
+pub grow_pushed : (ls : List Line) (l : Line) → line_in ls l.sums.key ≡ None → ((seat : List ℕ → Option ℕ) → line_tally seat l ≡ no_tally)
     → LinesGrow ls (ls ++ l ∷ [])
 grow_pushed ls l none nothing = record {
   tallies = λ seat number. items_pushed key_of (line_tally seat) no_tally ls l none (nothing seat) number;
@@ -44,7 +44,7 @@ wide_written ls i l w below is f ss j h =
     (cases_eq i j)
 
 -- a line is replaced by one with the same tally
-pub grow_written : (ls : List Line) (i : ℕ) (l w : Line) → i < length ls → l ≡ get_or ls i l → w.key ≡ l.key
+pub grow_written : (ls : List Line) (i : ℕ) (l w : Line) → i < length ls → l ≡ get_or ls i l → w.sums.key ≡ l.sums.key
     → ((seat : List ℕ → Option ℕ) → line_tally seat w ≡ line_tally seat l) → KeepsParts l w → LinesGrow ls (set ls i w)
 grow_written ls i l w below is same alike f = record {
   tallies = λ seat number. items_written key_of (line_tally seat) no_tally ls i l w below is same (alike seat) number;
@@ -53,7 +53,7 @@ grow_written ls i l w below is same alike f = record {
 }
 
 -- a line is replaced by one with a greater tally
-pub tally_changed : (seat : List ℕ → Option ℕ) (f : Tally → Tally) (ls : List Line) (i : ℕ) (l w : Line) (key : ℕ) → l ≡ get_or ls i l → w.key ≡ l.key
+pub tally_changed : (seat : List ℕ → Option ℕ) (f : Tally → Tally) (ls : List Line) (i : ℕ) (l w : Line) (key : ℕ) → l ≡ get_or ls i l → w.sums.key ≡ l.sums.key
     → line_tally seat w ≡ f (line_tally seat l) → line_in ls key ≡ Some i
     → (q : ℕ) → lines_tally seat (set ls i w) (Some q) ≡ cond (nat_eq key q) (f (lines_tally seat ls (Some q))) (lines_tally seat ls (Some q))
 tally_changed seat f ls i l w key is same change at q =
@@ -84,7 +84,7 @@ lines_seated old new name seats ls within none is number =
     line : (l : Line) → IsWithin seats l → line_tally new l ≡ line_tally old l
     line l below =
         let place = by_new_key bytes_eq bytes_eq-Decides old new name seats (part_seats l.parts.items.items) none is below in
-        λ j. record { is_booked = l.is_booked; usages = l.sums.usages; amount = l.sums.amount; owed = λ q. owed_at_place l.parts.items.items (place q j) }
+        λ j. record { is_booked = l.sums.is_booked; usages = l.sums.usages; amount = l.sums.amount; owed = λ q. owed_at_place l.parts.items.items (place q j) }
 
 pub grow_twice : (a b c : List Line) → LinesGrow a b → LinesGrow b c → LinesGrow a c
 grow_twice a b c g h = record {

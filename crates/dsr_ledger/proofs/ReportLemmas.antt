@@ -42,7 +42,7 @@ sorted_append R [] ls s t h = t
 sorted_append R (k ∷ ks) ls s t h = (each_append (λ y. R k y ≡ Less) ks ls s.0 h.0, sorted_append R ks ls s.1 t h.1)
 
 abbrev booked : Line → Bool
-booked l = l.is_booked
+booked l = l.sums.is_booked
 
 module _ (books : Ledger) where
   abbrev pub parties : List (List ℕ)
@@ -69,14 +69,14 @@ module _ (books : Ledger) where
       let is = ap (λ t. t.is_booked) (sym (tally_read q r at)) ∙ has in
       let l = some_if (λ o. (tally o).is_booked) (line_for summary_keys r.lines.items (summary_key_in q)) refl is in (
         l.0,
-        kept_out (key_in summary_keys) (λ (x : Line). x.key) booked r.lines.items r.apart (summary_key_in q) l.0 l.1
+        kept_out (key_in summary_keys) (λ (x : Line). x.sums.key) booked r.lines.items r.apart (summary_key_in q) l.0 l.1
             (sym (ap (λ o. (tally o).is_booked) l.1) ∙ is),
       )
 
   -- a line of a recording that has a booking
   module _ (isrc : List ℕ) (r : Recording) (k : SummaryKey) (l : Line) (is : IsBookedLine books isrc r k l) where
-    own_line : (line_for summary_keys r.lines.items k ≡ Some l) × (l.is_booked ≡ true)
-    own_line = kept_in (key_in summary_keys) (λ (x : Line). x.key) booked r.lines.items r.apart k l is.1
+    own_line : (line_for summary_keys r.lines.items k ≡ Some l) × (l.sums.is_booked ≡ true)
+    own_line = kept_in (key_in summary_keys) (λ (x : Line). x.sums.key) booked r.lines.items r.apart k l is.1
 
     -- its tally is that of the bookings of its key
     pub line_stands : (bs : List Booking) → LedgerStands books bs

@@ -18,7 +18,7 @@ module _ (from : LedgerView) (keys : List Key) (have : HaveGiven from keys) wher
   -- its lines are at hand
   pub lines_laid : (to : LedgerView) (x : Bor (List ℕ) × Bor Recording) → length from.lines.items ≤ from.given
       → into_iter_items from.recordings ≡ x ∷ into_iter_items to.recordings → to.books ≡ from.books → to.at_hand ≡ Some x → to.given ≡ 0
-      → AreListed summary_key_cmp (line_for from.books.now.summary_keys.keys (filter (λ l. l.is_booked) x.1.now.lines.items)) (lent to.lines.items)
+      → AreListed summary_key_cmp (line_for from.books.now.summary_keys.keys (filter (λ l. l.sums.is_booked) x.1.now.lines.items)) (lent to.lines.items)
       → HaveGiven to keys
   lines_laid to x past e same hand none listed =
       let books = from.books.now in let all = ap (λ l. keys ++ l) (none_left from.at_hand from.lines.items from.given past) ∙ append-nil keys in

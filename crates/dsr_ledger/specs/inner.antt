@@ -1,4 +1,6 @@
 -- The definitions that relate the state of the books to those of `meaning`.
+pub mod Held
+pub mod Forms
 pub mod Numbered
 pub mod Seated
 pub mod Tallies

@@ -1,5 +1,5 @@
 //! The booking of a block: first its plan, for which all memory is allocated, then its additions, which allocate none.
-ghost use Rattle.std.specs.Prelude.{◌≡◌, ℕ, List, [], OnOk, Option, Some, map, ◌≤◌, ◌∷◌, option_map, slice_get, length};
+ghost use Rattle.std.specs.Prelude.{◌≡◌, ℕ, List, [], OnOk, Option, Some, map, ◌≤◌, ◌∷◌, option_map, slice_get, length, ◌+◌, ◌*◌};
 ghost use Rattle.std.specs.List.{zip, AllByRecursion};
 ghost use Rattle.std.specs.Option.{ForSome};
 ghost use Rattle.dsr_events.specs.declared.record.Usage.{Usage};
@@ -18,6 +18,7 @@ use crate::file::summaries::Summaries;
 use crate::index::to_u32;
 use crate::ledger::Ledger;
 use crate::ledger::parts::SeatShare;
+use crate::ledger::spares::Spares;
 use dsr_cells::{Isrc, NoMemory};
 use dsr_events::{Usage, Work};
 use std::alloc::Global;
@@ -180,14 +181,34 @@ impl Plan {
             &mut self.lines,
         )
     }
+
+    /// Takes memory for each sum that may leave 64 bits when the usages are added.
+    pub(crate) fn reserve(&self, alloc: Global, spares: &mut Spares) -> Result<(), NoMemory>
+        ensures { OnOk result (length self.now.summaries.items * (2 + length self.now.shares.items)
+            ≤ spares.new) }
+    {
+        let sums = self.shares.len() as u128 + 2;
+        match usize::try_from(self.summaries.len() as u128 * sums) {
+            Ok(count) => spares.reserve(alloc, count),
+            Err(_) => Err(NoMemory),
+        }
+    }
 }
 
 /// Adds usage i of a block to its summary and to its line, and to no other.
-fn add_usage(ledger: &mut Ledger, summaries: &mut Summaries, plan: &Plan, i: usize, usage: &Usage)
+fn add_usage(
+    ledger: &mut Ledger,
+    summaries: &mut Summaries,
+    plan: &Plan,
+    spares: &mut Spares,
+    i: usize,
+    usage: &Usage,
+)
     requires planned { (isrc : List ℕ) × (works : List WorkParts) × (us : List Usage)
         × (key_of : List ℕ → Option SummaryKey)
         × IsPlanned ledger.old summaries.old key_of isrc works us plan.now
         × (slice_get us i ≡ Some usage.now) × (share_total works ≤ whole_share) }
+    requires spare { 2 + length plan.now.shares.items ≤ spares.old }
     requires ledger_fits { (q : Key) → TallyFits 1 (tally_at ledger.old q) }
     requires summaries_fit { (id : List ℕ) → ForSome (state_at summaries.old id) (StateFits 1) }
     ensures range { IsInRange usage.now }
@@ -200,11 +221,12 @@ fn add_usage(ledger: &mut Ledger, summaries: &mut Summaries, plan: &Plan, i: usi
         → IsPlanned ledger.old summaries.old key_of isrc works us plan.now
         → slice_get us i ≡ Some usage.now
         → (q : Key) → tally_at ledger.new q ≡ tally_plus (tally_at ledger.old q) (key_tally (booked_under isrc works usage.now (key_of usage.now.summary_id)) q) }
+    ensures spares { spares.old ≤ spares.new + (2 + length plan.now.shares.items) }
 {
     let summary = plan.summaries[i];
     let line = plan.lines[i];
     summaries.count(summary, usage);
-    ledger.add(plan.recording, line, usage, plan.shares.as_slice());
+    ledger.add(plan.recording, line, usage, plan.shares.as_slice(), spares);
 }
 
 /// Adds the usages of a block to their summaries and to their lines, and to no others.
@@ -213,12 +235,14 @@ pub(crate) fn add_usages(
     ledger: &mut Ledger,
     summaries: &mut Summaries,
     plan: &Plan,
+    spares: &mut Spares,
     usages: &[Usage],
 )
     requires planned { (isrc : List ℕ) × (works : List WorkParts)
         × (key_of : List ℕ → Option SummaryKey)
         × IsPlanned ledger.old summaries.old key_of isrc works usages.now plan.now
         × (share_total works ≤ whole_share) }
+    requires spare { length usages.now * (2 + length plan.now.shares.items) ≤ spares.old }
     requires ledger_fits { (q : Key) → TallyFits (length usages.now) (tally_at ledger.old q) }
     requires summaries_fit { (id : List ℕ)
         → ForSome (state_at summaries.old id) (StateFits (length usages.now)) }
@@ -231,6 +255,6 @@ pub(crate) fn add_usages(
         → (q : Key) → tally_at ledger.new q ≡ tally_plus (tally_at ledger.old q) (key_tally (usage_bookings key_of isrc works usages.now) q) }
 {
     for (i, usage) in usages.iter().enumerate() {
-        add_usage(ledger, summaries, plan, i, usage);
+        add_usage(ledger, summaries, plan, spares, i, usage);
     }
 }

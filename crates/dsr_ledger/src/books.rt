@@ -9,6 +9,7 @@ use crate::file::FileBooks;
 use crate::file::open::open_after;
 use crate::index::Seeded;
 use crate::ledger::Ledger;
+use crate::ledger::spares::Spares;
 use crate::report::Report;
 use crate::verdict::{Standing, Verdict};
 use dsr_cells::NoMemory;
@@ -39,6 +40,7 @@ pub struct Books {
     seeded: Seeded,
     kept: Kept,
     plan: Plan,
+    spares: Spares,
     ghost most: { files ≤ most_files },
     ghost room: { length kept.files.items ≤ files },
     ghost reached: { ∥ IsReached kept ∥₁ },
@@ -53,6 +55,7 @@ impl Drop for Books {
             seeded: _,
             kept: _,
             plan: _,
+            spares: _,
         } = self;
     }
 }
@@ -102,6 +105,7 @@ impl Books {
             seeded,
             kept,
             plan: Plan::new(alloc),
+            spares: Spares::new(alloc),
         })
     }
 
@@ -188,7 +192,8 @@ impl Books {
             (λ _. Stands self.new files) }
     {
         let file = &mut self.kept.files[k as usize];
-        file.book(&mut self.kept.ledger, &mut self.plan, self.alloc, block)
+        let ledger = &mut self.kept.ledger;
+        file.book(ledger, &mut self.plan, &mut self.spares, self.alloc, block)
     }
 
     /// Ends file k. This allocates nothing.
@@ -224,6 +229,7 @@ impl Books {
             seeded: _,
             kept,
             plan: _,
+            spares: _,
         } = self;
         ClosedBooks::of(alloc, kept)
     }

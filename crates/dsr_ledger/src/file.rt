@@ -18,6 +18,7 @@ use crate::booking::{Plan, add_usages};
 use crate::file::ids::{Ids, number_of};
 use crate::file::summaries::{Summaries, count_usages};
 use crate::ledger::Ledger;
+use crate::ledger::spares::Spares;
 use crate::report::Reject;
 use crate::verdict::{Reason, Standing, Verdict, judge};
 use dsr_cells::{Isrc, NoMemory};
@@ -46,6 +47,7 @@ impl FileBooks {
         &mut self,
         ledger: &mut Ledger,
         plan: &mut Plan,
+        spares: &mut Spares,
         alloc: Global,
         block: &Block,
         isrc: Isrc,
@@ -69,7 +71,9 @@ impl FileBooks {
     {
         let works = block.works.as_slice();
         plan.fill(ledger, alloc, &self.summaries, isrc, works)?;
-        add_usages(ledger, &mut self.summaries, plan, block.usages.as_slice());
+        plan.reserve(alloc, spares)?;
+        let usages = block.usages.as_slice();
+        add_usages(ledger, &mut self.summaries, plan, spares, usages);
         self.blocks += 1;
         Ok(())
     }
@@ -107,6 +111,7 @@ impl FileBooks {
         &mut self,
         ledger: &mut Ledger,
         plan: &mut Plan,
+        spares: &mut Spares,
         alloc: Global,
         block: &Block,
         seen: bool,
@@ -136,7 +141,7 @@ impl FileBooks {
             &mut plan.summaries,
         )? {
             Ok(isrc) => {
-                self.accept(ledger, plan, alloc, block, isrc)?;
+                self.accept(ledger, plan, spares, alloc, block, isrc)?;
                 Ok(Verdict::Booked)
             }
             Err(reason) => {
@@ -152,6 +157,7 @@ impl FileBooks {
         &mut self,
         ledger: &mut Ledger,
         plan: &mut Plan,
+        spares: &mut Spares,
         alloc: Global,
         block: &Block,
     ) -> Result<Verdict, NoMemory>
@@ -173,7 +179,7 @@ impl FileBooks {
         let seen = self.ids.has(&block.id, number);
         self.ids.reserve()?;
         let id = block.id.copy(alloc)?;
-        let verdict = self.take(ledger, plan, alloc, block, seen)?;
+        let verdict = self.take(ledger, plan, spares, alloc, block, seen)?;
         if !seen {
             self.ids.add(id, number);
         }

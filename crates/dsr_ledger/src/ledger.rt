@@ -9,14 +9,18 @@ ghost use Rattle.dsr_ledger.specs.inner.Tallies.{line_keys};
 ghost use Rattle.dsr_ledger.specs.declared.ledger.recording.Recording.{Recording};
 
 pub(crate) mod line;
+pub(crate) mod part;
 pub(crate) mod parts;
 pub(crate) mod recording;
 pub(crate) mod seats;
+pub(crate) mod spares;
 pub(crate) mod summary_key;
+pub(crate) mod totals;
 
 use crate::index::{Seeded, to_u32};
 use crate::ledger::parts::SeatShare;
 use crate::ledger::recording::Recording;
+use crate::ledger::spares::Spares;
 use crate::ledger::summary_key::SummaryKey;
 use dsr_cells::{Isrc, NoMemory, Text};
 use dsr_events::Usage;
@@ -36,7 +40,7 @@ pub(crate) struct Ledger {
 }
 
 impl Ledger {
-    ghost use Rattle.std.specs.Prelude.{◌≤◌, Option, IfOk, IfSome, None, map, if◌then◌else◌};
+    ghost use Rattle.std.specs.Prelude.{◌≤◌, ◌+◌, Option, IfOk, IfSome, None, map, if◌then◌else◌};
     ghost use Rattle.dsr_ledger.specs.meaning.Bookings.{Key, key_eq, key_under};
     ghost use Rattle.dsr_ledger.specs.inner.Seated.{parts_size, AreSeated};
     ghost use Rattle.dsr_ledger.specs.meaning.Ledger.{part_of};
@@ -236,17 +240,26 @@ impl Ledger {
     }
 
     /// Adds a usage and its parts to a line, and to no other. This allocates nothing.
-    pub(crate) fn add(&mut self, recording: usize, line: usize, usage: &Usage, shares: &[SeatShare])
-        requires { (isrc : List ℕ) × (key : SummaryKey) × (es : List (List ℕ × ℕ))
+    pub(crate) fn add(
+        &mut self,
+        recording: usize,
+        line: usize,
+        usage: &Usage,
+        shares: &[SeatShare],
+        spares: &mut Spares,
+    )
+        requires fits { (isrc : List ℕ) × (key : SummaryKey) × (es : List (List ℕ × ℕ))
             × IsLineOf self.old isrc key es recording line shares.now
             × TallyFits 1 (tally_at self.old (key_under isrc key)) × (parts_size (map (part_of usage.now.amount) es) ≤ amount_bound) }
+        requires spare { 2 + length shares.now ≤ spares.old }
         ensures range { IsInRange usage.now }
         ensures numbers { SameNumbers self.old self.new }
         ensures tally { (isrc : List ℕ) (key : SummaryKey) (es : List (List ℕ × ℕ))
             → IsLineOf self.old isrc key es recording line shares.now
             → (q : Key) → tally_at self.new q ≡ (if key_eq (key_under isrc key) q then tally_with usage.now (map (part_of usage.now.amount) es) (tally_at self.old q) else tally_at self.old q) }
+        ensures spares { spares.old ≤ spares.new + (2 + length shares.now) }
     {
         let (_, found) = self.recordings.pair_mut(recording);
-        found.add(line, usage, shares);
+        found.add(line, usage, shares, spares);
     }
 }

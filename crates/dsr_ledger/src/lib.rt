@@ -7,14 +7,15 @@
 //!    event (`file/open`), which decides its standing after the files before it ([`Standing`]) and numbers the keys of
 //!    its summaries in the ledger. `file` is the state of a file.
 //! 2. `verdict` gives the verdict of a block: whether it counts, and if not, why ([`Reason`]). `file/ids` has the
-//!    identifiers of the blocks before it, `file/summaries` the file's summaries, in file order; it adds the usages of a
-//!    rejected block to their sums.
+//!    identifiers of the blocks before it, `file/summaries` the file's summaries, in file order, with their `sums`, to which it
+//!    adds the usages of a rejected block too.
 //! 3. `booking` books a block. Its plan finds the recording, the seats of its parties, and for each usage a line of the
 //!    recording and its parts, and allocates all memory. Its additions allocate none.
 //! 4. `ledger` stores each party, summary key (`ledger/summary_key`) and recording once, interned in maps with seeded
-//!    hashers. A recording owns its seats and lines (`ledger/recording`, `seats`, `line`), a line its `sums` and parts
-//!    (`ledger/parts`). `index` finds an item of a list: a long list whose numbers do not rise has an index of them; in a
-//!    short one, hints are the probable places of lines and summaries. Numbers of items are kept in 32 bits.
+//!    hashers. A recording owns its seats and lines (`ledger/recording`, `seats`, `line`), a line its sums (`ledger/totals`)
+//!    and parts (`ledger/parts`, `part`): numbers of 64 bits in place, or of 128 on the heap, for which the plan has taken
+//!    memory (`ledger/spares`). `index` finds an item of a list: a long list whose numbers do not rise has an index of them;
+//!    in a short one, hints are the probable places of lines and summaries. Numbers of items are kept in 32 bits.
 //! 5. `closed` closes the books: it makes the parts of the `report` that say how the files did (`findings`). Closed books
 //!    give the lines of the ledger one after another (`view`), in the order of the recordings and of the summary keys
 //!    (`view/sorted`). Giving them allocates nothing. They borrow their texts; a report has copies of them (`view/copies`).

@@ -206,13 +206,13 @@ impl<'a> LedgerView<'a> {
             found.line.parts.as_slice(),
             &mut self.parties,
         );
-        let amount = found.line.sums.amount.get();
+        let amount = found.line.sums.amount();
         Some(LineView {
             isrc: found.isrc,
             territory: &found.key.territory,
             use_type: &found.key.use_type,
             currency: &found.key.currency,
-            usages: found.line.sums.usages.get(),
+            usages: found.line.sums.usages(),
             amount,
             unclaimed: unclaimed(amount, self.parties.as_slice()),
             parties: &[],

@@ -1,7 +1,7 @@
 -- The seats of a recording's parties, what is owed at them, and the shares of works there.
 use Rattle.std.specs.Prelude.{◌≡◌, ℕ, ℤ, pos, Bool, true, false, ◌+ℤ◌, List, Option, ◌||◌, nat_lt, length, filter, map, sum_by, unsigned_abs, ◌<◌, ◌++◌, Some}
 use Rattle.std.specs.Option.{option_and_then}
-use Rattle.dsr_ledger.specs.declared.ledger.parts.SeatPart.{SeatPart}
+use Rattle.dsr_ledger.specs.declared.ledger.part.SeatPart.{SeatPart}
 use Rattle.dsr_ledger.specs.meaning.Limits.{int_sum_by}
 use Rattle.dsr_ledger.specs.inner.Numbered.{Grows, read_at, place_in, IsNumbered}
 use Rattle.dsr_ledger.specs.meaning.Ledger.{Part, rounded, is_for}

@@ -58,7 +58,7 @@ pub record TallyFits (n : ℕ) (t : Tally) : Type 0 where
 -- the tally of a line, where `seat` gives the seats of parties
 abbrev pub line_tally : (List ℕ → Option ℕ) → Line → Tally
 line_tally seat l = record {
-  is_booked = l.is_booked;
+  is_booked = l.sums.is_booked;
   usages = l.sums.usages;
   amount = l.sums.amount;
   owed = λ q. owed_in l.parts.items.items (seat q);
@@ -66,7 +66,7 @@ line_tally seat l = record {
 
 -- the numbers of the lines' summary keys
 abbrev pub line_keys : List Line → List ℕ
-line_keys ls = map (λ l. l.key) ls
+line_keys ls = map (λ l. l.sums.key) ls
 
 -- the place of the line for the summary key with this number
 abbrev pub line_in : List Line → ℕ → Option ℕ

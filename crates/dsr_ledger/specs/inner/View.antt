@@ -51,7 +51,7 @@ key_in keys k = position (summary_key_eq k) keys
 
 -- the line of a summary key
 abbrev pub line_for : List SummaryKey → List Line → SummaryKey → Option Line
-line_for keys ls = numbered_by (key_in keys) (λ l. l.key) ls
+line_for keys ls = numbered_by (key_in keys) (λ l. l.sums.key) ls
 
 -- the values of borrowed keys, each with the value of what is borrowed with it
 abbrev pub lent : {K V : Type 0} → List (Bor K × Bor V) → List (K × V)
@@ -60,7 +60,7 @@ lent es = map (λ e. (e.0.now, e.1.now)) es
 -- the line of a summary key in a recording of the ledger, if it has a booking
 abbrev pub IsBookedLine : Ledger → List ℕ → Recording → SummaryKey → Line → Type 0
 IsBookedLine books isrc r k l =
-    (get bytes_eq books.recordings isrc ≡ Some r) × (line_for books.summary_keys.keys (filter (λ x. x.is_booked) r.lines.items) k ≡ Some l)
+    (get bytes_eq books.recordings isrc ≡ Some r) × (line_for books.summary_keys.keys (filter (λ x. x.sums.is_booked) r.lines.items) k ≡ Some l)
 
 -- keys in order: all that have a booking, but for those of the recordings that come after them
 pub record AreBefore (books : Ledger) (rest : List (List ℕ × Recording)) (keys : List Key) : Type 0 where

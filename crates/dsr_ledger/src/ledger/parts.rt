@@ -9,8 +9,9 @@ ghost use Rattle.dsr_ledger.specs.inner.Numbered.{AreIndexed, IsNumbered, AreApa
 ghost use Rattle.dsr_ledger.specs.inner.Seated.{nothing_owed, owed_with, owed_kept, owed_at_place, owed_in, owed_plus, owed_for, part_seats, part_in, parts_size, PartsGrow, HaveSeats, HasPart, HaveParts, AreSeatsBelow};
 ghost use Rattle.dsr_ledger.specs.meaning.Ledger.{part_of};
 
-use crate::index::{Index, Numbered, Seeded};
-use crate::sums::PackedI128;
+use crate::index::{Index, Seeded};
+use crate::ledger::part::SeatPart;
+use crate::ledger::spares::Spares;
 use dsr_cells::{Amount, NoMemory};
 use smallvec::SmallVec;
 use std::alloc::Global;
@@ -24,46 +25,6 @@ pub(crate) struct SeatShare {
     pub(crate) seat: u32,
     /// In millionths.
     pub(crate) share: u32,
-}
-
-/// What a line owes the party at a seat: whether the party has a part, and the sum of its parts.
-#[derive(Default, Drop)]
-pub(crate) struct SeatPart {
-    pub(crate) seat: u32,
-    pub(crate) has_part: bool,
-    pub(crate) amount: PackedI128,
-}
-
-impl SeatPart {
-    /// No part so far.
-    fn new(seat: u32) -> SeatPart
-        ensures seat { result.seat ≡ seat }
-        ensures owed { owed_kept result ≡ nothing_owed }
-    {
-        SeatPart {
-            seat,
-            has_part: false,
-            amount: PackedI128::of(0),
-        }
-    }
-
-    /// Adds a part.
-    fn add(&mut self, amount: i128)
-        requires { FitsSigned w128 (self.old.amount +ℤ amount) }
-        ensures seat { self.new.seat ≡ self.old.seat }
-        ensures owed { owed_kept self.new ≡ owed_with amount (owed_kept self.old) }
-    {
-        self.has_part = true;
-        self.amount = PackedI128::of(self.amount.get() + amount);
-    }
-}
-
-impl Numbered for SeatPart {
-    ghost number_of = { λ part. part.seat };
-
-    fn number(&self) -> u32 {
-        self.seat
-    }
 }
 
 /// The parts of a line, one for each seat that has one, in the order in which they were added.
@@ -103,18 +64,20 @@ fn rising_seats(shares: &[SeatShare]) -> usize {
 }
 
 /// Adds an amount to the part at a place.
-fn add_part(parts: &mut [SeatPart], place: usize, amount: i128)
+fn add_part(parts: &mut [SeatPart], place: usize, amount: i128, spares: &mut Spares)
     requires below { place < length parts.old }
     requires fits { FitsSigned w128 ((owed_at_place parts.old (Some place)).amount +ℤ
         amount) }
+    requires spare { 0 < spares.old }
     ensures seats { part_seats parts.new ≡ part_seats parts.old }
     ensures part { (place_of : List ℕ → Option ℕ) (party : List ℕ)
         → IsNumbered place_of (length parts.old) → place_of party ≡ Some place
         → (q : List ℕ) → owed_at_place parts.new (place_of q)
         ≡ (if bytes_eq party q then owed_with amount (owed_at_place parts.old (place_of q))
         else owed_at_place parts.old (place_of q)) }
+    ensures spares { spares.old ≤ spares.new + 1 }
 {
-    parts[place].add(amount);
+    parts[place].add(amount, spares);
 }
 
 /// Adds the share of an amount to the part of its seat, and returns the place after that. The part at
@@ -125,42 +88,53 @@ fn add_share(
     amount: Amount,
     share: &SeatShare,
     hint: usize,
+    spares: &mut Spares,
 ) -> usize
     requires apart { AreApart (part_seats parts.old) }
     requires indexed { AreIndexed (part_seats parts.old) index.now }
     requires has_part { HasPart parts.old share.now }
     requires fits { FitsSigned w128 ((owed_in parts.old (Some share.now.seat)).amount
         +ℤ int_div (amount *ℤ pos share.now.share) (pos 1000000)) }
+    requires spare { 0 < spares.old }
     ensures seats { part_seats parts.new ≡ part_seats parts.old }
     ensures part { (n : ℕ) (seat : List ℕ → Option ℕ) (party : List ℕ)
         → IsNumbered seat n → seat party ≡ Some share.now.seat
         → (q : List ℕ) → owed_in parts.new (seat q) ≡ (if bytes_eq party q
         then owed_with (int_div (amount *ℤ pos share.now.share) (pos 1000000)) (owed_in parts.old (seat q))
         else owed_in parts.old (seat q)) }
+    ensures spares { spares.old ≤ spares.new + 1 }
 {
     let Some(place) = index.find(parts, share.seat, hint) else {
         return hint;
     };
-    add_part(parts, place, share_of(amount.units(), share.share));
+    add_part(parts, place, share_of(amount.units(), share.share), spares);
     place.wrapping_add(1)
 }
 
 /// Adds the shares of an amount, each to the part of its seat.
-fn add_parts(parts: &mut [SeatPart], index: &Index, amount: Amount, shares: &[SeatShare])
+fn add_parts(
+    parts: &mut [SeatPart],
+    index: &Index,
+    amount: Amount,
+    shares: &[SeatShare],
+    spares: &mut Spares,
+)
     requires apart { AreApart (part_seats parts.old) }
     requires indexed { AreIndexed (part_seats parts.old) index.now }
     requires wide { HaveParts shares.now parts.old }
     requires fits { (n : ℕ) × (seat : List ℕ → Option ℕ) × (es : List (List ℕ × ℕ))
         × HaveSeats seat n shares.now es × (parts_size (map (part_of amount) es) ≤ amount_bound)
         × ((q : List ℕ) → unsigned_abs (owed_in parts.old (seat q)).amount + amount_bound < 2 ^ 127) }
+    requires spare { length shares.now ≤ spares.old }
     ensures seats { part_seats parts.new ≡ part_seats parts.old }
     ensures owed { (n : ℕ) (seat : List ℕ → Option ℕ) (es : List (List ℕ × ℕ))
         → HaveSeats seat n shares.now es → (q : List ℕ) → owed_in parts.new (seat q)
         ≡ owed_plus (owed_in parts.old (seat q)) (owed_for q (map (part_of amount) es)) }
+    ensures spares { spares.old ≤ spares.new + length shares.now }
 {
     let mut next = 0;
     for share in shares {
-        next = add_share(parts, index, amount, share, next);
+        next = add_share(parts, index, amount, share, next, spares);
     }
 }
 
@@ -228,17 +202,20 @@ impl Parts {
     }
 
     /// Adds the shares of an amount, each to the part of its seat.
-    pub(crate) fn add(&mut self, amount: Amount, shares: &[SeatShare])
+    pub(crate) fn add(&mut self, amount: Amount, shares: &[SeatShare], spares: &mut Spares)
         requires wide { HaveParts shares.now self.old.items.items }
         requires fits { (n : ℕ) × (seat : List ℕ → Option ℕ) × (es : List (List ℕ × ℕ))
             × HaveSeats seat n shares.now es × (parts_size (map (part_of amount) es) ≤ amount_bound)
             × ((q : List ℕ) → unsigned_abs (owed_in self.old.items.items (seat q)).amount + amount_bound < 2 ^ 127) }
+        requires spare { length shares.now ≤ spares.old }
         ensures seats { part_seats self.new.items.items ≡ part_seats self.old.items.items }
         ensures owed { (n : ℕ) (seat : List ℕ → Option ℕ) (es : List (List ℕ × ℕ))
             → HaveSeats seat n shares.now es → (q : List ℕ) → owed_in self.new.items.items (seat q)
             ≡ owed_plus (owed_in self.old.items.items (seat q)) (owed_for q (map (part_of amount) es)) }
+        ensures spares { spares.old ≤ spares.new + length shares.now }
     {
-        add_parts(self.items.as_mut_slice(), &self.index, amount, shares);
+        let parts = self.items.as_mut_slice();
+        add_parts(parts, &self.index, amount, shares, spares);
     }
 }
 

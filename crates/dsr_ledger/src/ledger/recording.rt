@@ -1,5 +1,5 @@
 //! A recording: the seats of its parties, and its lines.
-ghost use Rattle.std.specs.Prelude.{◌≡◌, ◌<◌, true, OnOk, nat_eq, length};
+ghost use Rattle.std.specs.Prelude.{◌≡◌, ◌<◌, ◌+◌, true, OnOk, nat_eq, length};
 ghost use Rattle.std.specs.Vec.{vec_len, vec_capacity};
 ghost use Rattle.std.proofs.Props.{props};
 ghost use Rattle.dsr_ledger.specs.meaning.Limits.{amount_bound};
@@ -11,6 +11,7 @@ use crate::index::{Hints, Index, Seeded};
 use crate::ledger::line::Line;
 use crate::ledger::parts::{SeatShare, widen};
 use crate::ledger::seats::Seats;
+use crate::ledger::spares::Spares;
 use dsr_cells::NoMemory;
 use dsr_events::Usage;
 use std::alloc::Global;
@@ -200,12 +201,19 @@ impl Recording {
     }
 
     /// Adds a usage and its parts to a line, and to no other.
-    pub(crate) fn add(&mut self, number: usize, usage: &Usage, shares: &[SeatShare])
+    pub(crate) fn add(
+        &mut self,
+        number: usize,
+        usage: &Usage,
+        shares: &[SeatShare],
+        spares: &mut Spares,
+    )
         requires wide { IsWide shares.now self.old.lines.items number }
         requires fits { (n : ℕ) × (seat : List ℕ → Option ℕ) × (es : List (List ℕ × ℕ)) × (key : ℕ)
             × HaveSeats seat n shares.now es × (line_in self.old.lines.items key ≡ Some number)
             × TallyFits 1 (lines_tally seat self.old.lines.items (Some key))
             × (parts_size (map (part_of usage.now.amount) es) ≤ amount_bound) }
+        requires spare { 2 + length shares.now ≤ spares.old }
         ensures range { IsInRange usage.now }
         ensures seats { self.new.seats ≡ self.old.seats }
         ensures keys { line_keys self.new.lines.items ≡ line_keys self.old.lines.items }
@@ -216,7 +224,8 @@ impl Recording {
             → (k : ℕ) → lines_tally seat self.new.lines.items (Some k) ≡ (if nat_eq key k
             then tally_with usage.now (map (part_of usage.now.amount) es) (lines_tally seat self.old.lines.items (Some k))
             else lines_tally seat self.old.lines.items (Some k)) }
+        ensures spares { spares.old ≤ spares.new + (2 + length shares.now) }
     {
-        self.lines[number].add(usage, shares);
+        self.lines[number].add(usage, shares, spares);
     }
 }

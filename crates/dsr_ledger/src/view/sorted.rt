@@ -14,7 +14,7 @@ ghost use Rattle.dsr_ledger.specs.inner.Tallies.{line_keys};
 
 use crate::index::{Seeded, to_u32};
 use crate::ledger::line::Line;
-use crate::ledger::parts::SeatPart;
+use crate::ledger::part::SeatPart;
 use crate::ledger::recording::Recording;
 use crate::ledger::summary_key::SummaryKey;
 use crate::view::PartyView;
@@ -92,14 +92,14 @@ pub(crate) fn lines_by_key<'a>(
     requires numbers { AreDistinctBelow (length keys.now) (line_keys lines.now) }
     requires room { length lines.now ≤ vec_capacity listed.old }
     ensures listed { AreListed summary_key_cmp
-        (line_for keys.now (filter (λ l. l.is_booked) lines.now)) (lent listed.new.items) }
+        (line_for keys.now (filter (λ l. l.sums.is_booked) lines.now)) (lent listed.new.items) }
     ensures few { length listed.new.items ≤ length lines.now }
     ensures room { vec_capacity listed.new ≡ vec_capacity listed.old }
 {
     listed.clear();
     for line in lines {
-        if line.is_booked {
-            listed.push_reserved((&keys[line.key as usize], line));
+        if line.sums.is_booked() {
+            listed.push_reserved((&keys[line.sums.key() as usize], line));
         }
     }
     listed.sort_unstable_by(by_key);
@@ -124,11 +124,11 @@ pub(crate) fn parties_by_name<'a>(
 {
     listed.clear();
     for part in parts {
-        if part.has_part {
-            let number = numbers[part.seat as usize];
+        if part.has_part() {
+            let number = numbers[part.seat() as usize];
             listed.push_reserved(PartyView {
                 party: &names[number as usize],
-                amount: part.amount.get(),
+                amount: part.amount(),
             });
         }
     }

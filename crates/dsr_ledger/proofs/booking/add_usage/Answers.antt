@@ -18,8 +18,8 @@ count-requires-clause-there c =
 pub count-requires-clause-fits : goal.count-requires-clause-fits
 count-requires-clause-fits c = c.requires.summaries_fit c.args.usage.now.summary_id
 
-pub add-requires : goal.add-requires
-add-requires c =
+pub add-requires-clause-fits : goal.add-requires-clause-fits
+add-requires-clause-fits c =
     let p = c.requires.planned in let s = step_of c.args.ledger.now c.args.summaries.now p.3 p.0 p.1 p.2 c.args.i c.args.usage.now c.args.plan.now p.4 p.5 in
     let a = c.args.usage.now.amount in let works = p.1 in
     let line = s.line_of c.index-line.result.now (c.index-line.ensures ∙ s.line_at _) c.as_slice.result.now c.as_slice.ensures.value in

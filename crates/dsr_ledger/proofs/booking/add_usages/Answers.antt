@@ -1,4 +1,5 @@
-use Rattle.dsr_ledger.proofs.Common.{common_steps, ◌≡◌, ◌+◌, [], ◌∷◌, ◌++◌, take, length, refl, sym, ap, ◌∙◌, subst, arith, option_map, Some, slice_get, AllByRecursion, take_more, length-take, slice_get_read, usage_bookings, IsSmall, IsInRange, tally_at, state_at, state_with, tally_plus, key_tally, TallyFits}
+use Rattle.dsr_ledger.proofs.Common.{common_steps, ◌≡◌, ◌≤◌, ◌<◌, ◌*◌, ℕ, suc, ◌+◌, [], ◌∷◌, ◌++◌, take, length, refl, sym, ap, ◌∙◌, subst, arith, option_map, Some, slice_get, AllByRecursion, take_more, length-take, slice_get_read, usage_bookings, IsSmall, IsInRange, tally_at, state_at, state_with, tally_plus, key_tally, TallyFits}
+use Rattle.std.proofs.Math.Nat.{mul-le-mul_right}
 use Rattle.dsr_ledger.proofs.EachLemmas.{each_append}
 use Rattle.dsr_ledger.proofs.KeepsLemmas.{numbers_stay, numbers_twice, planned_stays}
 use Rattle.dsr_ledger.proofs.PlanLemmas.{states_none}
@@ -29,8 +30,21 @@ add_usage-requires-clause-summaries_fit c id =
     rw (c.loop-i.invariant.states id) (states_fit_at (state_at c.args.summaries.now id) id us (length c.args.usages.now) 1
     (omega (arith, length-take i c.args.usages.now)) c.loop-i.invariant.range (c.requires.summaries_fit id))
 
+-- of spares for n usages, k for each, those for i were used
+spares_left : (n i k was now : ℕ) → i < n → n * k ≤ was → was ≤ now + i * k → k ≤ now
+spares_left n i k was now below enough kept = let rows : suc i * k ≤ n * k = mul-le-mul_right k below in omega (arith, rows, enough, kept)
+
+spares_used : (i k was now next : ℕ) → was ≤ now + i * k → now ≤ next + k → was ≤ next + (i + 1) * k
+spares_used i k was now next before step = omega (arith, before, step)
+
+pub add_usage-requires-clause-spare : goal.add_usage-requires-clause-spare
+add_usage-requires-clause-spare c =
+    spares_left (length c.args.usages.now) c.loop-i.i (2 + length c.args.plan.now.shares.items) c.args.spares.now c.loop-i.spares c.loop-i-test.true
+    c.requires.spare c.loop-i.invariant.spares
+
 pub loop-i-init : goal.loop-i-init
 loop-i-init c = record {
+  spares = omega arith;
   range = tt;
   numbers = numbers_stay c.args.ledger.now;
   index = λ id. refl;
@@ -45,6 +59,7 @@ loop-i-preserved c =
     let more : take (i + 1) all ≡ us ++ u ∷ [] = take_more all i u c.loop-i-test.true ∙ ap (λ x. us ++ x ∷ []) (sym c.index-usages-i.is) in
     let at : slice_get all i ≡ Some u = slice_get_read all (length all) i u refl c.loop-i-test.true c.index-usages-i.is in
     record {
+      spares = spares_used i (2 + length c.args.plan.now.shares.items) c.args.spares.now c.loop-i.spares c.add_usage.new.spares before.spares step.spares;
       range = subst (AllByRecursion IsInRange) (sym more) (each_append IsInRange us (u ∷ []) before.range (step.range, tt));
       numbers = numbers_twice c.args.ledger.now c.loop-i.ledger c.add_usage.new.ledger before.numbers step.numbers;
       index = λ id. step.index id ∙ before.index id;

@@ -1,8 +1,9 @@
-use Rattle.dsr_ledger.proofs.Common.{◌≡◌, ℕ, List, take, Option, option_map, AllByRecursion, WorkParts, Key, SummaryKey, usage_bookings, IsPlanned, IsInRange, tally_at, SameNumbers, state_at, state_with, index_at, tally_plus, key_tally}
+use Rattle.dsr_ledger.proofs.Common.{◌≡◌, ◌≤◌, ◌+◌, ◌*◌, length, ℕ, List, take, Option, option_map, AllByRecursion, WorkParts, Key, SummaryKey, usage_bookings, IsPlanned, IsInRange, tally_at, SameNumbers, state_at, state_with, index_at, tally_plus, key_tally}
 use Rattle.dsr_ledger.proofs.booking.add_usages.Given as goal
 
 abbrev pub invariant-loop-i : goal.invariant-loop-i
 invariant-loop-i l = record {
+  spares : l.fn.spares ≤ l.spares + l.i * (2 + length l.plan.shares.items);
   range : AllByRecursion IsInRange (take l.i l.usages);
   numbers : SameNumbers l.fn.ledger l.ledger;
   index : (id : List ℕ) → index_at l.summaries id ≡ index_at l.fn.summaries id;

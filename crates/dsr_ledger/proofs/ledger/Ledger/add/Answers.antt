@@ -6,12 +6,12 @@ use Rattle.dsr_ledger.proofs.ledger.Ledger.add.Goals as goal
 
 pub add-requires-clause-wide : goal.add-requires-clause-wide
 add-requires-clause-wide c =
-    let e = c.pair_mut-found.ensures in let p = c.requires in let v = c.pair_mut-found.result.1.now in
+    let e = c.pair_mut-found.ensures in let p = c.requires.fits in let v = c.pair_mut-found.result.1.now in
     p.3.wide v (got_here c.args.self.now.recordings c.args.recording _ v v e.unique e.value p.0 p.3.recording_is)
 
 pub add-requires-clause-fits : goal.add-requires-clause-fits
 add-requires-clause-fits c =
-    let e = c.pair_mut-found.ensures in let l = c.args.self.now in let p = c.requires in let v = c.pair_mut-found.result.1.now in
+    let e = c.pair_mut-found.ensures in let l = c.args.self.now in let p = c.requires.fits in let v = c.pair_mut-found.result.1.now in
     let found = got_here l.recordings c.args.recording _ v v e.unique e.value p.0 p.3.recording_is in
     let h = line_here l p.0 p.1 p.2 c.args.recording c.args.line c.args.shares.now v p.3 found in
     let fits = subst (TallyFits 1) (ap (recording_tally (party_number l) (key_number l p.1)) found ∙ ap (λ o. recording_tally (party_number l) o (Some v)) h.1)

@@ -1,4 +1,4 @@
-use Rattle.dsr_ledger.proofs.Common.{common_steps, ◌≡◌, suc, ◌+◌, [], ◌∷◌, take, get_or, cond, sym, ap, ◌∙◌, subst, arith, ◌^◌, Some, map, ◌+ℤ◌, slice_get, w128, FitsSigned, bytes_eq, take_all, map-append, slice_get-get_or, AllZip-long, SeatShare, owed_in, owed_plus, owed_for, owed_with, part_of, rounded, IsSeated}
+use Rattle.dsr_ledger.proofs.Common.{common_steps, ◌≡◌, suc, ◌+◌, [], ◌∷◌, take, get_or, cond, sym, ap, ◌∙◌, subst, arith, ◌^◌, Some, map, ◌+ℤ◌, slice_get, w128, FitsSigned, bytes_eq, take_all, map-append, slice_get-get_or, AllZip-long, SeatShare, AreIndexed, owed_in, owed_plus, owed_for, owed_with, part_of, rounded, IsSeated}
 use Rattle.dsr_ledger.proofs.TallyLemmas.{part_fits, owed_more}
 use Rattle.dsr_ledger.proofs.PartLemmas.{prefix_size}
 use Rattle.dsr_ledger.proofs.SeatedLemmas.{zip_step, take_next}
@@ -23,6 +23,7 @@ loop-share-preserved c =
     let i = c.loop-share.share-index in let s = get_or c.args.shares.now i none in let a = c.args.amount in let next : i + 1 ≡ suc i = omega arith in
     let at : slice_get c.args.shares.now i ≡ Some s = slice_get-get_or c.args.shares.now i none c.loop-share-test.true in let before = c.loop-share.invariant in
     record {
+      spares = omega (arith, before.spares, c.add_share-next.ensures.spares);
       seats = c.add_share-next.ensures.seats ∙ before.seats;
       owed = λ n seat es have q.
           let z = zip_step (IsSeated seat) c.args.shares.now es i s have.seated at in
@@ -39,6 +40,9 @@ returns-clause-owed c = λ n seat es have q.
     let long = AllZip-long (IsSeated seat) c.args.shares.now es have.seated in let done = c.loop-share-test.false in
     c.loop-share.invariant.owed n seat es have q ∙ ap (λ l. owed_plus (owed_in c.args.parts.now (seat q)) (owed_for q (map (part_of c.args.amount) l)))
     (take_all c.loop-share.share-index es (omega arith))
+
+pub add_share-next-requires-clause-indexed : goal.add_share-next-requires-clause-indexed
+add_share-next-requires-clause-indexed c = subst (λ ns. AreIndexed ns c.args.index.now) (sym c.loop-share.invariant.seats) c.requires.indexed
 
 pub add_share-next-requires-clause-has_part : goal.add_share-next-requires-clause-has_part
 add_share-next-requires-clause-has_part c = grind (arith, common_steps)

@@ -23,7 +23,7 @@ pub unclaimed-requires : goal.unclaimed-requires
 unclaimed-requires c =
     let f = c.in_ok-found.found in let books = c.args.self.now.books.now in
     let names = c.as_slice-names.ensures.keys ∙ ap (λ b. b.now.parties.keys) c.next_line.ensures.books in
-    let same : to_z w128 (of_z w128 c.get-amount.result) ≡ f.line.now.sums.amount = search rules in
+    let same : to_z w128 (of_z w128 c.amount-amount.result) ≡ f.line.now.sums.amount = search rules in
     let parties = λ (bs : List Booking) (stand : LedgerStands books bs).
     c.as_slice-2.ensures.value ∙ c.parties_by_name.ensures.listed (at_key (key_under f.isrc.now f.key.now) bs)
     (owed_is books f.isrc.now f.recording.now f.key.now f.line.now c.in_ok-found.ensures.booked _ _ _
@@ -34,8 +34,8 @@ unclaimed-requires c =
 pub returns-clause-line : goal.returns-clause-line
 returns-clause-line c = λ all given h.
     let f = c.in_ok-found.found in let books = c.args.self.now.books.now in let is = c.in_ok-found.ensures.booked in
-    let amount : to_z w128 (of_z w128 c.get-amount.result) ≡ f.line.now.sums.amount = search rules in
-    let usages : to_z w128 (of_z w128 c.get.result) ≡ f.line.now.sums.usages = search rules in
+    let amount : to_z w128 (of_z w128 c.amount-amount.result) ≡ f.line.now.sums.amount = search rules in
+    let usages : to_z w128 (of_z w128 c.usages.result) ≡ f.line.now.sums.usages = search rules in
     let left : to_z w128 (of_z w128 c.unclaimed.result) ≡ c.unclaimed.result = search rules in
     let names = c.as_slice-names.ensures.keys ∙ ap (λ b. b.now.parties.keys) c.next_line.ensures.books in
     let have = c.in_ok-found.ensures.line h.keys h.have in

@@ -17,17 +17,17 @@ lines_by_key-requires-clause-room c =
     let items : into_iter_items c.loop-self.self.recordings ≡ (c.in_ok-isrc.isrc, c.in_ok-isrc.recording) ∷ into_iter_items c.next.new.self = search rules in
     let few = few_below _ _ (its_numbers c.loop-self.self c.requires.0 (c.loop-self.invariant.have c.requires.0 c.requires.1) _ _ items) in
     let r = c.in_ok-isrc.recording.now in
-    omega (arith, few, length-map r.lines.items (λ l. l.key), ap length c.as_slice.ensures.value, c.loop-self.self.lines_fit)
+    omega (arith, few, length-map r.lines.items (λ l. l.sums.key), ap length c.as_slice.ensures.value, c.loop-self.self.lines_fit)
 
 pub loop-self-preserved : goal.loop-self-preserved
 loop-self-preserved c =
     let from = c.loop-self.self in let r = c.in_ok-isrc.recording.now in
     let items : into_iter_items from.recordings ≡ (c.in_ok-isrc.isrc, c.in_ok-isrc.recording) ∷ into_iter_items c.next.new.self = search rules in
     let past : length from.lines.items ≤ from.given = grind (arith, common_steps) in
-    let listed : AreListed summary_key_cmp (line_for from.books.now.summary_keys.keys (filter (λ l. l.is_booked) r.lines.items))
+    let listed : AreListed summary_key_cmp (line_for from.books.now.summary_keys.keys (filter (λ l. l.sums.is_booked) r.lines.items))
     (lent c.lines_by_key.new.listed.items) =
     subst (λ (X : Type 0). X) (λ i. AreListed summary_key_cmp
-    (line_for (c.as_slice-keys.ensures.keys i) (filter (λ l. l.is_booked) (c.as_slice.ensures.value i)))
+    (line_for (c.as_slice-keys.ensures.keys i) (filter (λ l. l.sums.is_booked) (c.as_slice.ensures.value i)))
     (lent c.lines_by_key.new.listed.items)) c.lines_by_key.ensures.listed in
     record {
       books = c.loop-self.invariant.books;

@@ -9,11 +9,11 @@ given_back ps ws seats =
     ap (λ n. take n (ws ++ drop (length ws) ps)) long ∙ take-append_seam ws (drop (length ws) ps)
 
 pub add_parts-requires-clause-indexed : goal.add_parts-requires-clause-indexed
-add_parts-requires-clause-indexed c = rw c.as_mut_slice.ensures.value c.args.self.now.indexed
+add_parts-requires-clause-indexed c = rw c.as_mut_slice-parts.ensures.value c.args.self.now.indexed
 
 pub invariant_of-self : goal.invariant_of-self
 invariant_of-self c =
-    let s = c.args.self.now in let seats = c.add_parts.ensures.seats ∙ ap part_seats c.as_mut_slice.ensures.value in
+    let s = c.args.self.now in let seats = c.add_parts.ensures.seats ∙ ap part_seats c.as_mut_slice-parts.ensures.value in
     let same = sym (ap part_seats (given_back s.items.items c.add_parts.new.parts seats) ∙ seats) in
     record { apart = subst AreApart same s.apart; indexed = subst (λ ns. AreIndexed ns s.index) same s.indexed }
 

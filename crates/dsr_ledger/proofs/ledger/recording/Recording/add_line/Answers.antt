@@ -31,15 +31,15 @@ invariant_of-self-2 c =
 
 pub returns-clause-grows : goal.returns-clause-grows
 returns-clause-grows c =
-    let ls = c.args.self.now.lines.items in let l = c.new.result in let none : line_in ls l.key ≡ None = ap (line_in ls) c.new.ensures.key ∙ c.requires in
+    let ls = c.args.self.now.lines.items in let l = c.new.result in let none : line_in ls l.sums.key ≡ None = ap (line_in ls) c.new.ensures.key ∙ c.requires in
     let items : c.push.new.self.items ≡ ls ++ l ∷ [] = search rules in
     subst (LinesGrow ls) (sym items) (grow_pushed ls l none c.new.ensures.tally)
 
 pub returns-clause-there : goal.returns-clause-there
 returns-clause-there c =
-    let ls = c.args.self.now.lines.items in let l = c.new.result in let none : line_in ls l.key ≡ None = ap (line_in ls) c.new.ensures.key ∙ c.requires in
+    let ls = c.args.self.now.lines.items in let l = c.new.result in let none : line_in ls l.sums.key ≡ None = ap (line_in ls) c.new.ensures.key ∙ c.requires in
     let items : c.push.new.self.items ≡ ls ++ l ∷ [] = search rules in let long : length ls ≡ c.len-number.result = search rules in
-    ap (line_in c.push.new.self.items) (sym c.new.ensures.key) ∙ ap (λ xs. line_in xs l.key) items ∙ item_there key_of ls l none ∙ ap Some long
+    ap (line_in c.push.new.self.items) (sym c.new.ensures.key) ∙ ap (λ xs. line_in xs l.sums.key) items ∙ item_there key_of ls l none ∙ ap Some long
 
 pub returns-in_err-reserve_line-clause-grows : goal.returns-in_err-reserve_line-clause-grows
 returns-in_err-reserve_line-clause-grows c = grind (arith, common_steps)
