@@ -11,9 +11,9 @@ def first_clause(entry):
 
 
 def choices(entry):
-    """The words of which an option takes one, if it says so."""
-    value = entry.value() or ''
-    return value.strip('{}').split(',') if value.startswith('{') else []
+    """The words of which an option takes one, if it says so: in braces, or behind a colon at its end."""
+    value, told = entry.value() or '', re.search(r': (\w+(?:, \w+)+)$', entry.text)
+    return value.strip('{}').split(',') if value.startswith('{') else told[1].split(', ') if value and told else []
 
 
 def bash(name, interface):
