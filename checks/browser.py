@@ -1,6 +1,7 @@
 """A headless Chromium, driven over a pipe by the DevTools protocol."""
 import json
 import os
+import select
 import shutil
 import signal
 import subprocess
@@ -9,6 +10,7 @@ import time
 
 NAMES = ('chromium', 'chromium-browser', 'google-chrome', 'chrome')
 SECONDS = 300
+MOST_MEMORY = 2 * 1024 * 1024   # kilobytes that each process of the browser may have
 KEYS = {'Tab': 9, 'Enter': 13, 'Escape': 27, ' ': 32, 'PageUp': 33, 'PageDown': 34, 'End': 35, 'Home': 36, 'ArrowLeft': 37,
         'ArrowUp': 38, 'ArrowRight': 39, 'ArrowDown': 40}
 TEXTS = {'Enter': '\r', ' ': ' '}
@@ -33,7 +35,7 @@ class Browser:
         if os.getuid() == 0:
             words.insert(1, '--no-sandbox')
         self.process = subprocess.Popen(
-            ['sh', '-c', f'exec "$@" 3<&{asked} 4>&{answering}', 'sh', *words], pass_fds=(asked, answering),
+            ['sh', '-c', f'ulimit -d {MOST_MEMORY}; exec "$@" 3<&{asked} 4>&{answering}', 'sh', *words], pass_fds=(asked, answering),
             stdout=subprocess.DEVNULL, stderr=subprocess.DEVNULL, start_new_session=True)
         os.close(asked)
         os.close(answering)
@@ -43,19 +45,24 @@ class Browser:
         self.session = None
         target = next(it for it in self.ask('Target.getTargets')['targetInfos'] if it['type'] == 'page')
         self.session = self.ask('Target.attachToTarget', targetId=target['targetId'], flatten=True)['sessionId']
-        for domain in ('Page', 'Runtime', 'Network', 'Log'):
+        for domain in ('Page', 'Runtime', 'Network', 'Log', 'Inspector'):
             self.ask(f'{domain}.enable')
         self.ask('Performance.enable', timeDomain='threadTicks')
 
     def message(self):
-        """The next message of the browser."""
+        """The next message of the browser, which has to come in time."""
         while b'\0' not in self.waiting:
+            if not select.select([self.answers], [], [], SECONDS)[0]:
+                raise RuntimeError('the browser does not answer')
             piece = os.read(self.answers, 1 << 20)
             if not piece:
                 raise RuntimeError('the browser ended')
             self.waiting += piece
         text, self.waiting = self.waiting.split(b'\0', 1)
-        return json.loads(text)
+        told = json.loads(text)
+        if told.get('method') in ('Inspector.targetCrashed', 'Target.targetCrashed'):
+            raise RuntimeError('the page crashed')
+        return told
 
     def ask(self, method, **parameters):
         """The answer to a command; events that come before it are kept."""

@@ -6,7 +6,7 @@ import shutil
 import subprocess
 
 from page_screen import REPORT, same, statement_of
-from page_tools import sealed_lines, written
+from page_tools import sealed, sealed_lines, written
 
 LINES = 3000
 # What Tab reaches of the example: the links, the box of all decimals, and of each table its search, its button and its grid.
@@ -227,7 +227,7 @@ def follow_head(count, viewer):
     browser.type('party 3 0.04')
     browser.wait("document.querySelector('#ledger output').textContent.includes('1 of')")
     same(count, 'a search that is typed', viewer.told('ledger'),
-         f'1 of {LINES // 1000}\u202f000 lines; Part of Party 3; GBP 0.0010000000; of lines worth; GBP 0.0400000000')
+         f'Part of Party 3, in 1 line:; GBP 0.0010000000; 1 of {LINES // 1000}\u202f000 lines; GBP 0.0400000000')
 
 
 def follow_contrast(count, viewer):
@@ -293,6 +293,17 @@ def follow_print(count, viewer):
         same(count, 'what was searched for', 'Lines that were searched for: gbabc2400.' in text, True)
 
 
+def follow_paper(count, viewer):
+    """Lines with many cells, or long ones, are on the paper as a whole."""
+    cells = '\t'.join(f'cell{at}' for at in range(67))
+    text = f'HEAD\tR1\t1\t1\t2024-01-01\t2024-01-31\t{"Sender " * 30}\t{"x" * 400}\nSY01\tS1\tGB\tStream\tGBP\t2\t2\nAS01\t{cells}\n'
+    viewer.open(['-', written(os.path.join(viewer.room, 'in1.tsv'), text)], given=sealed([text.encode()]).encode())
+    viewer.browser.show(718, media='print')
+    wide = "[document.documentElement.scrollWidth, [...document.querySelectorAll('td, th')].filter(it => it.getBoundingClientRect().right > 719).length]"
+    same(count, 'lines on paper', viewer.browser.run(wide), [718, 0])
+    viewer.browser.show()
+
+
 def printed(viewer):
     """The text of the page on paper, or None without the program that has it of a PDF."""
     content = base64.b64decode(viewer.browser.ask('Page.printToPDF')['data'])
@@ -309,4 +320,5 @@ def follow_access(count, viewer):
     follow_rules(count, viewer)
     follow_narrow(count, viewer)
     follow_print(count, viewer)
+    follow_paper(count, viewer)
     count.check('nothing is asked of a network by any of this', viewer.problems())

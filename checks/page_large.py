@@ -61,12 +61,12 @@ def follow_large(count, viewer, lines):
     most = SECONDS * max(1, lines / 100_000)
     count.check(f'{lines} lines', [] if ready < most else [f'ready after {ready:.2f} seconds of a processor'])
     same(count, 'exact sums', viewer.told('ledger').split('; ')[1:], [f'{currency} {written(units)}' for currency, units in sorted(seen.sums.items())])
-    told = viewer.search('ledger', PARTY.split()[1])
+    told = viewer.search('ledger', PARTY)
     searched = viewer.browser.processor_seconds()
     answers(count, viewer, 'a search', searched - ready)
-    same(count, 'a search among them', int(re.match(r'([\d\u202f]+)', told)[1].replace('\u202f', '')) >= seen.found > 0, True)
+    same(count, 'a search among them', int(re.search(r'; ([\d\u202f]+) of', told)[1].replace('\u202f', '')) >= seen.found > 0, True)
     owned = [f'{currency} {written(units)}' for currency, units in sorted(seen.owned.items())]
-    same(count, 'what a party gets', told.split('; ')[1:-1 - len(seen.sums)][:1 + len(owned)], [f'Part of {PARTY}', *owned])
+    same(count, 'what a party gets', told.split('; ')[:1 + len(owned)], [f'Part of {PARTY}, in {seen.found} lines:', *owned])
     follow_rows(count, viewer, seen, lines)
     count.check('nothing is asked of a network by many lines', viewer.problems())
 
@@ -86,6 +86,9 @@ def follow_rows(count, viewer, seen, lines):
     rows = "document.querySelectorAll('#ledger .body .row').length"
     same(count, 'the rows for the printer', browser.run(f"(dispatchEvent(new Event('beforeprint')), {rows})"), min(lines, 1000))
     same(count, 'the rows after it', browser.run(f"(dispatchEvent(new Event('afterprint')), {rows} < 100)"), True)
+    browser.show(1200, 30000)
+    same(count, 'the rows on a screen of any height', browser.run(f"new Promise(done => setTimeout(() => done({rows} < 300), 300))"), True)
+    browser.show()
     before = browser.processor_seconds()
     browser.click("document.querySelector('#ledger .names [data-name=Amount]')")
     browser.wait(f"document.querySelector('#ledger .body .row [data-name=Amount]').textContent === '{written(seen.largest)}'")

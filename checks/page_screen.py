@@ -60,7 +60,7 @@ class Viewer:
     def told(self, section):
         """What a table says of the lines that it shows, with every digit."""
         self.browser.wait(f"/line/.test(document.querySelector('#{section} output').textContent)")
-        return self.browser.run(f"[...document.querySelectorAll('#{section} output > span')].map(it => it.textContent).join('; ')")
+        return self.browser.run(f"[...document.querySelectorAll('#{section} output > div > span')].map(it => it.textContent).join('; ')")
 
     def saved(self, section):
         """The rows of the table that is saved by its button, and the bytes of the file."""
@@ -136,10 +136,10 @@ def follow_search(count, viewer):
     run = viewer.browser.run
     same(count, 'the ledger', viewer.told('ledger'), '4 lines; EUR 2.4000000000; GBP 15.4000000000')
     same(count, 'a search for a party', viewer.search('ledger', 'ben'),
-         '2 of 4 lines; Part of Ben Cole; EUR 0.6000000000; GBP 1.2500000000; of lines worth; EUR 2.4000000000; GBP 5.0000000000')
+         'Part of Ben Cole, in 2 lines:; EUR 0.6000000000; GBP 1.2500000000; 2 of 4 lines; EUR 2.4000000000; GBP 5.0000000000')
     same(count, 'its part of each line', viewer.text('#ledger .body [data-name=Part]'), '0.60\n1.25')
     same(count, 'a search for a party and a currency', viewer.search('ledger', 'ben gbp'),
-         '1 of 4 lines; Part of Ben Cole; GBP 1.2500000000; of lines worth; GBP 5.0000000000')
+         'Part of Ben Cole, in 1 line:; GBP 1.2500000000; 1 of 4 lines; GBP 5.0000000000')
     same(count, 'a search for a title', viewer.search('ledger', 'harbour'), '1 of 4 lines; GBP 2.5000000000')
     same(count, 'a search without a line', viewer.search('ledger', 'nobody'), '0 of 4 lines')
     same(count, 'a search by amount', viewer.search('ledger', '7.9'), '1 of 4 lines; GBP 7.9000000000')
@@ -152,7 +152,7 @@ def follow_search(count, viewer):
     same(count, 'with its title', viewer.text('dialog .title'), 'Northern Song')
     run("document.querySelector('#ledger output').textContent = ''")
     viewer.browser.click("document.querySelectorAll('dialog .party')[0]")
-    ada = '3 of 4 lines; Part of Ada Hart; EUR 1.2000000000; GBP 3.3333325000; of lines worth; EUR 2.4000000000; GBP 7.5000000000'
+    ada = 'Part of Ada Hart, in 3 lines:; EUR 1.2000000000; GBP 3.3333325000; 3 of 4 lines; EUR 2.4000000000; GBP 7.5000000000'
     same(count, 'the lines of a party', viewer.told('ledger'), ada)
     viewer.browser.click("document.querySelector('#ledger .names [data-name=Part]')")
     viewer.browser.wait("document.querySelectorAll('#ledger .body [data-name=Part]')[1].innerText === '1.20'")
@@ -210,7 +210,7 @@ def follow_hostile(count, viewer):
     same(count, 'a search for a hostile name', viewer.search('parties', '<img'), f'1 of {len(HOSTILE)} lines')
     viewer.search('parties', '')
     same(count, 'a search for several parties', viewer.search('ledger', 'ada gbp'),
-         '1 line; Part of the 3 parties that were found; GBP 0.0800000000; of lines worth; GBP 1.0000000000')
+         'Part of 3 parties, in 1 line:; GBP 0.0800000000; 1 line; GBP 1.0000000000')
     viewer.search('ledger', '')
     same(count, 'names that look alike', sorted(run("[...document.querySelectorAll('#parties .alike')].map(it => it.parentNode.firstChild.textContent)")),
          sorted(['Ada', 'Ada<U+00A0>', '\u0410da']))

@@ -266,7 +266,7 @@ def follow_all(count, tools):
     count.check('all faults', [] if found == [('5', 'BadIsrc'), ('6', 'BadCell Usages'), ('7', 'BadIsrc'), ('9', 'LateSummary'), ('10', 'FootLines'), (
         '10', 'FootSummaries'), ('10', 'FootBlocks')] else [told])
     count.check('what follows is a guess', [] if 'What follows is a guess' in told and 'after its first fault' not in plain else [told])
-    wanted = ['Line 4, column Amount (cell 5 of the line): 1,5', 'a point and at most ten digits', 'A guess: It looks as if the number has a decimal comma.',
+    wanted = ['In file number 1 of 1 (which we have as in1.tsv, ', 'Line 4, column Amount (cell 5 of the line): 1,5', 'a point and at most ten digits', 'A guess: It looks as if the number has a decimal comma.',
               '3 recordings with 3 usages and GBP 3.00, as far as the lines can be read', 'As a guess, also line 6, column Usages']
     count.check('the letter has them', [f'no {it!r} in {letter}' for it in wanted if it not in letter])
 

@@ -7,6 +7,7 @@ PACKED = ((b'\x1f\x8b', 'gzip', '.gz'), (b'BZh', 'bzip2', '.bz2'), (b'\xfd7zXZ\0
 WORKBOOK = 'a workbook of a spreadsheet ({}): a report is plain text with TABs, as the sender exported it'
 SEPARATORS = {b',': 'commas', b';': 'semicolons', b' ': 'spaces', b'|': 'pipes'}
 NUMBERS = ('Usages', 'Amount', 'Shares', 'FileNumber', 'NumberOfFiles', 'NumberOfLinesInFile', 'NumberOfSummaryRecords', 'NumberOfBlocksInFile')
+OF_FILE = 'The file looks like one'
 DAYS = ('UsageStartDate', 'UsageEndDate')
 
 
@@ -22,6 +23,8 @@ def container(begin):
         return WORKBOOK.format('.xls')
     if begin.startswith((b'\xff\xfe', b'\xfe\xff')) or len(begin) > 3 and (begin[1] == begin[3] == 0 or begin[0] == begin[2] == 0):
         return 'in UTF-16 ("Unicode text" of a spreadsheet): it is to be exported in UTF-8'
+    if b'\0' in begin:
+        return 'no text at all'
     if re.match(rb'\s*<(!doctype|html|\?xml)', begin, re.I):
         return 'a web page or XML, such as a page to sign in, in place of the file'
     return 'a statement, and no file of a report' if re.match(rb'(NO)?REPORT(\t|\r?\n)', begin) else None
@@ -67,18 +70,23 @@ def of_cell(column, cell):
     return 'the number has a decimal comma' if re.search(r'\d,\d', text) else None
 
 
+def is_of_file(cause):
+    """Whether a cause is one of the whole file, and not of a cell."""
+    return cause.startswith(OF_FILE + ' that is')
+
+
 def of_fault(layout, fault, begin, line):
     """The likely cause of a fault as a sentence, or None. `line` is that of the fault, or None for the end of the file."""
     whole = container(begin) or (separators(layout, begin) if fault.line <= 2 else None)
     if whole and fault.line <= 2:
-        return f'The file looks like one that is {whole}.' if not whole.startswith('with ') else f'The file looks like one {whole}.'
+        return OF_FILE + (f' {whole}.' if whole.startswith('with ') else f' that is {whole}.')
     if line is None:
         return None
     kind = line.raw_cells[0]
     if fault.name == 'UnknownRecord' and layout.role_of(kind.split(b'.')[0]):
         return 'The record types have a version; a layout (--layout) reads such types.'
     if fault.name == 'NotUtf8' and len(line.raw) <= MOST_LINE:
-        return 'The file looks like one in Latin-1 or Windows-1252: it is to be exported in UTF-8.'
+        return OF_FILE + ' in Latin-1 or Windows-1252: it is to be exported in UTF-8.'
     cell = layout.raw_cell(line, fault.column) if fault.column and line.role else b''
     told = of_cell(fault.column, cell) if fault.name == 'BadCell' else None
     return f'It looks as if {told}.' if told else None

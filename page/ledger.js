@@ -3,8 +3,8 @@
 const LINE = ['ISRC', 'Titles', 'Territory', 'Use type', 'Currency', 'Usages', 'Amount'];
 
 class Ledger {
-  constructor(facts) {
-    Object.assign(this, { markets: facts.markets, parties: facts.parties, count: facts.lines, digits: facts.digits });
+  constructor(facts, alike) {
+    Object.assign(this, { alike, markets: facts.markets, parties: facts.parties, count: facts.lines, digits: facts.digits });
     this.hasTitles = facts.hasTitles;
     for (const name of ['isrcs', 'usages', 'amounts', 'rests', 'titles']) this[name] = new Array(facts.lines);
     this.market = new Uint32Array(facts.lines);
@@ -125,7 +125,8 @@ class Ledger {
 
   /**
    * The test for all words: each is in the ISRC, the title, the territory, use type or currency, a party, or the amount. What
-   * parties have of a line, `own` says: the one that was chosen, or those that have the words which are not of the line itself.
+   * parties have of a line, `own` says: the one that was chosen, or those with all words, or, if there are none, those that have
+   * the words which are not of the line itself.
    */
   async matcher(words, isStale) {
     this.own = () => null;
@@ -136,13 +137,13 @@ class Ledger {
     const inParty = inMarket && await bitsOf(this.lower, words, isStale);
     if (!inParty) return null;
     const { chosen } = this, upper = words.map(it => it.toUpperCase()), isNumber = words.map(it => /^[-\d.]+$/.test(it));
-    const all = 2 ** words.length - 1, isNamed = inParty.some(bits => bits !== 0);
+    const all = 2 ** words.length - 1, isNamed = inParty.some(bits => bits !== 0), hasAll = inParty.includes(all);
     const inLine = at => words.reduce((bits, word, bit) => bits | (this.isrcs[at].includes(upper[bit])
       || this.hasTitles && this.lowerTitles[at].includes(word) || isNumber[bit] && written(this.amounts[at]).startsWith(word) ? 1 << bit : 0),
     inMarket[this.market[at]]);
     if (chosen !== null || isNamed) {
       this.own = at => {
-        const wanted = chosen === null ? all & ~inLine(at) || all : 0;
+        const wanted = hasAll ? all : chosen === null ? all & ~inLine(at) || all : 0;
         return this.sumOf(at, party => chosen === null ? (inParty[party] & wanted) === wanted : party === chosen);
       };
     }
@@ -171,6 +172,7 @@ class Ledger {
   /** Exact sums over the rows that are added, by currency: of the lines, and of what the parties that were found have of them. */
   sums() {
     const found = new Map(), owned = new Map();
+    let lines = 0;
     const add = (sums, at, units) => {
       const currency = this.markets[this.market[at]][2];
       sums.set(currency, (sums.get(currency) ?? 0n) + units);
@@ -180,20 +182,24 @@ class Ledger {
       add: at => {
         const own = this.own(at);
         add(found, at, this.amounts[at]);
-        if (own !== null) add(owned, at, own);
+        if (own === null) return;
+        add(owned, at, own);
+        lines++;
       },
       parts: () => {
         const seen = [...this.seen];
         this.seen = null;
         this.columns = owned.size ? this.columnsWithPart : this.columnsOfLines;
-        return [...owned.size ? [this.whose(seen), ...sumElements(owned), element('span', '', 'of lines worth')] : [], ...sumElements(found)];
+        return [sumElements(found), owned.size ? [this.whose(seen, lines), ...sumElements(owned)] : []];
       },
     };
   }
 
-  whose(seen) {
-    const made = element('span', 'own', seen.length === 1 ? 'Part of ' : `Part of the ${grouped(String(seen.length))} parties that were found`);
-    if (seen.length === 1) made.append(nameElement(this.parties[seen[0]]));
+  /** Whose part it is, and of how many lines. */
+  whose(seen, lines) {
+    const made = element('span', '', 'Part of ');
+    made.append(seen.length === 1 ? nameElement(this.parties[seen[0]]) : `${grouped(String(seen.length))} parties`,
+      `, in ${grouped(String(lines))} line${lines === 1 ? '' : 's'}:`);
     return made;
   }
 

@@ -1,7 +1,8 @@
 """A letter to the sender for each file: where something is wrong, what is expected in plain words, and what waits for it."""
 import collections
+import os
 
-from causes import of_fault
+from causes import is_of_file, of_fault
 from showing import visible
 from units import plain
 from words import OURS, expected
@@ -18,9 +19,8 @@ def amounts_told(left):
 def cell_told(line, layout, at):
     """A cell with its column and place, in words."""
     names = layout.names(line.role, len(line.cells)) if line.role else []
-    column = names[at] if at < len(names) and names[at] else 'a cell'
-    text = visible(line.cells[at])
-    return f'column {column} (cell {at + 1} of the line): {text if text else "it is empty"}'
+    place = f'column {names[at]} (cell {at + 1} of the line)' if at < len(names) and names[at] else f'cell {at + 1} of the line'
+    return f'{place}: {visible(line.cells[at]) or "it is empty"}'
 
 
 def places_told(layout, line):
@@ -75,6 +75,8 @@ class Letter:
         if scan and not line:
             places = [f'Line {fault.line}: the file ends here']
         cause = of_fault(self.report.layout, fault, self.file.bytes.begin, line) if scan else None
+        if cause and is_of_file(cause):
+            places = [f'Line {fault.line}']
         rest = self.file.rest()
         return [*places, f'Expected: {expected(fault.name, fault.column)}', *([f'A guess: {cause}'] if cause else []),
                 'The file was read up to here.' + (f' What waits for it: {amounts_told(rest.left)}, as far as the lines can be read.'
@@ -86,8 +88,9 @@ class Letter:
         for name, column in dict.fromkeys((it.name, it.column) for it in found):
             lines = [it.line for it in found if (it.name, it.column) == (name, column)]
             more = f' and {len(lines) - MOST_PLACES} more' if len(lines) > MOST_PLACES else ''
+            is_same = name == self.file.line.fault.name and column == self.file.line.fault.column
             yield [f'As a guess, also line{"s" if len(lines) > 1 else ""} {", ".join(map(str, lines[:MOST_PLACES]))}{more}'
-                   + (f', column {column}' if column else ''), f'Expected: {expected(name, column)}']
+                   + (f', column {column}' if column else ''), 'Expected: the same' if is_same else f'Expected: {expected(name, column)}']
 
     def blocks(self, reason, count):
         told, places = [], self.places[reason]
@@ -113,15 +116,15 @@ class Letter:
         statement, file = self.report.statement, self.file
         message, files, first, last, _ = statement.report or ('', '', '', '', '')
         is_ours = file.line.standing in ('Ours', 'Doubled')
-        number = f'number {file.line.number} of {files}' if is_ours else f'file {file.line.place} of those that we read'
+        number = f'file number {file.line.number} of {files}' if is_ours else f'the file in place {file.line.place} of those that we read'
         given = statement.seal.inputs[file.line.place - 1] if statement.seal.inputs else None
-        known = [f'which we have as {visible(file.name)}'] if file.name is not None else []
+        known = [f'which we have as {visible(os.path.basename(file.name))}'] if file.name is not None else []
         known += [f'the first {given.size} bytes have the SHA-256 {given.sha}' if file.line.fault
                   else f'{given.size} bytes, SHA-256 {given.sha}'] if given else []
         report = f'sales report {visible(message)}' if message else 'a sales report'
         yield f'Subject: {report}, {number}'
         yield 'Hello,'
-        yield (f'we have read {report}' + (f' for {first} to {last}' if message else '') + f'. In the file {number}'
+        yield (f'we have read {report}' + (f' for {first} to {last}' if message else '') + f'. In {number}'
                + (f' ({", ".join(known)})' if known else '') + ' the following is not as expected.')
 
 

@@ -2,11 +2,13 @@
 import html
 
 from columns import list_of, unescaped
-from names import alike
+from names import alike, told_alike
 from showing import pieces, rows_of, visible
 from units import UNITS, percent_of
 
 MOST_CELLS = 70
+PAPER_CELLS, PAPER = 12, 120   # what of a line fits beside one another on paper
+LISTS = ('Titles', 'Artists', 'Parties', 'Shares')
 
 
 def escaped(text):
@@ -17,6 +19,11 @@ def escaped(text):
 def shown(text):
     """A text whose hidden characters are written out in another style."""
     return '<bdi>' + ''.join(f'<i>{html.escape(piece)}</i>' if hidden else html.escape(piece) for piece, hidden in pieces(text)) + '</bdi>'
+
+
+def listed(text):
+    """The values of a list cell as they are written, each kept apart, so that they stay in their order."""
+    return '|'.join(shown(value.decode('utf-8', 'surrogateescape')) for value in list_of(text.encode('utf-8', 'surrogateescape')))
 
 
 def grouped(digits):
@@ -56,9 +63,11 @@ def line_row(number, cells, marked, names):
 
     def cell(at, text):
         named = f' data-name="{html.escape(names[at])}"' if at < len(names) and names[at] else ''
-        text = f'<mark>{shown(text) if text else "(empty)"}</mark>' if at in marked else shown(text)
+        value = listed(text) if at < len(names) and names[at] in LISTS else shown(text)
+        text = f'<mark>{value if text else "(empty)"}</mark>' if at in marked else value
         return f'<td role="cell"{named}>{text}</td>'
     found = ''.join(cell(at, text) for at, text in enumerate(cells[:MOST_CELLS]))
+    found += f'<td role="cell">and {len(cells) - MOST_CELLS} more cells</td>' if len(cells) > MOST_CELLS else ''
     faulty = ' class="faulty"' if marked else ''
     return f'<tr{faulty} role="row"><th role="rowheader" scope="row" data-name="Line">{number}</th>{found}</tr>'
 
@@ -71,7 +80,7 @@ def parties_row(layout, line):
     names = [unescaped(it).decode('utf-8', 'surrogateescape') for it in parties]
     like = {name for group in alike(names) for name in group}
     rows = ''.join(f'<li>{shown(name) if name else "(no name)"} <span class="share-of">{html.escape(visible(share))}</span>'
-                   f'{" <em>looks like another of this list</em>" if name in like else ""}</li>'
+                   f'{f" <em>{told_alike(name)}</em>" if name in like else ""}</li>'
                    for name, share in zip(names, [it.decode("utf-8", "surrogateescape") for it in shares] + ['?'] * len(names)))
     return f'<tr class="parties" role="row"><th role="rowheader">of {line.number}</th><td role="cell" colspan="{len(line.cells)}"><ul>{rows}</ul></td></tr>'
 
@@ -86,8 +95,9 @@ def line_table(layout, lines):
         rows.append(parties_row(layout, by_number[number]) if number is not None else '')
     if ends:
         rows.append('<tr class="faulty" role="row"><th role="rowheader"></th><td role="cell"><mark>the file ends here</mark></td></tr>')
-    return '<div class="wide" tabindex="0" role="group" aria-label="Lines of the file"><table role="table" class="lines">\n' + '\n'.join(
-        row for row in rows if row) + '\n</table></div>\n'
+    is_wide = any(len(line.cells) > PAPER_CELLS or len(line.raw) > PAPER for line in lines)
+    return (f'<div class="wide" tabindex="0" role="group" aria-label="Lines of the file"><table role="table" class="lines{" long" * is_wide}">\n'
+            + '\n'.join(row for row in rows if row) + '\n</table></div>\n')
 
 
 def entry_list(entry):

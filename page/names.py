@@ -16,6 +16,18 @@ def likeness(name):
     return ''.join(LIKE.get(it, it) for it in ' '.join(plain.casefold().split()))
 
 
+def other_letters(name):
+    """The characters of a name by which it may differ from one that looks alike, as code points; hidden ones are written out anyway."""
+    found = dict.fromkeys(f'U+{ord(it):04X}' for it in name if not it.isascii() and not is_hidden(it))
+    return ', '.join(found)
+
+
+def told_alike(name):
+    """What is said beside a name that looks like another of its list."""
+    letters = other_letters(name)
+    return 'looks like another of this list' + (f', has {letters}' if letters else '')
+
+
 def alike(names):
     """The groups of different names that look alike, each in the order of the list."""
     groups = collections.defaultdict(list)

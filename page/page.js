@@ -10,10 +10,11 @@ function showLine(ledger, at) {
     made.append(first, last);
     table.append(made);
   };
+  const isAlike = name => ledger.alike.get(name)?.some(it => it !== name && names.includes(it));
   names.forEach((name, each) => {
     const party = ledger.party[ledger.begin[at] + each];
     const made = button('party', '', () => { dialog.close(); showLines(ledger, party); });
-    made.append(nameElement(name));
+    made.append(nameElement(name), ...(isAlike(name) ? [' ', element('em', '', toldAlike(name))] : []));
     row(made, BigInt(ledger.parts[ledger.begin[at] + each]));
   });
   row('unclaimed', ledger.rests[at]);
@@ -61,7 +62,7 @@ async function main() {
   const section = name => document.getElementById(name);
   const named = known.partyTotals.map(([party, ...rest]) => [known.parties[party], ...rest]);
   const alike = new Map(known.alike.flatMap(group => group.map(party => [known.parties[party], group.map(it => known.parties[it])])));
-  const ledger = new Ledger(known);
+  const ledger = new Ledger(known, alike);
   const tables = [
     new Table(section('parties'), new Totals(named, PARTY, 'Search party or currency', alike, at => showLines(ledger, known.partyTotals[at][0]))),
     new Table(section('markets'), new Totals(known.marketTotals, MARKET, 'Search territory, use type, currency')),

@@ -2,7 +2,7 @@
 import itertools
 import os
 
-from causes import of_fault
+from causes import container, of_fault
 from checking import all_found
 from columns import list_of
 from files import NO_END, PIECE, Bytes, Line, Scan, Wanted, raw_lines
@@ -10,6 +10,7 @@ from refused import Refused
 from rest import Rest
 from units import written
 from withheld import Left, add_block
+from words import expected
 
 RECORD_TYPE = ('UnknownRecord', 'NoHead', 'SecondHead', 'LateSummary', 'NoResource', 'LateWork', 'NoUsage',
                'AfterFoot', 'ManySummaries', 'LongBlock')
@@ -101,7 +102,7 @@ class Report:
     def look_further(self, file, most=None):
         """Looks for what follows the first fault of a file that was read, at most so much of it."""
         fault = file.line.fault
-        if file.scan and fault and fault.name not in NO_END and os.path.isfile(file.name):
+        if file.scan and fault and fault.name not in NO_END and os.path.isfile(file.name) and not container(file.bytes.begin):
             with open(file.name, 'rb') as content:
                 lines = raw_lines(iter(lambda: content.read(PIECE), b''))
                 found = (it for it in all_found(self.layout, lines)
@@ -210,6 +211,7 @@ def fault_remark(layout, file):
         remark.notes += notes_of_fault(layout, file.scan, last, fault)
         cause = of_fault(layout, fault, file.bytes.begin, last if last.number is not None else None)
         remark.notes += [f'A guess: {cause}'] if cause else []
+        remark.notes += [f'Expected: {expected(fault.name, fault.column)}.'] if fault.name == 'BadCell' else []
         remark.groups.append(('', lines_of_fault(layout, file.scan, fault)))
     return remark
 

@@ -62,7 +62,8 @@ def left_rows(report):
             yield from rows_of_left(file, reason, count, file.left.get(reason))
         rest = file.rest()
         if rest and rest.left.blocks:
-            yield from rows_of_left(file, f'not read: line {file.line.fault.line} and what follows (a guess)', rest.left.blocks, rest.left)
+            unread = f'; {rest.unread} usages cannot be read' if rest.unread else ''
+            yield from rows_of_left(file, f'not read: line {file.line.fault.line} and what follows (a guess{unread})', rest.left.blocks, rest.left)
 
 
 def rows_of_left(file, reason, count, left):
@@ -78,7 +79,7 @@ def left_section(report):
     """The table of what was left out, with what is not known."""
     rows = list(left_rows(report))
     notes = [f'{it.called()} ended by its fault in line {it.line.fault.line}: what stands there and behind it is not in the statement.'
-             for it in report.files if it.line.fault and not it.rest()]
+             for it in report.files if it.line.fault and not it.rest() and not it.line.fault.name.startswith('Foot')]
     if report.statement.missing:
         notes.append(f'What the files with number {ranges(report.statement.missing)} would add is not known.')
     if report.statement.rejects and any(it.name is None for it in report.files):

@@ -22,20 +22,20 @@ def is_hidden(character):
 
 
 def pieces(text):
-    """The text in pairs: a piece, and whether it is a character that was written out. A space at an end is."""
-    begun, inner = '', (len(text) - len(text.lstrip(' ')), len(text.rstrip(' ')))
-    for at, character in enumerate(text[:MOST_SHOWN]):
-        if is_hidden(character) or character == ' ' and not inner[0] <= at < inner[1]:
-            if begun:
-                yield begun, False
-            begun = ''
+    """The text in pairs: a piece, and whether it is a character that was written out. A space at an end is; a long text is cut."""
+    begun, size, inner = '', 0, (len(text) - len(text.lstrip(' ')), len(text.rstrip(' ')))
+    for at, character in enumerate(text):
+        hidden = is_hidden(character) or character == ' ' and not inner[0] <= at < inner[1]
+        size += len(spelled(character)) if hidden else 1
+        if size > MOST_SHOWN:
+            yield begun, False
+            yield f' .. {len(text) - at} more', True
+            return
+        if hidden:
+            yield begun, False
             yield spelled(character), True
-        else:
-            begun += character
-    if begun:
-        yield begun, False
-    if len(text) > MOST_SHOWN:
-        yield f' .. {len(text) - MOST_SHOWN} more', True
+        begun = '' if hidden else begun + character
+    yield begun, False
 
 
 def visible(text):

@@ -3,6 +3,7 @@
 const ROW = 32;                  // the height of a row, as in page.css
 const HEAD = 36;                 // that of the names of the columns
 const PRINTED = 1000;            // rows that are printed of a longer table
+const MOST = 250;                // rows that are elements at once on a screen, however high it is
 const FLOW = 50;                 // rows that are shown at first, and more of each time, where the page is narrow
 const NARROW = matchMedia('(max-width: 44rem)');
 
@@ -143,15 +144,17 @@ class Table {
 
   /** Shows other rows. */
   set(found, sums) {
-    const parts = sums?.parts() ?? [];
+    const [whole, own] = sums?.parts() ?? [[], []];
     this.found = found;
     if (this.source.columns !== this.columns) this.setColumns();
     this.shown = FLOW;
     this.active.row = Math.min(this.active.row, 0);
     this.active.column = Math.min(this.active.column, this.columns.length - 1);
     const some = found.length < this.source.count ? ` of ${grouped(String(this.source.count))}` : '';
-    this.told.replaceChildren(element('span', '', grouped(String(found.length)) + some + (this.source.count === 1 ? ' line' : ' lines')),
-      ...parts);
+    const lines = element('div'), parts = element('div', 'own');
+    lines.append(element('span', '', grouped(String(found.length)) + some + (this.source.count === 1 ? ' line' : ' lines')), ...whole);
+    parts.append(...own);
+    this.told.replaceChildren(...(own.length ? [parts] : []), lines);
     this.box.setAttribute('aria-rowcount', found.length + 1);
     this.lay();
   }
@@ -173,7 +176,7 @@ class Table {
     if (this.printing) return;
     const top = this.flows ? 0 : this.heights.top();
     const first = Math.max(0, Math.floor(top / ROW) - 4);
-    const end = Math.min(this.found.length, this.flows ? this.shown : Math.ceil((top + this.box.clientHeight) / ROW) + 4);
+    const end = Math.min(this.found.length, this.flows ? this.shown : Math.min(Math.ceil((top + this.box.clientHeight) / ROW) + 4, first + MOST));
     this.take(first, end, this.heights.offset);
     const left = this.flows ? this.found.length - end : 0;
     this.next.hidden = !left;

@@ -52,7 +52,7 @@ class Totals {
 
   markAlike(cell, text) {
     const others = this.alike.get(text).filter(it => it !== text).map(visible).join(', ');
-    cell.append(' ', element('em', 'alike', 'looks like another'));
+    cell.append(' ', element('em', 'alike', toldAlike(text)));
     cell.title = `looks like ${others}`;
   }
 
