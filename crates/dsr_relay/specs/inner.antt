@@ -3,3 +3,4 @@ pub mod Feeds
 pub mod Taps
 pub mod Settles
 pub mod Arrays
+pub mod Ways

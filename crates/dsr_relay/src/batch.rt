@@ -12,6 +12,7 @@ use crate::slots::Slots;
 use dsr_cells::NoMemory;
 use dsr_events::{Block, Event, EventPart};
 use std::alloc::Global;
+use std::default::MadeWith;
 use std::marker::Model;
 use std::mem;
 
@@ -57,6 +58,13 @@ impl Model for Batch {
     ghost view = { λ b. drop b.out (take b.count b.slots) };
 
     ghost invariant = { λ b. (b.out ≤ b.count) × (b.count ≤ length b.slots) };
+}
+
+/// What a group of batches has in its unused places.
+impl MadeWith<Global> for Batch {
+    fn made_with(alloc: Global) -> Batch {
+        Batch::none(alloc)
+    }
 }
 
 impl Batch {

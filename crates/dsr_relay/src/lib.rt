@@ -5,9 +5,9 @@
 //! 2. The [`Feed`] collects the events that it is given in a [`Batch`] of up to 32, and puts it into the channel as one
 //!    message; if the channel is full, it waits (`feed`, `batch`, `slots`, `channel`).
 //! 3. The [`Tap`] takes the events one by one, or those of a message at once; if there is none, it waits (`tap`).
-//! 4. A batch whose events are no longer needed is given back ([`Tap::give_back`]). The feed writes later events over
-//!    it. A block is exchanged for an old one ([`Feed::send_block`]), so that it is not moved and the reader reuses the
-//!    memory of the old one.
+//! 4. A batch whose events are no longer needed is given back ([`Tap::give_back`]), together with others, by a second
+//!    channel whose rule counts them (`way`). The feed writes later events over it. A block is exchanged for an old one
+//!    ([`Feed::send_block`]), so that it is not moved and the reader reuses the memory of the old one.
 //! 5. [`Tap::take_in`] joins the two ends and returns what was taken and what is left ([`Settled`], in `settled`).
 //!
 //! **Example**, compiled and proved in `crates/dsr_relay_tests/src/example.rt`:
@@ -29,7 +29,8 @@
 //! taken, followed by what is left, is what was sent. It rests on a rule (`rule`), which the channel keeps at each of
 //! its two kinds of step, sending a message and receiving one: the messages that the tap received, followed by those in
 //! the channel, are those that the feed sent. No clause says that a thread runs, or that a call which waits returns.
-//! [`laws`] has the laws of the relays of all files together, and that of the memory of one relay.
+//! [`laws`] has the laws of the relays of all files together, and that of the memory of one relay. Inside, no call drops
+//! memory that comes back: the ends count it.
 //!
 //! **Where to begin.** `specs/meaning/Views.antt` has the ends as contracts see them, and
 //! `specs/meaning/Rule.antt` the rule; then read `feed`, `tap` and `open`.
@@ -46,6 +47,7 @@ mod rule;
 mod settled;
 mod slots;
 mod tap;
+mod way;
 
 pub use batch::Batch;
 pub use channel::Closed;

@@ -1,76 +1,98 @@
 //! The memory of batches, a pool of fixed size: the feed fills it, and the tap gives it back once its events are no
-//! longer needed. All of it is allocated when a relay is made: for the batches in the channel, the one being filled
-//! and the one being emptied. So a send allocates nothing, and the feed's thread frees the events of returned batches.
-//! After Ended it also frees the memory that it has left, so that the one thread of all taps need not.
-ghost use Rattle.std.specs.Prelude.{◌≡◌, [], ◌+◌, ◌<◌, ◌≤◌, length, IfOk};
+//! longer needed. All of it is allocated when a relay is made, so a send and a return allocate nothing, and the feed's
+//! thread frees the events of returned batches. After Ended it also frees the memory that it has left, so that the one
+//! thread of all taps need not.
+//!
+//! Batches come back several at a time, as one message: the feed is woken once for all of them. From a capacity of 16 on
+//! there are as many as the channel has room for, so the feed waits for memory alone, and never for room in the channel.
+ghost use Rattle.std.specs.Prelude.{◌≡◌, [], ◌+◌, ◌<◌, ◌≤◌, false, length, vec_len, vec_capacity, IfOk, IfSome, IfNone, OnOk, OnSome};
+ghost use Rattle.arrayvec.specs.ArrayVec.{array_vec_len};
+ghost use Rattle.dsr_relay.specs.meaning.Pool.{batches_of};
 
 use crate::batch::Batch;
-use crossbeam_channel::{Receiver, Sender, bounded};
+use crate::way::{Getter, Giver, Group, MOST_TOGETHER, Refusal, way};
+use arrayvec::ArrayVec;
 use dsr_cells::NoMemory;
 use std::alloc::Global;
+use std::mem;
 use std::sync::Wait;
 
-/// At most this many batches are given back together.
-const MOST_TOGETHER: usize = 8;
+/// From this capacity on there are no more batches than the channel has room for.
+const ENOUGH: u32 = 16;
 
 /// The end of the pool that takes memory, to fill it.
 #[derive(Drop)]
 pub(crate) struct Supply {
     alloc: Global,
-    /// The memory that was never filled.
+    /// The memory that was never filled, or came back.
     unused: Vec<Batch>,
-    receiver: Receiver<Batch>,
+    getter: Getter,
+    ghost room: { 8 ≤ vec_capacity unused },
 }
 
-/// The end of the pool that gives memory back, several batches at a time: if each were given back alone, a feed that
-/// waits for memory would be woken for each.
+/// The end of the pool that gives memory back.
 #[derive(Drop)]
 pub(crate) struct Returns {
     alloc: Global,
-    sender: Sender<Batch>,
+    giver: Giver,
     /// Batches that are not given back yet.
-    kept: Vec<Batch>,
-    /// This many are given back together: 1 to 8, and at most as many as there are. So the feed never waits for memory while
-    /// the tap waits for a message (`laws::never_lacks_memory`).
+    kept: Group,
+    /// This many are given back together: 1 to 8, and fewer than there are. So the feed never waits for memory while the tap
+    /// waits for a message (`laws::never_lacks_memory`).
     together: usize,
+    ghost few: { (array_vec_len kept < together) × (together ≤ 8) },
 }
 
-/// Memory for this many batches.
+/// Memory for this many batches, and room for as many as come back together.
 fn rooms(alloc: Global, batches: usize) -> Result<Vec<Batch>, NoMemory>
-    ensures { IfOk result (λ rooms. length rooms.items ≡ batches) }
+    requires { batches ≤ 1024 }
+    ensures all { IfOk result (λ rooms. length rooms.items ≡ batches) }
+    ensures room { IfOk result (λ rooms. batches + 8 ≤ vec_capacity rooms) }
 {
-    let mut rooms = Vec::with_capacity(alloc, batches)?;
+    let mut rooms = Vec::with_capacity(alloc, batches + MOST_TOGETHER)?;
     for _ in 0..batches {
         rooms.push(Batch::with_room(alloc)?)?;
     }
     Ok(rooms)
 }
 
-/// The memory of a relay whose channel has room for `capacity` batches: for these, for one that is being filled and for
-/// one that is being emptied.
+/// The number of batches of a relay whose channel has room for `capacity` of them. A small one has two more, of which one
+/// is filled and one emptied.
+fn batches_of(capacity: u32) -> usize
+    requires { capacity ≤ 1024 }
+    ensures { result ≡ batches_of capacity }
+{
+    if capacity < ENOUGH {
+        capacity as usize + 2
+    } else {
+        capacity as usize
+    }
+}
+
+/// The memory of a relay whose channel has room for `capacity` batches.
 ///
 /// # Errors
 ///
 /// `NoMemory`: out of memory.
 pub(crate) fn memory(alloc: Global, capacity: u32) -> Result<(Supply, Returns), NoMemory>
     requires { capacity ≤ 1024 }
-    ensures unused { IfOk result (λ r. length r.0.unused.items ≡ capacity + 2) }
+    ensures unused { IfOk result (λ r. length r.0.unused.items ≡ batches_of capacity) }
     ensures together { IfOk result (λ r. (0 < r.1.together)
-        × (r.1.together ≤ length r.0.unused.items)) }
+        × (r.1.together < length r.0.unused.items)) }
 {
-    let batches = capacity as usize + 2;
+    let batches = batches_of(capacity);
+    let together = (capacity as usize / 2).min(MOST_TOGETHER).max(1);
     let unused = rooms(alloc, batches)?;
-    let (sender, receiver) = bounded(alloc, batches)?;
+    let (giver, getter) = way(alloc, batches / together + 1)?;
     let supply = Supply {
         alloc,
         unused,
-        receiver,
+        getter,
     };
-    let together = (capacity as usize / 2).min(MOST_TOGETHER).max(1);
     let returns = Returns {
         alloc,
-        sender,
-        kept: Vec::with_capacity(alloc, together)?,
+        giver,
+        kept: ArrayVec::new_in(alloc),
         together,
     };
     Ok((supply, returns))
@@ -78,32 +100,54 @@ pub(crate) fn memory(alloc: Global, capacity: u32) -> Result<(Supply, Returns), 
 
 impl Supply {
     /// Memory to be filled: that of a batch that came back, or memory that was never filled. If there is none, the call
-    /// waits until a batch comes back; if the tap is gone, it returns a batch without memory.
-    fn find<R: Wait>(&mut self, rt: &R) -> Batch {
-        if let Ok(used) = self.receiver.try_recv(rt) {
-            return used;
+    /// waits until batches come back; it is None if the tap is gone. What came back and was not used before is kept.
+    fn find<R: Wait>(&mut self, rt: &R) -> Option<Batch>
+        ensures one { OnSome result (length self.new.unused.items + 1 + self.old.getter
+            ≡ length self.old.unused.items + self.new.getter) }
+        ensures none { IfNone result ((length self.old.unused.items ≡ 0)
+            × (self.new.getter ≡ self.old.getter)) }
+    {
+        self.get(rt, false);
+        if self.unused.is_empty() {
+            self.get(rt, true);
         }
-        if let Some(unused) = self.unused.pop() {
-            return unused;
+        self.unused.pop()
+    }
+
+    /// Keeps a group of batches that came back, if there is room for all that one may have. If there is none, the call waits
+    /// for one if `waits` is true.
+    fn get<R: Wait>(&mut self, rt: &R, waits: bool)
+        ensures all { length self.new.unused.items + self.old.getter
+            ≡ length self.old.unused.items + self.new.getter }
+        ensures more { self.old.getter ≤ self.new.getter }
+    {
+        if self.unused.capacity() - self.unused.len() < MOST_TOGETHER {
+            return;
         }
-        match self.receiver.recv(rt) {
-            Ok(used) => used,
-            Err(_) => Batch::none(self.alloc),
+        if let Some(group) = self.getter.get(rt, waits) {
+            keep(&mut self.unused, group);
         }
     }
 
-    /// An empty batch to be filled. If its memory is that of a batch that came back, the old events are now stale.
-    pub(crate) fn take<R: Wait>(&mut self, rt: &R) -> Batch
-        ensures { result ≡ [] }
+    /// An empty batch to be filled; None if the tap is gone. If its memory is that of a batch that came back, the old events
+    /// are now stale.
+    pub(crate) fn take<R: Wait>(&mut self, rt: &R) -> Option<Batch>
+        ensures one { OnSome result (length self.new.unused.items + 1 + self.old.getter
+            ≡ length self.old.unused.items + self.new.getter) }
+        ensures none { IfNone result ((length self.old.unused.items ≡ 0)
+            × (self.new.getter ≡ self.old.getter)) }
+        ensures empty { IfSome result (λ batch. batch ≡ []) }
     {
-        let mut batch = self.find(rt);
+        let mut batch = self.find(rt)?;
         batch.restart(self.alloc);
-        batch
+        Some(batch)
     }
 
     /// Frees the memory that waits to be filled, if Ended was sent and so nothing more is.
     #[inline(always)]
-    pub(crate) fn free_at_end<R: Wait>(&mut self, rt: &R, has_ended: bool) {
+    pub(crate) fn free_at_end<R: Wait>(&mut self, rt: &R, has_ended: bool)
+        ensures { has_ended ≡ false → self.new ≡ self.old }
+    {
         if has_ended {
             self.free(rt);
         }
@@ -114,8 +158,10 @@ impl Supply {
     #[inline(never)]
     fn free<R: Wait>(&mut self, rt: &R) {
         self.unused.clear();
-        for _ in 0..self.receiver.len() {
-            drop(self.receiver.try_recv(rt));
+        for _ in 0..self.unused.capacity() {
+            if self.getter.get(rt, false).is_none() {
+                return;
+            }
         }
     }
 
@@ -127,30 +173,52 @@ impl Supply {
     }
 }
 
+/// Moves the batches of a group, for which there is room.
+fn keep(unused: &mut Vec<Batch>, mut group: Group)
+    requires { vec_len unused.old + 8 ≤ vec_capacity unused.old }
+    ensures all { length unused.new.items ≡ length unused.old.items + array_vec_len group }
+    ensures room { vec_capacity unused.new ≡ vec_capacity unused.old }
+{
+    for _ in 0..group.len() {
+        let Some(batch) = group.pop() else {
+            unreachable!()
+        };
+        unused.push_reserved(batch);
+    }
+}
+
 impl Returns {
-    /// Gives the memory of a batch back, if it has any, once there are several.
-    pub(crate) fn give<R: Wait>(&mut self, rt: &R, batch: Batch) {
-        if !batch.has_room() {
-            drop(batch);
-            return;
-        }
-        if self.kept.len() < self.kept.capacity() {
-            self.kept.push_reserved(batch);
+    /// Gives the memory of a batch back, once there are several.
+    ///
+    /// # Errors
+    ///
+    /// [`Refusal`]: the feed is gone, and it was freed with those that were kept.
+    pub(crate) fn give<R: Wait>(&mut self, rt: &R, batch: Batch) -> Result<(), Refusal>
+        ensures { OnOk result (array_vec_len self.new.kept + self.new.giver
+            ≡ array_vec_len self.old.kept + self.old.giver + 1) }
+    {
+        if self.kept.len() + 1 < self.together {
+            self.kept.push(batch);
+            Ok(())
         } else {
-            drop(self.sender.try_send(rt, batch));
-        }
-        if self.kept.len() >= self.together {
-            self.give_kept(rt);
+            self.give_all(rt, batch)
         }
     }
 
-    /// Gives all kept batches back.
-    fn give_kept<R: Wait>(&mut self, rt: &R) {
-        for _ in 0..self.kept.len() {
-            if let Some(batch) = self.kept.pop() {
-                drop(self.sender.try_send(rt, batch));
-            }
-        }
+    /// Gives the kept batches and this one back, as one message.
+    ///
+    /// # Errors
+    ///
+    /// [`Refusal`]: the feed is gone, and they were freed.
+    #[cold]
+    #[inline(never)]
+    fn give_all<R: Wait>(&mut self, rt: &R, last: Batch) -> Result<(), Refusal>
+        ensures { OnOk result (array_vec_len self.new.kept + self.new.giver
+            ≡ array_vec_len self.old.kept + self.old.giver + 1) }
+    {
+        let mut group = mem::replace(&mut self.kept, ArrayVec::new_in(self.alloc));
+        group.push(last);
+        self.giver.give(rt, group)
     }
 
     /// A batch without memory.

@@ -119,14 +119,26 @@ impl Tap {
         Ok(event)
     }
 
-    /// Gives back the memory of the last message, all of whose events were taken.
+    /// Gives back the memory of the last message, all of whose events were taken, if it was not given back yet.
+    #[inline(always)]
     fn let_go<R: Wait>(&mut self, rt: &R)
+        requires { self.old.held ≡ [] }
+        ensures { self.new ≡ self.old }
+    {
+        if self.held.has_room() {
+            self.let_memory_go(rt);
+        }
+    }
+
+    /// Gives back the memory of the last message, all of whose events were taken.
+    #[inline(never)]
+    fn let_memory_go<R: Wait>(&mut self, rt: &R)
         requires { self.old.held ≡ [] }
         ensures { self.new ≡ self.old }
     {
         let none = self.returns.none();
         let used = mem::replace(&mut self.held, none);
-        self.returns.give(rt, used);
+        let _ = self.returns.give(rt, used);
     }
 
     /// Takes the held events of the last message, or else the next message. If there is none yet, the call waits.
@@ -223,7 +235,11 @@ impl Tap {
     pub fn give_back<R: Wait>(&mut self, rt: &R, batch: Batch)
         ensures { self.new ≡ self.old }
     {
-        self.returns.give(rt, batch);
+        if batch.has_room() {
+            let _ = self.returns.give(rt, batch);
+        } else {
+            drop(batch);
+        }
     }
 
     /// Whether Ended was taken.

@@ -2,8 +2,8 @@
 //!
 //! 1. `example`: the one that the lib.rt of dsr_relay shows.
 //! 2. `events` makes the events that go through a relay, `sending` sends them, and `taking` takes them.
-//! 3. `batches`: batches that one thread sends and takes. `ends`: what a call returns once the other end is gone. `reuse`:
-//!    blocks that are exchanged for stale ones.
+//! 3. `batches`: batches that one thread sends and takes, also a full channel. `ends`: what a call returns once the other
+//!    end is gone. `reuse`: blocks that are exchanged for stale ones.
 //! 4. `passing`: a file that goes from one thread to another. `memory`, where allocations are refused, and `threads` let it
 //!    go through relays of their own.
 //! 5. `opening`: relays that are made again if memory is refused.

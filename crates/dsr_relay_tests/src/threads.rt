@@ -38,7 +38,7 @@ fn blocks_through_one_place(rt: HostRuntime) -> Result<(), Fail> {
     Ok(())
 }
 
-/// Batches are given back alone, or up to four together.
+/// Batches are given back alone, or up to eight together.
 #[test]
 fn blocks_through_many_places(rt: HostRuntime) -> Result<(), Fail> {
     for capacity in [2, 7, 8, 12, 16, 17, 40, 1024] {
