@@ -104,7 +104,7 @@ fn write_report<W: Outlet>(
         → IfErr result (IsUnfinished r (W.told out.old) (W.told out.new)) }
     ensures late { IfErr result IsLateRun }
 {
-    let Ok(room) = Room::new(alloc, report.key) else {
+    let Ok(room) = Room::new(alloc) else {
         return Err(RunError::Memory);
     };
     let status = view_status(report);

@@ -1,17 +1,21 @@
--- What is put, cell by cell and line by line.
-use Rattle.dsr_statement.proofs.Common.{◌≡◌, ℕ, ◌+◌, ◌<◌, ◌≤◌, ◌++◌, ◌∙◌, List, [], ◌∷◌, length, take, get_or, suc, sym, subst, ap, refl, arith, append_assoc, ℤ, signed_decimal, flat_map, append-nil, take_all, take_more, length-take-le, flat_map-append, LedgerLine, file_line, file_lines, ledger_lines, party_line, sums_line, unclaimed_line, Written, Puts, Pieces}
+-- What is put, line by line.
+use Rattle.dsr_statement.proofs.Common.{◌≡◌, ℕ, ◌+◌, ◌<◌, ◌≤◌, ◌++◌, ◌∙◌, LedgerLine, List, [], ◌∷◌, length, map, take, get_or, suc, sym, subst, ap, refl, arith, append_assoc, flat_map, append-nil, take_all, take_more, length-take-le, flat_map-append, Written, Puts, Pieces}
+use Rattle.std.proofs.lemmas.List.Concat.{flat_map-cons}
+use Rattle.dsr_ledger.specs.meaning.Laws.{key_of_line}
 use Rattle.dsr_ledger.specs.declared.report.FileLine.{FileLine}
 use Rattle.dsr_ledger.specs.declared.report.PartyLine.{PartyLine}
-
-pub nothing : {W : Type 0} {told : W → Written} (p : Pieces W) → Puts told p p []
-nothing {W} {told} p = record { same_outlet = refl; holds = λ put before h. rw (append-nil put) h }
+use Rattle.dsr_ledger.specs.declared.report.Difference.{Difference}
+use Rattle.dsr_ledger.specs.declared.report.Reject.{Reject}
+use Rattle.dsr_ledger.specs.declared.report.Report.{Report}
+use Rattle.dsr_statement.specs.declared.line.Line.{Line}
+use Rattle.dsr_statement.specs.declared.line.Line.TheVariants as lines
+use Rattle.dsr_statement.specs.meaning.Lines.{line_bytes}
+use Rattle.dsr_statement.specs.meaning.Statement.{files_from, head_of, lines_of_ledger, statement_lines, text_of}
+use Rattle.dsr_statement.specs.inner.Pieces.{both_put}
+use Rattle.dsr_statement.specs.inner.Rows.{sums_bytes, party_bytes, unclaimed_bytes}
 
 pub then : {W : Type 0} {told : W → Written} {p q r : Pieces W} {xs ys : List ℕ} → Puts told p q xs → Puts told q r ys → Puts told p r (xs ++ ys)
-then {W} {told} {p} {q} {r} {xs} {ys} first second =
-    record {
-      same_outlet = second.same_outlet ∙ first.same_outlet;
-      holds = λ put before h. rw (← append_assoc put xs ys) (second.holds (put ++ xs) before (first.holds put before h));
-    }
+then {W} {told} {p} {q} {r} {xs} {ys} first second = both_put told p q r xs ys first second
 
 pub turn : {W : Type 0} {told : W → Written} {p q : Pieces W} {xs ys : List ℕ} → Puts told p q xs → xs ≡ ys → Puts told p q ys
 turn {W} {told} {p} {q} puts e = subst (λ l. Puts told p q l) e puts
@@ -33,47 +37,68 @@ pub all : {W : Type 0} {told : W → Written} {p q : Pieces W} {X : Type 0} (f :
     → Puts told p q (flat_map f (take i xs)) → Puts told p q (flat_map f xs)
 all f xs i end puts = turn puts (ap (flat_map f) (take_all i xs end))
 
+pub text_append : (a b : List Line) → text_of (a ++ b) ≡ text_of a ++ text_of b
+text_append a b = flat_map-append line_bytes a b
+
+-- the text of the line of each item, and of the lines of each
+pub text_map : {X : Type 0} (f : X → Line) (xs : List X) → flat_map (λ x. line_bytes (f x)) xs ≡ text_of (map f xs)
+text_map f [] = refl
+text_map f (x ∷ xs) =
+    flat_map-cons (λ y. line_bytes (f y)) x xs ∙ ap (λ t. line_bytes (f x) ++ t) (text_map f xs) ∙ sym (flat_map-cons line_bytes (f x) (map f xs))
+
+pub text_flat : {X : Type 0} (f : X → List Line) (xs : List X) → flat_map (λ x. text_of (f x)) xs ≡ text_of (flat_map f xs)
+text_flat f [] = refl
+text_flat f (x ∷ xs) =
+    flat_map-cons (λ y. text_of (f y)) x xs ∙ ap (λ t. text_of (f x) ++ t) (text_flat f xs) ∙ sym (text_append (f x) (flat_map f xs))
+    ∙ ap text_of (sym (flat_map-cons f x xs))
+
 -- the lines of a ledger line whose parties are put in two parts
 pub two_parts : (l : LedgerLine) (ps : List PartyLine)
-    → sums_line l ++ (flat_map (party_line l) l.parties ++ (flat_map (party_line l) ps ++ unclaimed_line l))
-    ≡ ledger_lines (record l { parties = l.parties ++ ps })
-unfolding ledger_lines party_line sums_line unclaimed_line
+    → sums_bytes l ++ (flat_map (party_bytes l) l.parties ++ (flat_map (party_bytes l) ps ++ unclaimed_bytes l))
+    ≡ text_of (lines_of_ledger (record l { parties = l.parties ++ ps }))
 two_parts l ps =
-    ap (λ lines. sums_line l ++ lines) (sym (append_assoc (flat_map (party_line l) l.parties) (flat_map (party_line l) ps) (unclaimed_line l))
-    ∙ ap (λ lines. lines ++ unclaimed_line l) (sym (flat_map-append (party_line l) l.parties ps)))
+    let whole = record l { parties = l.parties ++ ps } in
+    let parties = map (λ (p : PartyLine). lines.Party (key_of_line l) p) (l.parties ++ ps) in
+    let last = lines.Unclaimed (key_of_line l) l.unclaimed in
+    ap (λ t. sums_bytes l ++ t) (sym (append_assoc (flat_map (party_bytes l) l.parties) (flat_map (party_bytes l) ps) (unclaimed_bytes l))
+    ∙ ap (λ t. t ++ unclaimed_bytes l) (sym (flat_map-append (party_bytes l) l.parties ps) ∙ text_map (λ (p : PartyLine). lines.Party (key_of_line l) p) (l.parties ++ ps))
+    ∙ ap (λ t. text_of parties ++ t) (sym (append-nil (unclaimed_bytes l)))
+    ∙ sym (text_append parties (last ∷ [])))
 
 -- the line of one more file
-pub file_lines_more : (place : ℕ) (files : List FileLine) (f : FileLine)
-    → file_lines place (files ++ f ∷ []) ≡ file_lines place files ++ file_line (place + length files) f
-file_lines_more place [] f =
+files_more : (place : ℕ) (files : List FileLine) (f : FileLine)
+    → text_of (files_from place (files ++ f ∷ [])) ≡ text_of (files_from place files) ++ line_bytes (lines.File (place + length files) f)
+files_more place [] f =
     let on : place ≡ place + 0 = omega arith in
-    append-nil (file_line place f) ∙ ap (λ n. file_line n f) on
-file_lines_more place (x ∷ xs) f =
+    append-nil (line_bytes (lines.File place f)) ∙ ap (λ n. line_bytes (lines.File n f)) on
+files_more place (x ∷ xs) f =
     let on : suc place + length xs ≡ place + suc (length xs) = omega arith in
-    ap (λ l. file_line place x ++ l) (file_lines_more (suc place) xs f ∙ ap (λ n. file_lines (suc place) xs ++ file_line n f) on)
-    ∙ sym (append_assoc (file_line place x) (file_lines (suc place) xs) (file_line (place + suc (length xs)) f))
+    let first = line_bytes (lines.File place x) in
+    ap (λ l. first ++ l) (files_more (suc place) xs f ∙ ap (λ n. text_of (files_from (suc place) xs) ++ line_bytes (lines.File n f)) on)
+    ∙ sym (append_assoc first (text_of (files_from (suc place) xs)) (line_bytes (lines.File (place + suc (length xs)) f)))
 
 pub more_files : {W : Type 0} {told : W → Written} {p q r : Pieces W} {f : FileLine} (files : List FileLine) (i place : ℕ) (d : FileLine)
-    → i < length files → place ≡ i + 1 → Puts told p q (file_lines 1 (take i files)) → Puts told q r (file_line place f) → f ≡ get_or files i d
-    → Puts told p r (file_lines 1 (take (i + 1) files))
+    → i < length files → place ≡ i + 1 → Puts told p q (text_of (files_from 1 (take i files))) → Puts told q r (line_bytes (lines.File place f)) → f ≡ get_or files i d
+    → Puts told p r (text_of (files_from 1 (take (i + 1) files)))
 more_files {W} {told} {p} {q} {r} {f} files i place d less at before now is =
     let was = take i files in
     let next = take_more files i d less ∙ ap (λ x. was ++ x ∷ []) (sym is) in
     let here : place ≡ 1 + length was = omega (arith, at, length-take-le i files (omega (arith, less))) in
-    let line = ap (file_lines 1) next ∙ file_lines_more 1 was f in
-    turn (then before (turn now (ap (λ n. file_line n f) here))) (sym line)
+    let line = ap (λ fs. text_of (files_from 1 fs)) next ∙ files_more 1 was f in
+    turn (then before (turn now (ap (λ n. line_bytes (lines.File n f)) here))) (sym line)
 
--- the same number, in another form
-pub signed : {W : Type 0} {told : W → Written} {p q : Pieces W} {n : ℤ} (m : ℤ)
-    → Puts told p q (9 ∷ signed_decimal n) → n ≡ m → Puts told p q (9 ∷ signed_decimal m)
-signed m puts same = turn puts (ap (λ x. 9 ∷ signed_decimal x) same)
-
--- the same cell, in another form
-pub cell : {W : Type 0} {told : W → Written} {p q : Pieces W} {x : List ℕ} (y : List ℕ) → Puts told p q (9 ∷ x) → x ≡ y → Puts told p q (9 ∷ y)
-cell y puts same = turn puts (ap (λ l. 9 ∷ l) same)
-
--- the cells of a report's line, with the two days put at once
-pub days_within : (head id files first last days end : List ℕ)
-    → head ++ (id ++ (files ++ ((first ++ (last ++ [])) ++ (days ++ end))))
-    ≡ head ++ ((id ++ (files ++ (first ++ (last ++ (days ++ []))))) ++ end)
-days_within head id files first last days end = search (append_assoc, append-nil)
+-- the bytes of a report's lines, part by part
+pub statement_parts : (r : Report)
+    → line_bytes (head_of r.key) ++ (text_of (files_from 1 r.files) ++ (text_of (map (λ n. lines.Missing n) r.missing)
+    ++ (text_of (map (λ d. lines.Summary d) r.differences) ++ (text_of (flat_map lines_of_ledger r.ledger) ++ text_of (map (λ x. lines.Reject x) r.rejects)))))
+    ≡ text_of (statement_lines r)
+statement_parts r =
+    let files = files_from 1 r.files in let missing = map (λ (n : ℕ). lines.Missing n) r.missing in
+    let differences = map (λ (d : Difference). lines.Summary d) r.differences in
+    let ledger = flat_map lines_of_ledger r.ledger in let rejects = map (λ (x : Reject). lines.Reject x) r.rejects in
+    let last = sym (text_append ledger rejects) in
+    let others = ap (λ t. text_of differences ++ t) last ∙ sym (text_append differences (ledger ++ rejects)) in
+    let more_others = ap (λ t. text_of missing ++ t) others ∙ sym (text_append missing (differences ++ (ledger ++ rejects))) in
+    let tail = ap (λ t. text_of files ++ t) more_others ∙ sym (text_append files (missing ++ (differences ++ (ledger ++ rejects)))) in
+    ap (λ t. line_bytes (head_of r.key) ++ t) tail
+    ∙ sym (flat_map-cons line_bytes (head_of r.key) (files ++ (missing ++ (differences ++ (ledger ++ rejects)))))

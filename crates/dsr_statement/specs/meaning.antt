@@ -1,4 +1,11 @@
--- The definitions to be trusted: the bytes of a statement, the names that it prints, and its status.
+-- The definitions to be trusted: the cells of each line, what they print and which are valid; the lines of a report's
+-- statement, their order and their bytes; what a text is read as; and whether a statement has remarks.
 pub mod Names
+pub mod Cells
+pub mod Lines
+pub mod Faults
+pub mod Order
+pub mod Readings
 pub mod Statement
+pub mod Statements
 pub mod Status

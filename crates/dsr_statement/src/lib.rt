@@ -1,12 +1,18 @@
-//! The statement of a report: its bytes, how they are written, and whether it has remarks.
+//! The statement of a report: its lines, their bytes, how they are written and read, and whether it has remarks.
 //!
-//! 1. `room`: the memory that writing the statement needs.
-//! 2. `write`: puts the statement, by `lines`, `cells`, `key` and `names`, into `pieces`.
-//! 3. `pieces`: writes what is put to an [`Outlet`] of dsr_io, in pieces of up to 64 KiB, and flushes it at the end. What
-//!    waits is in a `slice_buffer`.
-//! 4. `remarks`: the status of a report, whose statement has remarks or not (`verdict`).
+//! 1. `line`: the lines, which borrow their texts. `specs/meaning/Cells.antt` and `Lines.antt` have the table of their cells.
+//! 2. [`put`] puts the text of a line into a [`Sink`] (`sink`), cell by cell (`cells`, `names`): into bytes to be written, or
+//!    against a text that has to be the same.
+//! 3. [`read`] reads the line whose text it is given: leniently (`number` and `cut`, `lenient`, `file`), then it tests that the
+//!    line is one that a statement may have (`check`), and that this is its text.
+//! 4. `reader` reads the lines of a statement one after another: it keeps of them what the next one depends on (`last`,
+//!    `left`), tests that it may stand there and that the amounts of a ledger line add up, and says why not (`fault`).
+//! 5. `write` puts the statement of a report, by `lines` and `key`, into `pieces`, which are written to an [`Outlet`] of dsr_io
+//!    in up to 64 KiB, and flushed at the end. What waits is in a `slice_buffer`, of the memory that `room` has.
+//! 6. `remarks`: the status of a report, whose statement has remarks or not (`verdict`).
+//! 7. [`laws`] has the laws of lines and of statements.
 //!
-//! **Example**, compiled and proved in `crates/dsr_tests/src/collecting.rt`:
+//! **Examples**, compiled and proved in `crates/dsr_tests/src/collecting.rt` and `statements.rt`:
 //!
 //! ```
 //! /// Whether this is the statement of a report.
@@ -18,27 +24,64 @@
 //! }
 //! ```
 //!
+//! ```
+//! /// The lines of a statement, up to one that may not stand where it does.
+//! fn lines_and_their_places(rt: HostRuntime) -> Result<(), Fail> {
+//!     let mut reader = StatementReader::new(rt.alloc());
+//!     let first = reader.line(b"REPORT\tR1\t2\t2024-01-01\t2024-01-31\t31");
+//!     assert!(rt; matches!(&first, Ok(Line::Report(_))));
+//!     // The line of the first file comes before that of the second.
+//!     let second = reader.line(b"FILE\t2\t2\tOurs\t1\tWhole");
+//!     assert!(rt; matches!(&second, Err(ReadError::Fault(StatementFault::Place))));
+//!     Ok(())
+//! }
+//! ```
+//!
 //! **The promise.** What `write_statement` writes to an outlet and then flushes is exactly the statement of the report, as
 //! defined in `specs/`; if a write or the flush fails, exactly the reported number of its first bytes was written.
 //! Memory for writing is refused by [`Room::new`] alone, which has nothing to write to. `statement` returns the same bytes. The
-//! status is that of the same report.
+//! status is that of the same report. A text is read as the line whose text it is, and any other text is refused with the fault
+//! that the definition gives it; so are lines that may not stand where they do, and the end of a text. Nothing is repaired, and
+//! the reader keeps the memory of one line.
 //!
-//! **Where to begin.** `specs/meaning/Statement.antt` and `specs/meaning/Status.antt` have the definitions, and
-//! `Written.antt` of dsr_io what an outlet tells; `src/lines.rt` puts each line, and `src/write.rt` the whole.
+//! **Where to begin.** `specs/meaning/Cells.antt` and `Lines.antt` have the lines, `Statement.antt` those of a report,
+//! `Order.antt` which may stand after which, `Readings.antt` what a text is read as, and `Status.antt` the status; `Written.antt`
+//! of dsr_io what an outlet tells. `src/putting.rt` puts each line, `src/reading.rt` reads one, `src/write.rt` and `src/reader.rt` have
+//! the whole.
 #![tactic(auto)]
 
 mod cells;
+mod check;
+mod cut;
+mod fault;
+mod file;
 mod key;
+mod last;
+pub mod laws;
+mod left;
+mod lenient;
+mod line;
 mod lines;
 mod names;
+mod number;
 mod pieces;
+mod putting;
+mod reader;
+mod reading;
 mod remarks;
 mod room;
+mod sink;
 mod slice_buffer;
 mod verdict;
 mod write;
 
+pub use fault::{ReadError, StatementFault};
+pub use line::{DifferenceRef, KeyRef, Line, LineKind, PartyRef, RejectRef, ReportRef};
+pub use putting::put;
+pub use reader::StatementReader;
+pub use reading::{LINE_LIMIT, read};
 pub use remarks::{status, view_status};
 pub use room::Room;
+pub use sink::{Match, Sink};
 pub use verdict::Status;
 pub use write::{statement, write_statement};

@@ -1,14 +1,13 @@
 //! Writing the bytes of a statement to an outlet, in pieces.
-ghost use Rattle.std.specs.Prelude.{◌≡◌, ◌≤◌, ◌++◌, ◌∷◌, [], List, ℕ, true, false, if◌then◌else◌, decimal, length, take, OnOk, IfErr};
-ghost use Rattle.std.specs.Fmt.{signed_decimal};
+ghost use Rattle.std.specs.Prelude.{◌≡◌, ◌≤◌, ◌++◌, ◌∷◌, [], List, ℕ, true, false, if◌then◌else◌, length, take, OnOk, IfErr};
 ghost use Rattle.dsr_io.specs.meaning.Written.{Written, IsFlushed, IsCut};
-ghost use Rattle.dsr_statement.specs.meaning.Statement.{amount_cell};
-ghost use Rattle.dsr_statement.specs.inner.Pieces.{IsSent, Holds, Puts, end_of_line};
+ghost use Rattle.dsr_statement.specs.meaning.Cells.{amount_cell};
+ghost use Rattle.dsr_statement.specs.inner.Pieces.{IsSent, Holds, Puts};
 
+use crate::sink::Sink;
 use crate::slice_buffer::SliceBuffer;
 use dsr_cells::fill_amount;
 use dsr_io::{Failed, Outlet, write_all};
-use itoa::Buffer;
 
 /// Room for this many bytes that wait, to be written at once.
 pub(crate) const PIECE: usize = 65_536;
@@ -137,44 +136,34 @@ impl<'a, W: Outlet> Pieces<'a, W> {
     }
 }
 
-impl<'a, W: Outlet> Pieces<'a, W> {
-    /// Puts bytes.
+impl<'a, W: Outlet> Sink for Pieces<'a, W> {
+    ghost use Rattle.dsr_statement.specs.inner.Pieces.{Puts, nothing, both_put};
+
+    ghost took = { λ old bytes new. Puts W.told old new bytes };
+
     #[inline(always)]
-    pub(crate) fn put(&mut self, bytes: &[u8])
-        ensures { Puts W.told self.old self.new bytes.now }
-    {
+    fn put(&mut self, bytes: &[u8]) {
         if self.keep(bytes) {
             return;
         }
         self.put_past(bytes);
     }
 
-    /// Puts the digits of a number.
-    pub(crate) fn put_decimal(&mut self, number: u64)
-        ensures { Puts W.told self.old self.new (decimal number) }
-    {
-        let mut buffer = Buffer::new();
-        self.put(buffer.format(number).as_bytes());
-    }
+    ghost none = { nothing W.told };
 
-    /// Puts the digits of a number that may be below zero, with its sign.
-    pub(crate) fn put_signed_decimal(&mut self, number: i128)
-        ensures { Puts W.told self.old self.new (signed_decimal number) }
-    {
-        let mut buffer = Buffer::new();
-        self.put(buffer.format(number).as_bytes());
-    }
+    ghost both = { both_put W.told };
+}
 
-    /// Puts the cell of an amount, after a tab, and the end of the line if it is the last cell.
-    pub(crate) fn put_amount(&mut self, amount: i128, is_last: bool)
-        ensures { Puts W.told self.old self.new (9 ∷ amount_cell amount ++ end_of_line is_last) }
+impl<'a, W: Outlet> Pieces<'a, W> {
+    /// Puts the cell of an amount, after a tab, and the end of the line.
+    pub(crate) fn put_last_amount(&mut self, amount: i128)
+        ensures { Puts W.told self.old self.new (9 ∷ amount_cell amount ++ 10 ∷ []) }
     {
         // `fill_amount` leaves the last byte, so the end of the line is already there.
         let mut cell = [b'\n'; 64];
         let start = fill_amount(&mut cell, amount) - 1;
         cell[start] = b'\t';
-        let end = if is_last { 64 } else { 63 };
-        self.put(&cell[start..end]);
+        self.put(&cell[start..]);
     }
 
     /// If the outlet has failed, drops the bytes that wait, which are never written; any further bytes then count as put.

@@ -4,7 +4,7 @@ use Rattle.std.specs.List.Sorted.{IsSorted}
 use Rattle.std.proofs.lemmas.Map.Views.{Contains-keys_from_lookup}
 use Rattle.std.specs.Prelude.{IsSome}
 use Rattle.dsr_ledger.proofs.OrderLemmas.{in_order_is}
-use Rattle.dsr_statement_reader.proofs.CellTexts.{if_some}
+use Rattle.dsr_statement.proofs.Numbers.{if_some}
 use Rattle.dsr_sums.specs.declared.account.Account.{Account}
 use Rattle.dsr_sums.specs.declared.sums.Sums.{Sums}
 use Rattle.dsr_sums.specs.inner.Books.{is_posted_to, entry_of}

@@ -13,11 +13,12 @@ use Rattle.dsr_ledger.proofs.EachLemmas.{int_sum_by-append}
 use Rattle.dsr_ledger.specs.meaning.Bookings.{Key, key_eq}
 use Rattle.dsr_ledger.specs.declared.report.PartyLine.{PartyLine}
 use Rattle.dsr_ledger.specs.declared.report.ReportKey.{ReportKey}
-use Rattle.dsr_statement_reader.proofs.LineTexts.{are_in_place}
-use Rattle.dsr_statement_reader.specs.declared.line.StatementLine.{StatementLine}
-use Rattle.dsr_statement_reader.specs.declared.line.StatementLine.TheVariants as lines
-use Rattle.dsr_statement_reader.specs.meaning.Readings.{Refusal, adds_up, follows, is_placed, left_of, may_end, of_latest, party_follows, placed, reading_of, unclaimed_follows}
-use Rattle.dsr_statement_reader.specs.meaning.Statements.{AreInPlace}
+use Rattle.dsr_statement.proofs.ReadLines.{are_in_place}
+use Rattle.dsr_statement.specs.declared.line.Line.{Line}
+use Rattle.dsr_statement.specs.declared.line.Line.TheVariants as lines
+use Rattle.dsr_statement.specs.meaning.Order.{adds_up, follows, is_placed, left_of, may_end, of_latest, party_follows, placed, unclaimed_follows}
+use Rattle.dsr_statement.specs.meaning.Readings.{Refusal, IsReadingOf}
+use Rattle.dsr_statement.specs.meaning.Statements.{AreInPlace}
 use Rattle.dsr_sums.specs.declared.account.Account.{Account}
 use Rattle.dsr_sums.specs.declared.answer.TotalsError.{TotalsError}
 use Rattle.dsr_sums.specs.declared.reports.Role.{Role}
@@ -107,7 +108,7 @@ module _ (account : Account) where
 
   module _ (role : Role) where
     -- the lines' postings
-    abbrev posted : List StatementLine → List Posting
+    abbrev posted : List Line → List Posting
     posted ls = flat_map to_currency (map (booked role) ls)
 
     -- an amount, if the account is that of the key's currency
@@ -115,14 +116,14 @@ module _ (account : Account) where
     in_currency key n = cond (account_eq account (currency_account key.currency)) n (pos 0)
 
     -- what the parties leave of the latest ledger line, before its unclaimed amount
-    abbrev due : List StatementLine → ℤ
+    abbrev due : List Line → ℤ
     due (lines.Ledger key usages amount ∷ before) = in_currency key amount
     due (lines.Party key p ∷ before) = in_currency key (left_of before -ℤ p.amount)
     due _ = pos 0
 
     -- nothing is due where no party may stand
-    closed : (test : StatementLine → Bool) → ((key : Key) (usages amount : ℤ) → test (lines.Ledger key usages amount) ≡ false)
-        → ((key : Key) (p : PartyLine) → test (lines.Party key p) ≡ false) → (none : Bool) (before : List StatementLine)
+    closed : (test : Line → Bool) → ((key : Key) (usages amount : ℤ) → test (lines.Ledger key usages amount) ≡ false)
+        → ((key : Key) (p : PartyLine) → test (lines.Party key p) ≡ false) → (none : Bool) (before : List Line)
         → of_latest none test before ≡ true → due before ≡ pos 0
     closed test l p none [] h = refl
     closed test l p none (lines.Ledger key usages amount ∷ before) h = absurd (true≢false (sym h ∙ l key usages amount))
@@ -137,14 +138,14 @@ module _ (account : Account) where
         (and_parts (bytes_eq a.territory b.territory) use_types (and_parts (bytes_eq a.isrc b.isrc) others h).1).1).1
 
     -- after a ledger line or one of its parties, what they leave is due
-    opened : (key : Key) (before : List StatementLine) → of_latest false (unclaimed_follows key) before ≡ true → due before ≡ in_currency key (left_of before)
+    opened : (key : Key) (before : List Line) → of_latest false (unclaimed_follows key) before ≡ true → due before ≡ in_currency key (left_of before)
     opened key [] h = absurd cc
     opened key (lines.Ledger k usages amount ∷ before) h = ap (λ c. cond (account_eq account (currency_account c)) amount (pos 0)) (same_currency k key h)
     opened key (lines.Party k p ∷ before) h =
         ap (λ c. cond (account_eq account (currency_account c)) (left_of before -ℤ p.amount) (pos 0)) (same_currency k key h)
     opened key (_ ∷ before) h = absurd cc
 
-    party_opened : (key : Key) (party : List ℕ) (before : List StatementLine) → of_latest false (party_follows key party) before ≡ true
+    party_opened : (key : Key) (party : List ℕ) (before : List Line) → of_latest false (party_follows key party) before ≡ true
         → of_latest false (unclaimed_follows key) before ≡ true
     party_opened key party [] h = absurd cc
     party_opened key party (lines.Ledger k usages amount ∷ before) h = h
@@ -152,7 +153,7 @@ module _ (account : Account) where
     party_opened key party (_ ∷ before) h = absurd cc
 
     -- a line with one posting
-    adds : (l : StatementLine) (key : Key) (n : Sums) (d : ℤ) (before ls : List StatementLine)
+    adds : (l : Line) (key : Key) (n : Sums) (d : ℤ) (before ls : List Line)
         → to_currency (booked role l) ≡ posting role (currency_account key.currency) n ∷ [] → lack (signed_sums role n) ≡ signed role d
         → due (l ∷ before) ≡ due before +ℤ in_currency key d → gap (posted ls) ≡ signed role (pos 0 -ℤ due (l ∷ before))
         → gap (posted (l ∷ ls)) ≡ signed role (pos 0 -ℤ due before)
@@ -163,16 +164,16 @@ module _ (account : Account) where
         ∙ moves role (in_currency key d) (due before) (due (l ∷ before)) after
 
     -- a line without a posting, where nothing is due before it and after it
-    stays : (l : StatementLine) (before ls : List StatementLine) → to_currency (booked role l) ≡ [] → due before ≡ pos 0 → due (l ∷ before) ≡ pos 0
+    stays : (l : Line) (before ls : List Line) → to_currency (booked role l) ≡ [] → due before ≡ pos 0 → due (l ∷ before) ≡ pos 0
         → gap (posted ls) ≡ signed role (pos 0 -ℤ due (l ∷ before)) → gap (posted (l ∷ ls)) ≡ signed role (pos 0 -ℤ due before)
     stays l before ls none was is rest =
         ap (λ ps. gap (ps ++ posted ls)) none ∙ rest ∙ ap (λ n. signed role (pos 0 -ℤ n)) (is ∙ sym was)
 
-    tested : (before : List StatementLine) (l : StatementLine) → placed before l ≡ Ok l → (is_placed before l ≡ true) × (adds_up before l ≡ true)
+    tested : (before : List Line) (l : Line) → placed before l ≡ Ok l → (is_placed before l ≡ true) × (adds_up before l ≡ true)
     tested before l h = passes (is_placed before l) (adds_up before l) _ l _ _ _ h
 
     -- the lines lack what is left before them
-    closes : (before ls : List StatementLine) → AreInPlace before ls → gap (posted ls) ≡ signed role (pos 0 -ℤ due before)
+    closes : (before ls : List Line) → AreInPlace before ls → gap (posted ls) ≡ signed role (pos 0 -ℤ due before)
     closes before [] h =
         none_of role ∙ ap (λ n. signed role (pos 0 -ℤ n)) (sym (closed may_end (λ k u a. refl) (λ k p. refl) false before h))
     closes before (lines.Report key ∷ ls) h =
@@ -228,7 +229,7 @@ one_more : (ss : List Statement) (s : Statement) → AreAllInPlace ss → AreInP
 one_more [] s h its = (its, tt)
 one_more (t ∷ ss) s h its = (h.0, one_more ss s h.1 its)
 
-module _ (remarks : Bool) (earlier : List Statement) (h : AreAllInPlace earlier) (role : Role) (ls : List StatementLine) (its : AreInPlace [] ls) where
+module _ (remarks : Bool) (earlier : List Statement) (h : AreAllInPlace earlier) (role : Role) (ls : List Line) (its : AreInPlace [] ls) where
   accepted_in_place : (s : Statement) → s.lines ≡ ls → (o : Option Refusal) (ss : List Statement) → joined earlier (unless s o) ≡ Ok ss → AreAllInPlace ss
   accepted_in_place s same None ss e = subst AreAllInPlace (grind arith) (one_more earlier s h (subst (AreInPlace []) (sym same) its))
   accepted_in_place s same (Some r) ss e = absurd cc
@@ -240,7 +241,7 @@ module _ (remarks : Bool) (earlier : List Statement) (h : AreAllInPlace earlier)
       accepted_in_place s refl (fault_after remarks (reports_of earlier) s.report) ss e
 
 next_in_place : (remarks : Bool) (earlier : List Statement) (t : StatementText) → AreAllInPlace earlier
-    → (r : Result (List StatementLine) Refusal) → reading_of t.bytes t.failed ≡ r
+    → (r : Result (List Line) Refusal) → IsReadingOf t.bytes t.failed r
     → (ss : List Statement) → joined earlier (accepted remarks earlier (statement_of t.role r)) ≡ Ok ss → AreAllInPlace ss
 next_in_place remarks earlier t h (Ok ls) is ss e =
     with_key remarks earlier h t.role ls (are_in_place t.bytes t.failed ls is) (key_of_lines ls) ss e
@@ -255,7 +256,7 @@ all_in_place remarks (t ∷ texts) read h ss e = all_in_place remarks texts (and
   where
     next : (read : Result (List Statement) TotalsError) → ((earlier : List Statement) → read ≡ Ok earlier → AreAllInPlace earlier)
         → (more : List Statement) → and_then remarks read t ≡ Ok more → AreAllInPlace more
-    next (Ok earlier) was more is = next_in_place remarks earlier t (was earlier refl) (reading_of t.bytes t.failed) refl more is
+    next (Ok earlier) was more is = next_in_place remarks earlier t (was earlier refl) t.read t.is_read more is
     next (Err error) was more is = absurd cc
 
 abbrev nothing : Result (List Statement) TotalsError

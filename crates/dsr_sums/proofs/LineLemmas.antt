@@ -5,7 +5,7 @@ use Rattle.std.specs.List.{flat_map}
 use Rattle.std.specs.Prelude.{ℤ, pos}
 use Rattle.dsr_ledger.specs.meaning.Bookings.{Key}
 use Rattle.dsr_ledger.specs.declared.report.PartyLine.{PartyLine}
-use Rattle.dsr_statement_reader.specs.declared.line.StatementLine.TheVariants as lines
+use Rattle.dsr_statement.specs.declared.line.Line.TheVariants as lines
 use Rattle.dsr_sums.specs.declared.account.Account.{Account}
 use Rattle.dsr_sums.specs.declared.book.Book.{Book}
 use Rattle.dsr_sums.specs.declared.reports.Role.{Role}

@@ -1,5 +1,5 @@
 -- Lines that are read one after another.
-use Rattle.std.proofs.Common.{◌≡◌, ℕ, suc, ◌+◌, ap, sym, ◌∙◌, refl, subst, Bool, true, false, cond, List, [], ◌∷◌, ◌++◌, append_assoc, append-nil, length, length-append, ◌<◌, take, drop, get_or, arith, Ok, Err, Result}
+use Rattle.std.proofs.Common.{◌≡◌, ℕ, suc, ◌+◌, ap, sym, ◌∙◌, refl, subst, Bool, true, false, cond, List, [], ◌∷◌, ◌++◌, append_assoc, append-nil, length, length-append, ◌<◌, take, drop, get_or, arith, inl, Ok, Err, Result}
 use Rattle.std.proofs.lemmas.List.{length-reverse, reverse-append, length-take, get_or-take, take-append-drop, take_more, map-append}
 use Rattle.std.proofs.lemmas.List.Sums.{fails_before_first, passes_at_first}
 use Rattle.std.proofs.Math.Seq.{drop-cons}
@@ -9,11 +9,11 @@ use Rattle.dsr_ledger.specs.declared.report.ReportKey.{ReportKey}
 use Rattle.std.proofs.lemmas.Bool.{lt-ltb, eqb-true}
 use Rattle.std.proofs.lemmas.List.Elements.{All-head, All-tail}
 use Rattle.std.specs.List.{slice_split, onto_first, position_or_len}
-use Rattle.dsr_statement_reader.specs.declared.fault.StatementFault.{StatementFault}
-use Rattle.dsr_statement_reader.specs.declared.line.StatementLine.{StatementLine}
-use Rattle.dsr_statement_reader.specs.declared.fault.StatementFault.TheVariants as faults
-use Rattle.dsr_statement_reader.specs.inner.After.{IsAfter}
-use Rattle.dsr_statement_reader.specs.meaning.Readings.{most_bytes, line_of, Refusal, next_line, end_fault, ended, reading_after, with_line, at_line, ◌>>>◌}
+use Rattle.dsr_statement.specs.declared.fault.StatementFault.{StatementFault}
+use Rattle.dsr_statement.specs.declared.line.Line.{Line}
+use Rattle.dsr_statement.specs.declared.fault.StatementFault.TheVariants as faults
+use Rattle.dsr_statement.specs.inner.After.{IsAfter}
+use Rattle.dsr_statement.specs.meaning.Readings.{most_bytes, IsNextLine, IsReadingAfter, Refusal, end_fault, ended, with_line}
 use Rattle.dsr_sums.specs.declared.reading.ReadingError.{ReadingError}
 use Rattle.dsr_sums.specs.declared.reading.ReadingError.TheVariants as errors
 use Rattle.dsr_sums.specs.inner.Readings.{pieces, HasNoLineFeed, with_lines, AreLinesOf, refusal, IsRefusedAt, IsRefusedIn, Reads, TakesLine, TakesLines}
@@ -24,19 +24,19 @@ use Rattle.dsr_sums.specs.declared.totals.Totals.{Totals}
 use Rattle.dsr_sums.specs.meaning.Totals.{Booked, booked}
 use Rattle.dsr_sums.specs.meaning.Statements.{key_of_line, key_of_lines, either, is_remark, first_remark}
 
-with_line_is : (l : StatementLine) (r : Result (List StatementLine) Refusal) → with_line l r ≡ with_lines (l ∷ []) r
+with_line_is : (l : Line) (r : Result (List Line) Refusal) → with_line l r ≡ with_lines (l ∷ []) r
 with_line_is l (Ok ls) = refl
 with_line_is l (Err e) = refl
 
-with_nothing : (r : Result (List StatementLine) Refusal) → r ≡ with_lines [] r
+with_nothing : (r : Result (List Line) Refusal) → r ≡ with_lines [] r
 with_nothing (Ok ls) = refl
 with_nothing (Err e) = refl
 
-with_both : (ls ms : List StatementLine) (r : Result (List StatementLine) Refusal) → with_lines ls (with_lines ms r) ≡ with_lines (ls ++ ms) r
+with_both : (ls ms : List Line) (r : Result (List Line) Refusal) → with_lines ls (with_lines ms r) ≡ with_lines (ls ++ ms) r
 with_both ls ms (Ok more) = ap Ok (sym (append_assoc ls ms more))
 with_both ls ms (Err e) = refl
 
-reverse-push : (ls : List StatementLine) (l : StatementLine) → reverse (ls ++ l ∷ []) ≡ l ∷ reverse ls
+reverse-push : (ls : List Line) (l : Line) → reverse (ls ++ l ∷ []) ≡ l ∷ reverse ls
 reverse-push ls l = reverse-append ls (l ∷ [])
 
 -- text without a line feed joins the first piece
@@ -47,11 +47,10 @@ split_front (x ∷ text) more q qs short e =
     ap (λ b. cond b ([] ∷ pieces (text ++ more)) (onto_first x (pieces (text ++ more)))) first
     ∙ ap (onto_first x) (split_front text more q qs (All-tail (λ b. (b == 10) ≡ false) x text short) e)
 
-long_next : (before : List StatementLine) (text : List ℕ) → nat_lt most_bytes (length text) ≡ true → next_line before text ≡ Err faults.LongLine
-unfolding line_of
-long_next before text long = rw long refl
+long_next : (before : List Line) (text : List ℕ) → nat_lt most_bytes (length text) ≡ true → IsNextLine before text (Err faults.LongLine)
+long_next before text long = (Err faults.LongLine, inl (rw long refl), refl)
 
-long_end : (before : List StatementLine) (text : List ℕ) (failed : Bool) → nat_lt most_bytes (length text) ≡ true
+pub long_end : (before : List Line) (text : List ℕ) (failed : Bool) → nat_lt most_bytes (length text) ≡ true
     → end_fault before text failed ≡ Some faults.LongLine
 long_end before text failed long = rw long refl
 
@@ -63,76 +62,73 @@ split_some p (x ∷ xs) =
     elim (p x) as (λ b. (q : List ℕ) × (qs : List (List ℕ)) × (cond b ([] ∷ slice_split p xs) (onto_first x (slice_split p xs)) ≡ q ∷ qs))
     [ true ↦ ([], slice_split p xs, refl) | false ↦ (x ∷ e.0, e.1, ap (onto_first x) e.2) ]
 
-module _ (done : List StatementLine) where
+-- the same reading, of other pieces or with another result
+pub turn : (before : List Line) (failed : Bool) {ps qs : List (List ℕ)} {r s : Result (List Line) Refusal} → IsReadingAfter before ps failed r → ps ≡ qs → r ≡ s
+    → IsReadingAfter before qs failed s
+turn before failed {ps} {qs} {r} {s} h e d = subst (λ x. IsReadingAfter before qs failed x) d (subst (λ q. IsReadingAfter before q failed r) e h)
+
+module _ (done : List Line) where
   -- no bytes are no lines
   pub no_lines : AreLinesOf done [] []
-  no_lines rest failed =
-      with_nothing (reading_after (reverse done) (pieces rest) failed)
-      ∙ ap (λ ls. with_lines [] (reading_after (reverse ls) (pieces rest) failed)) (sym (append-nil done))
+  no_lines rest failed r h =
+      subst (λ ls. IsReadingAfter (reverse ls) (pieces rest) failed (with_lines [] r)) (append-nil done) (turn (reverse (done ++ [])) failed h refl (with_nothing r))
 
   -- bytes after bytes
-  pub more_lines : (a b : List ℕ) (ls ms : List StatementLine) → AreLinesOf done a ls → AreLinesOf (done ++ ls) b ms → AreLinesOf done (a ++ b) (ls ++ ms)
-  more_lines a b ls ms first second rest failed =
-      ap (λ bytes. reading_after (reverse done) (pieces bytes) failed) (append_assoc a b rest) ∙ first (b ++ rest) failed
-      ∙ ap (with_lines ls) (second rest failed) ∙ with_both ls ms _
-      ∙ ap (λ all. with_lines (ls ++ ms) (reading_after (reverse all) (pieces rest) failed)) (append_assoc done ls ms)
+  pub more_lines : (a b : List ℕ) (ls ms : List Line) → AreLinesOf done a ls → AreLinesOf (done ++ ls) b ms → AreLinesOf done (a ++ b) (ls ++ ms)
+  more_lines a b ls ms first second rest failed r h =
+      let after = subst (λ all. IsReadingAfter (reverse all) (pieces rest) failed r) (sym (append_assoc done ls ms)) h in
+      turn (reverse done) failed (first (b ++ rest) failed (with_lines ms r) (second rest failed r after)) (ap pieces (sym (append_assoc a b rest))) (with_both ls ms r)
 
   module _ (text : List ℕ) (short : HasNoLineFeed text) where
     split : (rest : List ℕ) → pieces (text ++ 10 ∷ rest) ≡ text ∷ pieces rest
     split rest = slice_split_at (λ b. b == 10) text 10 rest short refl
 
     -- a line
-    pub one_line : (l : StatementLine) → next_line (reverse done) text ≡ Ok l → AreLinesOf done (text ++ 10 ∷ []) (l ∷ [])
-    unfolding reading_after
-    one_line l next rest failed =
+    pub one_line : (l : Line) → IsNextLine (reverse done) text (Ok l) → AreLinesOf done (text ++ 10 ∷ []) (l ∷ [])
+    one_line l next rest failed r h =
         let s = split_some (λ b. b == 10) rest in
-        ap (λ bytes. reading_after (reverse done) (pieces bytes) failed) (append_assoc text (10 ∷ []) rest)
-        ∙ ap (λ ps. reading_after (reverse done) ps failed) (split rest ∙ ap (λ ps. text ∷ ps) s.2)
-        ∙ ap (λ r. at_line (reverse done) r >>> (λ l. with_line l (reading_after (l ∷ reverse done) (s.0 ∷ s.1) failed))) next
-        ∙ with_line_is l _
-        ∙ (λ i. with_lines (l ∷ []) (reading_after (sym (reverse-push done l) i) (sym s.2 i) failed))
+        let after = turn (l ∷ reverse done) failed (subst (λ before. IsReadingAfter before (pieces rest) failed r) (reverse-push done l) h) s.2 refl in
+        let here : IsReadingAfter (reverse done) (text ∷ s.0 ∷ s.1) failed (with_line l r) = (Ok l, next, (r, after, refl)) in
+        turn (reverse done) failed here (sym (ap pieces (append_assoc text (10 ∷ []) rest) ∙ split rest ∙ ap (λ ps. text ∷ ps) s.2)) (with_line_is l r)
 
     -- a line that is refused
-    pub refused_line : (fault : StatementFault) → next_line (reverse done) text ≡ Err fault → (rest : List ℕ) (failed : Bool)
-        → reading_after (reverse done) (pieces (text ++ 10 ∷ rest)) failed ≡ Err (refusal (suc (length done)) fault)
-    unfolding reading_after
+    pub refused_line : (fault : StatementFault) → IsNextLine (reverse done) text (Err fault) → (rest : List ℕ) (failed : Bool)
+        → IsReadingAfter (reverse done) (pieces (text ++ 10 ∷ rest)) failed (Err (refusal (suc (length done)) fault))
     refused_line fault next rest failed =
         let s = split_some (λ b. b == 10) rest in
-        ap (λ ps. reading_after (reverse done) ps failed) (split rest ∙ ap (λ ps. text ∷ ps) s.2)
-        ∙ ap (λ r. at_line (reverse done) r >>> (λ l. with_line l (reading_after (l ∷ reverse done) (s.0 ∷ s.1) failed))) next
-        ∙ ap (λ n. Err (refusal (suc n) fault)) (length-reverse done)
+        let refused : Result (List Line) Refusal = Err (refusal (suc (length (reverse done))) fault) in
+        let here : IsReadingAfter (reverse done) (text ∷ s.0 ∷ s.1) failed refused = (Err fault, next, refl) in
+        turn (reverse done) failed here (sym (split rest ∙ ap (λ ps. text ∷ ps) s.2)) (ap (λ n. Err (refusal (suc n) fault)) (length-reverse done))
 
   long_pieces : (text : List ℕ) (qs : List (List ℕ)) (failed : Bool) → nat_lt most_bytes (length text) ≡ true
-      → reading_after (reverse done) (text ∷ qs) failed ≡ Err (refusal (suc (length done)) faults.LongLine)
-  unfolding reading_after
+      → IsReadingAfter (reverse done) (text ∷ qs) failed (Err (refusal (suc (length done)) faults.LongLine))
   long_pieces text [] failed over =
-      ap (ended (reverse done)) (long_end (reverse done) text failed over) ∙ ap (λ n. Err (refusal (suc n) faults.LongLine)) (length-reverse done)
+      sym (ap (ended (reverse done)) (long_end (reverse done) text failed over) ∙ ap (λ n. Err (refusal (suc n) faults.LongLine)) (length-reverse done))
   long_pieces text (n ∷ ns) failed over =
-      ap (λ r. at_line (reverse done) r >>> (λ l. with_line l (reading_after (l ∷ reverse done) (n ∷ ns) failed))) (long_next (reverse done) text over)
-      ∙ ap (λ n. Err (refusal (suc n) faults.LongLine)) (length-reverse done)
+      (Err faults.LongLine, long_next (reverse done) text over, ap (λ n. Err (refusal (suc n) faults.LongLine)) (sym (length-reverse done)))
 
   -- a line that is too long, whatever follows it
   pub long_line : (text : List ℕ) → HasNoLineFeed text → most_bytes < length text → (more : List ℕ) (failed : Bool)
-      → reading_after (reverse done) (pieces (text ++ more)) failed ≡ Err (refusal (suc (length done)) faults.LongLine)
+      → IsReadingAfter (reverse done) (pieces (text ++ more)) failed (Err (refusal (suc (length done)) faults.LongLine))
   long_line text short long more failed =
       let s = split_some (λ b. b == 10) more in
       let far : most_bytes < length (text ++ s.0) = omega (arith, length-append text s.0) in
-      ap (λ ps. reading_after (reverse done) ps failed) (split_front text more s.0 s.1 short s.2)
-      ∙ long_pieces (text ++ s.0) s.1 failed (lt-ltb most_bytes (length (text ++ s.0)) far)
+      turn (reverse done) failed (long_pieces (text ++ s.0) s.1 failed (lt-ltb most_bytes (length (text ++ s.0)) far)) (sym (split_front text more s.0 s.1 short s.2)) refl
 
   -- what is refused after lines is refused
-  pub refused_after_lines : (a rest : List ℕ) (ls : List StatementLine) (failed : Bool) (r : Refusal) → AreLinesOf done a ls
-      → reading_after (reverse (done ++ ls)) (pieces rest) failed ≡ Err r → reading_after (reverse done) (pieces (a ++ rest)) failed ≡ Err r
-  refused_after_lines a rest ls failed r first second = first rest failed ∙ ap (with_lines ls) second
+  pub refused_after_lines : (a rest : List ℕ) (ls : List Line) (failed : Bool) (r : Refusal) → AreLinesOf done a ls
+      → IsReadingAfter (reverse (done ++ ls)) (pieces rest) failed (Err r) → IsReadingAfter (reverse done) (pieces (a ++ rest)) failed (Err r)
+  refused_after_lines a rest ls failed r first second = first rest failed (Err r) second
 
   -- the end
   pub at_end : (rest : List ℕ) (failed : Bool) → HasNoLineFeed rest
-      → reading_after (reverse done) (pieces rest) failed ≡ ended (reverse done) (end_fault (reverse done) rest failed)
-  unfolding reading_after
-  at_end rest failed short = ap (λ ps. reading_after (reverse done) ps failed) (slice_split_none (λ b. b == 10) rest short)
+      → IsReadingAfter (reverse done) (pieces rest) failed (ended (reverse done) (end_fault (reverse done) rest failed))
+  at_end rest failed short =
+      let end : IsReadingAfter (reverse done) (rest ∷ []) failed (ended (reverse done) (end_fault (reverse done) rest failed)) = refl in
+      turn (reverse done) failed end (sym (slice_split_none (λ b. b == 10) rest short)) refl
 
 -- the report and the first remark of one more line
-pub key-push : (ls : List StatementLine) (l : StatementLine) → key_of_lines (ls ++ l ∷ []) ≡ either (key_of_lines ls) (key_of_line l)
+pub key-push : (ls : List Line) (l : Line) → key_of_lines (ls ++ l ∷ []) ≡ either (key_of_lines ls) (key_of_line l)
 key-push [] l = by (key_of_line l)
   where
     by : (o : Option ReportKey) → either o None ≡ o
@@ -144,7 +140,7 @@ key-push (m ∷ ls) l = ap (either (key_of_line m)) (key-push ls l) ∙ by (key_
     by (Some k) = refl
     by None = refl
 
-pub remark-push : (n : ℕ) (ls : List StatementLine) (l : StatementLine)
+pub remark-push : (n : ℕ) (ls : List Line) (l : Line)
     → first_remark n (ls ++ l ∷ []) ≡ either (first_remark n ls) (cond (is_remark l) (Some (n + length ls)) None)
 remark-push n [] l = ap (λ m. cond (is_remark l) (Some m) None) (omega arith)
 remark-push n (m ∷ ls) l = by (is_remark m) (remark-push (suc n) ls l)
@@ -177,27 +173,27 @@ module _ (rest : List ℕ) (end : ℕ) (is : end ≡ position_or_len (λ b. b ==
     cut_past = take_more rest end 0 below ∙ ap (λ b. take end rest ++ b ∷ []) feed
 
 -- a line that is refused after lines
-pub refused_in : (done ls : List StatementLine) (a text rest : List ℕ) (e : ReadingError) → AreLinesOf done a ls → HasNoLineFeed text
+pub refused_in : (done ls : List Line) (a text rest : List ℕ) (e : ReadingError) → AreLinesOf done a ls → HasNoLineFeed text
     → IsRefusedAt (done ++ ls) text e → IsRefusedIn done (a ++ (text ++ 10 ∷ rest)) e
-refused_in done ls a text rest (errors.Refused line fault) are short h more failed =
-    ap (λ bytes. reading_after (reverse done) (pieces bytes) failed) (append_assoc a (text ++ 10 ∷ rest) more ∙ ap (λ l. a ++ l) (append_assoc text (10 ∷ rest) more))
-    ∙ refused_after_lines done a (text ++ 10 ∷ (rest ++ more)) ls failed (refusal (suc (length (done ++ ls))) fault) are
-    (refused_line (done ++ ls) text short fault h.1 (rest ++ more) failed)
-    ∙ ap (λ n. Err (refusal n fault)) (sym h.0)
-refused_in done ls a text rest errors.Memory are short h more failed = tt
+refused_in done ls a text rest (errors.Refused line fault) are short h = λ more failed.
+    let all = refused_after_lines done a (text ++ 10 ∷ (rest ++ more)) ls failed (refusal (suc (length (done ++ ls))) fault) are
+    (refused_line (done ++ ls) text short fault h.1 (rest ++ more) failed) in
+    turn (reverse done) failed all (ap pieces (sym (append_assoc a (text ++ 10 ∷ rest) more ∙ ap (λ l. a ++ l) (append_assoc text (10 ∷ rest) more))))
+    (ap (λ n. Err (refusal n fault)) (sym h.0))
+refused_in done ls a text rest errors.Memory are short h = tt
 
-pub map_pair : (role : Role) (ls ms : List StatementLine) (bs : List Booked) → (bs ++ map (booked role) ls) ++ map (booked role) ms ≡ bs ++ map (booked role) (ls ++ ms)
+pub map_pair : (role : Role) (ls ms : List Line) (bs : List Booked) → (bs ++ map (booked role) ls) ++ map (booked role) ms ≡ bs ++ map (booked role) (ls ++ ms)
 map_pair role ls ms bs =
     append_assoc bs (map (booked role) ls) (map (booked role) ms) ∙ ap (λ l. bs ++ l) (sym (map-append (booked role) ls ms))
 
 -- nothing was taken yet
-pub takes_none : (r : Reading) (t : Totals) (done : List StatementLine) → Reads r done → TakesLines r r t t done []
+pub takes_none : (r : Reading) (t : Totals) (done : List Line) → Reads r done → TakesLines r r t t done []
 takes_none r t done reads =
     ([], no_lines done, subst (Reads r) (sym (append-nil done)) reads, λ bs h. subst (HoldsLines t) (sym (append-nil bs)) h)
 
 -- one more line was taken
-pub takes_more : (r0 r1 r2 : Reading) (t0 t1 t2 : Totals) (done : List StatementLine) (a text : List ℕ) → r1.role ≡ r0.role → HasNoLineFeed text
-    → ((ds : List StatementLine) → Reads r1 ds → TakesLine r1 r2 t1 t2 ds text) → TakesLines r0 r1 t0 t1 done a
+pub takes_more : (r0 r1 r2 : Reading) (t0 t1 t2 : Totals) (done : List Line) (a text : List ℕ) → r1.role ≡ r0.role → HasNoLineFeed text
+    → ((ds : List Line) → Reads r1 ds → TakesLine r1 r2 t1 t2 ds text) → TakesLines r0 r1 t0 t1 done a
     → TakesLines r0 r2 t0 t2 done (a ++ (text ++ 10 ∷ []))
 takes_more r0 r1 r2 t0 t1 t2 done a text same short take first =
     let ls = first.0 in let one = take (done ++ ls) first.2 in let l = one.0 in (
@@ -211,7 +207,7 @@ takes_more r0 r1 r2 t0 t1 t2 done a text same short take first =
     )
 
 -- one more line was read
-pub reads_more : (r0 r1 : Reading) (done : List StatementLine) (l : StatementLine) → Reads r0 done → IsAfter r1.reader (l ∷ reverse done)
+pub reads_more : (r0 r1 : Reading) (done : List Line) (l : Line) → Reads r0 done → IsAfter r1.reader (l ∷ reverse done)
     → r1.line ≡ r0.line + 1 → r1.key ≡ either r0.key (key_of_line l) → r1.remark ≡ either r0.remark (cond (is_remark l) (Some r0.line) None)
     → Reads r1 (done ++ l ∷ [])
 reads_more r0 r1 done l reads after line key remark = record {

@@ -4,9 +4,11 @@ use Rattle.std.proofs.lemmas.List.{length-reverse, take-append-drop}
 use Rattle.std.specs.Io.KnownBytes.{Consumes, IsAtEnd, Keeps}
 use Rattle.std.specs.Prelude.{reverse, Option, Some, None, map}
 use Rattle.dsr_io.specs.meaning.Told.{Told}
-use Rattle.dsr_statement_reader.specs.declared.line.StatementLine.{StatementLine}
-use Rattle.dsr_statement_reader.specs.declared.fault.StatementFault.{StatementFault}
-use Rattle.dsr_statement_reader.specs.meaning.Readings.{most_bytes, end_fault, ended, reading_of}
+use Rattle.dsr_statement.specs.declared.line.Line.{Line}
+use Rattle.dsr_statement.specs.declared.fault.StatementFault.{StatementFault}
+use Rattle.dsr_statement.specs.meaning.Readings.{most_bytes, IsReadingOf, Refusal, end_fault, ended}
+use Rattle.dsr_statement.specs.declared.fault.StatementFault.TheVariants as faults
+use Rattle.std.proofs.lemmas.Bool.{lt-ltb}
 use Rattle.dsr_sums.specs.declared.reading.Reading.{Reading}
 use Rattle.dsr_sums.specs.declared.reading.ReadingError.{ReadingError}
 use Rattle.dsr_sums.specs.declared.reading.ReadingError.TheVariants as errors
@@ -14,12 +16,12 @@ use Rattle.dsr_sums.specs.declared.reports.StatementReport.{StatementReport}
 use Rattle.dsr_sums.specs.declared.reports.Role.{Role}
 use Rattle.dsr_sums.specs.declared.totals.Totals.{Totals}
 use Rattle.dsr_sums.specs.inner.Books.{HoldsLines}
-use Rattle.dsr_sums.specs.inner.Readings.{FinishesAt, HasNoLineFeed, IsReadFrom, IsReading, IsRefusedIn, ReadAs, Reads, TakesLines, refusal, text_with, with_lines}
-use Rattle.dsr_sums.specs.meaning.Answers.{statement_in, statement_of, statement_with}
+use Rattle.dsr_sums.specs.inner.Readings.{FinishesAt, HasNoLineFeed, IsReadFrom, IsReading, IsRefusedIn, ReadAs, Reads, TakesLines, pieces, refusal, text_with, with_lines}
+use Rattle.dsr_sums.specs.meaning.Answers.{StatementText, statement_in, statement_of, statement_with}
 use Rattle.dsr_sums.specs.meaning.Sources.{Gave, IsSettled}
 use Rattle.dsr_sums.specs.meaning.Statements.{key_of_lines}
 use Rattle.dsr_sums.specs.meaning.Totals.{booked}
-use Rattle.dsr_sums.proofs.ReadingLemmas.{at_end, long_line, map_pair, more_lines, no_lines, refused_after_lines}
+use Rattle.dsr_sums.proofs.ReadingLemmas.{at_end, long_end, long_line, map_pair, more_lines, no_lines, refused_after_lines, turn}
 
 pub consumes_more : (a b c : Option (List ℕ)) (xs ys : List ℕ) → Consumes a b xs → Consumes b c ys → Consumes a c (xs ++ ys)
 consumes_more None b c xs ys h k = tt
@@ -54,61 +56,67 @@ nothing_read told role t r kept sound same reads none = record {
 
 module _ (before now : Told) (role : Role) (start totals : Totals) (r : Reading) (kept : List ℕ) (w : IsReading before now role start totals r kept) where
   -- what is read at the end
-  read_at_end : (failed : Bool) → reading_of (w.bytes ++ kept) failed ≡ with_lines w.ls (ended (reverse w.ls) (end_fault (reverse w.ls) kept failed))
-  read_at_end failed = w.lines kept failed ∙ ap (with_lines w.ls) (at_end w.ls kept failed w.short)
+  abbrev end_read : Bool → Result (List Line) Refusal
+  end_read failed = with_lines w.ls (ended (reverse w.ls) (end_fault (reverse w.ls) kept failed))
+
+  pub read_at_end : (failed : Bool) → IsReadingOf (w.bytes ++ kept) failed (end_read failed)
+  read_at_end failed = w.lines kept failed (ended (reverse w.ls) (end_fault (reverse w.ls) kept failed)) (at_end w.ls kept failed w.short)
+
+  abbrev end_text : Bool → StatementText
+  end_text failed = text_with role (w.bytes ++ kept) failed (end_read failed) (read_at_end failed)
 
   whole_read : (failed : Bool) → end_fault (reverse w.ls) kept failed ≡ None
-      → statement_in (text_with role (w.bytes ++ kept) failed) ≡ statement_with role w.ls (key_of_lines w.ls)
+      → statement_in (end_text failed) ≡ statement_with role w.ls (key_of_lines w.ls)
   whole_read failed e =
-      ap (statement_of role) (read_at_end failed ∙ ap (λ o. with_lines w.ls (ended (reverse w.ls) o)) e ∙ ap Ok (append-nil w.ls))
+      ap (statement_of role) (ap (λ o. with_lines w.ls (ended (reverse w.ls) o)) e ∙ ap Ok (append-nil w.ls))
 
-  refused_read : (failed : Bool) (fault : StatementFault) → end_fault (reverse w.ls) kept failed ≡ Some fault
-      → statement_in (text_with role (w.bytes ++ kept) failed) ≡ Err (refusal (suc (length w.ls)) fault)
-  refused_read failed fault e =
-      ap (statement_of role) (read_at_end failed ∙ ap (λ o. with_lines w.ls (ended (reverse w.ls) o)) e
-      ∙ ap (λ n. Err (refusal (suc n) fault)) (length-reverse w.ls))
+  end_refused : (failed : Bool) (fault : StatementFault) → end_fault (reverse w.ls) kept failed ≡ Some fault
+      → end_read failed ≡ Err (refusal (suc (length w.ls)) fault)
+  end_refused failed fault e =
+      ap (λ o. with_lines w.ls (ended (reverse w.ls) o)) e ∙ ap (λ n. Err (refusal (suc n) fault)) (length-reverse w.ls)
 
   -- the statement ended
   read_as : (failed : Bool) (result : Result StatementReport ReadingError) → FinishesAt role w.ls kept failed result
-      → ReadAs role start totals (statement_in (text_with role (w.bytes ++ kept) failed)) result
+      → ReadAs role start totals (statement_in (end_text failed)) result
   read_as failed (Ok report) h = (w.ls, whole_read failed h.0 ∙ h.1, h.2, w.added)
-  read_as failed (Err (errors.Refused line fault)) (inl h) = refused_read failed fault h.0 ∙ ap (λ n. Err (refusal n fault)) (sym h.1)
+  read_as failed (Err (errors.Refused line fault)) (inl h) =
+      ap (statement_of role) (end_refused failed fault h.0) ∙ ap (λ n. Err (refusal n fault)) (sym h.1)
   read_as failed (Err (errors.Refused line fault)) (inr h) = whole_read failed h.0 ∙ h.1
   read_as failed (Err errors.Memory) h = tt
 
   pub finished : (failed : Bool) (left : Told) (result : Result StatementReport ReadingError)
-      → ((done : List StatementLine) → Reads r done → FinishesAt r.role done kept failed result)
+      → ((done : List Line) → Reads r done → FinishesAt r.role done kept failed result)
       → Consumes before.remaining left.remaining (w.bytes ++ kept) → left.failed ≡ failed
-      → (IsAtEnd left.remaining ⊎ ((failed ≡ true) ⊎ IsSettled (text_with role (w.bytes ++ kept) failed)))
+      → (IsAtEnd left.remaining ⊎ ((failed ≡ true) ⊎ IsSettled (end_text failed)))
       → IsReadFrom before left role start totals result
   finished failed left result ends consumed failure whole =
       by result (read_as failed result (subst (λ o. FinishesAt o w.ls kept failed result) w.role_is (ends w.ls w.reads)))
     where
-      gave : Gave before left (text_with role (w.bytes ++ kept) failed)
+      gave : Gave before left (end_text failed)
       gave = record { consumed = consumed; failure = failure; whole = whole }
 
-      by : (result : Result StatementReport ReadingError) → ReadAs role start totals (statement_in (text_with role (w.bytes ++ kept) failed)) result
+      by : (result : Result StatementReport ReadingError) → ReadAs role start totals (statement_in (end_text failed)) result
           → IsReadFrom before left role start totals result
-      by (Ok report) h = (w.bytes ++ kept, failed, gave, h)
-      by (Err (errors.Refused line fault)) h = (w.bytes ++ kept, failed, gave, h)
+      by (Ok report) h = (w.bytes ++ kept, failed, end_read failed, read_at_end failed, gave, h)
+      by (Err (errors.Refused line fault)) h = (w.bytes ++ kept, failed, end_read failed, read_at_end failed, gave, h)
       by (Err errors.Memory) h = tt
 
   -- a line that is too long settles the text
-  pub long_settles : most_bytes < length kept → IsSettled (text_with role (w.bytes ++ kept) false)
+  pub long_settles : most_bytes < length kept → IsSettled (end_text false)
   long_settles long more failed =
-      let e = λ (rest : List ℕ) (b : Bool). refused_after_lines [] w.bytes (kept ++ rest) w.ls b _ w.lines (long_line w.ls kept w.short long rest b) in
-      ap (λ l. reading_of l failed) (append_assoc w.bytes kept more) ∙ e more failed
-      ∙ sym (ap (λ l. reading_of (w.bytes ++ l) false) (sym (append-nil kept)) ∙ e [] false)
+      let all = refused_after_lines [] w.bytes (kept ++ more) w.ls failed _ w.lines (long_line w.ls kept w.short long more failed) in
+      let fault = end_refused false faults.LongLine (long_end (reverse w.ls) kept false (lt-ltb most_bytes (length kept) long)) in
+      turn [] failed all (ap pieces (sym (append_assoc w.bytes kept more))) (sym fault)
 
   -- the line so far is too long
   pub finished_long : (result : Result StatementReport ReadingError) → most_bytes < length kept
-      → ((done : List StatementLine) → Reads r done → FinishesAt r.role done kept false result) → IsReadFrom before now role start totals result
+      → ((done : List Line) → Reads r done → FinishesAt r.role done kept false result) → IsReadFrom before now role start totals result
   finished_long result long ends = finished false now result ends w.consumed w.sound (inr (inr (long_settles long)))
 
   -- the source is at its end
   pub finished_whole : (left : Told) (n : ℕ) (piece : List ℕ) (result : Result StatementReport ReadingError) → n ≡ 0 → 0 < length piece
       → Consumes now.remaining left.remaining (take n piece) × (n ≡ 0 → 0 < length piece → IsAtEnd left.remaining) → left.failed ≡ now.failed
-      → ((done : List StatementLine) → Reads r done → FinishesAt r.role done kept false result) → IsReadFrom before left role start totals result
+      → ((done : List Line) → Reads r done → FinishesAt r.role done kept false result) → IsReadFrom before left role start totals result
   finished_whole left n piece result none some h same ends =
       let nothing : Consumes now.remaining left.remaining [] = subst (λ m. Consumes now.remaining left.remaining (take m piece)) none h.0 in
       let all = consumes_more before.remaining now.remaining left.remaining (w.bytes ++ kept) [] w.consumed nothing in
@@ -116,7 +124,7 @@ module _ (before now : Told) (role : Role) (start totals : Totals) (r : Reading)
 
   -- a read failed
   pub finished_failed : (left : Told) (result : Result StatementReport ReadingError) → Keeps now.remaining left.remaining → left.failed ≡ true
-      → ((done : List StatementLine) → Reads r done → FinishesAt r.role done kept true result) → IsReadFrom before left role start totals result
+      → ((done : List Line) → Reads r done → FinishesAt r.role done kept true result) → IsReadFrom before left role start totals result
   finished_failed left result keeps failure ends =
       finished true left result ends (consumes_kept before.remaining now.remaining left.remaining (w.bytes ++ kept) w.consumed keeps) failure (inr (inl refl))
 
@@ -127,26 +135,28 @@ module _ (before now : Told) (role : Role) (start totals : Totals) (r : Reading)
         (consumes_more before.remaining now.remaining next.remaining (w.bytes ++ kept) piece w.consumed consumed)
 
     -- a line that was read has a fault
-    pub refused_within : (e : ReadingError) → ((done : List StatementLine) → Reads r done → IsRefusedIn done (kept ++ piece) e)
+    pub refused_within : (e : ReadingError) → ((done : List Line) → Reads r done → IsRefusedIn done (kept ++ piece) e)
         → IsReadFrom before next role start totals (Err e)
     refused_within errors.Memory h = tt
     refused_within (errors.Refused line fault) h =
         let text = w.bytes ++ (kept ++ piece) in
         let e = λ (rest : List ℕ) (b : Bool). refused_after_lines [] w.bytes ((kept ++ piece) ++ rest) w.ls b (refusal line fault) w.lines (h w.ls w.reads rest b) in
-        let here : reading_of text false ≡ Err (refusal line fault) = ap (λ l. reading_of (w.bytes ++ l) false) (sym (append-nil (kept ++ piece))) ∙ e [] false in (
+        let here : IsReadingOf text false (Err (refusal line fault)) = turn [] false (e [] false) (ap (λ l. pieces (w.bytes ++ l)) (append-nil (kept ++ piece))) refl in (
           text,
           false,
+          Err (refusal line fault),
+          here,
           record {
             consumed = more_consumed;
             failure = sound;
-            whole = inr (inr (λ more failed. ap (λ l. reading_of l failed) (append_assoc w.bytes (kept ++ piece) more) ∙ e more failed ∙ sym here));
+            whole = inr (inr (λ more failed. turn [] failed (e more failed) (ap pieces (sym (append_assoc w.bytes (kept ++ piece) more))) refl));
           },
-          ap (statement_of role) here,
+          refl,
         )
 
     -- lines that were read
     pub read_more : (r2 : Reading) (t2 : Totals) (used : ℕ) → r2.role ≡ r.role
-        → ((done : List StatementLine) → Reads r done → TakesLines r r2 totals t2 done (take used (kept ++ piece)))
+        → ((done : List Line) → Reads r done → TakesLines r r2 totals t2 done (take used (kept ++ piece)))
         → HasNoLineFeed (drop used (kept ++ piece)) → IsReading before next role start t2 r2 (drop used (kept ++ piece))
     read_more r2 t2 used same takes short =
         let all = kept ++ piece in let t = takes w.ls w.reads in

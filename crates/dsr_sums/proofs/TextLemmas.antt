@@ -1,6 +1,6 @@
 -- The lines of the text.
 use Rattle.std.proofs.Common.{◌≡◌, ℕ, suc, ◌+◌, ◌≤◌, ap, sym, ◌∙◌, refl, Bool, true, false, cond, List, [], ◌∷◌, ◌++◌, append_assoc, append-nil, length, arith}
-use Rattle.dsr_statement.specs.meaning.Statement.{line, tabbed}
+use Rattle.dsr_sums.specs.meaning.Totals.{line, tabbed}
 use Rattle.dsr_sums.specs.declared.reports.StatementReport.{StatementReport}
 use Rattle.dsr_sums.specs.declared.reports.Role.TheVariants.{Given, Paid}
 use Rattle.dsr_sums.specs.meaning.Statements.{has_report, role_eq, statement_line, statement_lines}

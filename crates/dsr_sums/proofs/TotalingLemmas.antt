@@ -4,12 +4,13 @@ use Rattle.std.proofs.lemmas.Grind.{flat_map-append}
 use Rattle.std.proofs.lemmas.List.{map-append}
 use Rattle.std.specs.Prelude.{map, option_map, Option, Some, None}
 use Rattle.dsr_io.specs.meaning.Told.{Told}
-use Rattle.dsr_statement_reader.specs.meaning.Readings.{Refusal}
+use Rattle.dsr_statement.specs.meaning.Readings.{Refusal, IsReadingOf}
+use Rattle.dsr_statement.specs.declared.line.Line.{Line}
 use Rattle.dsr_sums.specs.declared.answer.TotalsError.{TotalsError}
 use Rattle.dsr_sums.specs.declared.answer.TotalsError.TheVariants.{Refused, OutOfRange, Memory}
 use Rattle.dsr_sums.specs.declared.answer.Totaling.{Totaling}
 use Rattle.dsr_sums.specs.declared.reports.Role.{Role}
-use Rattle.dsr_statement_reader.specs.declared.fault.StatementFault.{StatementFault}
+use Rattle.dsr_statement.specs.declared.fault.StatementFault.{StatementFault}
 use Rattle.dsr_sums.specs.inner.Readings.{IsReadFrom, refusal, text_with}
 use Rattle.std.specs.List.{flat_map}
 use Rattle.dsr_sums.specs.declared.reports.StatementReport.{StatementReport}
@@ -86,10 +87,12 @@ no_fault (Some r) e = absurd (cc)
 pub next_read : (old new : Totaling) (remarks : Bool) (role : Role) (before left : Told) (report : StatementReport) (ss : List Statement) → HoldsStatements old ss
     → IsReadFrom before left role old.totals new.totals (Ok report) → None ≡ option_map line_and_fault (fault_after remarks old.reports.items report)
     → new.reports.items ≡ old.reports.items ++ report ∷ [] → ReadsNext remarks before left role ss new (Ok tt)
-next_read old new remarks role before left report ss held (bytes, failed, gave, (ls, e, same, adds)) none pushed =
+next_read old new remarks role before left report ss held (bytes, failed, was_read, is, gave, (ls, e, same, adds)) none pushed =
     let s : Statement = record { report = report; lines = ls } in (
       bytes,
       failed,
+      was_read,
+      is,
       gave,
       (
         s,
@@ -102,6 +105,21 @@ next_read old new remarks role before left report ss held (bytes, failed, gave, 
         },
       ),
     )
+
+found : (o : Option Refusal) (line : ℕ) (fault : StatementFault) → Some (line, fault) ≡ option_map line_and_fault o → o ≡ Some (refusal line fault)
+found None line fault e = absurd (cc)
+found (Some r) line fault e =
+    let pair : line_and_fault r ≡ (line, fault) = cc in ap (λ (p : ℕ × StatementFault). Some (refusal p.0 p.1)) pair
+
+-- a statement that was read and has a fault after the earlier ones
+pub next_refused : (old : Totaling) (after : Totals) (remarks : Bool) (role : Role) (before left : Told) (report : StatementReport) (ss : List Statement)
+    (line : ℕ) (fault : StatementFault) → HoldsStatements old ss → IsReadFrom before left role old.totals after (Ok report)
+    → Some (line, fault) ≡ option_map line_and_fault (fault_after remarks old.reports.items report)
+    → ReadsNext remarks before left role ss old (Err (errors.Refused line fault))
+next_refused old after remarks role before left report ss line fault held (bytes, failed, was_read, is, gave, (ls, e, same, adds)) refused =
+    let s : Statement = record { report = report; lines = ls } in
+    let its = ap (λ rs. fault_after remarks rs report) (sym held.reports) ∙ found _ line fault refused in
+    (bytes, failed, was_read, is, gave, ap (accepted remarks ss) e ∙ ap (unless s) its)
 
 tail_of : {R : Type 0} (rest : List R) → 0 < length rest → (r : R) × (more : List R) × (rest ≡ r ∷ more)
 tail_of [] h = absurd (omega arith)
@@ -182,10 +200,10 @@ module _ {R : Type 0} (told : R → Told) (given : ℕ) (remarks : Bool) where
       pub before_below : place < length before
       before_below = omega (arith, ap length before_is, length-append w.front (next.0 ∷ next.1), w.places)
 
-      module _ (d q : R) (bytes : List ℕ) (failed : Bool)
-          (gave : Gave (told (get_or now place d)) (told q) (text_with (role_of given place) bytes failed)) where
+      module _ (d q : R) (bytes : List ℕ) (failed : Bool) (was_read : Result (List Line) Refusal) (is : IsReadingOf bytes failed was_read)
+          (gave : Gave (told (get_or now place d)) (told q) (text_with (role_of given place) bytes failed was_read is)) where
         abbrev text : StatementText
-        text = text_with (role_of given place) bytes failed
+        text = text_with (role_of given place) bytes failed was_read is
 
         gave_next : Gave (told next.0) (told q) text
         gave_next = subst (λ r. Gave (told r) (told q) text) (got d) gave
@@ -239,11 +257,11 @@ module _ {R : Type 0} (told : R → Told) (given : ℕ) (remarks : Bool) where
           → ReadsNext t.with_remarks (told (get_or now place d)) (told q) role w.ss t2 (Ok tt)
           → HaveRead told given remarks (place + 1) before (set now place q) t2
       one_more d q t2 role same kept h =
-          let k = at_role d q t2 role (Ok tt) same h in one_read d q k.0 k.1 k.2 t2 k.3.0 k.3.1 k.3.2 kept
+          let k = at_role d q t2 role (Ok tt) same h in one_read d q k.0 k.1 k.2 k.3 k.4 t2 k.5.0 k.5.1 k.5.2 kept
 
       pub no_more : (d q : R) (t2 : Totaling) (role : Role) (e : ReadingError) → role ≡ role_of given place
           → ReadsNext t.with_remarks (told (get_or now place d)) (told q) role w.ss t2 (Err e)
           → HasNoTotals told given remarks before (set now place q) (error_of place e)
       no_more d q t2 role errors.Memory same h = tt
       no_more d q t2 role (errors.Refused line fault) same h =
-          let k = at_role d q t2 role (Err (errors.Refused line fault)) same h in one_refused d q k.0 k.1 k.2 line fault k.3
+          let k = at_role d q t2 role (Err (errors.Refused line fault)) same h in one_refused d q k.0 k.1 k.2 k.3 k.4 line fault k.5

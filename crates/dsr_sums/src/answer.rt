@@ -13,7 +13,7 @@ use crate::text::{SumsLine, put_book, put_statements};
 use crate::totals::Totals;
 use dsr_cells::NoMemory;
 use dsr_io::Source;
-use dsr_statement_reader::StatementFault;
+use dsr_statement::StatementFault;
 use std::alloc::Global;
 
 /// Why there are no totals.

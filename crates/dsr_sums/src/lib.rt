@@ -1,6 +1,6 @@
 //! What statements add up to: the sums of each currency and of each market, and what each party is owed.
 //!
-//! 1. `reading` cuts a source into lines, and reads the lines of a statement by dsr_statement_reader.
+//! 1. `reading` cuts a source into lines, and reads the lines of a statement by dsr_statement.
 //! 2. `totals` adds each line to the accounts (`account`) of its currency, its market and its party, in three books (`book`),
 //!    which keep the sums of each account (`sums`). What was paid is subtracted. A sum that leaves the range of 128 bits is
 //!    remembered, and nothing more is added. `seeded` has the hashers of the books.

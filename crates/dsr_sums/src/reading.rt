@@ -1,6 +1,6 @@
 //! Reading a statement from a source, and adding its lines to the totals.
 ghost use Rattle.std.specs.Prelude.{◌≡◌, ◌+◌, ◌≤◌, [], false, List, Some, None, OnOk, IfOk, IfErr, drop, take, length, vec_len, if◌then◌else◌};
-ghost use Rattle.dsr_statement_reader.specs.declared.line.StatementLine.{StatementLine as Line};
+ghost use Rattle.dsr_statement.specs.declared.line.Line.{Line as LineValue};
 ghost use Rattle.dsr_statement.specs.meaning.Status.{is_clean_file};
 ghost use Rattle.dsr_sums.specs.meaning.Statements.{is_remark, key_of_line, either};
 ghost use Rattle.dsr_sums.specs.inner.Readings.{Reads, TakesLine, TakesLines, HasNoLineFeed, IsRefusedAt, IsRefusedIn, FinishesAt, IsReadFrom};
@@ -11,9 +11,7 @@ use dsr_cells::{NoMemory, Text};
 use dsr_events::Outcome;
 use dsr_io::{Failed, Source};
 use dsr_ledger::{FileLine, ReportKey, Standing};
-use dsr_statement_reader::{
-    LINE_LIMIT, ReadError, ReadReport, StatementFault, StatementLine, StatementReader,
-};
+use dsr_statement::{LINE_LIMIT, Line, ReadError, ReportRef, StatementFault, StatementReader};
 use dsr_texts::line_end;
 use std::alloc::Global;
 
@@ -51,18 +49,18 @@ fn is_clean(file: &FileLine) -> bool
 }
 
 /// Whether a line is a remark.
-fn is_a_remark(line: &StatementLine<'_>) -> bool
+fn is_a_remark(line: &Line<'_>) -> bool
     ensures { result ≡ is_remark line.now }
 {
     match line {
-        StatementLine::File(_, file) => !is_clean(file),
-        StatementLine::Missing(_) | StatementLine::Summary(_) | StatementLine::Reject(_) => true,
+        Line::File(_, file) => !is_clean(file),
+        Line::Missing(_) | Line::Summary(_) | Line::Reject(_) => true,
         _ => false,
     }
 }
 
 /// The key of a report.
-fn copy_key(alloc: Global, report: &ReadReport<'_>) -> Result<ReportKey, NoMemory>
+fn copy_key(alloc: Global, report: &ReportRef<'_>) -> Result<ReportKey, NoMemory>
     ensures { IfOk result (λ key. key ≡ report.now) }
 {
     Ok(ReportKey {
@@ -74,11 +72,11 @@ fn copy_key(alloc: Global, report: &ReadReport<'_>) -> Result<ReportKey, NoMemor
 }
 
 /// The key of the report that a line names.
-fn key_in(alloc: Global, line: &StatementLine<'_>) -> Result<Option<ReportKey>, NoMemory>
+fn key_in(alloc: Global, line: &Line<'_>) -> Result<Option<ReportKey>, NoMemory>
     ensures { IfOk result (λ key. key ≡ key_of_line line.now) }
 {
     match line {
-        StatementLine::Report(report) => Ok(Some(copy_key(alloc, report)?)),
+        Line::Report(report) => Ok(Some(copy_key(alloc, report)?)),
         _ => Ok(None),
     }
 }
@@ -102,9 +100,9 @@ impl Reading {
     /// Takes a line, given without its line feed, and adds it to the totals.
     fn take(&mut self, bytes: &[u8], totals: &mut Totals) -> Result<(), ReadingError>
         ensures role { self.new.role ≡ self.old.role }
-        ensures taken { (done : List Line) → Reads self.old done → OnOk result
+        ensures taken { (done : List LineValue) → Reads self.old done → OnOk result
             (TakesLine self.old self.new totals.old totals.new done bytes.now) }
-        ensures refused { (done : List Line) → Reads self.old done → IfErr result
+        ensures refused { (done : List LineValue) → Reads self.old done → IfErr result
             (IsRefusedAt done bytes.now) }
     {
         match self.reader.line(bytes) {
@@ -123,7 +121,7 @@ impl Reading {
     }
 
     /// Notes a line that was read.
-    fn note(&mut self, line: &StatementLine<'_>) -> Result<(), NoMemory>
+    fn note(&mut self, line: &Line<'_>) -> Result<(), NoMemory>
         ensures role { self.new.role ≡ self.old.role }
         ensures reader { self.new.reader ≡ self.old.reader }
         ensures line { OnOk result (self.new.line ≡ self.old.line + 1) }
@@ -146,9 +144,9 @@ impl Reading {
         ensures role { self.new.role ≡ self.old.role }
         ensures within { IfOk result (λ used. used ≤ length bytes.now) }
         ensures rest { IfOk result (λ used. HasNoLineFeed (drop used bytes.now)) }
-        ensures taken { (done : List Line) → Reads self.old done → IfOk result (λ used.
+        ensures taken { (done : List LineValue) → Reads self.old done → IfOk result (λ used.
             TakesLines self.old self.new totals.old totals.new done (take used bytes.now)) }
-        ensures refused { (done : List Line) → Reads self.old done → IfErr result
+        ensures refused { (done : List LineValue) → Reads self.old done → IfErr result
             (IsRefusedIn done bytes.now) }
     {
         let mut used = 0;
@@ -166,7 +164,7 @@ impl Reading {
 
     /// Ends reading with what follows the last line feed.
     fn finish(self, rest: &[u8], failed: bool) -> Result<StatementReport, ReadingError>
-        ensures { (done : List Line) → Reads self done
+        ensures { (done : List LineValue) → Reads self done
             → FinishesAt self.role done rest.now failed result }
     {
         let Reading {

@@ -4,7 +4,7 @@ ghost use Rattle.dsr_sums.specs.meaning.Statements.{is_same_report, has_report, 
 
 use dsr_cells::NoMemory;
 use dsr_ledger::ReportKey;
-use dsr_statement_reader::StatementFault;
+use dsr_statement::StatementFault;
 
 /// What a statement stands for.
 #[derive(Clone, Copy, PartialEq, Eq)]

@@ -1,7 +1,7 @@
 //! The totals of small statements.
 use crate::{TotalsError, add_up};
 use dsr_io::FromRead;
-use dsr_statement_reader::StatementFault;
+use dsr_statement::StatementFault;
 use std::alloc::Global;
 use std::test::Fail;
 

@@ -3,7 +3,7 @@ ghost use Rattle.std.specs.Prelude.{◌≡◌, ◌∷◌, ◌++◌, OnOk, codes,
 ghost use Rattle.std.specs.Fmt.{signed_decimal};
 ghost use Rattle.std.specs.List.{flat_map};
 ghost use Rattle.dsr_cells.specs.meaning.Written.{written_day};
-ghost use Rattle.dsr_statement.specs.meaning.Statement.{amount_cell};
+ghost use Rattle.dsr_statement.specs.meaning.Cells.{amount_cell};
 ghost use Rattle.dsr_sums.specs.meaning.Totals.{currency_line, market_line, party_line};
 ghost use Rattle.dsr_sums.specs.meaning.Statements.{statement_line, statement_lines};
 ghost use Rattle.dsr_sums.specs.inner.SumsLines.{sums_line};
@@ -52,7 +52,7 @@ fn put_signed(out: &mut Vec<u8>, number: i128) -> Result<(), NoMemory>
 }
 
 /// Appends the cell of an amount.
-#[tactic(auto, unfolding(dsr_statement::specs::meaning::Statement::amount_cell))]
+#[tactic(auto, unfolding(dsr_statement::specs::meaning::Cells::amount_cell))]
 fn put_amount(out: &mut Vec<u8>, amount: i128) -> Result<(), NoMemory>
     ensures { OnOk result (out.new.items ≡ out.old.items ++ 9 ∷ amount_cell amount) }
 {

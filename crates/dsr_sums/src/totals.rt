@@ -7,7 +7,7 @@ use crate::reports::Role;
 use crate::seeded::Seeded;
 use crate::sums::Sums;
 use dsr_cells::NoMemory;
-use dsr_statement_reader::{ReadKey, ReadParty, StatementLine};
+use dsr_statement::{KeyRef, Line, PartyRef};
 use std::alloc::Global;
 
 /// What the lines of statements add up to: by currency, by market, and by party.
@@ -33,7 +33,7 @@ fn both(one: bool, other: bool) -> bool
 impl Totals {
     ghost use Rattle.dsr_sums.specs.meaning.Totals.{Booked, booked, are_in_range};
     ghost use Rattle.dsr_sums.specs.inner.Books.{HoldsLines, AddsLine, AreSorted};
-    ghost use Rattle.dsr_statement_reader.specs.declared.line.StatementLine.TheVariants as lines;
+    ghost use Rattle.dsr_statement.specs.declared.line.Line.TheVariants as lines;
 
     /// The totals of nothing.
     pub(crate) fn new(alloc: Global, seeded: Seeded) -> Totals
@@ -51,15 +51,13 @@ impl Totals {
     }
 
     /// Adds a line of a statement, or subtracts it if its statement was paid.
-    pub(crate) fn add(&mut self, line: &StatementLine<'_>, role: Role) -> Result<(), NoMemory>
+    pub(crate) fn add(&mut self, line: &Line<'_>, role: Role) -> Result<(), NoMemory>
         ensures { OnOk result (AddsLine self.old self.new (booked role line.now)) }
     {
         match line {
-            StatementLine::Ledger(key, usages, amount) => {
-                self.add_ledger(key, *usages, *amount, role)
-            }
-            StatementLine::Party(key, party) => self.add_party(key, party, role),
-            StatementLine::Unclaimed(key, amount) => self.add_unclaimed(key, *amount, role),
+            Line::Ledger(key, usages, amount) => { self.add_ledger(key, *usages, *amount, role) }
+            Line::Party(key, party) => self.add_party(key, party, role),
+            Line::Unclaimed(key, amount) => self.add_unclaimed(key, *amount, role),
             _ => Ok(()),
         }
     }
@@ -67,7 +65,7 @@ impl Totals {
     /// Adds a ledger line.
     fn add_ledger(
         &mut self,
-        key: &ReadKey<'_>,
+        key: &KeyRef<'_>,
         usages: i128,
         amount: i128,
         role: Role,
@@ -94,8 +92,8 @@ impl Totals {
     /// Adds a party's part of a ledger line.
     fn add_party(
         &mut self,
-        key: &ReadKey<'_>,
-        party: &ReadParty<'_>,
+        key: &KeyRef<'_>,
+        party: &PartyRef<'_>,
         role: Role,
     ) -> Result<(), NoMemory>
         ensures { OnOk result (AddsLine self.old self.new
@@ -123,7 +121,7 @@ impl Totals {
     }
 
     /// Adds what no party has of a ledger line.
-    fn add_unclaimed(&mut self, key: &ReadKey<'_>, amount: i128, role: Role) -> Result<(), NoMemory>
+    fn add_unclaimed(&mut self, key: &KeyRef<'_>, amount: i128, role: Role) -> Result<(), NoMemory>
         ensures { OnOk result (AddsLine self.old self.new
             (booked role (lines.Unclaimed key.now amount))) }
     {

@@ -7,7 +7,7 @@
 //!    a statement. `collecting`: the collector alone.
 //! 3. `refusals` and `memory`: what is refused and what fails. `turns`: readers that wait for one another.
 //! 4. `books`: the example of dsr_ledger, and books whose calls are made again when memory was refused.
-//!    `statements`: the example of dsr_statement_reader.
+//!    `statements`: the example of dsr_statement.
 #![tactic(auto)]
 
 #[cfg(test)]

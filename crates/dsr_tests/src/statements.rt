@@ -1,6 +1,6 @@
-//! Reading a statement: the example of dsr_statement_reader, and a statement as it was written.
+//! Reading a statement: the example of dsr_statement, and a statement as it was written.
 use crate::texts::TWO_STATEMENT;
-use dsr_statement_reader::{ReadError, StatementFault, StatementLine, StatementReader};
+use dsr_statement::{Line, ReadError, StatementFault, StatementReader};
 use std::test::Fail;
 
 /// The lines of a statement, up to one that may not stand where it does.
@@ -8,7 +8,7 @@ use std::test::Fail;
 fn lines_and_their_places(rt: HostRuntime) -> Result<(), Fail> {
     let mut reader = StatementReader::new(rt.alloc());
     let first = reader.line(b"REPORT\tR1\t2\t2024-01-01\t2024-01-31\t31");
-    assert!(rt; matches!(&first, Ok(StatementLine::Report(_))));
+    assert!(rt; matches!(&first, Ok(Line::Report(_))));
     // The line of the first file comes before that of the second.
     let second = reader.line(b"FILE\t2\t2\tOurs\t1\tWhole");
     assert!(rt; matches!(&second, Err(ReadError::Fault(StatementFault::Place))));

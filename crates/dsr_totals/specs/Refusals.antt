@@ -1,8 +1,8 @@
 -- The line for totals that cannot be had, and the exit status.
 use Rattle.std.specs.Prelude.{ℕ, List, [], ◌∷◌, ◌++◌, codes, decimal}
 use Rattle.dsr_command.specs.Faults.{line_of}
-use Rattle.dsr_statement_reader.specs.declared.fault.StatementFault.{StatementFault}
-use Rattle.dsr_statement_reader.specs.declared.fault.StatementFault.TheVariants as fault
+use Rattle.dsr_statement.specs.declared.fault.StatementFault.{StatementFault}
+use Rattle.dsr_statement.specs.declared.fault.StatementFault.TheVariants as fault
 use Rattle.dsr_sums.specs.declared.answer.TotalsError.{TotalsError}
 use Rattle.dsr_sums.specs.declared.answer.TotalsError.TheVariants.{Refused, OutOfRange, Memory}
 

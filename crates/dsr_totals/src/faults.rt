@@ -5,7 +5,7 @@ ghost use Rattle.dsr_totals.specs.Refusals.{fault_text, no_totals_line, no_total
 
 use dsr_command::{UNFINISHED, no_memory, write_line, write_parts};
 use dsr_io::Outlet;
-use dsr_statement_reader::StatementFault;
+use dsr_statement::StatementFault;
 use dsr_sums::TotalsError;
 use itoa::Buffer;
 

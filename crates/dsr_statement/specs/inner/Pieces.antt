@@ -1,14 +1,9 @@
 -- What was put into pieces, and how much of it was written.
-use Rattle.std.specs.Prelude.{ℕ, List, [], ◌∷◌, ◌≡◌, ◌≤◌, ◌++◌, Bool, true, false, if◌then◌else◌, length, take}
-use Rattle.dsr_cells.specs.meaning.Written.{written_day}
-use Rattle.dsr_ledger.specs.declared.report.ReportKey.{ReportKey}
-use Rattle.dsr_statement.specs.meaning.Statement.{tabbed}
+use Rattle.std.specs.Prelude.{ℕ, List, [], ◌≡◌, ◌≤◌, ◌++◌, Bool, true, false, length, take}
+use Rattle.std.proofs.Common.{refl, append_assoc, ◌∙◌}
+use Rattle.std.proofs.lemmas.List.{append-nil}
 use Rattle.dsr_io.specs.meaning.Written.{Written, IsTaken, IsCut}
 use Rattle.dsr_statement.specs.declared.pieces.Pieces.{Pieces}
-
--- the cells of a report's days
-abbrev pub day_cells : ReportKey → List ℕ
-day_cells key = tabbed (written_day key.first_day ∷ written_day key.last_day ∷ [])
 
 -- the outlet took all that was sent
 pub record IsOut (sent : List ℕ) (written : ℕ) (before after : Written) : Type 0 where
@@ -35,6 +30,12 @@ pub record Puts {W : Type 0} (told : W → Written) (old new : Pieces W) (bytes 
   pub same_outlet : new.sender.out.ghost_name ≡ old.sender.out.ghost_name
   pub holds : (put : List ℕ) (before : Written) → Holds told put before old → Holds told (put ++ bytes) before new
 
--- what stands after a cell: the end of the line after the last one
-abbrev pub end_of_line : Bool → List ℕ
-end_of_line is_last = if is_last then 10 ∷ [] else []
+pub nothing : {W : Type 0} (told : W → Written) (p : Pieces W) → Puts told p p []
+nothing told p = record { same_outlet = refl; holds = λ put before h. rw (append-nil put) h }
+
+pub both_put : {W : Type 0} (told : W → Written) (p q r : Pieces W) (xs ys : List ℕ) → Puts told p q xs → Puts told q r ys → Puts told p r (xs ++ ys)
+both_put told p q r xs ys first second =
+    record {
+      same_outlet = second.same_outlet ∙ first.same_outlet;
+      holds = λ put before h. rw (← append_assoc put xs ys) (second.holds (put ++ xs) before (first.holds put before h));
+    }

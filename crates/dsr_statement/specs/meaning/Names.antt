@@ -4,6 +4,20 @@ use Rattle.dsr_ledger.specs.declared.verdict.Standing.{Standing}
 use Rattle.dsr_ledger.specs.declared.verdict.Standing.TheVariants as standing
 use Rattle.dsr_ledger.specs.declared.verdict.Reason.{Reason}
 use Rattle.dsr_ledger.specs.declared.verdict.Reason.TheVariants as reason
+use Rattle.dsr_statement.specs.declared.line.LineKind.{LineKind}
+use Rattle.dsr_statement.specs.declared.line.LineKind.TheVariants as kinds
+
+-- the names of the lines
+abbrev pub kind_name : LineKind → List ℕ
+kind_name kinds.Report = codes "REPORT"
+kind_name kinds.NoReport = codes "NOREPORT"
+kind_name kinds.File = codes "FILE"
+kind_name kinds.Missing = codes "MISSING"
+kind_name kinds.Summary = codes "SUMMARY"
+kind_name kinds.Ledger = codes "LEDGER"
+kind_name kinds.Party = codes "PARTY"
+kind_name kinds.Unclaimed = codes "UNCLAIMED"
+kind_name kinds.Reject = codes "REJECT"
 
 unfoldable pub standing_name : Standing → List ℕ
 standing_name standing.Ours = codes "Ours"

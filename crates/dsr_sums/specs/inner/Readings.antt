@@ -3,10 +3,10 @@ use Rattle.std.specs.Prelude.{◌≡◌, ◌⊎◌, ℕ, suc, ◌==◌, Bool, fa
 use Rattle.std.specs.List.{slice_split}
 use Rattle.std.specs.Io.KnownBytes.{Consumes}
 use Rattle.dsr_io.specs.meaning.Told.{Told}
-use Rattle.dsr_statement_reader.specs.declared.line.StatementLine.{StatementLine}
-use Rattle.dsr_statement_reader.specs.declared.fault.StatementFault.{StatementFault}
-use Rattle.dsr_statement_reader.specs.inner.After.{IsAfter}
-use Rattle.dsr_statement_reader.specs.meaning.Readings.{Refusal, next_line, end_fault, reading_after}
+use Rattle.dsr_statement.specs.declared.line.Line.{Line}
+use Rattle.dsr_statement.specs.declared.fault.StatementFault.{StatementFault}
+use Rattle.dsr_statement.specs.inner.After.{IsAfter}
+use Rattle.dsr_statement.specs.meaning.Readings.{Refusal, IsNextLine, IsReadingAfter, IsReadingOf, end_fault}
 use Rattle.dsr_sums.specs.declared.reading.Reading.{Reading}
 use Rattle.dsr_sums.specs.declared.reading.ReadingError.{ReadingError}
 use Rattle.dsr_sums.specs.declared.reading.ReadingError.TheVariants as errors
@@ -27,41 +27,42 @@ abbrev pub HasNoLineFeed : List ℕ → Type 0
 HasNoLineFeed bytes = All (λ b. (b == 10) ≡ false) bytes
 
 -- these lines were read
-pub record Reads (r : Reading) (done : List StatementLine) : Type 0 where
+pub record Reads (r : Reading) (done : List Line) : Type 0 where
   pub after : IsAfter r.reader (reverse done)
   pub line : r.line ≡ suc (length done)
   pub key : r.key ≡ key_of_lines done
   pub remark : r.remark ≡ first_remark 1 done
 
 -- the totals hold these lines of a statement too
-abbrev pub AddsLines : Role → Totals → Totals → List StatementLine → Type 0
+abbrev pub AddsLines : Role → Totals → Totals → List Line → Type 0
 AddsLines role old new ls = (bs : List Booked) → HoldsLines old bs → HoldsLines new (bs ++ map (booked role) ls)
 
 -- the line of this text was taken
-abbrev pub TakesLine : Reading → Reading → Totals → Totals → List StatementLine → List ℕ → Type 0
+abbrev pub TakesLine : Reading → Reading → Totals → Totals → List Line → List ℕ → Type 0
 TakesLine old new before after done text =
-    (l : StatementLine) × (next_line (reverse done) text ≡ Ok l) × Reads new (done ++ l ∷ []) × AddsLines old.role before after (l ∷ [])
+    (l : Line) × IsNextLine (reverse done) text (Ok l) × Reads new (done ++ l ∷ []) × AddsLines old.role before after (l ∷ [])
 
-abbrev pub with_lines : List StatementLine → Result (List StatementLine) Refusal → Result (List StatementLine) Refusal
+abbrev pub with_lines : List Line → Result (List Line) Refusal → Result (List Line) Refusal
 with_lines ls (Ok more) = Ok (ls ++ more)
 with_lines ls (Err refusal) = Err refusal
 
 -- bytes are these lines: whatever follows them is read after them
-abbrev pub AreLinesOf : List StatementLine → List ℕ → List StatementLine → Type 0
-AreLinesOf done bytes ls = (rest : List ℕ) (failed : Bool)
-    → reading_after (reverse done) (pieces (bytes ++ rest)) failed ≡ with_lines ls (reading_after (reverse (done ++ ls)) (pieces rest) failed)
+abbrev pub AreLinesOf : List Line → List ℕ → List Line → Type 0
+AreLinesOf done bytes ls = (rest : List ℕ) (failed : Bool) (read : Result (List Line) Refusal)
+    → IsReadingAfter (reverse (done ++ ls)) (pieces rest) failed read
+    → IsReadingAfter (reverse done) (pieces (bytes ++ rest)) failed (with_lines ls read)
 
 -- the lines of these bytes were taken
-abbrev pub TakesLines : Reading → Reading → Totals → Totals → List StatementLine → List ℕ → Type 0
+abbrev pub TakesLines : Reading → Reading → Totals → Totals → List Line → List ℕ → Type 0
 TakesLines old new before after done bytes =
-    (ls : List StatementLine) × AreLinesOf done bytes ls × Reads new (done ++ ls) × AddsLines old.role before after ls
+    (ls : List Line) × AreLinesOf done bytes ls × Reads new (done ++ ls) × AddsLines old.role before after ls
 
 abbrev pub refusal : ℕ → StatementFault → Refusal
 refusal line fault = record { line = line; fault = fault }
 
 -- the line of this text is refused after these lines, unless memory was refused
-abbrev pub IsRefusedAt : List StatementLine → List ℕ → ReadingError → Type 0
-IsRefusedAt done text (errors.Refused line fault) = (line ≡ suc (length done)) × (next_line (reverse done) text ≡ Err fault)
+abbrev pub IsRefusedAt : List Line → List ℕ → ReadingError → Type 0
+IsRefusedAt done text (errors.Refused line fault) = (line ≡ suc (length done)) × IsNextLine (reverse done) text (Err fault)
 IsRefusedAt done text errors.Memory = Unit {0}
 
 -- an error is that of a result, unless memory was refused
@@ -70,11 +71,13 @@ IsErrorOf r (errors.Refused line fault) = r ≡ Err (refusal line fault)
 IsErrorOf r errors.Memory = Unit {0}
 
 -- the bytes after these lines have this fault, whatever follows them
-abbrev pub IsRefusedIn : List StatementLine → List ℕ → ReadingError → Type 0
-IsRefusedIn done bytes e = (more : List ℕ) (failed : Bool) → IsErrorOf (reading_after (reverse done) (pieces (bytes ++ more)) failed) e
+abbrev pub IsRefusedIn : List Line → List ℕ → ReadingError → Type 0
+IsRefusedIn done bytes (errors.Refused line fault) =
+    (more : List ℕ) (failed : Bool) → IsReadingAfter (reverse done) (pieces (bytes ++ more)) failed (Err (refusal line fault))
+IsRefusedIn done bytes errors.Memory = Unit {0}
 
 -- the statement ends here, with what follows its last line feed
-abbrev pub FinishesAt : Role → List StatementLine → List ℕ → Bool → Result StatementReport ReadingError → Type 0
+abbrev pub FinishesAt : Role → List Line → List ℕ → Bool → Result StatementReport ReadingError → Type 0
 FinishesAt role done rest failed (Ok report) =
     (end_fault (reverse done) rest failed ≡ None) × (statement_with role done (key_of_lines done) ≡ Ok (record { report = report; lines = done }))
     × (report.role ≡ role)
@@ -83,26 +86,26 @@ FinishesAt role done rest failed (Err (errors.Refused line fault)) =
     ⊎ ((end_fault (reverse done) rest failed ≡ None) × (statement_with role done (key_of_lines done) ≡ Err (refusal line fault)))
 FinishesAt role done rest failed (Err errors.Memory) = Unit {0}
 
-abbrev pub text_with : Role → List ℕ → Bool → StatementText
-text_with role bytes failed = record { role = role; bytes = bytes; failed = failed }
+abbrev pub text_with : Role → (bytes : List ℕ) (failed : Bool) (read : Result (List Line) Refusal) → IsReadingOf bytes failed read → StatementText
+text_with role bytes failed read is = record { role = role; bytes = bytes; failed = failed; read = read; is_read = is }
 
 -- a statement was read and its lines were added to the totals, or it was refused
 abbrev pub ReadAs : Role → Totals → Totals → Result Statement Refusal → Result StatementReport ReadingError → Type 0
 ReadAs role before after s (Ok report) =
-    (ls : List StatementLine) × (s ≡ Ok (record { report = report; lines = ls })) × (report.role ≡ role) × AddsLines role before after ls
+    (ls : List Line) × (s ≡ Ok (record { report = report; lines = ls })) × (report.role ≡ role) × AddsLines role before after ls
 ReadAs role before after s (Err e) = IsErrorOf s e
 
 -- the source gave a text, which was read so; unless memory was refused
 abbrev pub IsReadFrom : Told → Told → Role → Totals → Totals → Result StatementReport ReadingError → Type 0
 IsReadFrom told left role before after (Err errors.Memory) = Unit {0}
 IsReadFrom told left role before after result =
-    (bytes : List ℕ) × (failed : Bool) × Gave told left (text_with role bytes failed)
-    × ReadAs role before after (statement_in (text_with role bytes failed)) result
+    (bytes : List ℕ) × (failed : Bool) × (read : Result (List Line) Refusal) × (is : IsReadingOf bytes failed read)
+    × Gave told left (text_with role bytes failed read is) × ReadAs role before after (statement_in (text_with role bytes failed read is)) result
 
 -- what was read so far: the lines of some bytes, and what follows their last line feed
 pub record IsReading (before now : Told) (role : Role) (start totals : Totals) (r : Reading) (kept : List ℕ) : Type 0 where
   pub bytes : List ℕ
-  pub ls : List StatementLine
+  pub ls : List Line
   pub consumed : Consumes before.remaining now.remaining (bytes ++ kept)
   pub sound : now.failed ≡ false
   pub role_is : r.role ≡ role

@@ -2,7 +2,8 @@
 use Rattle.std.specs.Prelude.{◌≡◌, ℕ, ◌++◌, Bool, List, [], ◌∷◌, length, Result, Ok, Err}
 use Rattle.std.specs.List.{flat_map}
 use Rattle.dsr_io.specs.meaning.Told.{Told}
-use Rattle.dsr_statement_reader.specs.meaning.Readings.{Refusal}
+use Rattle.dsr_statement.specs.meaning.Readings.{Refusal, IsReadingOf}
+use Rattle.dsr_statement.specs.declared.line.Line.{Line}
 use Rattle.dsr_sums.specs.declared.answer.Totaling.{Totaling}
 use Rattle.dsr_sums.specs.declared.answer.TotalsError.{TotalsError}
 use Rattle.dsr_sums.specs.declared.answer.TotalsError.TheVariants as totals_errors
@@ -38,8 +39,9 @@ IsNext next ss t (Err e) = IsErrorOf next e
 abbrev pub ReadsNext : Bool → Told → Told → Role → List Statement → Totaling → Result (Unit {0}) ReadingError → Type 0
 ReadsNext remarks before after role ss t (Err errors.Memory) = Unit {0}
 ReadsNext remarks before after role ss t result =
-    (bytes : List ℕ) × (failed : Bool) × Gave before after (text_with role bytes failed)
-    × IsNext (accepted remarks ss (statement_in (text_with role bytes failed))) ss t result
+    (bytes : List ℕ) × (failed : Bool) × (read : Result (List Line) Refusal) × (is : IsReadingOf bytes failed read)
+    × Gave before after (text_with role bytes failed read is)
+    × IsNext (accepted remarks ss (statement_in (text_with role bytes failed read is))) ss t result
 
 -- the error of the statement at this place
 abbrev pub error_of : ℕ → ReadingError → TotalsError

@@ -1,33 +1,35 @@
 -- What the totals of the texts of statements are, or why there are none.
 use Rattle.std.specs.Prelude.{ℕ, Bool, if◌then◌else◌, List, [], ◌∷◌, ◌++◌, length, Option, None, Some, Result, Ok, Err}
 use Rattle.dsr_ledger.specs.declared.report.ReportKey.{ReportKey}
-use Rattle.dsr_statement_reader.specs.declared.fault.StatementFault.TheVariants as faults
-use Rattle.dsr_statement_reader.specs.declared.line.StatementLine.{StatementLine}
-use Rattle.dsr_statement_reader.specs.meaning.Readings.{Refusal, reading_of}
+use Rattle.dsr_statement.specs.declared.fault.StatementFault.TheVariants as faults
+use Rattle.dsr_statement.specs.declared.line.Line.{Line}
+use Rattle.dsr_statement.specs.meaning.Readings.{Refusal, IsReadingOf}
 use Rattle.dsr_sums.specs.declared.answer.TotalsError.{TotalsError}
 use Rattle.dsr_sums.specs.declared.answer.TotalsError.TheVariants.{Refused, OutOfRange}
 use Rattle.dsr_sums.specs.declared.reports.Role.{Role}
 use Rattle.dsr_sums.specs.meaning.Totals.{are_in_range}
 use Rattle.dsr_sums.specs.meaning.Statements.{Statement, at_first_line, booked_lines, fault_after, first_remark, key_of_lines, reports_of, totals_text}
 
--- what was read of a statement: its bytes, and whether a read failed after them
+-- what was read of a statement: its bytes, and whether a read failed after them; and what they are read as
 pub record StatementText : Type 0 where
   pub role : Role
   pub bytes : List ℕ
   pub failed : Bool
+  pub read : Result (List Line) Refusal
+  pub is_read : IsReadingOf bytes failed read
 
 -- the statement that lines are
-abbrev pub statement_with : Role → List StatementLine → Option ReportKey → Result Statement Refusal
+abbrev pub statement_with : Role → List Line → Option ReportKey → Result Statement Refusal
 statement_with role ls None = Err (at_first_line faults.NoReport)
 statement_with role ls (Some key) = Ok (record { report = record { role = role; key = key; remark = first_remark 1 ls }; lines = ls })
 
-abbrev pub statement_of : Role → Result (List StatementLine) Refusal → Result Statement Refusal
+abbrev pub statement_of : Role → Result (List Line) Refusal → Result Statement Refusal
 statement_of role (Ok ls) = statement_with role ls (key_of_lines ls)
 statement_of role (Err refusal) = Err refusal
 
 -- the statement that a text is, or its first fault
 abbrev pub statement_in : StatementText → Result Statement Refusal
-statement_in text = statement_of text.role (reading_of text.bytes text.failed)
+statement_in text = statement_of text.role text.read
 
 abbrev pub unless : {A : Type 0} → A → Option Refusal → Result A Refusal
 unless x None = Ok x

@@ -2,16 +2,16 @@
 use Rattle.std.specs.Prelude.{◌≡◌, ◌⊎◌, ℕ, suc, ◌++◌, nat_lt, Bool, true, if◌then◌else◌, List, [], ◌∷◌, length, Ok, Err}
 use Rattle.std.specs.Io.KnownBytes.{Consumes, IsAtEnd}
 use Rattle.dsr_io.specs.meaning.Told.{Told}
-use Rattle.dsr_statement_reader.specs.meaning.Readings.{reading_of}
+use Rattle.dsr_statement.specs.meaning.Readings.{IsReadingOf}
 use Rattle.dsr_sums.specs.declared.answer.TotalsError.{TotalsError}
 use Rattle.dsr_sums.specs.declared.answer.TotalsError.TheVariants.{Refused, OutOfRange, Memory}
 use Rattle.dsr_sums.specs.declared.reports.Role.{Role}
 use Rattle.dsr_sums.specs.declared.reports.Role.TheVariants.{Given, Paid}
 use Rattle.dsr_sums.specs.meaning.Answers.{StatementText, totals}
 
--- a text is the same whatever follows it: it has a fault
+-- a text is read as the same whatever follows it: it has a fault
 abbrev pub IsSettled : StatementText → Type 0
-IsSettled text = (more : List ℕ) (failed : Bool) → reading_of (text.bytes ++ more) failed ≡ reading_of text.bytes text.failed
+IsSettled text = (more : List ℕ) (failed : Bool) → IsReadingOf (text.bytes ++ more) failed text.read
 
 -- a source gave a text: to its end, or until a read failed, or until it has a fault whatever follows
 pub record Gave (before after : Told) (text : StatementText) : Type 0 where

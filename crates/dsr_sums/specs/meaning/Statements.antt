@@ -5,25 +5,24 @@ use Rattle.std.specs.Str.{bytes_eq}
 use Rattle.dsr_cells.specs.meaning.Written.{written_day}
 use Rattle.dsr_cells.specs.meaning.Days.{CivilDay}
 use Rattle.dsr_ledger.specs.declared.report.ReportKey.{ReportKey}
-use Rattle.dsr_statement.specs.meaning.Statement.{line}
 use Rattle.dsr_statement.specs.meaning.Status.{is_clean_file}
-use Rattle.dsr_statement_reader.specs.declared.line.StatementLine.{StatementLine}
-use Rattle.dsr_statement_reader.specs.declared.line.StatementLine.TheVariants as lines
-use Rattle.dsr_statement_reader.specs.declared.fault.StatementFault.{StatementFault}
-use Rattle.dsr_statement_reader.specs.declared.fault.StatementFault.TheVariants as faults
-use Rattle.dsr_statement_reader.specs.meaning.Readings.{Refusal}
+use Rattle.dsr_statement.specs.declared.line.Line.{Line}
+use Rattle.dsr_statement.specs.declared.line.Line.TheVariants as lines
+use Rattle.dsr_statement.specs.declared.fault.StatementFault.{StatementFault}
+use Rattle.dsr_statement.specs.declared.fault.StatementFault.TheVariants as faults
+use Rattle.dsr_statement.specs.meaning.Readings.{Refusal}
 use Rattle.dsr_sums.specs.declared.reports.StatementReport.{StatementReport}
 use Rattle.dsr_sums.specs.declared.reports.Role.{Role}
 use Rattle.dsr_sums.specs.declared.reports.Role.TheVariants.{Given, Paid}
-use Rattle.dsr_sums.specs.meaning.Totals.{Booked, booked, sums_text}
+use Rattle.dsr_sums.specs.meaning.Totals.{Booked, booked, line, sums_text}
 
 -- a statement that was read whole: its report, and its lines
 pub record Statement : Type 0 where
   pub report : StatementReport
-  pub lines : List StatementLine
+  pub lines : List Line
 
 -- a line that is a remark: of a file that is not Ours or not whole, a missing file, a difference, a rejected block
-abbrev pub is_remark : StatementLine → Bool
+abbrev pub is_remark : Line → Bool
 is_remark (lines.File place f) = not (is_clean_file f)
 is_remark (lines.Missing number) = true
 is_remark (lines.Summary d) = true
@@ -31,11 +30,11 @@ is_remark (lines.Reject r) = true
 is_remark _ = false
 
 -- the number of the first remark's line, where the first line has this number
-abbrev pub first_remark : ℕ → List StatementLine → Option ℕ
+abbrev pub first_remark : ℕ → List Line → Option ℕ
 first_remark n [] = None
 first_remark n (l ∷ ls) = if is_remark l then Some n else first_remark (suc n) ls
 
-abbrev pub key_of_line : StatementLine → Option ReportKey
+abbrev pub key_of_line : Line → Option ReportKey
 key_of_line (lines.Report key) = Some key
 key_of_line _ = None
 
@@ -44,7 +43,7 @@ either (Some x) o = Some x
 either None o = o
 
 -- the report that the lines name
-abbrev pub key_of_lines : List StatementLine → Option ReportKey
+abbrev pub key_of_lines : List Line → Option ReportKey
 key_of_lines [] = None
 key_of_lines (l ∷ ls) = either (key_of_line l) (key_of_lines ls)
 

@@ -2,21 +2,29 @@
 use Rattle.std.specs.Prelude.{ℕ, ℤ, pos, ◌&&◌, Bool, List, [], ◌∷◌, ◌++◌, codes}
 use Rattle.std.specs.Fmt.{signed_decimal}
 use Rattle.std.specs.List.{flat_map}
-use Rattle.dsr_statement.specs.meaning.Statement.{line, amount_cell}
-use Rattle.dsr_statement_reader.specs.declared.line.StatementLine.{StatementLine}
-use Rattle.dsr_statement_reader.specs.declared.line.StatementLine.TheVariants as lines
+use Rattle.dsr_statement.specs.meaning.Cells.{amount_cell}
+use Rattle.dsr_statement.specs.declared.line.Line.{Line}
+use Rattle.dsr_statement.specs.declared.line.Line.TheVariants as lines
 use Rattle.dsr_sums.specs.declared.account.Account.{Account}
 use Rattle.dsr_sums.specs.declared.reports.Role.{Role}
 use Rattle.dsr_sums.specs.declared.sums.Sums.{Sums}
 use Rattle.dsr_sums.specs.meaning.Accounts.{currency_account, market_account, party_account}
 use Rattle.dsr_sums.specs.meaning.Postings.{Posting, posting, balances, are_summable}
 
+-- each cell after a tab
+abbrev pub tabbed : List (List ℕ) → List ℕ
+tabbed cells = flat_map (λ cell. 9 ∷ cell) cells
+
+-- a line of totals: its name, its cells each after a tab, a line feed
+abbrev pub line : List ℕ → List (List ℕ) → List ℕ
+line name cells = name ++ (tabbed cells ++ 10 ∷ [])
+
 -- a line of a statement with this role
 pub record Booked : Type 0 where
   pub role : Role
-  pub line : StatementLine
+  pub line : Line
 
-abbrev pub booked : Role → StatementLine → Booked
+abbrev pub booked : Role → Line → Booked
 booked role l = record { role = role; line = l }
 
 -- usages and an amount
@@ -33,20 +41,20 @@ unclaimed amount = record { usages = pos 0; amount = pos 0; claimed = pos 0; unc
 
 -- what a line of a statement with this role adds to its currency: a ledger line its usages and its amount, a party its part,
 -- and what is left
-abbrev pub to_currency_by : Role → StatementLine → List Posting
+abbrev pub to_currency_by : Role → Line → List Posting
 to_currency_by role (lines.Ledger key usages amount) = posting role (currency_account key.currency) (numbers usages amount) ∷ []
 to_currency_by role (lines.Party key p) = posting role (currency_account key.currency) (claimed p.amount) ∷ []
 to_currency_by role (lines.Unclaimed key amount) = posting role (currency_account key.currency) (unclaimed amount) ∷ []
 to_currency_by role _ = []
 
 -- what it adds to its market
-abbrev pub to_market_by : Role → StatementLine → List Posting
+abbrev pub to_market_by : Role → Line → List Posting
 to_market_by role (lines.Ledger key usages amount) =
     posting role (market_account key.territory key.use_type key.currency) (numbers usages amount) ∷ []
 to_market_by role _ = []
 
 -- what it adds to its party
-abbrev pub to_party_by : Role → StatementLine → List Posting
+abbrev pub to_party_by : Role → Line → List Posting
 to_party_by role (lines.Party key p) = posting role (party_account p.party key.currency) (numbers (pos 0) p.amount) ∷ []
 to_party_by role _ = []
 

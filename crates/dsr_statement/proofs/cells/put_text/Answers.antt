@@ -1,5 +1,8 @@
-use Rattle.dsr_statement.proofs.LineLemmas.{then}
+use Rattle.std.proofs.Common.{rules, append_assoc}
+use Rattle.dsr_statement.proofs.Puts.{turn}
 use Rattle.dsr_statement.proofs.cells.put_text.Goals as goal
 
 pub returns : goal.returns
-returns g c = then c.put.ensures c.put-2.ensures
+returns g c =
+    let both = g.met.S.Sink.both in
+    turn g.S.Sink.took (both _ _ _ _ _ c.put.ensures (c.put-2.ensures)) (search (rules, append_assoc))

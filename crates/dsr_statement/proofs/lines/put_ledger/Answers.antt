@@ -1,11 +1,12 @@
-use Rattle.dsr_statement.proofs.Common.{◌++◌, ledger_lines}
+use Rattle.dsr_statement.proofs.Common.{◌++◌}
+use Rattle.dsr_statement.specs.meaning.Statement.{lines_of_ledger, text_of}
 use Rattle.dsr_statement.proofs.LineLemmas.{then, turn, two_parts}
 use Rattle.dsr_statement.proofs.lines.put_ledger.Goals as goal
 
 pub returns-then-drop_if_failed : goal.returns-then-drop_if_failed
 returns-then-drop_if_failed g c =
     let l = c.args.line.now in
-    c.drop_if_failed.ensures.dropped c.if-drop_if_failed.true (ledger_lines (record l { parties = l.parties ++ c.args.own.now }))
+    c.drop_if_failed.ensures.dropped c.if-drop_if_failed.true (text_of (lines_of_ledger (record l { parties = l.parties ++ c.args.own.now })))
 
 pub returns : goal.returns
 returns g c =

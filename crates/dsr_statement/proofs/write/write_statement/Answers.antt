@@ -1,4 +1,5 @@
-use Rattle.dsr_statement.proofs.Common.{[], rules, statement_of}
+use Rattle.dsr_statement.proofs.Common.{[], rules}
+use Rattle.dsr_statement.specs.meaning.Statement.{statement_of}
 use Rattle.dsr_statement.proofs.Sending.{if_ok, if_err}
 use Rattle.dsr_statement.proofs.write.write_statement.Goals as goal
 

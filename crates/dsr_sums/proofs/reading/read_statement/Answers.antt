@@ -1,5 +1,5 @@
 use Rattle.std.proofs.Common.{◌≡◌, ◌∙◌, ◌<◌, rules, true, false, ap, sym, subst, length, take, drop, arith, ◌++◌}
-use Rattle.dsr_statement_reader.specs.meaning.Readings.{most_bytes}
+use Rattle.dsr_statement.specs.meaning.Readings.{most_bytes}
 use Rattle.dsr_sums.specs.inner.Readings.{FinishesAt, IsReading, IsRefusedIn, HasNoLineFeed, TakesLines}
 use Rattle.dsr_sums.proofs.SourceLemmas.{nothing_read, finished_long, finished_whole, finished_failed, refused_within, read_more}
 use Rattle.dsr_sums.proofs.reading.read_statement.Goals as goal

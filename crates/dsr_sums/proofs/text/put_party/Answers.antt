@@ -1,7 +1,7 @@
 use Rattle.std.proofs.Common.{◌≡◌, ap, ◌∙◌, ◌++◌, ◌∷◌, [], codes, rules, to_z, of_z}
 use Rattle.std.proofs.lemmas.Int.{to_z-of_z}
 use Rattle.std.specs.Int.{w128}
-use Rattle.dsr_statement.specs.meaning.Statement.{amount_cell}
+use Rattle.dsr_statement.specs.meaning.Cells.{amount_cell}
 use Rattle.dsr_sums.specs.meaning.Totals.{party_line}
 use Rattle.dsr_sums.proofs.TextLemmas.{cell, line_put}
 use Rattle.dsr_sums.proofs.text.put_party.Goals as goal

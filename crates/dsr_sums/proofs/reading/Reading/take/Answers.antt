@@ -1,6 +1,6 @@
 use Rattle.std.proofs.Common.{sym, subst, ◌∷◌}
 use Rattle.std.specs.Prelude.{reverse}
-use Rattle.dsr_statement_reader.specs.inner.After.{IsAfter}
+use Rattle.dsr_statement.specs.inner.After.{IsAfter}
 use Rattle.dsr_sums.proofs.ReadingLemmas.{reads_more}
 use Rattle.dsr_sums.proofs.reading.Reading.take.Goals as goal
 

@@ -1,5 +1,5 @@
 use Rattle.std.proofs.Common.{◌≡◌, ◌-◌, ◌≤◌, List, length, take}
-use Rattle.dsr_statement_reader.specs.declared.line.StatementLine.{StatementLine}
+use Rattle.dsr_statement.specs.declared.line.Line.{Line}
 use Rattle.dsr_sums.specs.inner.Readings.{Reads, TakesLines}
 use Rattle.dsr_sums.proofs.reading.Reading.take_lines.Given as goal
 
@@ -7,7 +7,7 @@ abbrev pub invariant-lines : goal.invariant-lines
 invariant-lines l = record {
   within : l.used ≤ length l.bytes;
   role : l.self.role ≡ l.fn.self.role;
-  taken : (done : List StatementLine) → Reads l.fn.self done → TakesLines l.fn.self l.self l.fn.totals l.totals done (take l.used l.bytes);
+  taken : (done : List Line) → Reads l.fn.self done → TakesLines l.fn.self l.self l.fn.totals l.totals done (take l.used l.bytes);
 }
 
 abbrev pub decreases-lines : goal.decreases-lines

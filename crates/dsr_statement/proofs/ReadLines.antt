@@ -1,0 +1,131 @@
+-- The lines of a text that was read: it is their text, and they are in their places.
+use Rattle.std.proofs.Common.{arith, ◌≡◌, ℕ, List, [], ◌∷◌, ◌++◌, length, Bool, true, false, refl, ap, sym, subst, ◌∙◌, append_assoc, inl, inr, None, Some, Result, Ok, Err, eqb, nat_lt, ◌&&◌}
+use Rattle.std.specs.Str.{IsUtf8, is_utf8}
+use Rattle.std.proofs.lemmas.Str.{IsUtf8-from_is_utf8, is_utf8-from_IsUtf8}
+use Rattle.std.specs.Result.{IfErr, IfOk}
+use Rattle.std.specs.List.{slice_split, join_with_byte}
+use Rattle.std.proofs.lemmas.Bool.{and_parts, cases_Bool, eqb-true}
+use Rattle.std.proofs.lemmas.List.Concat.{flat_map-cons}
+use Rattle.std.proofs.lemmas.List.Splits.{join_with_byte-slice_split}
+use Rattle.dsr_statement.specs.declared.line.Line.{Line}
+use Rattle.dsr_statement.specs.declared.fault.StatementFault.{StatementFault}
+use Rattle.dsr_statement.specs.declared.fault.StatementFault.TheVariants as faults
+use Rattle.dsr_statement.specs.declared.fault.ReadError.{ReadError}
+use Rattle.dsr_statement.specs.declared.fault.ReadError.TheVariants as errors
+use Rattle.dsr_statement.specs.inner.After.{IsErrorOf}
+use Rattle.dsr_statement.specs.meaning.Lines.{line_bytes}
+use Rattle.dsr_statement.specs.meaning.Order.{placed, is_placed, adds_up, is_no_report, is_complete}
+use Rattle.dsr_statement.specs.meaning.Readings.{IsLineOf, IsNextLine, IsReadingAfter, IsReadingOf, Refusal, Spells, end_fault, ended, fault_of, most_bytes, refused_after}
+use Rattle.dsr_statement.specs.meaning.Statement.{text_of}
+use Rattle.dsr_statement.specs.meaning.Statements.{AreInPlace}
+
+-- the bytes of a line that is UTF-8 are read as their text is
+pub line_of_read : (bytes text : List ℕ) (r : Result Line StatementFault) → nat_lt most_bytes (length bytes) ≡ false → (text ≡ bytes) × IsUtf8 bytes
+    → IfOk r (λ l. Spells text l) → ((l : Line) → Spells text l → r ≡ Ok l) → IfErr r (λ f. f ≡ fault_of text) → IsLineOf bytes r
+line_of_read bytes text (Ok l) short (same, utf8) found only fault =
+    (rw (short, is_utf8-from_IsUtf8 bytes utf8) refl, subst (λ t. Spells t l) same found)
+line_of_read bytes text (Err f) short (same, utf8) found only fault =
+    inr (rw (short, is_utf8-from_IsUtf8 bytes utf8) refl, fault ∙ ap fault_of same, λ l s. not_read f l (only l (subst (λ t. Spells t l) (sym same) s)))
+  where
+    not_read : (f : StatementFault) (l : Line) → Err f ≡ Ok l → ⊥
+    not_read f l e = cc
+
+pub not_utf8 : (bytes : List ℕ) → nat_lt most_bytes (length bytes) ≡ false → ¬ (IsUtf8 bytes) → IsLineOf bytes (Err faults.NotUtf8)
+not_utf8 bytes short other = inl (rw (short, not_so) refl)
+  where
+    not_so : is_utf8 bytes ≡ false
+    not_so = elim (cases_Bool (is_utf8 bytes)) [
+      | inl good ↦ absurd (other (IsUtf8-from_is_utf8 bytes good))
+      | inr f ↦ f
+    ]
+
+-- a line that was read and may not stand where it does
+pub next_refused : (before : List Line) (bytes : List ℕ) (l : Line) (e : ReadError) → IsLineOf bytes (Ok l) → IsErrorOf e (λ r. placed before l ≡ r)
+    → IsErrorOf e (IsNextLine before bytes)
+next_refused before bytes l (errors.Fault f) is h = (Ok l, is, sym h)
+next_refused before bytes l errors.Memory is h = tt
+
+placed_same : (before : List Line) (x l : Line) → placed before x ≡ Ok l → x ≡ l
+placed_same before x l e = elim (cases_Bool (is_placed before x)) [
+  | inr f ↦ let none : placed before x ≡ Err faults.Place = rw f refl in cc
+  | inl a ↦ elim (cases_Bool (adds_up before x)) [
+    | inr f ↦ let none : placed before x ≡ Err faults.Sum = rw (a, f) refl in cc
+    | inl b ↦ elim (cases_Bool (is_no_report x)) [
+      | inl f ↦ let none : placed before x ≡ Err faults.NoReport = rw (a, b, f) refl in cc
+      | inr c ↦ let some : placed before x ≡ Ok x = rw (a, b, c) refl in cc
+    ]
+  ]
+]
+
+-- the next line is one that the bytes spell, in its place
+pub next_is : (before : List Line) (bytes : List ℕ) (l : Line) → IsNextLine before bytes (Ok l) → IsLineOf bytes (Ok l) × (placed before l ≡ Ok l)
+next_is before bytes l (Ok x, is, e) =
+    let same : x ≡ l = placed_same before x l (sym e) in
+    (subst (λ (y : Line). IsLineOf bytes (Ok y)) same is, ap (placed before) (sym same) ∙ sym e)
+next_is before bytes l (Err f, is, e) = cc
+
+-- a text that ends without a fault has nothing behind its last line
+ended_ok : (before : List Line) (rest : List ℕ) (failed : Bool) (ls : List Line) → Ok ls ≡ ended before (end_fault before rest failed)
+    → (rest ≡ []) × (is_complete before ≡ true) × (ls ≡ [])
+ended_ok before rest failed ls e = elim (cases_Bool (nat_lt most_bytes (length rest))) [
+  | inl t ↦ let none : end_fault before rest failed ≡ Some faults.LongLine = rw t refl in refused faults.LongLine none
+  | inr f ↦ elim (cases_Bool failed) [
+    | inl t ↦ let none : end_fault before rest failed ≡ Some faults.Read = rw (f, t) refl in refused faults.Read none
+    | inr g ↦ elim (cases_Bool (eqb (length rest) 0 && is_complete before)) [
+      | inr h ↦ let none : end_fault before rest failed ≡ Some faults.Cut = rw (f, g, h) refl in refused faults.Cut none
+      | inl t ↦
+          let none : end_fault before rest failed ≡ None = rw (f, g, t) refl in
+          let some : ended before (end_fault before rest failed) ≡ Ok [] = ap (ended before) none in
+          let both = and_parts (eqb (length rest) 0) (is_complete before) t in
+          let same : ls ≡ [] = cc in
+          (empty rest (eqb-true _ _ both.0), both.1, same)
+    ]
+  ]
+]
+  where
+    refuses : {A : Type 0} (r : Refusal) (x : List Line) → Ok x ≡ Err r → A
+    refuses r x q = cc
+
+    refused : {A : Type 0} (fault : StatementFault) → end_fault before rest failed ≡ Some fault → A
+    refused fault h = refuses (refused_after before fault) ls (e ∙ ap (ended before) h)
+
+    empty : (xs : List ℕ) → length xs ≡ 0 → xs ≡ []
+    empty [] h = refl
+    empty (x ∷ xs) h = absurd (omega arith)
+
+pieces_text : (before : List Line) (pieces : List (List ℕ)) (failed : Bool) (ls : List Line) → IsReadingAfter before pieces failed (Ok ls)
+    → join_with_byte 10 pieces ≡ text_of ls
+pieces_text before [] failed ls h = sym (ap text_of (ended_ok before [] failed ls h).2)
+pieces_text before (rest ∷ []) failed ls h = let end = ended_ok before rest failed ls h in end.0 ∙ sym (ap text_of end.2)
+pieces_text before (text ∷ next ∷ more) failed ls (Ok l, is, (Ok others, after, e)) =
+    let here : line_bytes l ≡ text ++ 10 ∷ [] = ap (λ t. t ++ 10 ∷ []) (next_is before text l is).0.1.same in
+    let there = pieces_text (l ∷ before) (next ∷ more) failed others after in
+    let all : l ∷ others ≡ ls = cc in
+    sym (append_assoc text (10 ∷ []) (join_with_byte 10 (next ∷ more))) ∙ ap (λ t. t ++ join_with_byte 10 (next ∷ more)) (sym here)
+    ∙ ap (λ t. line_bytes l ++ t) there ∙ sym (flat_map-cons line_bytes l others) ∙ ap text_of all
+pieces_text before (text ∷ next ∷ more) failed ls (Ok l, is, (Err r, after, e)) = cc
+pieces_text before (text ∷ next ∷ more) failed ls (Err f, is, e) = cc
+
+-- what is read was written so
+pub was_written_so : (text : List ℕ) (failed : Bool) (ls : List Line) → IsReadingOf text failed (Ok ls) → text ≡ text_of ls
+was_written_so text failed ls h =
+    sym (join_with_byte-slice_split 10 text) ∙ pieces_text [] (slice_split (λ b. eqb b 10) text) failed ls h
+
+pieces_in : (before : List Line) (pieces : List (List ℕ)) (failed : Bool) (ls : List Line) → IsReadingAfter before pieces failed (Ok ls)
+    → AreInPlace before ls
+pieces_in before [] failed ls h =
+    let end = ended_ok before [] failed ls h in subst (λ (x : List Line). AreInPlace before x) (sym end.2) end.1
+pieces_in before (rest ∷ []) failed ls h =
+    let end = ended_ok before rest failed ls h in subst (λ (x : List Line). AreInPlace before x) (sym end.2) end.1
+pieces_in before (text ∷ next ∷ more) failed ls (Ok l, is, (Ok others, after, e)) =
+    let here = (next_is before text l is).1 in
+    let there = pieces_in (l ∷ before) (next ∷ more) failed others after in
+    let all : l ∷ others ≡ ls = cc in
+    let both : AreInPlace before (l ∷ others) = (here, there) in
+    subst (λ (x : List Line). AreInPlace before x) all both
+pieces_in before (text ∷ next ∷ more) failed ls (Ok l, is, (Err r, after, e)) = cc
+pieces_in before (text ∷ next ∷ more) failed ls (Err f, is, e) = cc
+
+-- the lines that are read are in their places
+pub are_in_place : (text : List ℕ) (failed : Bool) (ls : List Line) → IsReadingOf text failed (Ok ls) → AreInPlace [] ls
+are_in_place text failed ls h = pieces_in [] (slice_split (λ b. eqb b 10) text) failed ls h

@@ -1,0 +1,5 @@
+use Rattle.dsr_statement.proofs.LineLemmas.{then}
+use Rattle.dsr_statement.proofs.lines.put_line.Goals as goal
+
+pub returns : goal.returns
+returns g c = then c.put.ensures c.put-2.ensures

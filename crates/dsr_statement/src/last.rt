@@ -1,0 +1,233 @@
+//! What is kept of the lines read so far.
+ghost use Rattle.std.specs.Prelude.{◌≡◌, OnOk};
+ghost use Rattle.dsr_ledger.specs.meaning.Bookings.{key_eq};
+ghost use Rattle.dsr_statement.specs.meaning.Order.{is_key_below};
+ghost use Rattle.dsr_statement.specs.inner.Lasts.{last_line, file_fits, fits_file, fits_missing, fits_summary, fits_ledger, missing_fits, summary_fits, ledger_fits, party_fits, unclaimed_fits, reject_fits, fits_start, ends};
+
+use crate::line::{KeyRef, Line};
+use dsr_cells::{NoMemory, Text};
+use std::alloc::Global;
+use std::marker::Model;
+
+/// The last line that was read, as far as the next one depends on it.
+#[derive(Clone, Copy, PartialEq, Eq)]
+pub(crate) enum Last {
+    /// None was.
+    Start,
+    /// REPORT.
+    Report,
+    /// FILE, with its place.
+    File(u64),
+    /// MISSING, with its number.
+    Missing(u32),
+    /// SUMMARY, with its file.
+    Summary(u64),
+    /// LEDGER.
+    Ledger,
+    /// PARTY.
+    Party,
+    /// UNCLAIMED.
+    Unclaimed,
+    /// REJECT, with its file and position.
+    Reject(u64, u64),
+}
+
+impl Last {
+    /// As the last line.
+    pub(crate) fn of(line: &Line<'_>) -> Last
+        ensures { result ≡ last_line line.now }
+    {
+        match line {
+            Line::Report(_) | Line::NoReport => Last::Report,
+            Line::File(place, _) => Last::File(*place),
+            Line::Missing(number) => Last::Missing(*number),
+            Line::Summary(difference) => Last::Summary(difference.file),
+            Line::Ledger(_, _, _) => Last::Ledger,
+            Line::Party(_, _) => Last::Party,
+            Line::Unclaimed(_, _) => Last::Unclaimed,
+            Line::Reject(reject) => Last::Reject(reject.file, reject.position),
+        }
+    }
+
+    /// Whether a statement begins here.
+    pub(crate) fn is_start(self) -> bool
+        ensures { result ≡ fits_start self }
+    {
+        matches!(self, Last::Start)
+    }
+
+    /// Whether a statement may end here.
+    pub(crate) fn may_end(self) -> bool
+        ensures { result ≡ ends self }
+    {
+        !matches!(
+            self,
+            Last::Start | Last::Report | Last::Ledger | Last::Party
+        )
+    }
+
+    /// Whether the line of the file at this place may stand next.
+    pub(crate) fn precedes_file(self, place: u64) -> bool
+        ensures { result ≡ file_fits place self }
+    {
+        match self {
+            Last::Report => place == 1,
+            Last::File(before) => before < place && place - before == 1,
+            _ => false,
+        }
+    }
+
+    /// Whether it is the line of a file.
+    fn is_file(self) -> bool
+        ensures { result ≡ fits_file self }
+    {
+        matches!(self, Last::File(_))
+    }
+
+    /// Whether it is the line of a file or of a missing one.
+    fn is_missing(self) -> bool
+        ensures { result ≡ fits_missing self }
+    {
+        matches!(self, Last::Missing(_)) || self.is_file()
+    }
+
+    /// Whether it is the line of a file, of a missing one or of a difference.
+    fn is_summary(self) -> bool
+        ensures { result ≡ fits_summary self }
+    {
+        matches!(self, Last::Summary(_)) || self.is_missing()
+    }
+
+    /// Whether it is one of these or the last of a ledger line.
+    fn is_unclaimed(self) -> bool
+        ensures { result ≡ fits_ledger self }
+    {
+        matches!(self, Last::Unclaimed) || self.is_summary()
+    }
+
+    /// Whether the line of this missing file may stand next.
+    pub(crate) fn precedes_missing(self, number: u32) -> bool
+        ensures { result ≡ missing_fits number self }
+    {
+        match self {
+            Last::Missing(before) => before < number,
+            _ => self.is_file(),
+        }
+    }
+
+    /// Whether the line of a difference of this file may stand next.
+    pub(crate) fn precedes_summary(self, file: u64) -> bool
+        ensures { result ≡ summary_fits file self }
+    {
+        match self {
+            Last::Summary(before) => before <= file,
+            _ => self.is_missing(),
+        }
+    }
+
+    /// Whether a ledger line may stand next, whose key is above the last one or not.
+    pub(crate) fn precedes_ledger(self, is_above: bool) -> bool
+        ensures { result ≡ ledger_fits is_above self }
+    {
+        match self {
+            Last::Unclaimed => is_above,
+            _ => self.is_summary(),
+        }
+    }
+
+    /// Whether the line of a party may stand next, which has the last key or not, and whose name is above the last one or not.
+    pub(crate) fn precedes_party(self, same_key: bool, is_above: bool) -> bool
+        ensures { result ≡ party_fits same_key is_above self }
+    {
+        match self {
+            Last::Ledger => same_key,
+            Last::Party => same_key && is_above,
+            _ => false,
+        }
+    }
+
+    /// Whether an unclaimed amount may stand next, which has the last key or not.
+    pub(crate) fn precedes_unclaimed(self, same_key: bool) -> bool
+        ensures { result ≡ unclaimed_fits same_key self }
+    {
+        matches!(self, Last::Ledger | Last::Party) && same_key
+    }
+
+    /// Whether the line of this rejected block may stand next.
+    pub(crate) fn precedes_reject(self, file: u64, position: u64) -> bool
+        ensures { result ≡ reject_fits file position self }
+    {
+        match self {
+            Last::Reject(last, before) => { last < file || (last == file && before < position) }
+            _ => self.is_unclaimed(),
+        }
+    }
+}
+
+/// The key of the last ledger line. Contracts see it as a `Key`.
+#[derive(Drop)]
+pub(crate) struct LastKey {
+    isrc: Text,
+    territory: Text,
+    use_type: Text,
+    currency: Text,
+}
+
+impl Model for LastKey {
+    ghost use Rattle.dsr_ledger.specs.meaning.Bookings.{Key};
+
+    ghost Value = { Key };
+
+    ghost view = { λ k. record {
+      isrc = k.isrc;
+      territory = k.territory;
+      use_type = k.use_type;
+      currency = k.currency;
+    } };
+}
+
+impl LastKey {
+    /// A key of empty texts.
+    pub(crate) fn new() -> LastKey {
+        LastKey {
+            isrc: Text::default(),
+            territory: Text::default(),
+            use_type: Text::default(),
+            currency: Text::default(),
+        }
+    }
+
+    /// Writes another key over this one.
+    pub(crate) fn assign(&mut self, alloc: Global, key: &KeyRef<'_>) -> Result<(), NoMemory>
+        ensures { OnOk result (self.new ≡ key.now) }
+    {
+        self.isrc.assign(alloc, key.isrc)?;
+        self.territory.assign(alloc, key.territory)?;
+        self.use_type.assign(alloc, key.use_type)?;
+        self.currency.assign(alloc, key.currency)?;
+        Ok(())
+    }
+
+    /// Whether it is this key.
+    pub(crate) fn is(&self, key: &KeyRef<'_>) -> bool
+        ensures { result ≡ key_eq self.now key.now }
+    {
+        self.isrc.as_str() == key.isrc
+            && self.territory.as_str() == key.territory
+            && self.use_type.as_str() == key.use_type
+            && self.currency.as_str() == key.currency
+    }
+
+    /// Whether it is below this key.
+    pub(crate) fn is_below(&self, key: &KeyRef<'_>) -> bool
+        ensures { result ≡ is_key_below self.now key.now }
+    {
+        let isrcs = self.isrc.as_str().cmp(key.isrc);
+        let territories = self.territory.as_str().cmp(key.territory);
+        let use_types = self.use_type.as_str().cmp(key.use_type);
+        let currencies = self.currency.as_str().cmp(key.currency);
+        isrcs
+            .then(territories.then(use_types.then(currencies)))
+            .is_lt()
+    }
+}

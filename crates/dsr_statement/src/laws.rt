@@ -1,0 +1,61 @@
+//! Laws of lines and of statements: functions that do nothing, whose contracts are the laws.
+ghost use Rattle.std.specs.Prelude.{◌≡◌, ℕ, [], Bool, List, None, Result, Ok, Err};
+ghost use Rattle.dsr_ledger.specs.declared.report.Report.{Report};
+ghost use Rattle.dsr_ledger.specs.declared.report.ReportKey.{ReportKey};
+ghost use Rattle.dsr_statement.specs.declared.line.Line.{Line};
+ghost use Rattle.dsr_statement.specs.declared.fault.StatementFault.TheVariants as faults;
+ghost use Rattle.dsr_statement.specs.meaning.Readings.{IsReading, IsReadingOf, Refusal, Spells, refused_after};
+ghost use Rattle.dsr_statement.specs.meaning.Statement.{statement_lines, statement_of, text_of};
+ghost use Rattle.dsr_statement.specs.meaning.Statements.{AreInPlace, IsReadable, IsStatement};
+
+/// A text is that of one line at most.
+pub fn one_line()
+    ensures { (text : List ℕ) (one other : Line) → Spells text one → Spells text other → one ≡ other }
+{}
+
+/// A text is read in one way.
+#[tactic(auto, using(crate::proofs::OneReading::one_reading))]
+pub fn one_reading()
+    ensures { (text : List ℕ) (failed : Bool) (one other : Result (List Line) Refusal)
+        → IsReadingOf text failed one → IsReadingOf text failed other → one ≡ other }
+{}
+
+/// What is read was written so: if a text is read, it is the text of the lines that were read.
+#[tactic(auto, using(crate::proofs::ReadLines::was_written_so))]
+pub fn was_written_so()
+    ensures { (text : List ℕ) (failed : Bool) (lines : List Line)
+        → IsReadingOf text failed (Ok lines) → text ≡ text_of lines }
+{}
+
+/// The lines that are read are in their places, and the amounts of each ledger line add up.
+#[tactic(auto, using(crate::proofs::ReadLines::are_in_place))]
+pub fn are_in_place()
+    ensures { (text : List ℕ) (failed : Bool) (lines : List Line)
+        → IsReadingOf text failed (Ok lines) → AreInPlace [] lines }
+{}
+
+/// Reading inverts writing: the lines of a statement are read from their text.
+#[tactic(auto, using(crate::proofs::AgainTexts::is_read_again))]
+pub fn is_read_again()
+    ensures { (lines : List Line) → IsStatement lines → IsReading (text_of lines) (Ok lines) }
+{}
+
+/// Reading inverts writing: the lines of a readable report are read from its statement.
+pub fn report_is_read_again()
+    ensures { (key : ReportKey) (report : Report) → IsReadable key report
+        → IsReading (statement_of report) (Ok (statement_lines report)) }
+{}
+
+/// The statement of a report without a key is refused at its first line.
+#[tactic(auto, using(crate::proofs::ReportAgain::without_report))]
+pub fn no_report_is_refused()
+    ensures { (report : Report) → report.key ≡ None
+        → IsReading (statement_of report) (Err (refused_after [] faults.NoReport)) }
+{}
+
+/// Two readable reports with one statement have one ledger.
+pub fn one_ledger()
+    ensures { (first_key last_key : ReportKey) (first last : Report)
+        → IsReadable first_key first → IsReadable last_key last
+        → statement_of first ≡ statement_of last → first.ledger ≡ last.ledger }
+{}

@@ -1,0 +1,201 @@
+//! Reading the lines of a statement one after another.
+ghost use Rattle.std.specs.Prelude.{◌≡◌, ◌-ℤ◌, true, [], ◌∷◌, List, Some, None, Ok, IfOk, IfErr, OnOk, MatchResult, MatchOption};
+ghost use Rattle.dsr_statement.specs.declared.line.Line.{Line as LineValue};
+ghost use Rattle.dsr_statement.specs.meaning.Order.{is_placed, adds_up, placed, is_no_report, is_complete, is_text_below};
+ghost use Rattle.dsr_statement.specs.meaning.Readings.{IsNextLine, end_fault};
+ghost use Rattle.dsr_statement.specs.inner.After.{IsAfter, IsErrorOf, fits, kept};
+
+use crate::fault::{ReadError, StatementFault};
+use crate::last::{Last, LastKey};
+use crate::left::Left;
+use crate::line::{KeyRef, Line, PartyRef};
+use crate::reading::{LINE_LIMIT, read_line};
+use dsr_cells::{NoMemory, Text};
+use std::alloc::Global;
+
+/// The lines of a statement that were read so far, as far as the next one depends on them.
+#[derive(Drop)]
+pub struct StatementReader {
+    alloc: Global,
+    last: Last,
+    key: LastKey,
+    party: Text,
+    left: Left,
+}
+
+/// Whether it is the line of no report.
+fn is_no_report(line: &Line<'_>) -> bool
+    ensures { result ≡ is_no_report line.now }
+{
+    matches!(line, Line::NoReport)
+}
+
+impl StatementReader {
+    /// No line was read yet.
+    pub fn new(alloc: Global) -> StatementReader
+        ensures { IsAfter result [] }
+    {
+        StatementReader {
+            alloc,
+            last: Last::Start,
+            key: LastKey::new(),
+            party: Text::default(),
+            left: Left::of(0),
+        }
+    }
+
+    /// Reads the next line, given without its line feed. After an error nothing more is to be read.
+    ///
+    /// # Errors
+    ///
+    /// `Fault`: the fault of the line. `Memory`: out of memory.
+    pub fn line<'l>(&mut self, bytes: &'l [u8]) -> Result<Line<'l>, ReadError>
+        ensures found { (before : List LineValue) → IsAfter self.old before
+            → IfOk result (λ l. IsNextLine before bytes.now (Ok l)) }
+        ensures after { (before : List LineValue) → IsAfter self.old before
+            → IfOk result (λ l. IsAfter self.new (l ∷ before)) }
+        ensures refused { (before : List LineValue) → IsAfter self.old before
+            → IfErr result (λ e. IsErrorOf e (IsNextLine before bytes.now)) }
+    {
+        let line = match read_line(bytes) {
+            Ok(line) => line,
+            Err(fault) => return Err(ReadError::Fault(fault)),
+        };
+        match self.place(&line) {
+            Ok(()) => Ok(line),
+            Err(error) => Err(error),
+        }
+    }
+
+    /// Keeps what the next line depends on of a line, if it may stand here.
+    fn place(&mut self, line: &Line<'_>) -> Result<(), ReadError>
+        ensures placed { (before : List LineValue) → IsAfter self.old before
+            → OnOk result (placed before line.now ≡ Ok line.now) }
+        ensures after { (before : List LineValue) → IsAfter self.old before
+            → OnOk result (IsAfter self.new (line.now ∷ before)) }
+        ensures refused { (before : List LineValue) → IsAfter self.old before
+            → IfErr result (λ e. IsErrorOf e (λ r. placed before line.now ≡ r)) }
+    {
+        if let Some(fault) = self.fault_of(line) {
+            return Err(ReadError::Fault(fault));
+        }
+        match self.keep(line) {
+            Ok(()) => Ok(()),
+            Err(NoMemory) => Err(ReadError::Memory),
+        }
+    }
+
+    /// The fault of a line after those before it.
+    fn fault_of(&self, line: &Line<'_>) -> Option<StatementFault>
+        ensures { (before : List LineValue) → IsAfter self.now before → MatchOption result
+            ((is_placed before line.now ≡ true) × (placed before line.now ≡ Ok line.now))
+            (λ f. placed before line.now ≡ Err f) }
+    {
+        if !self.fits(line) {
+            return Some(StatementFault::Place);
+        }
+        if !self.adds_up(line) {
+            return Some(StatementFault::Sum);
+        }
+        if is_no_report(line) {
+            return Some(StatementFault::NoReport);
+        }
+        None
+    }
+
+    /// Ends reading, given what follows the last line feed, and whether a read failed.
+    ///
+    /// # Errors
+    ///
+    /// The fault of the end.
+    pub fn finish(&self, rest: &[u8], failed: bool) -> Result<(), StatementFault>
+        ensures { (before : List LineValue) → IsAfter self.now before → MatchResult result
+            (λ _. end_fault before rest.now failed ≡ None)
+            (λ f. end_fault before rest.now failed ≡ Some f) }
+    {
+        if rest.len() > LINE_LIMIT {
+            return Err(StatementFault::LongLine);
+        }
+        if failed {
+            return Err(StatementFault::Read);
+        }
+        if !rest.is_empty() || !self.is_complete() {
+            return Err(StatementFault::Cut);
+        }
+        Ok(())
+    }
+
+    /// Whether a statement may end here.
+    fn is_complete(&self) -> bool
+        ensures { (before : List LineValue) → IsAfter self.now before → result ≡ is_complete before }
+    {
+        self.last.may_end()
+    }
+
+    /// Whether the name of the last party is below this one's.
+    fn is_below(&self, party: &PartyRef<'_>) -> bool
+        ensures { result ≡ is_text_below self.now.party party.now.party }
+    {
+        self.party.as_str() < party.party
+    }
+
+    /// Whether the line may stand next.
+    fn fits(&self, line: &Line<'_>) -> bool
+        ensures { result ≡ fits self.now line.now }
+    {
+        match line {
+            Line::Report(_) | Line::NoReport => self.last.is_start(),
+            Line::File(place, _) => self.last.precedes_file(*place),
+            Line::Missing(number) => self.last.precedes_missing(*number),
+            Line::Summary(difference) => self.last.precedes_summary(difference.file),
+            Line::Ledger(key, _, _) => { self.last.precedes_ledger(self.key.is_below(key)) }
+            Line::Party(key, party) => self
+                .last
+                .precedes_party(self.key.is(key), self.is_below(party)),
+            Line::Unclaimed(key, _) => self.last.precedes_unclaimed(self.key.is(key)),
+            Line::Reject(reject) => { self.last.precedes_reject(reject.file, reject.position) }
+        }
+    }
+
+    /// Whether an unclaimed amount is what the parties leave, where it may stand next.
+    fn adds_up(&self, line: &Line<'_>) -> bool
+        ensures { (before : List LineValue) → IsAfter self.now before → is_placed before line.now ≡ true
+            → result ≡ adds_up before line.now }
+    {
+        match line {
+            Line::Unclaimed(_, amount) => self.left.is(*amount),
+            _ => true,
+        }
+    }
+
+    /// Keeps the key and the amount of a ledger line.
+    fn keep_ledger(&mut self, key: &KeyRef<'_>, amount: i128) -> Result<(), NoMemory>
+        ensures { OnOk result (self.new ≡ record self.old { key = key.now; left = amount }) }
+    {
+        self.key.assign(self.alloc, key)?;
+        self.left = Left::of(amount);
+        Ok(())
+    }
+
+    /// Keeps the name of a party, and what it leaves.
+    fn keep_party(&mut self, party: &PartyRef<'_>) -> Result<(), NoMemory>
+        ensures { OnOk result (self.new ≡ record self.old
+            { party = party.now.party; left = self.old.left -ℤ party.now.amount }) }
+    {
+        self.left.subtract(party.amount)?;
+        self.party.assign(self.alloc, party.party)?;
+        Ok(())
+    }
+
+    /// Keeps what the next line depends on of a line.
+    fn keep(&mut self, line: &Line<'_>) -> Result<(), NoMemory>
+        ensures { OnOk result (self.new ≡ kept self.old line.now) }
+    {
+        self.last = Last::of(line);
+        match line {
+            Line::Ledger(key, _, amount) => self.keep_ledger(key, *amount),
+            Line::Party(_, party) => self.keep_party(party),
+            _ => Ok(()),
+        }
+    }
+}

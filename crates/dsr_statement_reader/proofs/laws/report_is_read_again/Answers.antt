@@ -1,5 +1,0 @@
-use Rattle.dsr_statement_reader.proofs.ReportAgain.{report_again}
-use Rattle.dsr_statement_reader.proofs.laws.report_is_read_again.Goals as goal
-
-pub returns : goal.returns
-returns c = report_again
