@@ -5,6 +5,7 @@ import shutil
 import signal
 import socket
 import subprocess
+import threading
 import time
 
 SECONDS = 120
@@ -70,6 +71,8 @@ class Slurm:
         self.munged = self.start('munged', '--force', '--foreground', *(f'--{name}={file_in(room, path)}' for name, path in named.items()))
         self.controller = self.start('slurmctld', '-D', '-i')
         self.daemon = self.start('slurmd', '-D')
+        self.is_ended = threading.Event()
+        threading.Thread(target=self.attend, daemon=True).start()
 
     def start(self, *words):
         return subprocess.Popen(words, env=self.env, stdout=subprocess.DEVNULL, stderr=subprocess.DEVNULL, stdin=subprocess.DEVNULL)
@@ -86,13 +89,15 @@ class Slurm:
             time.sleep(0.5)
         return False
 
-    def resume(self):
-        """Takes a drained node into use and lets held tasks go, as an operator would."""
-        if 'drain' in self.told('sinfo', '--noheader', '--format=%T'):
-            self.told('scontrol', 'update', f'NodeName={self.host}', 'State=RESUME')
-        held = self.told('squeue', '--noheader', '--format=%F %r').split('\n')
-        for job in {line.split()[0] for line in held if 'Held' in line}:
-            self.told('scontrol', 'release', job)
+    def attend(self):
+        """Does what an operator does once a controller that was killed finds tasks that it does not know: it drains their node, and
+        holds the jobs."""
+        while not self.is_ended.wait(1):
+            if 'drain' in self.told('sinfo', '--noheader', '--format=%T'):
+                self.told('scontrol', 'update', f'NodeName={self.host}', 'State=RESUME')
+            for line in self.told('squeue', '--noheader', '--format=%F %r').split('\n'):
+                if 'Held' in line:
+                    self.told('scontrol', 'release', line.split()[0])
 
     def kill(self, process, *again):
         """Kills a daemon, and starts it again with these words, if there are any."""
@@ -101,6 +106,7 @@ class Slurm:
         return self.start(*again) if again else None
 
     def end(self):
+        self.is_ended.set()
         self.told('scancel', '--signal=KILL', '--full', '--state=RUNNING')
         self.told('scancel', '--state=PENDING')
         for process in (self.daemon, self.controller, self.munged):

@@ -6,42 +6,28 @@ import signal
 import sqlite3
 import sys
 
-import engines
 import loading
 import making
 import paying
-import states
+import table
+import worker
 from outside import Refused, note, shown
-from table import Table
 
 ABOUT = '''Keeps which statement was made of which bytes of a report, and which was paid.
 REPORTS is a folder with a folder for each report. The files of one count in the
 order of their names' bytes; .gz, .zst and .xz are unpacked on the way.'''
-ENDING = '''States, of which the first that applies is listed:
-  withdrawn  its folder is gone
-  changed    its folder is not what its newest statement is of
-  failed     there is no statement of it, for the reason that is told
-  paid       its current statement was paid
-  clean      to pay
-  accepted   to pay: it has remarks, and somebody let it through
-  remarks    to look at
-
-Exit status:
+ENDING = '''Exit status:
   0  all is well
   1  something wants a person: its names are on standard output
   2  a wrong call
   3  a failure that may pass
 
 Files:
-  register.db  the table, or what --register or DSR_REGISTER names
-  statements   beside it: each statement that was made
-  payments     beside it: the totals of each payment run
+  register.db  the table, or what --register or DSR_REGISTER names; statements
+               and the totals of payment runs are in folders beside it
 
-Examples:
-  dsr_register make reports
-  dsr_register accept NORTHWIND-2024-01 --why 'the rest comes in May'
-  dsr_register owed --output owed.tsv
-  dsr_register paid 1'''
+Example:
+  dsr_register make reports'''
 NAME = dict(metavar='NAME')
 WORDS = {
     'make': ('makes the statements that are not current', making.make, {
@@ -52,8 +38,8 @@ WORDS = {
         '--layout': dict(metavar='FILE', type=os.fsencode, help='the layout of what is made'),
         '--timeout': dict(type=int, metavar='SECONDS', help='the time for each report'),
         '--only': dict(action='append', **NAME, help='this report alone, even if it is current')}),
-    'list': ('prints each report: name, state, MessageId, period, files, reason', states.show, {
-        '--state': dict(choices=states.STATES, help='those in this state'), '--json': dict(action='store_true', help='a list of objects')}),
+    'list': ('prints each report: name, state, MessageId, period, files, reason', table.show, {
+        '--state': dict(choices=table.STATES, metavar='STATE', help='those in this state: ' + ', '.join(table.STATES)), '--json': dict(action='store_true', help='a list of objects')}),
     'accept': ('lets a current statement with remarks through', paying.accept, {'name': NAME, '--why': dict(required=True, metavar='TEXT', help='the reason, which is kept')}),
     'owed': ('prepares a payment run: prints its totals, and its number on standard error', paying.owed, {
         '--output': dict(metavar='FILE', type=os.fsencode, help='writes the totals to FILE'),
@@ -61,12 +47,11 @@ WORDS = {
     'paid': ('confirms a payment run', paying.paid, {'run': dict(type=int, metavar='RUN')}),
     'load': ('loads current statements into PostgreSQL', loading.load, {
         'conninfo': dict(metavar='CONNINFO', help="what psql takes, such as 'dbname=royalties'")}),
-    'task': ('makes what one task of RUN makes, by its index in the environment', engines.task, {'run': dict(metavar='RUN', type=os.fsencode)}),
+    'task': ('makes what one task of RUN makes, by its index in the environment', worker.task, {'run': dict(metavar='RUN', type=os.fsencode)}),
 }
 
 
 def parsed(words):
-    """The command line; what follows -- is for sbatch."""
     lines = argparse.RawDescriptionHelpFormatter
     of_all = argparse.ArgumentParser(prog='dsr_register', description=ABOUT, epilog=ENDING, formatter_class=lines)
     of_all.add_argument('--register', metavar='FILE', default=os.environ.get('DSR_REGISTER', 'register.db'), type=os.fsencode, help='the table')
@@ -82,21 +67,7 @@ def parsed(words):
     return asked
 
 
-def run(asked):
-    if asked.command == 'task':
-        return engines.task(asked)
-    path = os.path.realpath(asked.register)
-    if asked.command == 'make' and (os.path.dirname(path) + b'/').startswith(os.path.realpath(asked.reports) + b'/'):
-        raise Refused(2, f'{shown(path)} lies within {shown(asked.reports)}, where each folder is a report')
-    if asked.command != 'make' and not os.path.exists(path):
-        raise Refused(2, f'{shown(path)} is not there: `make REPORTS` makes it')
-    table = Table(path)
-    table.reports = asked.moved or table.reports
-    return WORDS[asked.command][1](table, asked)
-
-
 def ended_by_signal(number, _):
-    """Ends this process, and those that it started."""
     note(f'ended by signal {number}; run it again for the rest')
     for path in glob.glob('/proc/self/task/*/children'):
         with open(path, encoding='ascii') as file:
@@ -109,8 +80,15 @@ def main():
     os.umask(os.umask(0) & 0o077)
     for number in (signal.SIGTERM, signal.SIGINT, signal.SIGHUP):
         signal.signal(number, ended_by_signal)
+    asked = parsed(sys.argv[1:])
+    path = os.path.realpath(asked.register)
     try:
-        status = run(parsed(sys.argv[1:]))
+        if asked.command == 'make' and (os.path.dirname(path) + b'/').startswith(os.path.realpath(asked.reports) + b'/'):
+            raise Refused(2, f'{shown(path)} lies within {shown(asked.reports)}, where each folder is a report')
+        if asked.command not in ('make', 'task') and not os.path.exists(path):
+            raise Refused(2, f'{shown(path)} is not there: `make REPORTS` makes it')
+        kept = asked.command != 'task' and table.Table(path, asked.moved)
+        status = WORDS[asked.command][1](kept, asked)
         sys.stdout.flush()
     except (Refused, OSError, sqlite3.Error) as error:
         note(str(error))

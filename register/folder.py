@@ -32,8 +32,7 @@ def entry_of(path, name):
 
 
 def looked_at(folder):
-    """The entries of a report's folder in the order of their names' bytes, without those that begin with a dot: none if it cannot
-    be read, and None if it is gone."""
+    """A folder's entries in the order of their names' bytes, but those that begin with a dot: none if it cannot be read, None if it is gone."""
     try:
         return [entry_of(os.path.join(folder, name), name) for name in sorted(os.listdir(folder)) if not name.startswith(b'.')]
     except FileNotFoundError:
@@ -70,8 +69,7 @@ def digest_at(path):
 
 
 def of_what(folder, entries, digests, seen):
-    """What a result is of: the list of names and digests, as a text; how the files looked; and when they were looked at. What is no
-    ordinary file has its kind for a digest."""
+    """What a result is of: the list of names and digests (or kinds), as a text; how the files looked; and when they were looked at."""
     told = [(os.fsdecode(entry.name), entry, entry.kind or digests.get(entry.name) or digest_at(os.path.join(folder, entry.name))) for entry in entries]
     return dict(inputs=json.dumps([[name, digest] for name, _, digest in told]), seen=seen, read=[[name, *entry[1:], digest] for name, entry, digest in told])
 

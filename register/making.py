@@ -1,4 +1,5 @@
-"""Makes what is not current, and takes the results into the table."""
+"""Makes what is not current, by threads of this machine or a job array, and takes the results into the table."""
+import concurrent.futures
 import contextlib
 import glob
 import hashlib
@@ -6,84 +7,84 @@ import json
 import os
 import re
 import shutil
+import subprocess
 import sys
 import tempfile
 import time
 
-import engines
-from folder import Entry, digest_at, digests_of, folders_of, looked_at, of_what
-from outside import Programs, note, now, shown
-from states import summary
-from worker import MAY_PASS, kept_in
+from folder import Entry, digest_at, folders_of, looked_at, of_what
+from outside import Programs, Refused, note, now, one_line, shown
+from table import ARRIVED, looked_up, show
+from worker import MAY_PASS, kept_in, make_report
 
+PROGRAM = os.path.join(os.path.dirname(os.path.realpath(__file__)), 'dsr_register')
 MOST_LETTERS = 100
 ROUNDS = 3
 CELLS = ('inputs', 'layout', 'sealed', 'sha256', 'message', 'files', 'first_day', 'last_day', 'remarks', 'status', 'reason', 'made', 'host', 'seconds')
 
 
-def see(table):
-    """Keeps which reports are there. Their names."""
-    names, others = folders_of(table.reports)
-    for name in others:
-        note(f'left out, since it is in no folder of a report: {shown(name)}')
-    with table.base:
-        table.base.execute('update register set reports = ?', (table.reports,))
-        table.base.execute('update report set here = 0')
-        for name in names:
-            table.number_of(name)
-    return names
+def on_this_machine(run, plan, jobs):
+    """Gives the places of the reports, in the order in which they end, and what failed."""
+    with concurrent.futures.ThreadPoolExecutor(jobs) as executor:
+        places = {executor.submit(make_report, run, plan, place): place for place in range(len(plan['names']))}
+        try:
+            for ended in concurrent.futures.as_completed(places):
+                yield places[ended], ended.exception()
+        finally:
+            executor.shutdown(wait=False, cancel_futures=True)
 
 
-def is_current(table, name):
-    """Whether the newest statement of a report is of the files that are there. What was read of them is kept."""
-    report, folder, seen = table.first('select id from report where name = ?', name)['id'], os.path.join(table.reports, name), time.time_ns()
-    newest, entries, known = table.newest(report), looked_at(folder), table.known(report)
-    if not newest or not newest['path'] or not entries or not os.path.exists(table.place_of(newest)):
-        return False
-    digests = digests_of(newest['inputs'], folder, entries, known)
-    if digests is not None and any(entry not in known for entry in entries):
-        with table.base:
-            table.keep_files(report, entries, digests, seen)
-    return digests is not None
+def slurm(*words):
+    return subprocess.run(words, env=dict(os.environ, LC_ALL='C'), stdin=subprocess.DEVNULL, capture_output=True)
 
 
-def path_for(name, result):
-    """The path of a statement: the letters of the report's name, and a digest of the name, of what it is of, and of its bytes."""
-    letters = re.sub(r'\W+', '_', name.decode(errors='replace')).encode()[:MOST_LETTERS].decode(errors='ignore')
-    digest = hashlib.sha256(b'\0'.join([name, result['inputs'].encode(), result['sha256'].encode()])).hexdigest()[:32]
-    return f'statements/{letters}.{digest}.tsv'
+def wait_for_slurm(run):
+    """Waits until no task of the run's job waits or runs. Whether one did. A controller that does not answer is asked again."""
+    there = silent = False
+    while (told := slurm('squeue', '--noheader', b'--name=' + os.path.basename(run), '--format=%i')).returncode or told.stdout.strip():
+        if told.returncode and not silent:
+            note('squeue does not answer; it is asked again until it does')
+        there, silent = there or not told.returncode, bool(told.returncode)
+        time.sleep(1)
+    return there
 
 
-def keep(table, name, result, path=None):
+def on_slurm(run, plan, options):
+    """Makes the reports by a job array, and waits for its end. Whether there is a job says squeue, also if sbatch failed."""
+    with open(os.path.join(run, b'task'), 'wb') as file:
+        file.write(b'#!/bin/sh\nexec "$@"\n')
+    told = slurm('sbatch', *options, '--requeue', '--open-mode=append', f'--array=0-{plan["tasks"] - 1}', '--output=output.%a', b'--chdir=' + run,
+                 b'--job-name=' + os.path.basename(run), file.name, PROGRAM, 'task', run)
+    if not wait_for_slurm(run) and told.returncode:
+        raise Refused(3, f'sbatch: {one_line(told.stderr)}')
+    return ((place, None) for place in range(len(plan['names'])))
+
+
+def keep(table, name, result, entries, path=None):
     """Keeps a result in one transaction."""
     with table.base:
         report = table.number_of(name)
-        table.keep_files(report, read_of(result), {os.fsencode(cells[0]): cells[-1] for cells in result['read']}, result['seen'])
+        table.keep_files(report, entries, {os.fsencode(cells[0]): cells[-1] for cells in result['read']}, result['seen'])
         table.keep_statement(report=report, path=path, **{cell: result.get(cell) for cell in CELLS})
 
 
-def read_of(result):
-    """The entries of the folder that a result is of."""
-    return [Entry(os.fsencode(name), *rest) for name, *rest, _ in result['read']]
-
-
 def take(table, run, name, place):
-    """Takes a result in. Why the report has to be made again, or None. A result is of no use if the folder has changed since."""
+    """Takes a result in, which is of no use if the folder has changed since. Why the report has to be made again, or None."""
     result, entries, path = kept_in(run, b'%d' % place, b'result.json'), looked_at(os.path.join(table.reports, name)), None
     if entries is None:
         return None
-    if not result:
-        return 'its worker left no result'
-    if entries != read_of(result):
-        return 'changing: its files changed after they were read'
+    if not result or entries != [Entry(os.fsencode(name), *rest) for name, *rest, _ in result['read']]:
+        return 'changing: its files changed after they were read' if result else 'its worker left no result'
     if result.get('sha256'):
-        path = path_for(name, result)
+        letters = re.sub(r'\W+', '_', name.decode(errors='replace')).encode()[:MOST_LETTERS].decode(errors='ignore')
+        digest = hashlib.sha256(b'\0'.join([name, result['inputs'].encode(), result['sha256'].encode()])).hexdigest()[:32]
+        path = f'statements/{letters}.{digest}.tsv'
         kept = os.path.join(table.beside, path.encode())
         if not os.path.exists(kept):
             os.rename(os.path.join(run, b'%d' % place, b'statement'), kept)
         elif digest_at(kept) != result['sha256']:
             path, result = None, dict(result, status=2, sha256=None, reason=f'{path} is there with other bytes')
-    keep(table, name, result, path)
+    keep(table, name, result, entries, path)
     return result['reason'] if result['status'] == MAY_PASS else None
 
 
@@ -92,27 +93,16 @@ def settle(table, making):
     for run in glob.glob(os.path.join(glob.escape(making), b'run.*')):
         plan = kept_in(run, b'plan.json')
         if plan and plan['slurm']:
-            engines.wait_for_slurm(run)
+            wait_for_slurm(run)
         for place, name in enumerate(plan['names'] if plan and os.fsencode(plan['reports']) == table.reports else []):
-            if kept_in(run, b'%d' % place, b'result.json'):
-                take(table, run, os.fsencode(name), place)
+            take(table, run, os.fsencode(name), place)
         shutil.rmtree(run, ignore_errors=True)
-
-
-def begun(table, making, names, asked, programs, layout):
-    """The folder and the plan of a run over these reports."""
-    run, tasks = tempfile.mkdtemp(prefix=b'run.', dir=making), asked.prepare or (min(len(names), engines.most_tasks()) if asked.slurm else 1)
-    plan = dict(reports=os.fsdecode(table.reports), names=list(map(os.fsdecode, names)), dsr=programs.dsr, seals=programs.seals, layout=layout,
-                timeout=asked.timeout, tasks=max(1, tasks), slurm=asked.slurm)
-    with open(os.path.join(run, b'plan.json'), 'w', encoding='ascii') as file:
-        json.dump(plan, file)
-    return run, plan
 
 
 def made_once(table, run, plan, names, asked):
     """Makes the reports of a run. Those that have to be made again, with the reason."""
     again, count = {}, 0
-    ended = engines.on_slurm(run, plan, asked.options) if asked.slurm else engines.on_this_machine(run, plan, max(1, asked.jobs))
+    ended = on_slurm(run, plan, asked.options) if asked.slurm else on_this_machine(run, plan, max(1, asked.jobs))
     with contextlib.closing(ended):
         for place, failed in ended:
             if reason := take(table, run, names[place], place):
@@ -128,19 +118,35 @@ def make(table, asked):
     table.reports, programs, making = os.path.realpath(asked.reports), Programs(), os.path.join(table.statements, b'.making')
     os.makedirs(making, exist_ok=True)
     table.lock()
-    names, layout = see(table), asked.layout and f'layout.{digest_at(asked.layout)}.tsv'
-    if layout:
+    names, others = folders_of(table.reports)
+    for name in others:
+        note(f'left out, since it is in no folder of a report: {shown(name)}')
+    with table.base:
+        table.base.execute('update register set reports = ?', (table.reports,))
+        table.base.execute('update report set here = 0')
+        table.base.executemany(ARRIVED, [(name,) for name in names])
+    if layout := asked.layout and f'layout.{digest_at(asked.layout)}.tsv':
         shutil.copyfile(asked.layout, os.path.join(table.statements, layout.encode()))
     settle(table, making)
-    again = {table.called(text): '' for text in asked.only or []} or {name: '' for name in names if not is_current(table, name)}
+    again = {table.called(text): '' for text in asked.only or []} or {
+        one.name: '' for one in looked_up(table, keep=True)
+        if one.state in ('changed', 'failed') or (one.state != 'withdrawn' and not os.path.exists(table.place_of(one.newest)))}
+    most = re.search(rb'MaxArraySize *= (\d+)', slurm('scontrol', 'show', 'config').stdout) if asked.slurm and again else None
+    if asked.slurm and again and not most:
+        raise Refused(3, 'scontrol does not answer')
     for _ in range(ROUNDS):
         if names := list(again):
-            run, plan = begun(table, making, names, asked, programs, layout)
+            run, tasks = tempfile.mkdtemp(prefix=b'run.', dir=making), asked.prepare or (min(len(names), int(most[1])) if most else 1)
+            plan = dict(reports=os.fsdecode(table.reports), names=list(map(os.fsdecode, names)), dsr=programs.dsr, seals=programs.seals, layout=layout,
+                        timeout=asked.timeout, tasks=max(1, tasks), slurm=asked.slurm)
+            with open(os.path.join(run, b'plan.json'), 'w', encoding='ascii') as file:
+                json.dump(plan, file)
             if asked.prepare:
                 print(shown(run))
                 return 0
             again = made_once(table, run, plan, names, asked)
     for name, reason in again.items():
-        folder = os.path.join(table.reports, name)
-        keep(table, name, dict(of_what(folder, looked_at(folder) or [], {}, 0), status=MAY_PASS, reason=reason, made=now()))
-    return summary(table)
+        entries = looked_at(os.path.join(table.reports, name)) or []
+        told = of_what(os.path.join(table.reports, name), entries, {}, 0)
+        keep(table, name, dict(told, status=MAY_PASS, reason=reason, made=now()), entries)
+    return show(table, asked)

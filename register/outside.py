@@ -23,7 +23,6 @@ def shown(name):
 
 
 def one_line(text):
-    """The first line of what a program wrote on standard error."""
     return shown(text.strip().split(b'\n')[0])[:500]
 
 
@@ -36,21 +35,18 @@ def note(line):
     print(f'dsr_register: {line}', file=sys.stderr, flush=True)
 
 
-def found(variable, name, *of_clone):
-    """The path of a program: what the variable names, or the one in PATH, or that of this clone."""
-    asked = os.environ.get(variable)
-    for place in [asked] if asked else [name, *(os.path.join(TOP, *path) for path in of_clone)]:
-        if path := shutil.which(place):
-            return os.path.abspath(path)
-    raise Refused(2, f'{asked or name} is not there; {variable} may name it')
-
-
 class Programs:
-    """`dsr` and `dsr_totals`. Statements are sealed if both know seals."""
+    """`dsr` and `dsr_totals`: those that DSR and DSR_TOTALS name, or in PATH, or of this clone. Statements are sealed if both know seals."""
 
     def __init__(self):
-        self.dsr, self.totals = (found(variable, name, ('crates', name, 'out', name), ('unproved', name))
-                                 for variable, name in (('DSR', 'dsr'), ('DSR_TOTALS', 'dsr_totals')))
+        self.dsr, self.totals = self.found('DSR', 'dsr'), self.found('DSR_TOTALS', 'dsr_totals')
         helps = [subprocess.run([path, '--help'], stdin=subprocess.DEVNULL, capture_output=True).stdout for path in (self.dsr, self.totals)]
         self.wants_seals = b'--unsealed' in helps[1]
         self.seals = b'--seal' in helps[0] and self.wants_seals
+
+    def found(self, variable, name):
+        asked = os.environ.get(variable)
+        for place in [asked] if asked else [name, os.path.join(TOP, 'crates', name, 'out', name), os.path.join(TOP, 'unproved', name)]:
+            if path := shutil.which(place):
+                return os.path.abspath(path)
+        raise Refused(2, f'{asked or name} is not there; {variable} may name it')

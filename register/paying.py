@@ -10,9 +10,7 @@ import sys
 
 from folder import digest_at
 from outside import Programs, Refused, note, now, one_line, shown
-from states import KEY, looked_up, state_of
-
-FREE = 20
+from table import KEY, LAST_PAID, looked_up, state_of
 
 
 def accept(table, asked):
@@ -27,7 +25,6 @@ def accept(table, asked):
 
 
 def rows_of(one):
-    """A report's newest statement, and the one that was paid."""
     return [row for row in (one.newest, one.paid) if row]
 
 
@@ -50,18 +47,11 @@ def wrong(table, found, given, left_out):
                 yield one.name, f'the bytes of {row["path"]} are not those that were made'
 
 
-def make_room(count):
-    """Lets dsr_totals open this many files at once, as far as the system allows."""
-    soft, hard = resource.getrlimit(resource.RLIMIT_NOFILE)
-    for limits in ((count, max(count, hard)), (hard, hard)):
-        with contextlib.suppress(ValueError, OSError):
-            return soft < count and resource.setrlimit(resource.RLIMIT_NOFILE, limits)
-
-
 def add_up(table, given, out):
     """Runs dsr_totals over the statements of these reports, less those that were paid. What it refuses."""
     programs, rows = Programs(), [row for one in given for row in rows_of(one)]
-    make_room(len(rows) + FREE)
+    # It has all of them open at once, as far as the system allows.
+    resource.setrlimit(resource.RLIMIT_NOFILE, [resource.getrlimit(resource.RLIMIT_NOFILE)[1]] * 2)
     words = [programs.totals, *['--unsealed'][:programs.wants_seals and not all(row['sealed'] for row in rows)],
              *['--with-remarks'][:any(one.newest['remarks'] for one in given)], '--output', out,
              *(b'--paid=' + os.path.basename(table.place_of(one.paid)) for one in given if one.paid), '--',
@@ -71,17 +61,6 @@ def add_up(table, given, out):
         raise Refused(3, f'{one_line(ended.stderr)} ({len(rows)} statements; `ulimit -n` says how many files may be open)')
     refused = [one.name for one in given if any(os.path.basename(table.place_of(row)) in ended.stderr for row in rows_of(one))]
     return [(name, one_line(ended.stderr)) for name in refused or [b'-']] if ended.returncode else []
-
-
-def prepare(table, given, new):
-    """Keeps a payment run, whose totals get its number for a name. The number, and the path."""
-    with table.base:
-        number = table.base.execute('insert into payment (path, sha256, prepared) values (?, ?, ?)', ('', digest_at(new), now())).lastrowid
-        table.base.execute('update payment set path = ? where id = ?', (f'payments/{number}.tsv', number))
-        parts = [(number, one.newest['id'], 0) for one in given] + [(number, one.paid['id'], 1) for one in given if one.paid]
-        table.base.executemany('insert into part values (?, ?, ?)', parts)
-        os.rename(new, os.path.join(table.payments, b'%d.tsv' % number))
-    return number, os.path.join(table.payments, b'%d.tsv' % number)
 
 
 def owed(table, asked):
@@ -96,7 +75,12 @@ def owed(table, asked):
     if refused or not given:
         note('no payment run was prepared' if refused else 'nothing is owed: each statement that counts was paid')
         return int(bool(refused))
-    number, path = prepare(table, given, new)
+    with table.base:
+        number = table.base.execute('insert into payment (path, sha256, prepared) values (?, ?, ?)', ('', digest_at(new), now())).lastrowid
+        path = os.path.join(table.payments, b'%d.tsv' % number)
+        table.base.execute('update payment set path = ? where id = ?', (f'payments/{number}.tsv', number))
+        table.base.executemany('insert into part values (?, ?, ?)', [(number, row['id'], row is one.paid) for one in given for row in rows_of(one)])
+        os.rename(new, path)
     with open(path, 'rb') as totals, open(asked.output + b'.part', 'wb') if asked.output else contextlib.nullcontext(sys.stdout.buffer) as out:
         shutil.copyfileobj(totals, out)
     if asked.output:
@@ -116,11 +100,12 @@ def paid(table, asked):
         return 0
     if digest_at(table.place_of(run)) != run['sha256']:
         raise Refused(1, f'{run["path"]} is not what was prepared')
-    parts = table.rows('select statement.id, report, name, subtracted from part join statement on statement.id = part.statement'
-                       ' join report on report.id = statement.report where payment = ?', asked.run)
-    taken_off = {row['report']: row['id'] for row in parts if row['subtracted']}
-    stale = [row['name'] for row in parts if not row['subtracted'] and (table.last_paid(row['report']) or {'id': None})['id'] != taken_off.get(row['report'])]
-    for name in stale:
+    parts = table.base.execute('select statement, subtracted, report, name from part join statement on statement.id = part.statement'
+                               ' join report on report.id = statement.report where payment = ?', (asked.run,)).fetchall()
+    taken_off = {row['report']: row['statement'] for row in parts if row['subtracted']}
+    last = {row['report']: table.first(LAST_PAID, row['report']) for row in parts}
+    stale = {row['name'] for row in parts if (last[row['report']] and last[row['report']]['id']) != taken_off.get(row['report'])}
+    for name in sorted(stale):
         print(f'{shown(name)}\tit was paid by another run since this one was prepared')
     if not stale:
         with table.base:

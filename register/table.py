@@ -1,44 +1,51 @@
-"""The table: which statement is of which bytes, and which was paid. Times are in UTC, those of files in nanoseconds."""
+"""The table: which statement is of which bytes, and which was paid; and the state of each report. Times are in UTC."""
+import collections
 import fcntl
+import json
 import os
 import sqlite3
+import time
 
-from folder import Entry
-from outside import Refused, shown
+from folder import Entry, digests_of, folders_of, looked_at
+from outside import Refused, note, shown
+from worker import MAY_PASS
 
 # A file that was changed so shortly before it was read may change again and look the same.
 UNSETTLED = 2 * 10 ** 9
+# The newest statement of a report has the greatest turn; one that failed has no path, and a reason.
 SCHEMA = '''
 begin immediate;
 create table if not exists register (id text not null, reports blob);
 create table if not exists report (id integer primary key, name blob not null unique, here integer not null);
-create table if not exists file (
-    report integer not null references report, name blob not null, size integer not null, mtime integer not null, ctime integer not null,
-    inode integer not null, sha256 text not null, primary key (report, name)
-) without rowid;
--- the newest of a report has the greatest turn; what failed has no path, and a reason
-create table if not exists statement (
-    id integer primary key, report integer not null references report, turn integer not null unique, inputs text not null, layout text,
-    sealed integer, sha256 text, path text unique, message text, files integer, first_day text, last_day text, remarks integer,
-    status integer not null, reason text, made text not null, host text, seconds real
-);
+create table if not exists file (report integer not null references report, name blob not null, size integer not null, mtime integer not null,
+    ctime integer not null, inode integer not null, sha256 text not null, primary key (report, name)) without rowid;
+create table if not exists statement (id integer primary key, report integer not null references report, turn integer not null unique,
+    inputs text not null, layout text, sealed integer, sha256 text, path text unique, message text, files integer, first_day text, last_day text,
+    remarks integer, status integer not null, reason text, made text not null, host text, seconds real);
 create table if not exists accepted (statement integer not null references statement, who text not null, at text not null, why text not null);
 create table if not exists payment (id integer primary key, path text not null, sha256 text not null, prepared text not null, confirmed text);
-create table if not exists part (
-    payment integer not null references payment, statement integer not null references statement, subtracted integer not null,
-    primary key (payment, statement, subtracted)
-) without rowid;
+create table if not exists part (payment integer not null references payment, statement integer not null references statement,
+    subtracted integer not null, primary key (payment, statement, subtracted)) without rowid;
 create index if not exists turns on statement (report, turn);
 create index if not exists parts on part (statement);
 insert into register select hex(randomblob(16)), null where not exists (select * from register);
 commit;
 '''
+ARRIVED = 'insert into report (name, here) values (?, 1) on conflict (name) do update set here = 1'
+LAST_PAID = '''select statement.* from statement join part on part.statement = statement.id join payment on payment.id = part.payment
+    where report = ? and confirmed is not null and not subtracted order by payment.confirmed desc, payment.id desc limit 1'''
+
+STATES = ('withdrawn', 'changed', 'failed', 'paid', 'clean', 'accepted', 'remarks')
+CURRENT = STATES[3:]
+KEY = ('message', 'files', 'first_day', 'last_day')
+# The newest statement of a report, and the one that was paid last; the status is 1 if it wants a person, 3 if another run may do.
+State = collections.namedtuple('State', 'name state reason status newest paid')
 
 
 class Table:
     """The table in a file, and the folders beside it."""
 
-    def __init__(self, path):
+    def __init__(self, path, moved):
         self.path, self.beside = path, os.path.dirname(path)
         self.statements, self.payments = (os.path.join(self.beside, name) for name in (b'statements', b'payments'))
         self.base = sqlite3.connect(path, timeout=60, isolation_level='IMMEDIATE')
@@ -46,10 +53,8 @@ class Table:
         if not self.first("select * from sqlite_master where name = 'parts'"):
             self.base.executescript(SCHEMA)
         self.base.execute('pragma foreign_keys = on')
-        self.id, self.reports = self.first('select id, reports from register')
-
-    def rows(self, query, *values):
-        return self.base.execute(query, values).fetchall()
+        self.id, reports = self.first('select id, reports from register')
+        self.reports = moved or reports
 
     def first(self, query, *values):
         return self.base.execute(query, values).fetchone()
@@ -64,19 +69,17 @@ class Table:
 
     def called(self, text):
         """The name of the report that has it, or for which it is shown."""
-        names = [row['name'] for row in self.rows('select name from report')]
+        names = [row['name'] for row in self.base.execute('select name from report')]
         for name in [name for name in names if name == os.fsencode(text)] + [name for name in names if shown(name) == text]:
             return name
         raise Refused(2, f'no report is called {shown(text)}')
 
     def number_of(self, name):
-        """The number of a report that is there, which is new if none has this name."""
-        self.base.execute('insert into report (name, here) values (?, 1) on conflict (name) do update set here = 1', (name,))
+        self.base.execute(ARRIVED, (name,))
         return self.first('select id from report where name = ?', name)['id']
 
     def known(self, report):
-        """The digests of a report's files, by how they looked."""
-        return {Entry(row['name'], '', *row[2:6]): row['sha256'] for row in self.rows('select * from file where report = ?', report)}
+        return {Entry(row['name'], '', *row[2:6]): row['sha256'] for row in self.base.execute('select * from file where report = ?', (report,))}
 
     def keep_files(self, report, entries, digests, seen):
         """Keeps how the files of a report look; of one that was changed just before, so that it is read again."""
@@ -89,18 +92,62 @@ class Table:
         """Keeps a statement, or the reason why there is none, as the newest of a report."""
         self.base.execute('delete from statement where report = ? and path is null', (cells['report'],))
         cells['turn'] = self.first('select coalesce(max(turn), 0) + 1 from statement')[0]
-        again = ', '.join(f'{name} = excluded.{name}' for name in cells)
-        self.base.execute(f'insert into statement ({", ".join(cells)}) values ({", ".join("?" * len(cells))}) on conflict (path) do update set {again}',
-                          list(cells.values()))
+        self.base.execute(f'insert into statement ({", ".join(cells)}) values ({", ".join("?" * len(cells))}) on conflict (path) do update set '
+                          + ', '.join(f'{name} = excluded.{name}' for name in cells), list(cells.values()))
 
     def newest(self, report, having=''):
         return self.first(f'select * from statement where report = ? {having} order by turn desc limit 1', report)
 
-    def last_paid(self, report):
-        """The statement of a report that was paid last."""
-        return self.first('select statement.* from statement join part on part.statement = statement.id join payment on payment.id = part.payment'
-                          ' where report = ? and confirmed is not null and not subtracted order by payment.confirmed desc, payment.id desc limit 1', report)
-
     def place_of(self, row):
-        """The path of a statement, or of a payment run's totals."""
         return os.path.join(self.beside, row['path'].encode())
+
+
+def state_of(table, name, keep=False):
+    """The state of a report; what was read of its files is kept if that is asked for."""
+    folder, report, seen = os.path.join(table.reports, name), table.first('select id from report where name = ?', name), time.time_ns()
+    newest, paid, known = (table.newest(report['id']), table.first(LAST_PAID, report['id']), table.known(report['id'])) if report else (None, None, {})
+    entries, made = looked_at(folder), newest and newest['path']
+    digests = newest and entries is not None and digests_of(newest['inputs'], folder, entries, known)
+    if keep and made and digests and any(entry not in known for entry in entries):
+        with table.base:
+            table.keep_files(report['id'], entries, digests, seen)
+    accepted = made and table.first('select why from accepted where statement = ?', newest['id'])
+    if entries is None:
+        told = 'withdrawn', 'its folder is gone', int(paid is not None)
+    elif newest is None:
+        told = 'changed', 'it was not made yet', 1
+    elif digests is None:
+        told = 'changed', 'its files are not those of its newest statement', 1
+    elif not made:
+        told = 'failed', newest['reason'], MAY_PASS if newest['status'] == MAY_PASS else 1
+    elif paid and paid['id'] == newest['id']:
+        told = 'paid', '', 0
+    elif not newest['remarks']:
+        told = 'clean', '', 0
+    else:
+        told = ('accepted', accepted['why'], 0) if accepted else ('remarks', '', 1)
+    return State(name, *told, newest if made or not report else table.newest(report['id'], 'and path is not null'), paid)
+
+
+def looked_up(table, keep=False):
+    """The states of all reports, in the order of their names' bytes, also of those that came since the last `make`."""
+    kept = {row['name'] for row in table.base.execute('select name from report')}
+    return (state_of(table, name, keep) for name in sorted(kept.union(folders_of(table.reports)[0])))
+
+
+def show(table, asked):
+    """Prints a line for each report, or one list of objects; after `make` what wants a person, and on standard error how many have each state."""
+    is_list, counts = asked.command == 'list', collections.Counter()
+    found = [one for one in looked_up(table) if counts.update([one.state]) or (asked.state in (None, one.state) if is_list else one.status)]
+    if is_list and asked.json:
+        print(json.dumps([dict(
+            name=os.fsdecode(one.name), state=one.state, paid=one.paid is not None, reason=one.reason,
+            statement=one.newest and os.fsdecode(table.place_of(one.newest)), **{key: one.newest and one.newest[key] for key in (*KEY, 'sha256')})
+            for one in found]))
+    else:
+        for one in found:
+            told = [one.newest['message'], f'{one.newest["first_day"]} {one.newest["last_day"]}', str(one.newest['files'])] if one.newest else ['-'] * 3
+            print('\t'.join([shown(one.name), one.state, *told, shown(one.reason)]))
+    if not is_list:
+        note(f'{sum(counts.values())} reports: ' + ', '.join(f'{counts[state]} {state}' for state in STATES if counts[state]))
+    return max((one.status for one in found), default=0)

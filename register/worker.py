@@ -10,32 +10,31 @@ import tempfile
 import time
 
 from folder import PART, digest_of, looked_at, of_what, opened
-from outside import Refused, now, one_line, shown
+from outside import Refused, note, now, one_line, shown
 
 MOST_FILES = 64
+INDEXES = ('SLURM_ARRAY_TASK_ID', 'JOB_COMPLETION_INDEX', 'AWS_BATCH_JOB_ARRAY_INDEX')
 TOOLS = {b'.gz': 'gzip', b'.zst': 'zstd', b'.xz': 'xz'}
 # The status of a report without a statement: 2 for a file that cannot be read, 3 if a run may pass another time, else 4.
 MAY_PASS = 3
 PASSING = (errno.ENOSPC, errno.EDQUOT, errno.ENOMEM, errno.EMFILE, errno.ENFILE, errno.EAGAIN, errno.ESTALE)
 
 
-def tool_of(entry):
-    return TOOLS.get(os.path.splitext(entry.name)[1])
-
-
-def unpacked(tool, file, path, name):
-    """Unpacks a file to its end, where its checksum stands."""
-    with open(path, 'wb') as out, tempfile.TemporaryFile() as errors:
+def unpacked(tool, file, room):
+    """What a file is unpacked to, to its end, where its checksum stands."""
+    with tempfile.TemporaryFile() as errors:
         try:
             process = subprocess.Popen([tool, '-dc'], stdin=file, stdout=subprocess.PIPE, stderr=errors)
         except FileNotFoundError:
-            raise Refused(2, f'{shown(name)}: {tool} is not there') from None
+            raise Refused(2, f'{tool} is not there') from None
+        out = tempfile.TemporaryFile(dir=room)
         with process:
             shutil.copyfileobj(process.stdout, out, PART)
-        errors.seek(0)
+        out.flush()
         if process.returncode:
-            line = one_line(errors.read(1000)) or f'{tool} ended with {process.returncode}'
-            raise Refused(MAY_PASS if process.returncode < 0 else 4, f'{shown(name)}: {line}')
+            line = one_line(os.pread(errors.fileno(), 1000, 0)) or f'{tool} ended with {process.returncode}'
+            raise Refused(MAY_PASS if process.returncode < 0 else 4, line)
+        return out
 
 
 class Making:
@@ -45,33 +44,27 @@ class Making:
         self.plan, self.folder, self.room, self.seen = plan, folder, room, time.time_ns()
         self.entries, self.digests, self.files, self.given = looked_at(folder) or [], {}, contextlib.ExitStack(), []
 
-    def take(self, entry):
-        """Opens a file and hashes it; of a packed one dsr is given what it is unpacked to."""
-        file = self.files.enter_context(opened(os.path.join(self.folder, entry.name)))
-        self.digests[entry.name], path = digest_of(file), os.path.join(self.room, b'unpacked')
-        if tool := tool_of(entry):
-            unpacked(tool, file, path, entry.name)
-        self.given.append((file, self.files.enter_context(opened(path)) if tool else file))
-        if tool:
-            os.unlink(path)
-
     def take_all(self):
+        """Opens and hashes each file; of a packed one dsr is given what it is unpacked to."""
         if not self.entries or len(self.entries) > MOST_FILES:
             os.listdir(self.folder)
             raise Refused(2, f'{len(self.entries)} files, of which dsr reads at most {MOST_FILES}' if self.entries else 'no files')
         for entry in self.entries:
             try:
                 if entry.kind:
-                    raise Refused(2, f'{shown(entry.name)} is {entry.kind}')
-                self.take(entry)
-            except OSError as error:
-                raise Refused(MAY_PASS if error.errno in PASSING else 2, f'{shown(entry.name)}: {error.strerror or error}') from None
+                    raise Refused(2, f'it is {entry.kind}')
+                file, tool = self.files.enter_context(opened(os.path.join(self.folder, entry.name))), TOOLS.get(os.path.splitext(entry.name)[1])
+                self.digests[entry.name] = digest_of(file)
+                self.given.append((entry, file, self.files.enter_context(unpacked(tool, file, self.room)) if tool else file))
+            except (OSError, Refused) as error:
+                status = getattr(error, 'status', MAY_PASS if getattr(error, 'errno', None) in PASSING else 2)
+                raise Refused(status, f'{shown(entry.name)}: {getattr(error, "strerror", None) or error}') from None
 
     def run(self):
         """Runs dsr. Whether the statement has remarks."""
-        descriptors = [given.fileno() for _, given in self.given]
-        words = [self.plan['dsr'], '--output', 'statement', *['--seal'][:self.plan['seals']],
-                 *(['--layout', f'../../../{self.plan["layout"]}'] if self.plan['layout'] else []), '--', *(f'/dev/fd/{number}' for number in descriptors)]
+        descriptors, layout = [given.fileno() for *_, given in self.given], self.plan['layout']
+        words = [self.plan['dsr'], '--output', 'statement', *['--seal'][:self.plan['seals']], *(['--layout', f'../../../{layout}'] if layout else []),
+                 '--', *(f'/dev/fd/{number}' for number in descriptors)]
         try:
             ended = subprocess.run(words, cwd=self.room, stdin=subprocess.DEVNULL, stdout=subprocess.DEVNULL, stderr=subprocess.PIPE,
                                    pass_fds=descriptors, timeout=self.plan['timeout'])
@@ -92,22 +85,16 @@ class Making:
             cells = dict(message=first[0][1], files=int(first[0][2]), first_day=first[0][3], last_day=first[0][4], sha256=digest_of(file))
             return dict(cells, remarks=remarks), [(int(cells[2]), cells[3].decode()) for cells in last if cells[0] == b'INPUT']
 
-    def is_of_other_bytes(self, read):
-        """Whether dsr read other bytes than those that were hashed; where the seal does not say, whether they are other ones now."""
-        for place, (entry, (file, _)) in enumerate(zip(self.entries, self.given)):
-            size, digest = read[place] if self.plan['seals'] and not tool_of(entry) else (entry.size, digest_of(file))
-            if digest != (self.digests[entry.name] if size == entry.size else digest_of(file, size)):
-                return True
-        return False
-
     def result(self):
-        """The result, and what it is of. It may pass another time if the folder changed meanwhile."""
+        """The result, and what it is of. It may pass another time if dsr read other bytes than were hashed, or the folder looks otherwise."""
         result, changed = dict(status=0, sealed=self.plan['seals'], layout=self.plan['layout']), False
         with self.files:
             try:
                 self.take_all()
                 cells, read = self.told(self.run())
-                changed = self.is_of_other_bytes(read)
+                for place, (entry, file, given) in enumerate(self.given):
+                    size, digest = read[place] if self.plan['seals'] and given is file else (entry.size, digest_of(file))
+                    changed |= digest != (self.digests[entry.name] if size == entry.size else digest_of(file, size))
                 result.update(cells)
             except (Refused, PermissionError) as failed:
                 result.update(status=getattr(failed, 'status', 2), reason=str(failed))
@@ -139,3 +126,19 @@ def make_report(run, plan, place):
     finally:
         shutil.rmtree(room, ignore_errors=True)
     return result['status']
+
+
+def task(_, asked):
+    """A task of a job array: makes every n-th report. Slurm queues it again, up to three times, if a run may pass another time."""
+    index, plan, status = next((os.environ[name] for name in INDEXES if name in os.environ), None), kept_in(asked.run, b'plan.json'), 0
+    if index is None or plan is None:
+        raise Refused(2, f'none of {", ".join(INDEXES)} has the index of the task' if plan else 'the run is not there')
+    for place in range(int(index), len(plan['names']), plan['tasks']):
+        try:
+            status = max(status, MAY_PASS * (make_report(asked.run, plan, place) == MAY_PASS))
+        except OSError as error:
+            note(error.strerror)
+            status = MAY_PASS
+    if status and 'SLURM_JOB_ID' in os.environ and int(os.environ.get('SLURM_RESTART_COUNT', 0)) < 3:
+        subprocess.run(['scontrol', 'requeue', os.environ['SLURM_JOB_ID']], stdin=subprocess.DEVNULL)
+    return status

@@ -54,3 +54,27 @@ create view owed as
     from (select party, currency, amount as earned, 0.0000000000 as paid from party
           union all select party, currency, 0.0000000000, amount from payment) as both_sides
     group by party, currency;
+
+-- What `dsr_register load` calls. One load at a time; what is not newer gives way.
+create function take_out(of_register text, of_name bytea, until bigint) returns void language plpgsql as $$
+begin
+    perform pg_advisory_xact_lock(717274737);
+    delete from report where register = of_register and name = of_name and turn <= until;
+end $$;
+-- Puts a statement in place, whose lines are in the session's table `line`: the number of a line, its kind, and eight further cells.
+create function put_in(of_register text, of_name bytea, its_sha256 text, its_turn bigint) returns void language plpgsql as $$
+declare its_report bigint;
+begin
+    insert into report (register, name, sha256, turn, message_id, number_of_files, first_day, last_day, days)
+        select of_register, of_name, its_sha256, its_turn, a, b::bigint, c::date, d::date, e::bigint from line where kind = 'REPORT'
+        returning id into its_report;
+    insert into file select its_report, a::bigint, nullif(b, '-')::bigint, c, d::numeric, nullif(f, '')::numeric, nullif(g, ''), nullif(h, '')
+        from line where kind = 'FILE';
+    insert into missing select its_report, a::bigint from line where kind = 'MISSING';
+    insert into difference select its_report, a::bigint, b, c::numeric, d::numeric, e::numeric, f::numeric from line where kind = 'SUMMARY';
+    insert into ledger select its_report, book.a, book.b, book.c, book.d, book.e::numeric, book.f::numeric, rest.e::numeric from line as book
+        left join line as rest on rest.kind = 'UNCLAIMED' and (rest.a, rest.b, rest.c, rest.d) = (book.a, book.b, book.c, book.d)
+        where book.kind = 'LEDGER';
+    insert into party select its_report, a, b, c, d, e, f::numeric from line where kind = 'PARTY';
+    insert into reject select its_report, a::bigint, b::numeric, c, d from line where kind = 'REJECT';
+end $$;
