@@ -5,7 +5,7 @@ import re
 import shutil
 import subprocess
 
-from page_screen import REPORT, same, statement_of
+from page_screen import same, statement_of
 from page_tools import sealed, sealed_lines, written
 
 LINES = 3000

@@ -6,7 +6,7 @@ import os
 import re
 import time
 
-from page_tools import HERE, content_of, of_page, sealed, sealed_lines
+from page_tools import HERE, content_of, of_page, sealed
 
 REPORT = ['REPORT', 'R1', '1', '2024-01-01', '2024-01-31', '31']
 HOSTILE = ['<img src=x onerror=alert(1)>', '</script><script>window.hurt = 1</script>', '<!-- <script>', '&lt;b&gt; &amp; "quoted"',

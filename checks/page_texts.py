@@ -6,7 +6,7 @@ import re
 import tempfile
 
 import case_files
-from page_tools import HERE, content_of, of_page, reports, sealed, sealed_lines, second, text_of, written
+from page_tools import HERE, content_of, of_page, reports, sealed, second, text_of, written
 
 CASES = case_files.placed()
 REPORTS = 400
@@ -190,7 +190,7 @@ def follow_files(count, tools):
 
 def read_here(texts, layout, room):
     """The page's report of texts, whose files were read, without a program."""
-    statement, layouts, remarks = of_page('statement'), of_page('layouts'), of_page('remarks')
+    statement, layouts, report_of = of_page('statement'), of_page('layouts'), of_page('report')
     found = statement.Statement(lambda booked: None)
     for number, raw in enumerate(sealed(texts, layout).encode().splitlines(True), 1):
         if found.seal.is_next(raw):
@@ -199,7 +199,7 @@ def read_here(texts, layout, room):
             found.take(*raw[:-1].decode().split('\t'))
     found.seal.end(found, False)
     names = [written(os.path.join(room, f'{at}.tsv'), text) for at, text in enumerate(texts, 1)]
-    report = remarks.Report(found, names, layouts.Layout(layout))
+    report = report_of.Report(found, names, layouts.Layout(layout))
     for file in report.files:
         report.read_file(file, lambda *block: None)
         list(report.file_remarks(file))

@@ -6,7 +6,8 @@ from files import MOST_LINE
 PACKED = ((b'\x1f\x8b', 'gzip', '.gz'), (b'BZh', 'bzip2', '.bz2'), (b'\xfd7zXZ\0', 'xz', '.xz'), (b'\x28\xb5\x2f\xfd', 'zstd', '.zst'))
 WORKBOOK = 'a workbook of a spreadsheet ({}): a report is plain text with TABs, as the sender exported it'
 SEPARATORS = {b',': 'commas', b';': 'semicolons', b' ': 'spaces', b'|': 'pipes'}
-NUMBERS = ('Usages', 'Amount', 'Shares', 'FileNumber', 'NumberOfFiles', 'NumberOfLinesInFile', 'NumberOfSummaryRecords', 'NumberOfBlocksInFile')
+NUMBERS = ('Usages', 'Amount', 'Shares', 'FileNumber', 'NumberOfFiles', 'NumberOfLinesInFile', 'NumberOfSummaryRecords',
+           'NumberOfBlocksInFile')
 OF_FILE = 'The file looks like one'
 DAYS = ('UsageStartDate', 'UsageEndDate')
 

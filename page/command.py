@@ -7,7 +7,7 @@ import sys
 
 from layouts import Layout
 from refused import Refused
-from remarks import Report
+from report import Report
 from showing import CleanStream
 from statement import read_statement
 

@@ -134,5 +134,6 @@ def missing_letter(statement):
         return None
     message, files, first, last, _ = statement.report
     numbers = ', '.join(map(str, statement.missing[:1000]))
-    return (f'Subject: sales report {visible(message)}, files that have not come\n\nHello,\n\nof sales report {visible(message)} for {first} to '
-            f'{last}, which has {files} files, these numbers have not come, or could not be read: {numbers}.\n\nPlease send them.\n')
+    report = f'sales report {visible(message)}'
+    return (f'Subject: {report}, files that have not come\n\nHello,\n\nof {report} for {first} to {last}, which has {files} files, these '
+            f'numbers have not come, or could not be read: {numbers}.\n\nPlease send them.\n')

@@ -47,10 +47,10 @@ def amount(units):
 
 def table(names, rows, style='', numbers=()):
     """A table; the cells are HTML. Those of the columns `numbers` stand at the right."""
-    def cell(at, text, name):
-        return f'<td role="cell" data-name="{name}"{" class=right" if at in numbers else ""}>{text}</td>'
-    head = ''.join(f'<th scope="col" role="columnheader"{" class=right" if at in numbers else ""}>{name}</th>' for at, name in enumerate(names))
-    body = ''.join('<tr role="row">' + ''.join(cell(at, text, names[at]) for at, text in enumerate(row)) + '</tr>\n' for row in rows)
+    sides = [' class="right"' if at in numbers else '' for at in range(len(names))]
+    head = ''.join(f'<th scope="col" role="columnheader"{side}>{name}</th>' for name, side in zip(names, sides))
+    body = ''.join('<tr role="row">' + ''.join(f'<td role="cell" data-name="{name}"{side}>{text}</td>' for name, side, text in zip(names, sides, row))
+                   + '</tr>\n' for row in rows)
     return (f'<table role="table" class="plain {style}"><thead role="rowgroup"><tr role="row">{head}</tr></thead>\n'
             f'<tbody role="rowgroup">{body}</tbody></table>\n')
 
@@ -82,7 +82,8 @@ def parties_row(layout, line):
     rows = ''.join(f'<li>{shown(name) if name else "(no name)"} <span class="share-of">{html.escape(visible(share))}</span>'
                    f'{f" <em>{told_alike(name)}</em>" if name in like else ""}</li>'
                    for name, share in zip(names, [it.decode("utf-8", "surrogateescape") for it in shares] + ['?'] * len(names)))
-    return f'<tr class="parties" role="row"><th role="rowheader">of {line.number}</th><td role="cell" colspan="{len(line.cells)}"><ul>{rows}</ul></td></tr>'
+    return (f'<tr class="parties" role="row"><th role="rowheader">of {line.number}</th>'
+            f'<td role="cell" colspan="{len(line.cells)}"><ul>{rows}</ul></td></tr>')
 
 
 def line_table(layout, lines):
@@ -96,8 +97,8 @@ def line_table(layout, lines):
     if ends:
         rows.append('<tr class="faulty" role="row"><th role="rowheader"></th><td role="cell"><mark>the file ends here</mark></td></tr>')
     is_wide = any(len(line.cells) > PAPER_CELLS or len(line.raw) > PAPER for line in lines)
-    return (f'<div class="wide" tabindex="0" role="group" aria-label="Lines of the file"><table role="table" class="lines{" long" * is_wide}">\n'
-            + '\n'.join(row for row in rows if row) + '\n</table></div>\n')
+    return ('<div class="wide" tabindex="0" role="group" aria-label="Lines of the file">'
+            f'<table role="table" class="lines{" long" * is_wide}">\n' + '\n'.join(row for row in rows if row) + '\n</table></div>\n')
 
 
 def entry_list(entry):

@@ -64,7 +64,8 @@ async function main() {
   const alike = new Map(known.alike.flatMap(group => group.map(party => [known.parties[party], group.map(it => known.parties[it])])));
   const ledger = new Ledger(known, alike);
   const tables = [
-    new Table(section('parties'), new Totals(named, PARTY, 'Search party or currency', alike, at => showLines(ledger, known.partyTotals[at][0]))),
+    new Table(section('parties'), new Totals(named, PARTY, 'Search party or currency', alike,
+      at => showLines(ledger, known.partyTotals[at][0]))),
     new Table(section('markets'), new Totals(known.marketTotals, MARKET, 'Search territory, use type, currency')),
     ledger.table = new Table(section('ledger'), ledger),
   ];

@@ -63,7 +63,8 @@ def left_rows(report):
         rest = file.rest()
         if rest and rest.left.blocks:
             unread = f'; {rest.unread} usages cannot be read' if rest.unread else ''
-            yield from rows_of_left(file, f'not read: line {file.line.fault.line} and what follows (a guess{unread})', rest.left.blocks, rest.left)
+            reason = f'not read: line {file.line.fault.line} and what follows (a guess{unread})'
+            yield from rows_of_left(file, reason, rest.left.blocks, rest.left)
 
 
 def rows_of_left(file, reason, count, left):
@@ -93,12 +94,15 @@ def owed_section(report):
     cards = ''.join(currency_cards(totals.currencies)) if totals else ''
     has_left = any(file.rejects or file.rest() for file in report.files)
     more = ' Blocks were left out: see <a href="#left">Left out</a>.' if has_left else ''
-    return f'<div class="totals">{cards}</div>' + (f'<p class="hint">{more}</p>' if more else '') if cards else f'<p>Nothing is owed.{more}</p>'
+    if not cards:
+        return f'<p>Nothing is owed.{more}</p>'
+    return f'<div class="totals">{cards}</div>' + (f'<p class="hint">{more}</p>' if more else '')
 
 
 def letter_section(letters):
     """The letters, each to copy."""
-    return ''.join(f'<article class="letter"><details><summary>{escaped(title)}</summary><pre dir="auto" tabindex="0">{escaped_lines(text)}</pre>'
+    return ''.join(f'<article class="letter"><details><summary>{escaped(title)}</summary>'
+                   f'<pre dir="auto" tabindex="0">{escaped_lines(text)}</pre>'
                    '<p><button type="button" class="copy">Copy</button> <span role="status"></span></p></details></article>\n'
                    for title, text in letters)
 

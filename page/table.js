@@ -176,7 +176,8 @@ class Table {
     if (this.printing) return;
     const top = this.flows ? 0 : this.heights.top();
     const first = Math.max(0, Math.floor(top / ROW) - 4);
-    const end = Math.min(this.found.length, this.flows ? this.shown : Math.min(Math.ceil((top + this.box.clientHeight) / ROW) + 4, first + MOST));
+    const below = Math.min(Math.ceil((top + this.box.clientHeight) / ROW) + 4, first + MOST);
+    const end = Math.min(this.found.length, this.flows ? this.shown : below);
     this.take(first, end, this.heights.offset);
     const left = this.flows ? this.found.length - end : 0;
     this.next.hidden = !left;
@@ -260,7 +261,7 @@ class Table {
     cell.classList.add('active');
     this.box.setAttribute('aria-activedescendant', cell.id);
     if (document.activeElement === this.box && (this.flows || this.box.scrollWidth > this.box.clientWidth)) {
-      cell.scrollIntoView({ block: this.flows ? 'nearest' : 'nearest', inline: 'nearest' });
+      cell.scrollIntoView({ block: 'nearest', inline: 'nearest' });
     }
   }
 
@@ -271,7 +272,8 @@ class Table {
   }
 
   save() {
-    return saveCsv(`${document.querySelector('h1').textContent}-${this.name}`, this.source.heads(), this.found, row => this.source.records(row));
+    const name = `${document.querySelector('h1').textContent}-${this.name}`;
+    return saveCsv(name, this.source.heads(), this.found, row => this.source.records(row));
   }
 
   /** Has the first rows for the printer, whichever are in view. */
