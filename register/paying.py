@@ -109,5 +109,5 @@ def paid(table, asked):
         print(f'{shown(name)}\tit was paid by another run since this one was prepared')
     if not stale:
         with table.base:
-            table.base.execute('update payment set confirmed = ? where id = ?', (now(), asked.run))
+            table.base.execute('update payment set confirmed = ?, turn = (select coalesce(max(turn), 0) + 1 from payment) where id = ?', (now(), asked.run))
     return int(bool(stale))

@@ -23,7 +23,7 @@ create table if not exists statement (id integer primary key, report integer not
     inputs text not null, layout text, sealed integer, sha256 text, path text unique, message text, files integer, first_day text, last_day text,
     remarks integer, status integer not null, reason text, made text not null, host text, seconds real);
 create table if not exists accepted (statement integer not null references statement, who text not null, at text not null, why text not null);
-create table if not exists payment (id integer primary key, path text not null, sha256 text not null, prepared text not null, confirmed text);
+create table if not exists payment (id integer primary key, path text not null, sha256 text not null, prepared text not null, confirmed text, turn integer);
 create table if not exists part (payment integer not null references payment, statement integer not null references statement,
     subtracted integer not null, primary key (payment, statement, subtracted)) without rowid;
 create index if not exists turns on statement (report, turn);
@@ -33,7 +33,7 @@ commit;
 '''
 ARRIVED = 'insert into report (name, here) values (?, 1) on conflict (name) do update set here = 1'
 LAST_PAID = '''select statement.* from statement join part on part.statement = statement.id join payment on payment.id = part.payment
-    where report = ? and confirmed is not null and not subtracted order by payment.confirmed desc, payment.id desc limit 1'''
+    where report = ? and confirmed is not null and not subtracted order by payment.turn desc limit 1'''
 
 STATES = ('withdrawn', 'changed', 'failed', 'paid', 'clean', 'accepted', 'remarks')
 CURRENT = STATES[3:]
