@@ -125,6 +125,10 @@ def spoilt_statements(whole):
     yield 'with a part of it twice', ''.join([*lines[:6], *lines[2:6], *lines[6:]]), place
     yield 'with its last line of the ledger twice', ''.join([*lines[:8], *lines[6:]]), place
     yield 'that is empty', '', cut
+    yield 'with a line of its own', ''.join([lines[0], 'TOTAL\t1\n', *lines[1:]]), 'line 2: UnknownLine'
+    yield 'with a cell more', whole.replace('P1\t', 'P1\tP1\t', 1), 'line 4: Cells'
+    yield 'that is refused early, and goes on', ''.join([lines[0], lines[0]]) + ''.join(lines[1:8]) * 20000, 'line 2: Place'
+    yield 'without a report, but with a ledger', ''.join(['NOREPORT\n', *lines[1:]]), 'line 2: it is no line of a statement without a report'
     yield 'without its seal', ''.join(lines[:8]), 'has no seal.*--unsealed|Unsealed'
     yield 'without its second recording', ''.join([*lines[:6], *lines[8:]]), 'its seal says 9 lines|Seal'
     yield 'with another status', whole.replace('Clean', 'Remarks'), 'its seal says|Seal'
@@ -184,6 +188,17 @@ def follow_files(count, tools):
         path = written(os.path.join(room, 'faulty.tsv'), faulty + b'changed behind what was read')
         status, told, error = tools.run('dsr_explain', ['-', path], given=sealed([faulty]).encode())
         count.check('bytes behind what was read of a file with a fault', [] if status == 0 else [error])
+
+
+def follow_unsealed(count, tools):
+    """Files that are not those of a statement without a seal, as far as it shows."""
+    folder = os.path.join(CASES, 'missing_and_doubled_files')
+    for files, wanted in ((['in2.tsv', 'in1.tsv', 'in3.tsv'], 'name the files that dsr was given, in their order'),
+                          (['in1.tsv'], 'the statement has 3 files, but 1 are named'),
+                          (['in1.tsv', 'in2.tsv', 'none.tsv'], 'cannot read none.tsv'),
+                          (['in1.tsv', 'in2.tsv', '../foreign_file/in1.tsv'], 'File 3 (../foreign_file/in1.tsv)')):
+        status, told, error = tools.run('dsr_page', ['--unsealed', 'expected', *files], folder)
+        count.check(f'files without a seal {files}', [] if status == 1 and not told and wanted in error else [f'status {status}, {error!r}'])
 
 
 # ------------------------------------------------------------ what is told of a report
@@ -343,6 +358,7 @@ def follow_texts(count, tools):
     follow_marks(count, tools)
     follow_refusals(count, tools)
     follow_files(count, tools)
+    follow_unsealed(count, tools)
     follow_reports(count)
     follow_all(count, tools)
     follow_left(count, tools)

@@ -25,7 +25,6 @@ class Parser(argparse.ArgumentParser):
 
 def parser_of(name, text):
     """The words that both programs have: the statement, the files that `dsr` was given, and the layout."""
-    signal.signal(signal.SIGPIPE, signal.SIG_DFL)
     sys.stderr = CleanStream(sys.stderr)
     purpose, _, more = text.partition('\n\n')
     parser = Parser(prog=name, description=purpose, epilog=more, formatter_class=argparse.RawDescriptionHelpFormatter)
@@ -57,6 +56,13 @@ def report_of(given, on_booked):
     if given.files:
         statement.seal.check_layout(layout, given.layout)
     return Report(statement, given.files, layout)
+
+
+def printing():
+    """Standard output, once there is something to print: a reader that ends takes this program with it."""
+    signal.signal(signal.SIGPIPE, signal.SIG_DFL)
+    sys.stdout.reconfigure(encoding='utf-8', errors='backslashreplace', newline='\n')
+    return sys.stdout
 
 
 def ending(name, run):
