@@ -40,29 +40,41 @@
 //! **Where to begin.** `specs/CommandLine.antt` and `specs/Faults.antt`; then `src/inputs.rt`.
 #![tactic(auto)]
 
+mod answers;
 mod arguments;
 mod command;
 mod faults;
+mod file_source;
+mod host;
 mod identity;
 mod inputs;
 mod layout_file;
 mod new_file;
-mod options;
+mod new_outlet;
 mod print;
 mod progress;
 mod refusals;
 mod replacement;
+mod report_world;
+mod statement_world;
 mod watched;
+mod world;
 
+pub use answers::{no_words, turn_down};
 pub use arguments::{asked, fault_of_error, is_set, read_file_name, read_names};
 pub use command::{Asked, CommandFault, Names};
 pub use faults::{DSR, REFUSED, UNFINISHED, exit_status, write_failed, write_fault, write_line};
-pub use identity::FileIdentity;
-pub use inputs::{Input, Inputs, OpenError, open_inputs};
-pub use layout_file::{LayoutFile, LayoutReadError, open_layout, read_layout};
-pub use new_file::{NewFile, NewFileError, create_beside};
-pub use options::options_of;
+pub use file_source::FileSource;
+pub use host::Host;
+pub use identity::{FileIdentity, Place};
+pub use inputs::{OpenError, open_inputs};
+pub use layout_file::{LayoutReadError, RunOptions, read_options};
+pub use new_file::{NewFileError, create_beside};
+pub use new_outlet::NewOutlet;
 pub use print::{print_text, write_parts};
-pub use refusals::{cannot_replace, no_memory, no_new_file, not_opened, refuse};
-pub use replacement::{Replacement, Stage, settle};
-pub use watched::{Printer, Watched, watch};
+pub use refusals::{cannot_replace, layout_refused, no_memory, no_new_file, not_opened, refuse};
+pub use replacement::settle;
+pub use report_world::ReportWorld;
+pub use statement_world::StatementWorld;
+pub use watched::{Watched, teller_of, watch};
+pub use world::{CreateFault, OpenFault, WordsFault, World};
