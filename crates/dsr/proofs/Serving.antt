@@ -20,26 +20,11 @@ use Rattle.dsr.specs.Serving.{Ghosts, HadOutput, HadRun, HadRunInto, HadTexts, I
 pub only_told : (out f h : Written) (text : List ℕ) → IsTold f h text → IsOnlyTold text (outputs out f) (outputs out h)
 only_told out f h text told = record { out = refl; told = told }
 
--- one of the files is not opened
-pub unopened : {R N : Type 0} (g : Ghosts R N) (d : Disk) (asked : Asked) (options : Options) (error : OpenError) (out f h : Written) (s : ℕ)
-    → IsRefusal (texts_for d asked.files) error → s ≡ unopened_status error → IsTold f h (unopened_line dsr error)
-    → IsRead g d (Some d) asked options (outputs out f) (outputs out h) s
-unopened g d asked options (CannotOpen name) out f h s is status told =
-    inl (subst (HadTexts g d (Some d) asked options (outputs out f) (outputs out h) s) (sym is) (only_told out f h _ told, status, refl))
-unopened g d asked options Memory out f h s is status told = inr ((only_told out f h _ told, status), refl)
-
 had_texts : {R N : Type 0} (g : Ghosts R N) (d : Disk) (left : Option Disk) (asked : Asked) (options : Options) (before after : Outputs) (s : ℕ)
     (texts : List (List ℕ)) (output : Option (List ℕ)) → texts_for d asked.files ≡ Ok texts → asked.output ≡ output
     → HadOutput g d left asked options texts before after s output → IsRead g d left asked options before after s
 had_texts g d left asked options before after s texts output are is had =
     inl (subst (HadTexts g d left asked options before after s) (sym are) (subst (HadOutput g d left asked options texts before after s) (sym is) had))
-
--- the run over the sources wrote to standard output
-pub printed : {R N : Type 0} (g : Ghosts R N) (file : R → Option FileIdentity) (d : Disk) (asked : Asked) (options : Options) (sources : List R)
-    (before after : Outputs) (s : ℕ) → AreSources g.told file (texts_for d asked.files) (files_for d asked.files) sources → asked.output ≡ None
-    → HadRun g.told options sources before after s → IsRead g d (Some d) asked options before after s
-printed g file d asked options sources before after s are is had =
-    had_texts g d (Some d) asked options before after s are.bytes None are.texts_are is (sources, are.fresh, had, refl)
 
 -- the files that are read, as they were opened
 read_are : {R N : Type 0} (g : Ghosts R N) (file : R → Option FileIdentity) (d : Disk) (asked : Asked) (layout : Option FileIdentity) (sources : List R)

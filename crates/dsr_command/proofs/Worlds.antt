@@ -9,7 +9,3 @@ where_told (Some d) P h = h d refl
 
 pub at_disk : (o : Option Disk) (P : Disk → Type 0) (d : Disk) → o ≡ Some d → WhereTold o P → P d
 at_disk o P d is h = subst (λ o. WhereTold o P) is h
-
-pub where_more : (o : Option Disk) (P Q : Disk → Type 0) → ((d : Disk) → P d → Q d) → WhereTold o P → WhereTold o Q
-where_more None P Q more h = tt
-where_more (Some d) P Q more h = more d h

@@ -12,18 +12,6 @@ use Rattle.dsr_io.specs.meaning.Told.{Told}
 use Rattle.dsr_totals.specs.declared.command.Asked.{Asked}
 use Rattle.dsr_totals.specs.Serving.{both_texts, files_asked, texts_asked}
 
--- none was paid
-pub none_paid : {R : Type 0} (told : R → Told) (file : R → Option FileIdentity) (d : Disk) (asked : Asked) (sources : List R) → asked.paid ≡ []
-    → AreSources told file (texts_for d asked.given) (files_for d asked.given) sources
-    → AreSources told file (texts_asked d asked) (files_asked d asked) sources
-none_paid told file d asked sources none are =
-    record {
-      bytes = are.bytes;
-      texts_are = ap₂ both_texts are.texts_are (ap (texts_of d.files) none) ∙ ap Ok (append-nil are.bytes);
-      fresh = are.fresh;
-      files_are = are.files_are ∙ (sym (append-nil (files_for d asked.given)) ∙ ap (λ ns. files_for d asked.given ++ map d.file ns) (sym none));
-    }
-
 fresh_both : {R : Type 0} (told : R → Told) (rs : List R) (ts : List (List ℕ)) (qs : List R) (us : List (List ℕ))
     → AreFresh told rs ts → AreFresh told qs us → AreFresh told (rs ++ qs) (ts ++ us)
 fresh_both told [] [] qs us are more = more
@@ -44,15 +32,3 @@ some_paid told file d asked sources paid some are more =
       files_are = map-append file sources paid ∙ ap₂ (λ xs ys. xs ++ ys) are.files_are (more.files_are ∙ files_named d asked.paid some);
     }
 
--- one that is given is not opened
-pub given_refused : (d : Disk) (asked : Asked) (error : OpenError) → IsRefusal (texts_for d asked.given) error
-    → IsRefusal (texts_asked d asked) error
-given_refused d asked (CannotOpen name) is = ap (λ r. both_texts r (texts_of d.files asked.paid)) is
-given_refused d asked Memory is = tt
-
--- one that was paid is not opened
-pub paid_refused : {R : Type 0} (told : R → Told) (file : R → Option FileIdentity) (d : Disk) (asked : Asked) (sources : List R) (error : OpenError)
-    → length asked.paid ≢ 0 → AreSources told file (texts_for d asked.given) (files_for d asked.given) sources
-    → IsRefusal (texts_for d asked.paid) error → IsRefusal (texts_asked d asked) error
-paid_refused told file d asked sources (CannotOpen name) some are is = ap₂ both_texts are.texts_are (sym (texts_named d asked.paid some) ∙ is)
-paid_refused told file d asked sources Memory some are is = tt

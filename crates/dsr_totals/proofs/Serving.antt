@@ -23,26 +23,11 @@ use Rattle.dsr_totals.specs.Serving.{Ghosts, HadOutput, HadTexts, HadTotals, Had
 pub only_told : (out f h : Written) (text : List ℕ) → IsTold f h text → IsOnlyTold text (outputs out f) (outputs out h)
 only_told out f h text told = record { out = refl; told = told }
 
--- one of the files is not opened
-pub unopened : {R N : Type 0} (g : Ghosts R N) (d : Disk) (asked : Asked) (error : OpenError) (out f h : Written) (s : ℕ)
-    → IsRefusal (texts_asked d asked) error → s ≡ unopened_status error → IsTold f h (unopened_line dsr_totals error)
-    → IsServedFor g d (Some d) asked (outputs out f) (outputs out h) s
-unopened g d asked (CannotOpen name) out f h s is status told =
-    inl (subst (HadTexts g d (Some d) asked (outputs out f) (outputs out h) s) (sym is) (only_told out f h _ told, status, refl))
-unopened g d asked Memory out f h s is status told = inr ((only_told out f h _ told, status), refl)
-
 had_texts : {R N : Type 0} (g : Ghosts R N) (d : Disk) (left : Option Disk) (asked : Asked) (before after : Outputs) (s : ℕ)
     (texts : List (List ℕ)) (output : Option (List ℕ)) → texts_asked d asked ≡ Ok texts → asked.output ≡ output
     → HadOutput g d left asked texts before after s output → IsServedFor g d left asked before after s
 had_texts g d left asked before after s texts output are is had =
     inl (subst (HadTexts g d left asked before after s) (sym are) (subst (HadOutput g d left asked texts before after s) (sym is) had))
-
--- the run over the sources wrote to standard output
-pub printed : {R N : Type 0} (g : Ghosts R N) (file : R → Option FileIdentity) (d : Disk) (asked : Asked) (sources : List R)
-    (before after : Outputs) (s : ℕ) → AreSources g.told file (texts_asked d asked) (files_asked d asked) sources → asked.output ≡ None
-    → HadTotals g.told asked sources before after s → IsServedFor g d (Some d) asked before after s
-printed g file d asked sources before after s are is had =
-    had_texts g d (Some d) asked before after s are.bytes None are.texts_are is (sources, are.fresh, had, refl)
 
 -- the files that are read, as they were opened
 read_are : {R N : Type 0} (g : Ghosts R N) (file : R → Option FileIdentity) (d : Disk) (asked : Asked) (sources : List R)
