@@ -42,14 +42,7 @@ fn answer<
     W: ReportWorld,
     O: Outlet,
     F: Outlet,
->(
-    rt: &H,
-    alloc: Global,
-    world: &mut W,
-    words: &[String],
-    out: &mut O,
-    fault: &mut F,
-) -> u8
+>(rt: &H, alloc: Global, world: &mut W, words: &[String], out: &mut O, fault: &mut F) -> u8
     requires outlet { (O.told out.old).failed ≡ false }
     requires words { WhereTold (W.disk world.old) (λ d. d.words ≡ Some (map string_bytes words.now)) }
     ensures { WhereTold (W.disk world.old) (λ d. IsDone (ghosts (W.Reader.told) (W.New.told)) d
@@ -69,14 +62,7 @@ fn read_and_print<
     W: ReportWorld,
     O: Outlet,
     F: Outlet,
->(
-    rt: &H,
-    alloc: Global,
-    world: &mut W,
-    asked: &Asked,
-    out: &mut O,
-    fault: &mut F,
-) -> u8
+>(rt: &H, alloc: Global, world: &mut W, asked: &Asked, out: &mut O, fault: &mut F) -> u8
     requires outlet { (O.told out.old).failed ≡ false }
     requires asked { Asks (W.disk world.old) asked.now }
     ensures { WhereTold (W.disk world.old) (λ d. IsServedFor (ghosts (W.Reader.told) (W.New.told))

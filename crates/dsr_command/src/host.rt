@@ -122,10 +122,11 @@ impl<
         + io::Input<Reader = StdinLock<'static>>
         + RandomSource
         + Drop,
-> World for Host<H>
-{
+> World for Host<H> {
     type Reader = HostSource;
+
     type New = HostNew;
+
     type Permit = HostPermit;
 
     ghost disk = { λ _. None };
@@ -234,8 +235,7 @@ impl<
         + Drop
         + Send
         + 'static,
-> ReportWorld for Host<H>
-{
+> ReportWorld for Host<H> {
     type Teller = H;
 
     fn open_layout(&self, name: &str) -> Result<HostSource, OpenFault> {
@@ -262,8 +262,7 @@ impl<
         + io::Input<Reader = StdinLock<'static>>
         + RandomSource
         + Drop,
-> StatementWorld for Host<H>
-{
+> StatementWorld for Host<H> {
     fn permit(&self) -> HostPermit {
         HostPermit
     }

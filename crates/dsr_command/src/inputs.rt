@@ -31,7 +31,7 @@ pub fn open_inputs<W: World>(
     ensures unfailed { IfOk result (λ v. All (λ r. (W.Reader.told r).failed ≡ false) v.items) }
     ensures opened { WhereTold (W.disk world.now) (λ d. MatchResult result
         (λ v. AreSources W.Reader.told W.Reader.file (texts_for d names.now)
-            (files_for d names.now) v.items)
+        (files_for d names.now) v.items)
         (IsRefusal (texts_for d names.now))) }
 {
     if names.len() == 0 {
@@ -72,7 +72,7 @@ fn open_files<W: World>(
     ensures unfailed { IfOk result (λ v. All (λ r. (W.Reader.told r).failed ≡ false) v.items) }
     ensures opened { WhereTold (W.disk world.now) (λ d. MatchResult result
         (λ v. AreSources W.Reader.told W.Reader.file (texts_of d.files names.now)
-            (map d.file names.now) v.items)
+        (map d.file names.now) v.items)
         (IsRefusal (texts_of d.files names.now))) }
 {
     let mut sources = Vec::new(alloc);

@@ -66,7 +66,13 @@ pub fn read_options<W: ReportWorld>(
             };
             with_options(alloc, asked, layout, world.permit_after(reader), file)
         }
-        None => with_options(alloc, asked, Layout::standard(), world.permit_without(asked), None),
+        None => with_options(
+            alloc,
+            asked,
+            Layout::standard(),
+            world.permit_without(asked),
+            None,
+        ),
     }
 }
 

@@ -31,4 +31,3 @@ some_paid told file d asked sources paid some are more =
       fresh = fresh_both told sources are.bytes paid more.bytes are.fresh more.fresh;
       files_are = map-append file sources paid ∙ ap₂ (λ xs ys. xs ++ ys) are.files_are (more.files_are ∙ files_named d asked.paid some);
     }
-

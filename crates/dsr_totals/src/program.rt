@@ -9,9 +9,7 @@ use crate::arguments::asked;
 use crate::command::Asked;
 use crate::faults::DSR_TOTALS;
 use crate::totaling::{open_statements, print_totals, replace_by_totals};
-use dsr_command::{
-    StatementWorld, create_beside, no_new_file, no_words, not_opened, turn_down,
-};
+use dsr_command::{StatementWorld, create_beside, no_new_file, no_words, not_opened, turn_down};
 use dsr_io::Outlet;
 use std::alloc::Global;
 use std::random::RandomSource;

@@ -40,7 +40,7 @@ pub(crate) fn open_statements<W: StatementWorld>(
     ensures unfailed { IfOk result (λ v. All (λ r. (W.Reader.told r).failed ≡ false) v.items) }
     ensures opened { WhereTold (W.disk world.now) (λ d. MatchResult result
         (λ v. AreSources W.Reader.told W.Reader.file (texts_asked d asked.now)
-            (files_asked d asked.now) v.items)
+        (files_asked d asked.now) v.items)
         (IsRefusal (texts_asked d asked.now))) }
 {
     let permit = world.permit();

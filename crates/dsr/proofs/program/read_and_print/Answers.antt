@@ -8,4 +8,4 @@ returns-in-Err g c =
     let told = only_told (g.O.Outlet.told c.args.out.now) (g.F.Outlet.told c.args.fault.now) (g.F.Outlet.told c.layout_refused.new.fault) _
     (rw c.layout_name.ensures at c.layout_refused.ensures.told) in
     where_told (g.W.World.disk c.args.world.now) _ (λ d is.
-      inr (c.in-Err.error, at_disk _ _ d is c.in-Err.ensures, told, c.layout_refused.ensures.status, is))
+    inr (c.in-Err.error, at_disk _ _ d is c.in-Err.ensures, told, c.layout_refused.ensures.status, is))

@@ -16,10 +16,10 @@ returns-in-Err-clause-opened g c =
     let name : c.name-item.result ≡ slice_index_or names k c.name-item.result =
     c.name-item.is ∙ ap (λ xs. slice_index_or xs k c.name-item.result) c.as_slice-name-items.ensures in
     where_told (g.W.World.disk c.args.world.now) _ (λ d is.
-      unopened_at told file d names k c.name-item.result c.loop-name.sources.items c.in-Err.fault c.unopened.result under
-      (at_disk _ _ d is c.loop-name.invariant.opened)
-      (subst (λ n. Opens told file d n (Err c.in-Err.fault)) (c.as_str.ensures ∙ name) (at_disk _ _ d is c.in-Err.ensures.opened))
-      (subst (λ n. IsRefusalOf n c.in-Err.fault c.unopened.result) name c.unopened.ensures))
+    unopened_at told file d names k c.name-item.result c.loop-name.sources.items c.in-Err.fault c.unopened.result under
+    (at_disk _ _ d is c.loop-name.invariant.opened)
+    (subst (λ n. Opens told file d n (Err c.in-Err.fault)) (c.as_str.ensures ∙ name) (at_disk _ _ d is c.in-Err.ensures.opened))
+    (subst (λ n. IsRefusalOf n c.in-Err.fault c.unopened.result) name c.unopened.ensures))
 
 pub loop-name-preserved : goal.loop-name-preserved
 loop-name-preserved g c =

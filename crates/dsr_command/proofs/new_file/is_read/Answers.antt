@@ -9,7 +9,7 @@ returns-then-eq-2-clause-read g c =
     let item = c.source-item.result in
     let is : g.R.FileSource.file item ≡ Some c.args.file = search rules in
     λ _. one_read g.R.FileSource.file c.args.besides sources k item c.args.file c.loop-source-test.true
-        (subst (λ r. g.R.FileSource.file r ≡ Some c.args.file) c.source-item.is is)
+    (subst (λ r. g.R.FileSource.file r ≡ Some c.args.file) c.source-item.is is)
 
 pub loop-source-preserved : goal.loop-source-preserved
 loop-source-preserved g c =
@@ -25,4 +25,4 @@ returns-clause-apart g c =
     let sources = c.args.sources.now in
     let not : c.args.besides ≢ Some c.args.file = search rules in
     λ _. none_read g.R.FileSource.file c.args.besides sources c.args.file not
-        (subst (All (λ r. g.R.FileSource.file r ≢ Some c.args.file)) (take_all c.loop-source.source-index sources c.loop-source-test.false) c.loop-source.invariant)
+    (subst (All (λ r. g.R.FileSource.file r ≢ Some c.args.file)) (take_all c.loop-source.source-index sources c.loop-source-test.false) c.loop-source.invariant)

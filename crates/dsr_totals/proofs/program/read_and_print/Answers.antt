@@ -8,17 +8,17 @@ pub returns-in-Ok-create_beside : goal.returns-in-Ok-create_beside
 returns-in-Ok-create_beside g c =
     let between = g.W.World.disk c.create_beside.new.world in
     where_told (g.W.World.disk c.args.world.now) _ (λ d is.
-      let created = rw c.deref.ensures.value at (at_disk _ _ d is c.in-Ok-create_beside.ensures.created) in
-      stored (ghosts g.W.Reader.Source.told g.W.New.Outlet.told) g.W.Reader.FileSource.file d between (g.W.World.disk c.replace_by_totals.new.world)
-      c.args.asked.now c.in-Ok.inputs.items c.in-Some.name c.in-Ok-create_beside.new
-      (g.O.Outlet.told c.args.out.now) (g.F.Outlet.told c.args.fault.now) (g.F.Outlet.told c.replace_by_totals.new.fault) c.replace_by_totals.result
-      (at_disk _ _ d is c.in-Ok.ensures.opened) c.in-Some.is created (at_disk between _ (made d) created.1 c.replace_by_totals.ensures))
+    let created = rw c.deref.ensures.value at (at_disk _ _ d is c.in-Ok-create_beside.ensures.created) in
+    stored (ghosts g.W.Reader.Source.told g.W.New.Outlet.told) g.W.Reader.FileSource.file d between (g.W.World.disk c.replace_by_totals.new.world)
+    c.args.asked.now c.in-Ok.inputs.items c.in-Some.name c.in-Ok-create_beside.new
+    (g.O.Outlet.told c.args.out.now) (g.F.Outlet.told c.args.fault.now) (g.F.Outlet.told c.replace_by_totals.new.fault) c.replace_by_totals.result
+    (at_disk _ _ d is c.in-Ok.ensures.opened) c.in-Some.is created (at_disk between _ (made d) created.1 c.replace_by_totals.ensures))
 
 pub returns-in-Err-create_beside : goal.returns-in-Err-create_beside
 returns-in-Err-create_beside g c =
     where_told (g.W.World.disk c.args.world.now) _ (λ d is.
-      unstored (ghosts g.W.Reader.Source.told g.W.New.Outlet.told) g.W.Reader.FileSource.file d (g.W.World.disk c.create_beside.new.world)
-      c.args.asked.now c.in-Ok.inputs.items c.in-Some.name c.in-Err-create_beside.error
-      (g.O.Outlet.told c.args.out.now) (g.F.Outlet.told c.args.fault.now) (g.F.Outlet.told c.no_new_file.new.fault) c.no_new_file.result
-      (at_disk _ _ d is c.in-Ok.ensures.opened) c.in-Some.is
-      (rw c.deref.ensures.value at (at_disk _ _ d is c.in-Err-create_beside.ensures.created)) c.no_new_file.ensures.told c.no_new_file.ensures.status)
+    unstored (ghosts g.W.Reader.Source.told g.W.New.Outlet.told) g.W.Reader.FileSource.file d (g.W.World.disk c.create_beside.new.world)
+    c.args.asked.now c.in-Ok.inputs.items c.in-Some.name c.in-Err-create_beside.error
+    (g.O.Outlet.told c.args.out.now) (g.F.Outlet.told c.args.fault.now) (g.F.Outlet.told c.no_new_file.new.fault) c.no_new_file.result
+    (at_disk _ _ d is c.in-Ok.ensures.opened) c.in-Some.is
+    (rw c.deref.ensures.value at (at_disk _ _ d is c.in-Err-create_beside.ensures.created)) c.no_new_file.ensures.told c.no_new_file.ensures.status)

@@ -10,5 +10,5 @@ returns-in-Ok-append-clause-opened g c =
     let items : c.append.new.self.items ≡ given ++ paid = search rules in
     let some : length c.args.asked.now.paid ≢ 0 = search rules in
     where_told (g.W.World.disk c.args.world.now) _ (λ d is.
-      rw items (some_paid g.W.Reader.Source.told g.W.Reader.FileSource.file d c.args.asked.now given paid some
-      (at_disk _ _ d is c.in_ok-inputs.ensures.opened) (at_disk _ _ d is c.in-Ok.ensures.opened)))
+    rw items (some_paid g.W.Reader.Source.told g.W.Reader.FileSource.file d c.args.asked.now given paid some
+    (at_disk _ _ d is c.in_ok-inputs.ensures.opened) (at_disk _ _ d is c.in-Ok.ensures.opened)))
