@@ -22,6 +22,7 @@ use std::{env, fs, io};
 /// The words and the files of the system.
 #[derive(Drop)]
 pub struct Host<H> {
+    /// The handle of the system.
     pub rt: H,
 }
 

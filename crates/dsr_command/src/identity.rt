@@ -3,7 +3,9 @@
 /// A file of the system, whatever its names are.
 #[derive(Clone, Copy, PartialEq, Eq)]
 pub struct FileIdentity {
+    /// The device that it is on.
     pub device: u64,
+    /// Its number there.
     pub inode: u64,
 }
 

@@ -26,12 +26,14 @@ pub enum LayoutReadError {
     Memory,
 }
 
-/// The options of a run, in a box, since a layout takes about 2 kB; the leave to open its files, and which file the layout
-/// was read from, if there is one and it is known.
+/// The options of a run, and the leave to open its files.
 #[derive(Drop)]
 pub struct RunOptions<P> {
+    /// The options, in a box, since a layout takes about 2 kB.
     pub options: Box<Options>,
+    /// The leave to open the files.
     pub permit: P,
+    /// Which file the layout was read from, if there is one and it is known.
     pub layout: Option<FileIdentity>,
 }
 

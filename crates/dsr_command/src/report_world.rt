@@ -14,6 +14,10 @@ pub trait ReportWorld: World {
     type Teller: Clock + Eprint + Copy + Drop + Send + 'static;
 
     /// Opens the layout's file.
+    ///
+    /// # Errors
+    ///
+    /// `Missing`: it cannot be opened. `Memory`: out of memory.
     fn open_layout(&self, name: &str) -> Result<Self::Reader, OpenFault>
         ensures unfailed { IfOk result (λ r. (Self.Reader.told r).failed ≡ false) }
         ensures opened { WhereTold (Self.disk self.now) (λ d. Opens (Self.Reader.told)

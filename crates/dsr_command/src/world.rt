@@ -52,17 +52,29 @@ pub trait World {
     ghost disk: { Self → Option Disk };
 
     /// The words after the program's name.
+    ///
+    /// # Errors
+    ///
+    /// `NotUtf8`: one is not UTF-8. `Memory`: out of memory.
     fn words(&self) -> Result<Vec<String>, WordsFault>
         ensures { WhereTold (disk self.now) (λ d. MatchResult result
             (λ v. d.words ≡ Some (map string_bytes v.items)) (LacksWords d)) };
 
     /// Opens the file of this name.
+    ///
+    /// # Errors
+    ///
+    /// `Missing`: it cannot be opened. `Memory`: out of memory.
     fn open(&self, permit: &Self::Permit, name: &str) -> Result<Self::Reader, OpenFault>
         ensures unfailed { IfOk result (λ r. (Self.Reader.told r).failed ≡ false) }
         ensures opened { WhereTold (disk self.now) (λ d. Opens (Self.Reader.told)
             (Self.Reader.file) d name.now result) };
 
     /// Opens standard input.
+    ///
+    /// # Errors
+    ///
+    /// Out of memory.
     fn standard_input(&self, permit: &Self::Permit) -> Result<Self::Reader, NoMemory>
         ensures unfailed { IfOk result (λ r. (Self.Reader.told r).failed ≡ false) }
         ensures opened { WhereTold (disk self.now) (λ d. IfOk result
@@ -73,18 +85,30 @@ pub trait World {
         ensures { WhereTold (disk self.now) (λ d. result ≡ d.place name.now) };
 
     /// Creates a new, empty file beside the one of this name.
+    ///
+    /// # Errors
+    ///
+    /// `Failed`: it cannot be created. `Memory`: out of memory.
     fn create_beside(&mut self, name: &str) -> Result<Self::New, CreateFault>
         ensures sound { IfOk result (λ n. (Self.New.told n).failed ≡ false) }
         ensures created { Creates (Self.New.told) (disk self.old) (disk self.new) result };
 
     /// Syncs a new file to the disk.
+    ///
+    /// # Errors
+    ///
+    /// `Failed`: it could not be synced.
     fn sync(&mut self, new: &mut Self::New) -> Result<(), Failed>
         ensures same { Self.New.told new.new ≡ Self.New.told new.old }
         ensures synced { MatchResult result (λ _. (disk self.new ≡ disk self.old)
             × (Self.New.synced new.new ≡ (Self.New.told new.new).contents))
             (λ _. disk self.new ≡ option_map failing (disk self.old)) };
 
-    /// Gives a new file, of which all bytes were synced, this name. If it fails, it is still beside.
+    /// Gives a new file, of which all bytes were synced, this name.
+    ///
+    /// # Errors
+    ///
+    /// `Failed`: it could not be renamed, and is still beside.
     fn put(&mut self, new: &Self::New, name: &str) -> Result<(), Failed>
         requires { Self.New.synced new.now ≡ (Self.New.told new.now).contents }
         ensures { Puts (Self.New.told new.now).contents (disk self.old) (disk self.new) name.now
