@@ -1,24 +1,22 @@
--- From what a run over sources says to what the program does; what is said of watched sources, of the inputs inside.
-use Rattle.std.proofs.Common.{◌≡◌, subst, List, [], ◌∷◌, All, map}
-use Rattle.std.specs.Prelude.{Result, Ok, Err, IfOk, IfErr}
+-- From what a run over watched sources says to what it says of the sources inside.
+use Rattle.std.proofs.Common.{◌≡◌, ◌⊎◌, subst, sym, refl, inl, inr, ℕ, List, [], ◌∷◌, All, length, map}
+use Rattle.std.specs.Prelude.{Option, Some, None, Result, Ok, Err, IfOk, IfErr, MatchOption}
+use Rattle.std.proofs.lemmas.List.{length-map}
 use Rattle.std.proofs.lemmas.List.Elements.{All-nil, All-cons, All-head, All-tail}
 use Rattle.std.proofs.lemmas.Result.{IfOk-weaker, IfErr-weaker}
-use Rattle.dsr_command.specs.declared.inputs.Input.{Input}
+use Rattle.std.specs.Io.KnownBytes.{Keeps}
 use Rattle.dsr_file.specs.meaning.Runs.{FileText}
-use Rattle.dsr_io.specs.declared.source.Failed.{Failed}
 use Rattle.dsr_io.specs.meaning.Told.{Told}
+use Rattle.dsr_io.specs.meaning.Written.{Written}
+use Rattle.dsr_intake.specs.declared.errors.IntakeError.{IntakeError}
+use Rattle.dsr_intake.specs.declared.errors.IntakeError.TheVariants as intake
 use Rattle.dsr_intake.specs.declared.errors.RunError.{RunError}
 use Rattle.dsr_intake.specs.declared.errors.RunError.TheVariants as error
 use Rattle.dsr_intake.specs.declared.options.Options.{Options}
+use Rattle.dsr_intake.specs.meaning.Outcomes.{IsLateRun, IsReported, IsUnwritten}
+use Rattle.dsr_intake.specs.meaning.Texts.{GaveEach, refusal_of}
 use Rattle.dsr_statement.specs.declared.verdict.Status.{Status}
-use Rattle.dsr_intake.specs.meaning.Outcomes.{IsReported, IsUnwritten}
-use Rattle.dsr_intake.specs.meaning.Texts.{GaveEach}
-use Rattle.dsr_io.specs.meaning.Written.{Written}
-use Rattle.dsr_command.specs.declared.replacement.Stage.{Stage}
-use Rattle.dsr_command.specs.declared.replacement.Stage.TheVariants.{Removed}
-use Rattle.dsr_command.specs.Faults.{fault_line, IsTold}
-use Rattle.dsr_command.specs.NewFiles.{IsSettled}
-use Rattle.dsr.specs.Serving.{outputs, HadAnswer, stage_after}
+use Rattle.dsr.specs.Serving.{IsAnswer, IsRefusedFor}
 
 -- what holds of each source holds of its watched source
 pub of_each : {X Y : Type 0} (P : X → Type 0) (f : Y → X) (ys : List Y) → All P (map f ys) → All (λ y. P (f y)) ys
@@ -46,41 +44,43 @@ unwritten_inside told f o ys zs before after (error.Intake e) h = h
 unwritten_inside told f o ys zs before after error.Memory h = (h.0, gave_inside told f o ys zs h.0 h.1, h.2)
 unwritten_inside told f o ys zs before after (error.Write n) h = (h.0, gave_inside told f o ys zs h.0 h.1, h.2, h.3)
 
--- the same of an answer
-pub reported_within : {Y : Type 0} (told : Input → Told) (of : Y → Input) (o : Options) (inputs : List Input) (ys : List Y) (before after : Written)
-    (answer : Result Status RunError) → map of ys ≡ inputs
-    → IfOk answer (λ s. (left : List Y) × (ts : List FileText) × IsReported (λ y. told (of y)) o ys left before after ts s)
-    → IfOk answer (λ s. (left : List Input) × (ts : List FileText) × IsReported told o inputs left before after ts s)
-reported_within told of o inputs ys before after answer same ok =
-    subst (λ is. IfOk answer (λ s. (left : List Input) × (ts : List FileText) × IsReported told o is left before after ts s)) same
-    (IfOk-weaker answer _ _ (λ s h. (map of h.0, h.1, reported_inside told of o ys h.0 before after h.1 s h.2)) ok)
+answer_inside : {X Y : Type 0} (told : X → Told) (f : Y → X) (o : Options) (ys zs : List Y) (before after : Written) (answer : Result Status RunError)
+    → IsAnswer (λ y. told (f y)) o ys zs before after answer → IsAnswer told o (map f ys) (map f zs) before after answer
+answer_inside told f o ys zs before after answer h =
+    record {
+      reported = IfOk-weaker answer _ _ (λ s is. (is.0, reported_inside told f o ys zs before after is.0 s is.1)) h.reported;
+      unwritten = IfErr-weaker answer _ _ (λ e is. unwritten_inside told f o ys zs before after e is) h.unwritten;
+      refused = subst (λ n. MatchOption (refusal_of n o) (IfErr answer IsLateRun) (IsRefusedFor answer)) (sym (length-map ys f)) h.refused;
+    }
 
-pub unwritten_within : {Y : Type 0} (told : Input → Told) (of : Y → Input) (o : Options) (inputs : List Input) (ys : List Y) (before after : Written)
-    (answer : Result Status RunError) → map of ys ≡ inputs
-    → IfErr answer (λ e. (left : List Y) × IsUnwritten (λ y. told (of y)) o ys left before after e)
-    → IfErr answer (λ e. (left : List Input) × IsUnwritten told o inputs left before after e)
-unwritten_within told of o inputs ys before after answer same err =
-    subst (λ is. IfErr answer (λ e. (left : List Input) × IsUnwritten told o is left before after e)) same
-    (IfErr-weaker answer _ _ (λ e h. (map of h.0, unwritten_inside told of o ys h.0 before after e h.1)) err)
+-- the answer of a run over watched sources is one over the sources inside
+pub answer_within : {X Y : Type 0} (told : X → Told) (f : Y → X) (o : Options) (sources : List X) (ys : List Y) (before after : Written)
+    (answer : Result Status RunError) → map f ys ≡ sources → (left : List Y) × IsAnswer (λ y. told (f y)) o ys left before after answer
+    → (left : List X) × IsAnswer told o sources left before after answer
+answer_within told f o sources ys before after answer same h =
+    (map f h.0, subst (λ xs. IsAnswer told o xs (map f h.0) before after answer) same (answer_inside told f o ys h.0 before after answer h.1))
 
--- the answer of a run over the inputs
-pub answered : (told : Input → Told) (o : Options) (inputs : List Input) (before after : Written) (f g : Written) (answer : Result Status RunError)
-    → IfOk answer (λ s. (left : List Input) × (ts : List FileText) × IsReported told o inputs left before after ts s)
-    → IfErr answer (λ e. (left : List Input) × IsUnwritten told o inputs left before after e)
-    → IfOk answer (λ _. g ≡ f) → IfErr answer (λ e. IsTold f g (fault_line e))
-    → (left : List Input) × HadAnswer told o inputs left (outputs before f) (outputs after g) answer
-answered told o inputs before after f g (Ok s) ok err quiet line = (ok.0, ((ok.1, ok.2), quiet))
-answered told o inputs before after f g (Err e) ok err quiet line = (err.0, (err.1, line))
+-- a refusal by the rules of a run
+pub refused_by : (n : Option IntakeError) (answer : Result Status RunError) (Q : IntakeError → Type 0)
+    → MatchOption n (IfErr answer IsLateRun) (λ e. (answer ≡ Err (error.Intake e)) × Q e) → MatchOption n (IfErr answer IsLateRun) (IsRefusedFor answer)
+refused_by None answer Q met = met
+refused_by (Some e) answer Q met = inl met.0
 
--- a new file is where the answer of its run says
-pub settled : (answer : Result Status RunError) (done : Unit {0}) (stage : Stage) → IsSettled answer (Ok done) stage → stage ≡ stage_after answer
-settled (Ok s) done stage is = is
-settled (Err e) done stage is = is
+no_memory_refused : (n : Option IntakeError) → MatchOption n (IfErr {T = Status} (Err (error.Intake intake.Memory)) IsLateRun)
+    (IsRefusedFor (Err (error.Intake intake.Memory)))
+no_memory_refused None = tt
+no_memory_refused (Some e) = inr refl
 
--- a new file that cannot be put in its place has a statement, and was removed
-pub unsettled : {told : Input → Told} {o : Options} {inputs : List Input} {before after : Written} (answer : Result Status RunError)
-    (failed : Failed) (stage : Stage) → IsSettled answer (Err failed) stage
-    → IfOk answer (λ s. (left : List Input) × (ts : List FileText) × IsReported told o inputs left before after ts s)
-    → ((verdict : Status) × (left : List Input) × (ts : List FileText) × IsReported told o inputs left before after ts verdict) × (stage ≡ Removed)
-unsettled (Ok s) failed stage is ok = ((s, ok.0, ok.1, ok.2), is)
-unsettled (Err e) failed stage is ok = absurd is
+kept : (o : Option (List ℕ)) → Keeps o o
+kept None = tt
+kept (Some xs) = refl
+
+-- memory was refused before a run began
+pub without_memory : {X : Type 0} (told : X → Told) (o : Options) (sources : List X) (out : Written)
+    → IsAnswer told o sources sources out out (Err (error.Intake intake.Memory))
+without_memory told o sources out =
+    record {
+      reported = tt;
+      unwritten = record { kept = kept out.contents; taken = refl; failed = refl; flushes = refl; unflushed = refl };
+      refused = no_memory_refused (refusal_of (length sources) o);
+    }

@@ -1,2 +1,3 @@
-pub mod Serving
 pub mod Answering
+pub mod Ending
+pub mod Serving

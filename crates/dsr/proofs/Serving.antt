@@ -1,78 +1,57 @@
 -- From what the stages say to what the program does.
-use Rattle.std.proofs.Common.{◌≡◌, ◌≤◌, ℕ, List, true, false, refl, subst, inl, inr, length, codes}
-use Rattle.std.specs.List.{Any}
-use Rattle.std.specs.Prelude.{◌⊎◌, Option, None, Some, Result, Ok, Err, MatchResult, take}
-use Rattle.std.specs.declared.fs.File.{File}
+use Rattle.std.proofs.Common.{◌≡◌, ◌∷◌, ℕ, List, refl, subst, sym, ap₂, inl, inr, codes, map}
+use Rattle.std.specs.Prelude.{◌⊎◌, Option, None, Some, Result, Ok, Err}
+use Rattle.dsr_command.specs.declared.command.Asked.{Asked}
+use Rattle.dsr_command.specs.declared.identity.FileIdentity.{FileIdentity}
 use Rattle.dsr_command.specs.declared.inputs.OpenError.{OpenError}
 use Rattle.dsr_command.specs.declared.inputs.OpenError.TheVariants.{CannotOpen, Memory}
-use Rattle.dsr_command.specs.declared.layout_file.LayoutFile.{LayoutFile}
-use Rattle.dsr_command.specs.Faults.{cannot_open_line, dsr, layout_refused_line, line_of, unopened_line, unopened_status, IsTold}
-use Rattle.dsr_command.specs.Inputs.{IsLayoutUnopened, IsRefusal}
-use Rattle.dsr_command.specs.LayoutFile.{IsLayoutGiven, IsOpened, AreRefused}
+use Rattle.dsr_command.specs.declared.new_file.NewFileError.{NewFileError}
+use Rattle.dsr_command.specs.Faults.{IsTold, dsr, unopened_line, unopened_status}
+use Rattle.dsr_command.specs.Inputs.{IsRefusal}
+use Rattle.dsr_command.specs.LayoutFile.{layout_file}
+use Rattle.dsr_command.specs.NewFiles.{IsCreated, new_file_line, new_file_status}
+use Rattle.dsr_command.specs.Outputs.{IsOnlyTold, Outputs, outputs}
+use Rattle.dsr_command.specs.World.{AreSources, Disk, files_for, made, texts_for}
 use Rattle.dsr_intake.specs.declared.options.Options.{Options}
-use Rattle.dsr_io.specs.meaning.Written.{Written, IsFlushed, IsCut}
-use Rattle.dsr.specs.Serving.{outputs, IsOnlyTold, IsLayoutAsked, IsLayoutUnused, IsWithoutMemory}
+use Rattle.dsr_io.specs.meaning.Written.{Written}
+use Rattle.dsr.specs.Serving.{Ghosts, HadOutput, HadRun, HadRunInto, HadTexts, IsRead, files_read}
 
 -- only this was told, and the output is as it was
-pub only_told : (out f g : Written) (text : List ℕ) → IsTold f g text → IsOnlyTold text (outputs out f) (outputs out g)
-only_told out f g text told = record { out = refl; told = told }
+pub only_told : (out f h : Written) (text : List ℕ) → IsTold f h text → IsOnlyTold text (outputs out f) (outputs out h)
+only_told out f h text told = record { out = refl; told = told }
 
--- the layout's file is not opened
-pub layout_unopened : (remaining : File → Option (List ℕ)) (name : Option (List ℕ)) (error : OpenError) (out f g : Written) (s : ℕ) → IsLayoutUnopened name error
-    → s ≡ unopened_status error → IsTold f g (unopened_line dsr error)
-    → IsLayoutUnused remaining name (outputs out f) (outputs out g) s ⊎ IsWithoutMemory (outputs out f) (outputs out g) s
-layout_unopened remaining None error out f g s is status told = absurd is
-layout_unopened remaining (Some name) (CannotOpen refused) out f g s is status told =
-    inl (inl (only_told out f g (cannot_open_line dsr name) (subst (λ n. IsTold f g (cannot_open_line dsr n)) is told), status))
-layout_unopened remaining (Some name) Memory out f g s is status told =
-    inr (only_told out f g (line_of dsr (codes "out of memory")) told, status)
+had_texts : {R N : Type 0} (g : Ghosts R N) (d : Disk) (left : Option Disk) (asked : Asked) (options : Options) (before after : Outputs) (s : ℕ)
+    (texts : List (List ℕ)) (output : Option (List ℕ)) → texts_for d asked.files ≡ Ok texts → asked.output ≡ output
+    → HadOutput g d left asked options texts before after s output → IsRead g d left asked options before after s
+had_texts g d left asked options before after s texts output are is had =
+    inl (subst (HadTexts g d left asked options before after s) (sym are) (subst (HadOutput g d left asked options texts before after s) (sym is) had))
 
--- the layout's file gave no layout, or memory was refused
-pub no_options : (remaining : File → Option (List ℕ)) (name : Option (List ℕ)) (file : Option (LayoutFile File)) (out f g : Written) (s : ℕ)
-    → IsOpened name file → AreRefused remaining file f g s
-    → IsLayoutUnused remaining name (outputs out f) (outputs out g) s ⊎ IsWithoutMemory (outputs out f) (outputs out g) s
-no_options remaining name file out f g s opened (inl h) = inr (only_told out f g (line_of dsr (codes "out of memory")) h.1, h.0)
-no_options remaining name None out f g s opened (inr h) = absurd h
-no_options remaining None (Some file) out f g s opened (inr h) = absurd opened
-no_options remaining (Some name) (Some file) out f g s opened (inr h) =
-    inl (inr (
-      file,
-      h.0,
-      opened,
-      h.1,
-      only_told out f g (layout_refused_line name h.0)
-          (subst (λ n. IsTold f g (layout_refused_line n h.0)) opened h.3),
-      h.2,
-    ))
+-- the files that are read, as they were opened
+read_are : {R N : Type 0} (g : Ghosts R N) (file : R → Option FileIdentity) (d : Disk) (asked : Asked) (layout : Option FileIdentity) (sources : List R)
+    → layout ≡ layout_file d asked.layout → AreSources g.told file (texts_for d asked.files) (files_for d asked.files) sources
+    → layout ∷ map file sources ≡ files_read d asked
+read_are g file d asked layout sources is are = ap₂ (λ x xs. x ∷ xs) is are.files_are
 
--- the layout is the one that was asked for
-pub layout_asked : (remaining : File → Option (List ℕ)) (name : Option (List ℕ)) (file : Option (LayoutFile File)) (options : Options)
-    → IsOpened name file → IsLayoutGiven remaining file options.layout → IsLayoutAsked remaining name options
-layout_asked remaining None None options opened given = given
-layout_asked remaining None (Some file) options opened given = absurd opened
-layout_asked remaining (Some name) None options opened given = absurd opened
-layout_asked remaining (Some name) (Some file) options opened given = (file, opened, given)
+-- the run over the sources wrote to a new file
+pub stored : {R N : Type 0} (g : Ghosts R N) (file : R → Option FileIdentity) (d : Disk) (between left : Option Disk) (asked : Asked) (options : Options)
+    (layout : Option FileIdentity) (sources : List R) (name : List ℕ) (new : N) (out f h : Written) (s : ℕ)
+    → layout ≡ layout_file d asked.layout → AreSources g.told file (texts_for d asked.files) (files_for d asked.files) sources
+    → asked.output ≡ Some name → IsCreated g.written d between (layout ∷ map file sources) name (Ok new)
+    → HadRunInto g options sources new name (made d) left f h s
+    → IsRead g d left asked options (outputs out f) (outputs out h) s
+stored g file d between left asked options layout sources name new out f h s at are is created had =
+    let beside = subst (λ read. IsCreated g.written d between read name (Ok new)) (read_are g file d asked layout sources at are) created in
+    had_texts g d left asked options (outputs out f) (outputs out h) s are.bytes (Some name) are.texts_are is
+    (inl (sources, are.fresh, beside.0, new, beside.2, had, refl))
 
--- one of the files is not opened
-pub unopened : (names : List (List ℕ)) (error : OpenError) (out f g : Written) (s : ℕ) → IsRefusal names error
-    → s ≡ unopened_status error → IsTold f g (unopened_line dsr error)
-    → (Any (λ name. IsOnlyTold (cannot_open_line dsr name) (outputs out f) (outputs out g)) names × (s ≡ 2))
-    ⊎ IsWithoutMemory (outputs out f) (outputs out g) s
-unopened names (CannotOpen refused) out f g s among status told =
-    inl (
-      (
-        among.0,
-        among.1,
-        among.2,
-        among.3,
-        only_told out f g (cannot_open_line dsr among.1) (subst (λ n. IsTold f g (cannot_open_line dsr n)) among.4 told),
-      ),
-      status,
-    )
-unopened names Memory out f g s among status told = inr (only_told out f g (line_of dsr (codes "out of memory")) told, status)
-
--- a text was told
-pub told_text : (f g : Written) (text : List ℕ) (answer : Result (Unit {0}) ℕ)
-    → MatchResult answer (λ _. IsFlushed text f g) (λ n. (n ≤ length text) × IsCut (take n text) f g) → IsTold f g text
-told_text f g text (Ok x) h = (true, h)
-told_text f g text (Err n) h = (false, (n, h.0, h.1))
+-- there is no new file
+pub unstored : {R N : Type 0} (g : Ghosts R N) (file : R → Option FileIdentity) (d : Disk) (left : Option Disk) (asked : Asked) (options : Options)
+    (layout : Option FileIdentity) (sources : List R) (name : List ℕ) (error : NewFileError) (out f h : Written) (s : ℕ)
+    → layout ≡ layout_file d asked.layout → AreSources g.told file (texts_for d asked.files) (files_for d asked.files) sources
+    → asked.output ≡ Some name → IsCreated g.written d left (layout ∷ map file sources) name (Err error)
+    → IsTold f h (new_file_line dsr name error) → s ≡ new_file_status error
+    → IsRead g d left asked options (outputs out f) (outputs out h) s
+unstored g file d left asked options layout sources name error out f h s at are is none told status =
+    let not = subst (λ read. IsCreated g.written d left read name (Err error)) (read_are g file d asked layout sources at are) none in
+    had_texts g d left asked options (outputs out f) (outputs out h) s are.bytes (Some name) are.texts_are is
+    (inr (error, not, only_told out f h (new_file_line dsr name error) told, status))

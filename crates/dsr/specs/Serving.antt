@@ -1,164 +1,122 @@
--- What the program does with its arguments: what it writes to standard output and standard error or to a new file, and its
--- exit status.
-use Rattle.std.specs.Prelude.{◌≡◌, ◌≤◌, ◌⊎◌, ℕ, List, All, length, take, map, codes, Option, None, Some, Result, Ok, Err}
-use Rattle.std.specs.List.{Any}
-use Rattle.std.specs.declared.fs.File.{File}
+-- What the program does: what it writes to standard output and standard error or to a file, and its exit status, by its words
+-- and the bytes behind names.
+use Rattle.std.specs.Prelude.{◌≡◌, ◌⊎◌, ◌-◌, ◌∷◌, ℕ, List, [], length, Option, None, Some, Result, Ok, Err, IfOk, IfErr, MatchOption, unwrap_or}
 use Rattle.dsr_command.specs.CommandLine.{IsAskedFor, IsFaultFor}
 use Rattle.dsr_command.specs.declared.command.Asked.{Asked}
 use Rattle.dsr_command.specs.declared.command.CommandFault.{CommandFault}
-use Rattle.dsr_command.specs.declared.command.CommandFault.TheVariants.{Help, Refused, Memory}
-use Rattle.dsr_command.specs.declared.inputs.Input.{Input}
-use Rattle.dsr_command.specs.declared.layout_file.LayoutFile.{LayoutFile}
+use Rattle.dsr_command.specs.declared.identity.FileIdentity.{FileIdentity}
 use Rattle.dsr_command.specs.declared.layout_file.LayoutReadError.{LayoutReadError}
-use Rattle.dsr_command.specs.declared.new_file.NewFile.{NewFile}
 use Rattle.dsr_command.specs.declared.new_file.NewFileError.{NewFileError}
-use Rattle.dsr_command.specs.declared.replacement.Stage.{Stage}
-use Rattle.dsr_command.specs.declared.replacement.Stage.TheVariants.{InPlace, Removed}
-use Rattle.dsr_command.specs.Faults.{cannot_open_line, dsr, failed_line, fault_line, layout_refused_line, layout_refused_status, line_of, status_number, IsTold}
-use Rattle.dsr_command.specs.NewFiles.{IsApart, cannot_replace_line, new_file_line, new_file_status}
-use Rattle.dsr_command.specs.Inputs.{sources_of}
-use Rattle.dsr_command.specs.LayoutFile.{IsLayoutGiven, IsNoLayout}
+use Rattle.dsr_command.specs.declared.world.WordsFault.{WordsFault}
+use Rattle.dsr_command.specs.Faults.{cannot_open_line, dsr, fault_line, layout_refused_line, layout_refused_status, status_number, IsTold}
+use Rattle.dsr_command.specs.LayoutFile.{AreAsked, IsLayoutRefused, layout_file}
+use Rattle.dsr_command.specs.NewFiles.{IsNotCreated, cannot_replace_line, new_file_line, new_file_status}
+use Rattle.dsr_command.specs.Outputs.{IsOnlyTold, IsTurnedDown, IsWithoutMemory, Outputs, no_words_line, no_words_status}
+use Rattle.dsr_command.specs.World.{AreFresh, Disk, IsApart, IsReplacedIn, LacksWords, failing, files_for, made, removed, texts_for}
 use Rattle.dsr_file.specs.meaning.Runs.{FileText}
-use Rattle.dsr_io.specs.declared.to_write.ToWrite.{ToWrite}
 use Rattle.dsr_io.specs.meaning.Told.{Told}
+use Rattle.dsr_io.specs.meaning.Written.{Written}
+use Rattle.dsr_intake.specs.declared.errors.IntakeError.{IntakeError}
+use Rattle.dsr_intake.specs.declared.errors.IntakeError.TheVariants as intake
 use Rattle.dsr_intake.specs.declared.errors.RunError.{RunError}
+use Rattle.dsr_intake.specs.declared.errors.RunError.TheVariants as run
 use Rattle.dsr_intake.specs.declared.options.Options.{Options}
+use Rattle.dsr_intake.specs.meaning.Outcomes.{IsLateRun, IsReported, IsUnwritten}
+use Rattle.dsr_intake.specs.meaning.Texts.{refusal_of}
 use Rattle.dsr_statement.specs.declared.verdict.Status.{Status}
-use Rattle.dsr_intake.specs.meaning.Outcomes.{IsReported, IsUnwritten}
-use Rattle.dsr_io.specs.meaning.Written.{Written, IsFlushed, IsCut}
-use Rattle.dsr_records.specs.meaning.Layouts.{standard_layout}
 
--- what files say of themselves: what an input gives, the bytes that a layout's file has left, and what a new file holds
-pub record System : Type 0 where
-  pub told : Input → Told
-  pub remaining : File → Option (List ℕ)
-  pub written : ToWrite File → Written
+-- what the sources and the new files of a world tell
+pub record Ghosts (R N : Type 0) : Type 0 where
+  pub told : R → Told
+  pub written : N → Written
 
-abbrev pub system : (Input → Told) → (File → Option (List ℕ)) → (ToWrite File → Written) → System
-system told remaining written = record { told = told; remaining = remaining; written = written }
+abbrev pub ghosts : {R N : Type 0} → (R → Told) → (N → Written) → Ghosts R N
+ghosts told written = record { told = told; written = written }
 
--- standard output and standard error
-pub record Outputs : Type 0 where
-  pub out : Written
-  pub fault : Written
+-- a run is refused for this reason before it reads, or memory was refused before it began
+abbrev pub IsRefusedFor : Result Status RunError → IntakeError → Type 0
+IsRefusedFor answer error = (answer ≡ Err (run.Intake error)) ⊎ (answer ≡ Err (run.Intake intake.Memory))
 
-abbrev pub outputs : Written → Written → Outputs
-outputs out fault = record { out = out; fault = fault }
+-- a run over these sources had this answer: the statement of what they gave was written, or what there is of it where a run
+-- fails; it is refused before it reads for its options or the number of its files, and only then
+pub record IsAnswer {R : Type 0} (told : R → Told) (options : Options) (sources left : List R) (before after : Written)
+    (answer : Result Status RunError) : Type 0 where
+  pub reported : IfOk answer (λ status. (texts : List FileText) × IsReported told options sources left before after texts status)
+  pub unwritten : IfErr answer (IsUnwritten told options sources left before after)
+  pub refused : MatchOption (refusal_of (length sources) options) (IfErr answer IsLateRun) (IsRefusedFor answer)
 
--- nothing was written but this text, to standard error, of which only the first bytes were written if that failed
-pub record IsOnlyTold (text : List ℕ) (before after : Outputs) : Type 0 where
-  pub out : after.out ≡ before.out
-  pub told : IsTold before.fault after.fault text
+-- standard error has the line of an error, and nothing more if there is none
+abbrev pub IsAnswerTold : Written → Written → Result Status RunError → Type 0
+IsAnswerTold before after (Ok status) = after ≡ before
+IsAnswerTold before after (Err error) = IsTold before after (fault_line error)
 
--- memory was refused before a file of the report was read
-abbrev pub IsWithoutMemory : Outputs → Outputs → ℕ → Type 0
-IsWithoutMemory before after status = IsOnlyTold (line_of dsr (codes "out of memory")) before after × (status ≡ 3)
+-- there was a run over these sources, which wrote to standard output
+abbrev pub HadRun : {R : Type 0} → (R → Told) → Options → List R → Outputs → Outputs → ℕ → Type 0
+HadRun {R} told options sources before after status = (answer : Result Status RunError) × (left : List R)
+    × IsAnswer told options sources left before.out after.out answer × IsAnswerTold before.fault after.fault answer
+    × (status ≡ status_number answer)
 
--- the layout is that of what its file gave, which has the name that was asked for, or the standard one if none was
-abbrev pub IsLayoutAsked : (File → Option (List ℕ)) → Option (List ℕ) → Options → Type 0
-IsLayoutAsked remaining None options = options.layout ≡ standard_layout
-IsLayoutAsked remaining (Some name) options =
-    (file : LayoutFile File) × (file.name ≡ name) × IsLayoutGiven remaining (Some file) options.layout
+-- where the new file of a run with this answer is: only after a report it is in the place of the file of this name, and else
+-- it is removed; if it cannot be put there, a line says so
+abbrev pub IsEnded : Option (List ℕ) → List ℕ → Disk → Option Disk → Written → Written → ℕ → Result Status RunError → Type 0
+IsEnded contents name disk left before after status (Ok verdict) =
+    (IsReplacedIn contents name (disk.parts - 1) disk left × (after ≡ before) × (status ≡ status_number (Ok verdict)))
+    ⊎ ((left ≡ Some (removed (failing disk))) × IsTold before after (cannot_replace_line dsr name) × (status ≡ 3))
+IsEnded contents name disk left before after status (Err error) =
+    (left ≡ Some (removed disk)) × IsTold before after (fault_line error) × (status ≡ 3)
 
--- the options are those that were asked for
-pub record AreAsked (system : System) (asked : Asked) (options : Options) : Type 0 where
-  pub capacity : options.capacity ≡ asked.capacity
-  pub reads : options.max_reads ≡ asked.max_reads
-  pub layout : IsLayoutAsked system.remaining asked.layout options
+-- there was a run over these sources, which wrote to this new file, and this is where the file is
+abbrev pub HadRunInto : {R N : Type 0} → Ghosts R N → Options → List R → N → List ℕ → Disk → Option Disk → Written → Written → ℕ → Type 0
+HadRunInto {R} {N} g options sources new name disk left before after status =
+    (answer : Result Status RunError) × (rest : List R) × (whole : N)
+    × IsAnswer g.told options sources rest (g.written new) (g.written whole) answer
+    × IsEnded (g.written whole).contents name disk left before after status answer
 
--- a run over these inputs had this answer: their statement was written, or the run failed and its line was written
-abbrev pub HadAnswer : (Input → Told) → Options → List Input → List Input → Outputs → Outputs → Result Status RunError → Type 0
-HadAnswer told options inputs left before after (Ok status) =
-    ((texts : List FileText) × IsReported told options inputs left before.out after.out texts status) × (after.fault ≡ before.fault)
-HadAnswer told options inputs left before after (Err error) =
-    IsUnwritten told options inputs left before.out after.out error × IsTold before.fault after.fault (fault_line error)
+-- the files that are read: the layout's, if one is named, and those of the report
+abbrev pub files_read : Disk → Asked → List (Option FileIdentity)
+files_read disk asked = layout_file disk asked.layout ∷ files_for disk asked.files
 
--- there was a run over these inputs, and the exit status is that of its answer
-abbrev pub HadRun : (Input → Told) → Options → List Input → Outputs → Outputs → ℕ → Type 0
-HadRun told options inputs before after status = (answer : Result Status RunError) × (left : List Input)
-    × HadAnswer told options inputs left before after answer × (status ≡ status_number answer)
+-- a run over sources of these bytes wrote to standard output; or, with nothing there, to a new file for the file that is named,
+-- which is none of those that are read; or no such file can be had
+abbrev pub HadOutput : {R N : Type 0} → Ghosts R N → Disk → Option Disk → Asked → Options → List (List ℕ) → Outputs → Outputs → ℕ
+    → Option (List ℕ) → Type 0
+HadOutput {R} {N} g disk left asked options texts before after status None =
+    (sources : List R) × AreFresh g.told sources texts × HadRun g.told options sources before after status × (left ≡ Some disk)
+HadOutput {R} {N} g disk left asked options texts before after status (Some name) =
+    ((sources : List R) × AreFresh g.told sources texts × IsApart (disk.place name) (files_read disk asked)
+    × (new : N) × ((g.written new).contents ≡ Some [])
+    × HadRunInto g options sources new name (made disk) left before.fault after.fault status × (after.out ≡ before.out))
+    ⊎ ((error : NewFileError) × IsNotCreated disk left (files_read disk asked) name error
+    × IsOnlyTold (new_file_line dsr name error) before after × (status ≡ new_file_status error))
 
--- where a new file is after a run that wrote to it had this answer
-abbrev pub stage_after : Result Status RunError → Stage
-stage_after (Ok status) = InPlace
-stage_after (Err error) = Removed
+-- with these options, there was a run over the bytes behind the names; or one of them cannot be opened, the first one
+abbrev pub HadTexts : {R N : Type 0} → Ghosts R N → Disk → Option Disk → Asked → Options → Outputs → Outputs → ℕ → Result (List (List ℕ)) (List ℕ) → Type 0
+HadTexts g disk left asked options before after status (Ok texts) = HadOutput g disk left asked options texts before after status asked.output
+HadTexts g disk left asked options before after status (Err name) =
+    IsOnlyTold (cannot_open_line dsr name) before after × (status ≡ 2) × (left ≡ Some disk)
 
--- there was a run over these inputs that wrote to a new file. This is in the place of the file of this name only if the run
--- had a report; if it could not be put there, it was removed, and a line says so
-abbrev pub HadRunInto : (Input → Told) → Options → List Input → List ℕ → Outputs → Outputs → Stage → ℕ → Type 0
-HadRunInto told options inputs name before after stage status =
-    ((answer : Result Status RunError) × (left : List Input) × HadAnswer told options inputs left before after answer
-    × (stage ≡ stage_after answer) × (status ≡ status_number answer))
-    ⊎ (((verdict : Status) × (left : List Input) × (texts : List FileText)
-    × IsReported told options inputs left before.out after.out texts verdict)
-    × (stage ≡ Removed) × IsTold before.fault after.fault (cannot_replace_line dsr name) × (status ≡ 3))
+-- the same, unless memory was refused
+abbrev pub IsRead : {R N : Type 0} → Ghosts R N → Disk → Option Disk → Asked → Options → Outputs → Outputs → ℕ → Type 0
+IsRead g disk left asked options before after status =
+    HadTexts g disk left asked options before after status (texts_for disk asked.files)
+    ⊎ (IsWithoutMemory dsr before after status × (left ≡ Some disk))
 
--- the run wrote to standard output; or, with nothing on standard output, to a new file for the file that was named, which is
--- none of those that were read
-abbrev pub HadRunTo : Type 0 → System → Option (List ℕ) → Options → List Input → Outputs → Outputs → ℕ → Type 0
-HadRunTo H system None options inputs before after status = HadRun system.told options inputs before after status
-HadRunTo H system (Some name) options inputs before after status =
-    (new : NewFile H) × (whole : NewFile H) × (new.place.name ≡ name) × All (λ i. IsApart new.place.replaced i.identity) inputs
-    × HadRunInto system.told options inputs name (outputs (system.written new.out) before.fault)
-    (outputs (system.written whole.out) after.fault) whole.place.stage status
-    × (after.out ≡ before.out)
-
--- there is no new file for the file that was named
-abbrev pub IsNoOutput : Option (List ℕ) → Outputs → Outputs → ℕ → Type 0
-IsNoOutput None before after status = ⊥
-IsNoOutput (Some name) before after status =
-    (error : NewFileError) × IsOnlyTold (new_file_line dsr name error) before after × (status ≡ new_file_status error)
-
--- with these options, the files that were asked for were opened, in their order, and there was a run over them, or no output
--- for it; or one of the files cannot be opened, or memory was refused
-abbrev pub IsRead : Type 0 → System → Asked → Options → Outputs → Outputs → ℕ → Type 0
-IsRead H system asked options before after status =
-    ((inputs : List Input) × (map (λ i. i.name) inputs ≡ sources_of asked.files)
-    × (HadRunTo H system asked.output options inputs before after status ⊎ IsNoOutput asked.output before after status))
-    ⊎ ((Any (λ name. IsOnlyTold (cannot_open_line dsr name) before after) asked.files × (status ≡ 2))
-    ⊎ IsWithoutMemory before after status)
-
--- the layout's file cannot be opened, or gives no layout
-abbrev pub IsLayoutUnused : (File → Option (List ℕ)) → Option (List ℕ) → Outputs → Outputs → ℕ → Type 0
-IsLayoutUnused remaining None before after status = ⊥
-IsLayoutUnused remaining (Some name) before after status =
-    (IsOnlyTold (cannot_open_line dsr name) before after × (status ≡ 2))
-    ⊎ ((file : LayoutFile File) × (error : LayoutReadError) × (file.name ≡ name) × IsNoLayout remaining file error
-    × IsOnlyTold (layout_refused_line name error) before after × (status ≡ layout_refused_status error))
-
--- first the options were had, with the layout, and then the files were read; or the layout's file was not used, before a
--- file of the report was opened; or memory was refused before the run
-abbrev pub IsServed : Type 0 → System → Asked → Outputs → Outputs → ℕ → Type 0
-IsServed H system asked before after status =
-    ((options : Options) × AreAsked system asked options × IsRead H system asked options before after status)
-    ⊎ (IsLayoutUnused system.remaining asked.layout before after status ⊎ IsWithoutMemory before after status)
-
--- a text that was asked for was written whole; or the output failed in it, and a line says after how many bytes
-abbrev pub IsShown : List ℕ → Outputs → Outputs → ℕ → Type 0
-IsShown text before after status =
-    (IsFlushed text before.out after.out × (after.fault ≡ before.fault) × (status ≡ 0))
-    ⊎ ((n : ℕ) × (n ≤ length text) × IsCut (take n text) before.out after.out × IsTold before.fault after.fault (failed_line dsr n) × (status ≡ 3))
-
--- what is done for words that ask for no run
-abbrev pub IsTurnedDown : CommandFault → Outputs → Outputs → ℕ → Type 0
-IsTurnedDown (Help text) before after status = IsShown text before after status
-IsTurnedDown (Refused text) before after status = IsOnlyTold text before after × (status ≡ 2)
-IsTurnedDown Memory before after status = IsWithoutMemory before after status
+-- first the layout was had, and then the files were read; or there is no layout, and no file of the report was opened
+abbrev pub IsServedFor : {R N : Type 0} → Ghosts R N → Disk → Option Disk → Asked → Outputs → Outputs → ℕ → Type 0
+IsServedFor g disk left asked before after status =
+    ((options : Options) × AreAsked disk asked options × IsRead g disk left asked options before after status)
+    ⊎ ((error : LayoutReadError) × IsLayoutRefused g.told disk asked.layout error
+    × IsOnlyTold (layout_refused_line (unwrap_or asked.layout []) error) before after × (status ≡ layout_refused_status error) × (left ≡ Some disk))
 
 -- what the program does for these words: what they ask for, if they have no fault
-abbrev pub IsDone : Type 0 → System → List (List ℕ) → Outputs → Outputs → ℕ → Type 0
-IsDone H system words before after status =
-    ((asked : Asked) × IsAskedFor words asked × IsServed H system asked before after status)
-    ⊎ ((fault : CommandFault) × IsFaultFor words fault × IsTurnedDown fault before after status)
+abbrev pub IsDone : {R N : Type 0} → Ghosts R N → Disk → Option Disk → List (List ℕ) → Outputs → Outputs → ℕ → Type 0
+IsDone g disk left words before after status =
+    ((asked : Asked) × IsAskedFor words asked × IsServedFor g disk left asked before after status)
+    ⊎ ((fault : CommandFault) × IsFaultFor words fault × IsTurnedDown dsr fault before after status × (left ≡ Some disk))
 
--- the arguments cannot be had: one is not UTF-8, or memory was refused
-abbrev pub AreUnread : Written → Written → ℕ → Type 0
-AreUnread before after status =
-    ((status ≡ 2) × IsTold before after (line_of dsr (codes "an argument is not UTF-8")))
-    ⊎ ((status ≡ 3) × IsTold before after (line_of dsr (codes "out of memory")))
-
--- what the program does for its arguments: what it does for their words, or it cannot have them
-abbrev pub IsAnswered : Type 0 → System → Outputs → Outputs → ℕ → Type 0
-IsAnswered H system before after status =
-    ((words : List (List ℕ)) × IsDone H system words before after status)
-    ⊎ ((after.out ≡ before.out) × AreUnread before.fault after.fault status)
+-- what the program does: what it does for its words, or it has none
+abbrev pub IsServed : {R N : Type 0} → Ghosts R N → Disk → Option Disk → Outputs → Outputs → ℕ → Type 0
+IsServed g disk left before after status =
+    ((words : List (List ℕ)) × (disk.words ≡ Some words) × IsDone g disk left words before after status)
+    ⊎ ((error : WordsFault) × LacksWords disk error
+    × IsOnlyTold (no_words_line dsr error) before after × (status ≡ no_words_status error) × (left ≡ Some disk))

@@ -4,7 +4,8 @@
 //!    (dsr_command).
 //! 2. `running` passes the sources to `run` of dsr_intake, which writes the statement to standard output or to the new file,
 //!    puts this in its place, and writes the line of an error.
-//! 3. `main` ends with the exit status that `program` returns.
+//! 3. `main` gives `serve` the words and files of the system (`Host` of dsr_command) and its outputs, and ends with the exit
+//!    status that it returns.
 //!
 //! No crate depends on this one: another program calls `run` of dsr_intake, or reads a file by `FileReader` as
 //! `crates/example_reader` does.
@@ -13,11 +14,13 @@
 mod program;
 mod running;
 
+use dsr_command::Host;
 use dsr_intake::ToWrite;
 use std::process::ExitCode;
 
 fn main(rt: HostRuntime) -> ExitCode {
+    let mut host = Host { rt };
     let mut out = ToWrite::new(rt.stdout());
     let mut fault = ToWrite::new(rt.stderr());
-    ExitCode::from(program::serve(&rt, &mut out, &mut fault))
+    ExitCode::from(program::serve(&rt, rt.alloc(), &mut host, &mut out, &mut fault))
 }

@@ -1,245 +1,143 @@
-//! From the program's arguments to its exit status.
-ghost use Rattle.std.specs.Prelude.{◌≡◌, false, IfErr, OnOk, map};
+//! From the program's words to its exit status.
+ghost use Rattle.std.specs.Prelude.{◌≡◌, false, map, [], Some, unwrap_or};
 ghost use Rattle.std.specs.String.{string_bytes};
-ghost use Rattle.dsr_command.specs.Faults.{IsTold};
-ghost use Rattle.dsr.specs.Serving.{outputs, system, AreUnread, IsRead, IsServed, IsShown, IsDone, IsAnswered};
+ghost use Rattle.dsr_command.specs.LayoutFile.{layout_file};
+ghost use Rattle.dsr_command.specs.Outputs.{outputs};
+ghost use Rattle.dsr_command.specs.World.{Asks, WhereTold};
+ghost use Rattle.dsr.specs.Serving.{IsDone, IsRead, IsServed, IsServedFor, ghosts};
 
 use crate::running::{Reading, run_into, run_printed};
-use dsr_cells::Text;
 use dsr_command::{
-    Asked, CommandFault, DSR, FileIdentity, Input, LayoutFile, Printer, REFUSED, UNFINISHED, asked,
-    create_beside, no_memory, no_new_file, not_opened, open_inputs, open_layout, options_of,
-    print_text, refuse, write_failed,
+    Asked, DSR, ReportWorld, RunOptions, asked, create_beside, layout_refused, no_new_file,
+    no_words, not_opened, open_inputs, read_options, teller_of, turn_down,
 };
-use dsr_file::Source;
-use dsr_intake::{Options, Outlet, ToWrite};
-use std::env::Env;
-use std::fs::{File, Files};
-use std::io::{Eprint, ErrorKind, Read, StdinLock};
+use dsr_intake::Outlet;
+use std::alloc::Global;
 use std::random::RandomSource;
 use std::sync::Wait;
 use std::thread::Threads;
 use std::time::Clock;
-use std::{env, io};
 
-/// Does what the program's arguments ask for, and returns the exit status. Errors are written to `fault`.
+/// Does what the program's words ask for, and returns the exit status. Errors are written to `fault`.
 pub fn serve<
-    H: Env
-        + AllocGlobal
-        + Files<File = File>
-        + io::Input<Reader = StdinLock<'static>>
-        + Threads
-        + Wait
-        + RandomSource
-        + Clock
-        + Eprint
-        + Copy
-        + Drop
-        + Send
-        + 'static,
-    W: Outlet,
+    H: Threads + Wait + RandomSource + Clock + Copy + Send + 'static,
+    W: ReportWorld,
+    O: Outlet,
     F: Outlet,
->(rt: &H, out: &mut W, fault: &mut F) -> u8
-    requires { (W.told out.old).failed ≡ false }
-    ensures { IsAnswered H (system (⟦<Input as Source>⟧.told) (⟦<File as Read>⟧.remaining)
-        (⟦<ToWrite<File> as Outlet>⟧.told)) (outputs (W.told out.old) (F.told fault.old))
-        (outputs (W.told out.new) (F.told fault.new)) result }
+>(rt: &H, alloc: Global, world: &mut W, out: &mut O, fault: &mut F) -> u8
+    requires { (O.told out.old).failed ≡ false }
+    ensures { WhereTold (W.disk world.old) (λ d. IsServed (ghosts (W.Reader.told) (W.New.told)) d
+        (W.disk world.new) (outputs (O.told out.old) (F.told fault.old))
+        (outputs (O.told out.new) (F.told fault.new)) result) }
 {
-    match words(rt, fault) {
-        Ok(words) => answer(rt, &words, out, fault),
-        Err(status) => status,
-    }
-}
-
-/// The arguments after the program's name. The error is the exit status; standard error has its line, as far as it took
-/// it.
-fn words<H: Env + AllocGlobal, F: Outlet>(rt: &H, fault: &mut F) -> Result<Vec<String>, u8>
-    ensures quiet { OnOk result (F.told fault.new ≡ F.told fault.old) }
-    ensures refused { IfErr result (AreUnread (F.told fault.old) (F.told fault.new)) }
-{
-    match env::args(rt) {
-        Ok(mut words) => {
-            let _name = words.next();
-            match words.collect(rt.alloc()) {
-                Ok(words) => Ok(words),
-                Err(_) => Err(no_memory(DSR, fault)),
-            }
-        }
-        Err(error) => Err(no_words(error.kind(), fault)),
-    }
-}
-
-/// Writes why there are no arguments, and returns the exit status.
-fn no_words<F: Outlet>(kind: ErrorKind, fault: &mut F) -> u8
-    ensures { AreUnread (F.told fault.old) (F.told fault.new) result }
-{
-    match kind {
-        ErrorKind::OutOfMemory => no_memory(DSR, fault),
-        _ => refuse(DSR, "an argument is not UTF-8", fault),
+    match world.words() {
+        Ok(words) => answer(rt, alloc, world, &words, out, fault),
+        Err(error) => no_words(DSR, error, fault),
     }
 }
 
 /// Does what these words ask for, and returns the exit status.
 fn answer<
-    H: AllocGlobal
-        + Files<File = File>
-        + io::Input<Reader = StdinLock<'static>>
-        + Threads
-        + Wait
-        + RandomSource
-        + Clock
-        + Eprint
-        + Copy
-        + Drop
-        + Send
-        + 'static,
-    W: Outlet,
+    H: Threads + Wait + RandomSource + Clock + Copy + Send + 'static,
+    W: ReportWorld,
+    O: Outlet,
     F: Outlet,
->(rt: &H, words: &[String], out: &mut W, fault: &mut F) -> u8
-    requires { (W.told out.old).failed ≡ false }
-    ensures { IsDone H (system (⟦<Input as Source>⟧.told) (⟦<File as Read>⟧.remaining)
-        (⟦<ToWrite<File> as Outlet>⟧.told)) (map string_bytes words.now)
-        (outputs (W.told out.old) (F.told fault.old)) (outputs (W.told out.new) (F.told fault.new))
-        result }
+>(rt: &H, alloc: Global, world: &mut W, words: &[String], out: &mut O, fault: &mut F) -> u8
+    requires outlet { (O.told out.old).failed ≡ false }
+    requires words { WhereTold (W.disk world.old) (λ d. d.words ≡ Some (map string_bytes words.now)) }
+    ensures { WhereTold (W.disk world.old) (λ d. IsDone (ghosts (W.Reader.told) (W.New.told)) d
+        (W.disk world.new) (map string_bytes words.now)
+        (outputs (O.told out.old) (F.told fault.old)) (outputs (O.told out.new) (F.told fault.new))
+        result) }
 {
-    match asked(rt.alloc(), words) {
-        Ok(asked) => read_and_print(rt, &asked, out, fault),
-        Err(CommandFault::Help(text)) => show(&text, out, fault),
-        Err(CommandFault::Refused(text)) => refused(&text, fault),
-        Err(CommandFault::Memory) => no_memory(DSR, fault),
+    match asked(alloc, words) {
+        Ok(asked) => read_and_print(rt, alloc, world, &asked, out, fault),
+        Err(error) => turn_down(DSR, &error, out, fault),
     }
-}
-
-/// Prints a text that was asked for, and returns the exit status.
-fn show<W: Outlet, F: Outlet>(text: &Text, out: &mut W, fault: &mut F) -> u8
-    ensures { IsShown text.now (outputs (W.told out.old) (F.told fault.old))
-        (outputs (W.told out.new) (F.told fault.new)) result }
-{
-    match print_text(text.as_str().as_bytes(), out) {
-        Ok(()) => 0,
-        Err(written) => {
-            write_failed(DSR, written as u64, fault);
-            UNFINISHED
-        }
-    }
-}
-
-/// Writes why words are refused, and returns the exit status.
-fn refused<F: Outlet>(text: &Text, fault: &mut F) -> u8
-    ensures status { result ≡ 2 }
-    ensures told { IsTold (F.told fault.old) (F.told fault.new) text.now }
-{
-    let _ = print_text(text.as_str().as_bytes(), fault);
-    REFUSED
 }
 
 /// Reads the layout, and then the files of the report, and writes their statement. Returns the exit status.
 fn read_and_print<
-    H: AllocGlobal
-        + Files<File = File>
-        + io::Input<Reader = StdinLock<'static>>
-        + Threads
-        + Wait
-        + RandomSource
-        + Clock
-        + Eprint
-        + Copy
-        + Drop
-        + Send
-        + 'static,
-    W: Outlet,
+    H: Threads + Wait + RandomSource + Clock + Copy + Send + 'static,
+    W: ReportWorld,
+    O: Outlet,
     F: Outlet,
->(rt: &H, asked: &Asked, out: &mut W, fault: &mut F) -> u8
-    requires { (W.told out.old).failed ≡ false }
-    ensures { IsServed H (system (⟦<Input as Source>⟧.told) (⟦<File as Read>⟧.remaining)
-        (⟦<ToWrite<File> as Outlet>⟧.told)) asked.now
-        (outputs (W.told out.old) (F.told fault.old)) (outputs (W.told out.new) (F.told fault.new))
-        result }
+>(rt: &H, alloc: Global, world: &mut W, asked: &Asked, out: &mut O, fault: &mut F) -> u8
+    requires outlet { (O.told out.old).failed ≡ false }
+    requires asked { Asks (W.disk world.old) asked.now }
+    ensures { WhereTold (W.disk world.old) (λ d. IsServedFor (ghosts (W.Reader.told) (W.New.told))
+        d (W.disk world.new) asked.now (outputs (O.told out.old) (F.told fault.old))
+        (outputs (O.told out.new) (F.told fault.new)) result) }
 {
-    let alloc = rt.alloc();
-    let layout = match open_layout(rt, alloc, &asked.layout) {
-        Ok(layout) => layout,
-        Err(error) => return not_opened(DSR, &error, fault),
-    };
-    let read = read_identity(&layout);
-    match options_of(alloc, asked, layout, fault) {
-        Ok(options) => read_files(rt, asked, options, read, out, fault),
-        Err(status) => status,
+    match read_options(alloc, world, asked) {
+        Ok(options) => read_files(rt, alloc, world, asked, options, out, fault),
+        Err(error) => layout_refused(layout_name(asked), error, fault),
     }
 }
 
-/// Which file the layout is read from, if there is one and it is known.
-fn read_identity(layout: &Option<LayoutFile<File>>) -> Option<FileIdentity> {
-    match layout {
-        Some(layout) => layout.identity(),
-        None => None,
+/// The name of the layout's file, if one is named.
+fn layout_name(asked: &Asked) -> &str
+    ensures { result.now ≡ unwrap_or asked.now.layout [] }
+{
+    match &asked.layout {
+        Some(name) => name.as_str(),
+        None => "",
     }
 }
 
-/// Reads the files of the report and writes their statement, but not to the file that the layout was read from. Returns the
-/// exit status.
+/// Reads the files of the report and writes their statement, but not to a file that is read. Returns the exit status.
 fn read_files<
-    H: AllocGlobal
-        + Files<File = File>
-        + io::Input<Reader = StdinLock<'static>>
-        + Threads
-        + Wait
-        + RandomSource
-        + Clock
-        + Eprint
-        + Copy
-        + Drop
-        + Send
-        + 'static,
-    W: Outlet,
+    H: Threads + Wait + RandomSource + Clock + Copy + Send + 'static,
+    W: ReportWorld,
+    O: Outlet,
     F: Outlet,
 >(
     rt: &H,
+    alloc: Global,
+    world: &mut W,
     asked: &Asked,
-    options: Box<Options>,
-    layout: Option<FileIdentity>,
-    out: &mut W,
+    options: RunOptions<W::Permit>,
+    out: &mut O,
     fault: &mut F,
 ) -> u8
-    requires { (W.told out.old).failed ≡ false }
-    ensures { IsRead H (system (⟦<Input as Source>⟧.told) (⟦<File as Read>⟧.remaining)
-        (⟦<ToWrite<File> as Outlet>⟧.told)) asked.now options.value
-        (outputs (W.told out.old) (F.told fault.old)) (outputs (W.told out.new) (F.told fault.new))
-        result }
+    requires outlet { (O.told out.old).failed ≡ false }
+    requires asked { Asks (W.disk world.old) asked.now }
+    ensures { WhereTold (W.disk world.old) (λ d. options.layout ≡ layout_file d asked.now.layout
+        → IsRead (ghosts (W.Reader.told) (W.New.told)) d (W.disk world.new) asked.now
+        options.options.value (outputs (O.told out.old) (F.told fault.old))
+        (outputs (O.told out.new) (F.told fault.new)) result) }
 {
-    let alloc = rt.alloc();
-    let inputs = match open_inputs(rt, alloc, &asked.files) {
+    let RunOptions {
+        options,
+        permit,
+        layout,
+    } = options;
+    let opened = open_inputs(alloc, world, &permit, &asked.files);
+    drop(permit);
+    let inputs = match opened {
         Ok(inputs) => inputs,
         Err(error) => {
             drop(options);
             return not_opened(DSR, &error, fault);
         }
     };
-    let printer = Printer::asked_for(rt, asked);
+    let teller = teller_of(world, asked);
     let Some(name) = &asked.output else {
         let reading = Reading {
-            printer,
+            teller,
             inputs,
             options,
         };
         return run_printed(rt, alloc, reading, out, fault);
     };
-    match create_beside(rt, alloc, name, &inputs, layout) {
-        Ok(mut new) => {
+    match create_beside(world, name, &inputs, layout) {
+        Ok(new) => {
             let reading = Reading {
-                printer,
+                teller,
                 inputs,
                 options,
             };
-            run_into(
-                rt,
-                alloc,
-                reading,
-                name,
-                &mut new.out,
-                &mut new.place,
-                fault,
-            )
+            run_into(rt, alloc, world, reading, name, new, fault)
         }
         Err(error) => {
             drop(options);

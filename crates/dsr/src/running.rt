@@ -1,15 +1,13 @@
 //! A run, and where its statement goes.
-ghost use Rattle.std.specs.Prelude.{◌≡◌, false, List, All, IfOk, IfErr, Err, MatchOption, vec_len};
-ghost use Rattle.dsr_file.specs.meaning.Runs.{FileText};
-ghost use Rattle.dsr_intake.specs.meaning.Texts.{refusal_of};
-ghost use Rattle.dsr_intake.specs.meaning.Outcomes.{IsReported, IsUnwritten, IsLateRun};
-ghost use Rattle.dsr_command.specs.Faults.{fault_line, status_number, IsTold};
-ghost use Rattle.dsr.specs.Serving.{outputs, HadRun, HadRunInto};
+ghost use Rattle.std.specs.Prelude.{◌≡◌, false, List, All};
+ghost use Rattle.dsr_command.specs.Faults.{status_number};
+ghost use Rattle.dsr_command.specs.Outputs.{outputs};
+ghost use Rattle.dsr_command.specs.World.{WhereTold};
+ghost use Rattle.dsr.specs.Serving.{IsAnswer, IsAnswerTold, HadRun, HadRunInto, ghosts};
 
 use dsr_cells::{NoMemory, Text};
 use dsr_command::{
-    DSR, Input, Inputs, Printer, Replacement, Stage, cannot_replace, exit_status, settle, watch,
-    write_fault,
+    DSR, FileSource, ReportWorld, cannot_replace, exit_status, settle, watch, write_fault,
 };
 use dsr_file::{Failed, Source};
 use dsr_intake::{IntakeError, Options, Outlet, RunError, Status, run};
@@ -22,24 +20,25 @@ use std::time::Clock;
 
 /// What a run reads.
 #[derive(Drop)]
-pub(crate) struct Reading<P> {
-    /// What prints its progress, if that was asked for.
-    pub(crate) printer: Option<Printer<P>>,
-    pub(crate) inputs: Inputs,
+pub(crate) struct Reading<R, T> {
+    /// What tells its progress, if the words ask for that.
+    pub(crate) teller: Option<T>,
+    pub(crate) inputs: Vec<R>,
     pub(crate) options: Box<Options>,
 }
 
 /// Reads the files and prints their statement. Returns the exit status.
 pub(crate) fn run_printed<
+    R: FileSource + Send + Drop + 'static,
+    T: Clock + Eprint + Copy + Drop + Send + 'static,
     H: Threads + Wait + RandomSource + Clock + Copy + Send + 'static,
-    P: Clock + Eprint + Copy + Drop + Send + 'static,
-    W: Outlet,
+    O: Outlet,
     F: Outlet,
->(rt: &H, alloc: Global, reading: Reading<P>, out: &mut W, fault: &mut F) -> u8
-    requires sources { All (λ i. (⟦<Input as Source>⟧.told i).failed ≡ false) reading.inputs.items }
-    requires outlet { (W.told out.old).failed ≡ false }
-    ensures { HadRun (⟦<Input as Source>⟧.told) reading.options.value reading.inputs.items
-        (outputs (W.told out.old) (F.told fault.old)) (outputs (W.told out.new) (F.told fault.new))
+>(rt: &H, alloc: Global, reading: Reading<R, T>, out: &mut O, fault: &mut F) -> u8
+    requires sources { All (λ r. (R.told r).failed ≡ false) reading.inputs.items }
+    requires outlet { (O.told out.old).failed ≡ false }
+    ensures { HadRun R.told reading.options.value reading.inputs.items
+        (outputs (O.told out.old) (F.told fault.old)) (outputs (O.told out.new) (F.told fault.new))
         result }
 {
     status_of(&run_inputs(rt, alloc, reading, out), fault)
@@ -49,29 +48,26 @@ pub(crate) fn run_printed<
 /// there is a report. Returns the exit status.
 pub(crate) fn run_into<
     H: Threads + Wait + RandomSource + Clock + Copy + Send + 'static,
-    P: Clock + Eprint + Copy + Drop + Send + 'static,
-    W: Outlet,
-    N: Replacement,
+    W: ReportWorld,
     F: Outlet,
 >(
     rt: &H,
     alloc: Global,
-    reading: Reading<P>,
+    world: &mut W,
+    reading: Reading<W::Reader, W::Teller>,
     name: &Text,
-    out: &mut W,
-    place: &mut N,
+    new: W::New,
     fault: &mut F,
 ) -> u8
-    requires sources { All (λ i. (⟦<Input as Source>⟧.told i).failed ≡ false) reading.inputs.items }
-    requires outlet { (W.told out.old).failed ≡ false }
-    requires beside { N.stage place.old ≡ Stage.Beside }
-    ensures { HadRunInto (⟦<Input as Source>⟧.told) reading.options.value reading.inputs.items
-        name.now
-        (outputs (W.told out.old) (F.told fault.old)) (outputs (W.told out.new) (F.told fault.new))
-        (N.stage place.new) result }
+    requires sources { All (λ r. (W.Reader.told r).failed ≡ false) reading.inputs.items }
+    requires outlet { (W.New.told new).failed ≡ false }
+    ensures { WhereTold (W.disk world.old) (λ d. HadRunInto (ghosts (W.Reader.told) (W.New.told))
+        reading.options.value reading.inputs.items new name.now d (W.disk world.new)
+        (F.told fault.old) (F.told fault.new) result) }
 {
-    let answer = run_inputs(rt, alloc, reading, out);
-    match settle(place, &answer) {
+    let mut new = new;
+    let answer = run_inputs(rt, alloc, reading, &mut new);
+    match settle(world, new, name, &answer) {
         Ok(()) => status_of(&answer, fault),
         Err(Failed) => cannot_replace(DSR, name, fault),
     }
@@ -80,9 +76,7 @@ pub(crate) fn run_into<
 /// The exit status of a run. The line of its error is written to `fault`.
 fn status_of<F: Outlet>(answer: &Result<Status, RunError>, fault: &mut F) -> u8
     ensures status { result ≡ status_number answer.now }
-    ensures quiet { IfOk answer.now (λ _. F.told fault.new ≡ F.told fault.old) }
-    ensures told { IfErr answer.now (λ error. IsTold (F.told fault.old) (F.told fault.new)
-        (fault_line error)) }
+    ensures told { IsAnswerTold (F.told fault.old) (F.told fault.new) answer.now }
 {
     if let Err(error) = answer {
         write_fault(error, fault);
@@ -90,30 +84,27 @@ fn status_of<F: Outlet>(answer: &Result<Status, RunError>, fault: &mut F) -> u8
     exit_status(answer)
 }
 
-/// Reads the files, with progress if there is a printer of it, and writes their statement.
+/// Reads the files, with progress if something tells it, and writes their statement.
 fn run_inputs<
+    R: FileSource + Send + Drop + 'static,
+    T: Clock + Eprint + Copy + Drop + Send + 'static,
     H: Threads + Wait + RandomSource + Clock + Copy + Send + 'static,
-    P: Clock + Eprint + Copy + Drop + Send + 'static,
-    W: Outlet,
->(rt: &H, alloc: Global, reading: Reading<P>, out: &mut W) -> Result<Status, RunError>
-    requires sources { All (λ i. (⟦<Input as Source>⟧.told i).failed ≡ false) reading.inputs.items }
-    requires outlet { (W.told out.old).failed ≡ false }
-    ensures reported { IfOk result (λ status. (left : List Input) × (texts : List FileText)
-        × IsReported (⟦<Input as Source>⟧.told) reading.options.value reading.inputs.items left
-        (W.told out.old) (W.told out.new) texts status) }
-    ensures unwritten { IfErr result (λ error. (left : List Input)
-        × IsUnwritten (⟦<Input as Source>⟧.told) reading.options.value reading.inputs.items left
-        (W.told out.old) (W.told out.new) error) }
+    O: Outlet,
+>(rt: &H, alloc: Global, reading: Reading<R, T>, out: &mut O) -> Result<Status, RunError>
+    requires sources { All (λ r. (R.told r).failed ≡ false) reading.inputs.items }
+    requires outlet { (O.told out.old).failed ≡ false }
+    ensures { (left : List R) × IsAnswer R.told reading.options.value reading.inputs.items left
+        (O.told out.old) (O.told out.new) result }
 {
     let Reading {
-        printer,
+        teller,
         inputs,
         options,
     } = reading;
-    let Some(printer) = printer else {
+    let Some(teller) = teller else {
         return run_sources(rt, alloc, inputs, options, out);
     };
-    match watch(printer, alloc, inputs) {
+    match watch(teller, alloc, inputs) {
         Ok(watched) => run_sources(rt, alloc, watched, options, out),
         Err(NoMemory) => Err(RunError::Intake(IntakeError::Memory)),
     }
@@ -123,23 +114,18 @@ fn run_inputs<
 fn run_sources<
     R: Source + Send + Drop + 'static,
     H: Threads + Wait + RandomSource + Clock + Copy + Send + 'static,
-    W: Outlet,
+    O: Outlet,
 >(
     rt: &H,
     alloc: Global,
     sources: Vec<R>,
     options: Box<Options>,
-    out: &mut W,
+    out: &mut O,
 ) -> Result<Status, RunError>
     requires sources { All (λ r. (R.told r).failed ≡ false) sources.items }
-    requires outlet { (W.told out.old).failed ≡ false }
-    ensures reported { IfOk result (λ status. (left : List R) × (texts : List FileText)
-        × IsReported R.told options.value sources.items left
-        (W.told out.old) (W.told out.new) texts status) }
-    ensures unwritten { IfErr result (λ error. (left : List R) × IsUnwritten R.told options.value
-        sources.items left (W.told out.old) (W.told out.new) error) }
-    ensures refused { MatchOption (refusal_of (vec_len sources) options.value)
-        (IfErr result IsLateRun) (λ e. result ≡ Err (RunError.Intake e)) }
+    requires outlet { (O.told out.old).failed ≡ false }
+    ensures { (left : List R) × IsAnswer R.told options.value sources.items left
+        (O.told out.old) (O.told out.new) result }
 {
     let mut sources = sources;
     run(rt, alloc, &mut sources, Box::into_inner(options), out)

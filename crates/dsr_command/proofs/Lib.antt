@@ -1,3 +1,7 @@
+pub mod Apart
 pub mod Common
-pub mod Naming
+pub mod LayoutBytes
+pub mod Opening
+pub mod Options
 pub mod Printing
+pub mod Worlds

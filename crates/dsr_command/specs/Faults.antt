@@ -10,7 +10,7 @@ use Rattle.dsr_statement.specs.declared.verdict.Status.TheVariants.{Clean, Remar
 use Rattle.dsr_records.specs.declared.fault.LayoutError.{LayoutError}
 use Rattle.dsr_records.specs.declared.fault.LayoutFault.{LayoutFault}
 use Rattle.dsr_command.specs.declared.layout_file.LayoutReadError.{LayoutReadError}
-use Rattle.dsr_command.specs.declared.layout_file.LayoutReadError.TheVariants.{Read, Bad, Memory}
+use Rattle.dsr_command.specs.declared.layout_file.LayoutReadError.TheVariants.{CannotOpen, Read, Bad, Memory}
 use Rattle.dsr_command.specs.declared.inputs.OpenError.{OpenError}
 use Rattle.dsr_intake.specs.declared.errors.IntakeError.TheVariants as intake
 use Rattle.dsr_intake.specs.declared.errors.RunError.TheVariants as run
@@ -78,14 +78,16 @@ abbrev pub bad_layout_line : LayoutError → List ℕ
 bad_layout_line error = codes "dsr: bad layout at line "
     ++ (decimal error.line ++ (codes ": " ++ (layout_fault_text error.fault ++ 10 ∷ [])))
 
--- the line for a layout file that gives no layout
+-- the line for a layout that cannot be had
 abbrev pub layout_refused_line : List ℕ → LayoutReadError → List ℕ
+layout_refused_line name CannotOpen = cannot_open_line dsr name
 layout_refused_line name Read = cannot_read_line name
 layout_refused_line name (Bad error) = bad_layout_line error
 layout_refused_line name Memory = line_of dsr (codes "out of memory")
 
--- the exit status for a layout file that gives no layout: 2 if it cannot be read or is bad
+-- the exit status for a layout that cannot be had: 2 if its file cannot be opened or read, or is bad
 abbrev pub layout_refused_status : LayoutReadError → ℕ
+layout_refused_status CannotOpen = 2
 layout_refused_status Read = 2
 layout_refused_status (Bad error) = 2
 layout_refused_status Memory = 3

@@ -1,13 +1,15 @@
--- Reading the layout's file.
-use Rattle.std.specs.Prelude.{◌≡◌, ℕ, ◌≤◌, ◌⊎◌, List, length, Option, None, Some, Result, Ok, Err, codes}
+-- Reading the layout's file, for the options of a run.
+use Rattle.std.specs.Prelude.{◌≡◌, ℕ, ◌≤◌, ◌⊎◌, true, List, length, Option, None, Some, Result, Ok, Err}
 use Rattle.std.specs.Io.KnownBytes.{Consumes, IsAtEnd}
 use Rattle.dsr_records.specs.meaning.Records.{LayoutTable}
 use Rattle.dsr_records.specs.meaning.Layouts.{layout_of, standard_layout}
-use Rattle.dsr_command.specs.declared.layout_file.LayoutFile.{LayoutFile}
+use Rattle.dsr_command.specs.declared.command.Asked.{Asked}
+use Rattle.dsr_command.specs.declared.identity.FileIdentity.{FileIdentity}
 use Rattle.dsr_command.specs.declared.layout_file.LayoutReadError.{LayoutReadError}
-use Rattle.dsr_command.specs.declared.layout_file.LayoutReadError.TheVariants.{Read, Bad, Memory}
-use Rattle.dsr_command.specs.Faults.{dsr, layout_refused_line, layout_refused_status, line_of, IsTold}
-use Rattle.dsr_io.specs.meaning.Written.{Written}
+use Rattle.dsr_command.specs.declared.layout_file.LayoutReadError.TheVariants.{CannotOpen, Read, Bad, Memory}
+use Rattle.dsr_command.specs.World.{Disk}
+use Rattle.dsr_intake.specs.declared.options.Options.{Options}
+use Rattle.dsr_io.specs.meaning.Told.{Told}
 
 -- these bytes were read: all bytes of the reader, or the first 65,537 of them
 pub record IsTaken (before after : Option (List ℕ)) (bytes : List ℕ) : Type 0 where
@@ -15,48 +17,44 @@ pub record IsTaken (before after : Option (List ℕ)) (bytes : List ℕ) : Type 
   pub most : length bytes ≤ 65537
   pub whole : IsAtEnd after ⊎ (length bytes ≡ 65537)
 
--- a read failed or memory was refused; at most 65,537 bytes were read
-abbrev pub IsCutShort : Option (List ℕ) → Option (List ℕ) → Type 0
-IsCutShort before after = (bytes : List ℕ) × Consumes before after bytes × (length bytes ≤ 65537)
+-- the error of reading the bytes: a read has failed, or memory was refused
+abbrev pub IsReadError : Told → LayoutReadError → Type 0
+IsReadError after CannotOpen = ⊥
+IsReadError after Read = after.failed ≡ true
+IsReadError after (Bad error) = ⊥
+IsReadError after Memory = Unit {0}
 
--- the result is that of the bytes that were read, unless a read failed or memory was refused
-abbrev pub IsLayoutAnswer : Option (List ℕ) → Option (List ℕ) → Result LayoutTable LayoutReadError → Type 0
-IsLayoutAnswer before after (Ok layout) = (bytes : List ℕ) × IsTaken before after bytes × (layout_of bytes ≡ Ok layout)
-IsLayoutAnswer before after (Err (Bad error)) = (bytes : List ℕ) × IsTaken before after bytes × (layout_of bytes ≡ Err error)
-IsLayoutAnswer before after (Err Read) = IsCutShort before after
-IsLayoutAnswer before after (Err Memory) = IsCutShort before after
+-- the result is that of the bytes that were read, unless a read failed or memory was refused; all bytes of a layout were
+-- read
+abbrev pub IsLayoutAnswer : Told → Told → Result LayoutTable LayoutReadError → Type 0
+IsLayoutAnswer before after (Ok layout) =
+    (bytes : List ℕ) × IsTaken before.remaining after.remaining bytes × (layout_of bytes ≡ Ok layout) × IsAtEnd after.remaining
+IsLayoutAnswer before after (Err (Bad error)) =
+    (bytes : List ℕ) × IsTaken before.remaining after.remaining bytes × (layout_of bytes ≡ Err error)
+IsLayoutAnswer before after (Err Read) = IsReadError after Read
+IsLayoutAnswer before after (Err Memory) = Unit {0}
+IsLayoutAnswer before after (Err CannotOpen) = ⊥
 
--- the error of reading the bytes, which is never Bad
-abbrev pub IsReadError : Option (List ℕ) → Option (List ℕ) → LayoutReadError → Type 0
-IsReadError before after Read = IsCutShort before after
-IsReadError before after (Bad error) = ⊥
-IsReadError before after Memory = IsCutShort before after
+-- the layout that is asked for: that of the bytes behind its name, or the standard one if none is named
+abbrev pub IsLayoutAsked : Disk → Option (List ℕ) → LayoutTable → Type 0
+IsLayoutAsked disk None layout = layout ≡ standard_layout
+IsLayoutAsked disk (Some name) layout = (bytes : List ℕ) × (disk.files name ≡ Some bytes) × (layout_of bytes ≡ Ok layout)
 
--- the file was opened by the name that is given, if one is
-abbrev pub IsOpened : {R : Type 0} → Option (List ℕ) → Option (LayoutFile R) → Type 0
-IsOpened None None = Unit {0}
-IsOpened None (Some file) = ⊥
-IsOpened (Some name) None = ⊥
-IsOpened (Some name) (Some file) = file.name ≡ name
+-- the options are those that are asked for
+pub record AreAsked (disk : Disk) (asked : Asked) (options : Options) : Type 0 where
+  pub capacity : options.capacity ≡ asked.capacity
+  pub reads : options.max_reads ≡ asked.max_reads
+  pub layout : IsLayoutAsked disk asked.layout options.layout
 
--- the layout is that of what the file gave, or the standard one if there is no file
-abbrev pub IsLayoutGiven : {R : Type 0} → (R → Option (List ℕ)) → Option (LayoutFile R) → LayoutTable → Type 0
-IsLayoutGiven remaining None layout = layout ≡ standard_layout
-IsLayoutGiven remaining (Some file) layout = (left : Option (List ℕ)) × IsLayoutAnswer (remaining file.reader) left (Ok layout)
+-- which file the layout is read from, if one is named
+abbrev pub layout_file : Disk → Option (List ℕ) → Option FileIdentity
+layout_file disk None = None
+layout_file disk (Some name) = disk.file name
 
--- the file gave no layout, for this reason
-abbrev pub IsNoLayout : {R : Type 0} → (R → Option (List ℕ)) → LayoutFile R → LayoutReadError → Type 0
-IsNoLayout remaining file error = (left : Option (List ℕ)) × IsLayoutAnswer (remaining file.reader) left (Err error)
-
--- the layout's file gave none: the exit status is this, and its line was told
-abbrev pub IsLayoutRefused : {R : Type 0} → (R → Option (List ℕ)) → Option (LayoutFile R) → Written → Written → ℕ → Type 0
-IsLayoutRefused remaining None before after status = ⊥
-IsLayoutRefused remaining (Some file) before after status = (error : LayoutReadError) × IsNoLayout remaining file error
-    × (status ≡ layout_refused_status error) × IsTold before after (layout_refused_line file.name error)
-
--- options that cannot be had end with this exit status, and their line was told: memory was refused, or the layout's file
--- gave none
-abbrev pub AreRefused : {R : Type 0} → (R → Option (List ℕ)) → Option (LayoutFile R) → Written → Written → ℕ → Type 0
-AreRefused remaining layout before after status =
-    ((status ≡ 3) × IsTold before after (line_of dsr (codes "out of memory")))
-    ⊎ IsLayoutRefused remaining layout before after status
+-- there is no layout for this reason, which the bytes behind its name or a read that failed show
+abbrev pub IsLayoutRefused : {R : Type 0} → (R → Told) → Disk → Option (List ℕ) → LayoutReadError → Type 0
+IsLayoutRefused told disk named CannotOpen = (name : List ℕ) × (named ≡ Some name) × (disk.files name ≡ None)
+IsLayoutRefused {R} told disk named Read = (name : List ℕ) × (named ≡ Some name) × (reader : R) × ((told reader).failed ≡ true)
+IsLayoutRefused told disk named (Bad error) =
+    (name : List ℕ) × (named ≡ Some name) × (bytes : List ℕ) × (disk.files name ≡ Some bytes) × (layout_of bytes ≡ Err error)
+IsLayoutRefused told disk named Memory = Unit {0}

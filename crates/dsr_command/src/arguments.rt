@@ -17,19 +17,19 @@ const VERSION: &str = "0.9.0
 rattle-kit-13f logic dac8208d650f15bf";
 
 /// The first lines of the help.
-const ABOUT: &str = "Reads the files of one sales report and prints its statement: \
-each file and whether it is
-whole, the files that are missing, the totals that do not agree, what is owed
-for each recording, territory, use type and currency and to whom, and each
-block of records that was left out, with the reason.";
+const ABOUT: &str = "Reads the files of one sales report and prints its statement: each file and
+whether it is whole, the files that are missing, the totals that do not agree,
+what is owed for each recording, territory, use type and currency and to whom,
+and each block of records that was left out, with the reason.";
 
 /// The last lines of the help.
 const STATUSES: &str = "Example:
   dsr --output statement.tsv 1.tsv 2.tsv 3.tsv
 
-A layout is a text with a line for each record type, its cells separated by TABs:
-  ROLE  TYPE  POSITION..    ROLE is HEAD, SY, AS, MW, SU or FOOT; a position is the
-                            cell of a column, 1 to 63, or - for a column that is not there
+A layout is a text with a line for each record type, its cells separated by
+TABs. ROLE is HEAD, SY, AS, MW, SU or FOOT; a position is the cell of a column,
+1 to 63, or - for a column that is not there:
+  ROLE  TYPE  POSITION..    how records of this type are read
   SKIP  TYPE                records of this type are left out
 This is the standard one:
   HEAD  HEAD  1 2 3 4 5 6 7
@@ -41,8 +41,10 @@ This is the standard one:
 
 Exit status:
   0  the report is complete and has no remarks
-  1  the statement has remarks: look at its FILE, MISSING, SUMMARY and REJECT lines
-  2  an error in the command line, a file that cannot be opened or created, or a bad layout
+  1  the statement has remarks: look at its FILE, MISSING, SUMMARY and REJECT
+     lines
+  2  an error in the command line, a file that cannot be opened or created, or
+     a bad layout
   3  the run failed; standard error says why";
 
 /// `--capacity N`.
@@ -56,7 +58,9 @@ fn capacity_option<'a>(alloc: Global) -> Arg<'a>
         .action(ArgAction::Set)
         .value_parser(clap::value_parser!(u32).range(1..=1024))
         .help(
-            "How far each file may be read ahead, in messages of up to 32 blocks: 1 to 1024 [default: 16]; fewer take less memory, more let a file run further ahead of the others",
+            "How far each file may be read ahead, in messages of up to
+32 blocks: 1 to 1024 [default: 16]; fewer take less
+memory, more let a file run further ahead of the others",
         )
 }
 
@@ -71,7 +75,8 @@ fn reads_option<'a>(alloc: Global) -> Arg<'a>
         .action(ArgAction::Set)
         .value_parser(clap::value_parser!(u32).range(1..=16_777_216))
         .help(
-            "The maximum number of reads for each file, of at most 4096 bytes each: 1 to 16777216 [default: 4194304]",
+            "The maximum number of reads for each file, of at most
+4096 bytes each: 1 to 16777216 [default: 4194304]",
         )
 }
 
@@ -85,7 +90,8 @@ fn layout_option<'a>(alloc: Global) -> Arg<'a>
         .value_name("FILE")
         .action(ArgAction::Set)
         .help(
-            "A file with the positions of the columns in each record; examples/layout.tsv is one to copy",
+            "A file with the positions of the columns in each record;
+examples/layout.tsv is one to copy",
         )
 }
 
@@ -99,7 +105,8 @@ fn output_option<'a>(alloc: Global) -> Arg<'a>
         .value_name("FILE")
         .action(ArgAction::Set)
         .help(
-            "Writes the statement to FILE, which is replaced once the statement is whole, and else stays as it was",
+            "Writes the statement to FILE, which is replaced once the
+statement is whole, and else stays as it was",
         )
 }
 
@@ -111,7 +118,10 @@ fn progress_option<'a>(alloc: Global) -> Arg<'a>
     Arg::new(alloc, "progress")
         .long("progress")
         .action(ArgAction::SetTrue)
-        .help("Reports the progress of the reading on standard error, at most twice a second")
+        .help(
+            "Reports the progress of the reading on standard error, at
+most twice a second",
+        )
 }
 
 /// The names of the files.
@@ -123,7 +133,9 @@ fn names_argument<'a>(alloc: Global) -> Arg<'a>
         .num_args(0..)
         .action(ArgAction::Append)
         .help(
-            "The files of the report. The first one that has a head says which report it is, and of two with one number the first one counts. Without a FILE, standard input",
+            "The files of the report. The first one that has a head says which
+report it is, and of two with one number the first one counts.
+Without a FILE, standard input",
         )
 }
 

@@ -1,28 +1,21 @@
-//! Which file of the system an open file or a name is.
-use std::fs::Metadata;
-use std::os::unix::fs::MetadataExt;
+//! Which file of the system an open file or a name is, and what a name is as a place for an output.
 
 /// A file of the system, whatever its names are.
 #[derive(Clone, Copy, PartialEq, Eq)]
 pub struct FileIdentity {
-    device: u64,
-    inode: u64,
+    /// The device that it is on.
+    pub device: u64,
+    /// Its number there.
+    pub inode: u64,
 }
 
-impl FileIdentity {
-    /// The file that has this metadata.
-    pub(crate) fn of(metadata: &Metadata) -> FileIdentity {
-        FileIdentity {
-            device: metadata.dev(),
-            inode: metadata.ino(),
-        }
-    }
-}
-
-/// The file that has this metadata, if it is known.
-pub(crate) fn identity_of(metadata: &Option<Metadata>) -> Option<FileIdentity> {
-    match metadata {
-        Some(metadata) => Some(FileIdentity::of(metadata)),
-        None => None,
-    }
+/// What a name is as a place for an output.
+#[derive(Clone, Copy, PartialEq, Eq)]
+pub enum Place {
+    /// No file has it.
+    Free,
+    /// An ordinary file, which this is, has it.
+    Ordinary(FileIdentity),
+    /// Something else has it, or it is no name.
+    Other,
 }

@@ -1,66 +1,112 @@
-//! Opening and reading a layout file.
-ghost use Rattle.std.specs.Prelude.{◌≡◌, IfOk, IfErr, MatchOption};
-ghost use Rattle.dsr_command.specs.Inputs.{IsLayoutUnopened};
-ghost use Rattle.dsr_command.specs.LayoutFile.{IsOpened, IsTaken, IsLayoutAnswer, IsReadError};
+//! Reading a layout's file, for the options of a run.
+ghost use Rattle.std.specs.Prelude.{◌≡◌, IfOk, IfErr, MatchResult};
+ghost use Rattle.dsr_command.specs.World.{Asks, WhereTold};
+ghost use Rattle.dsr_command.specs.LayoutFile.{AreAsked, IsLayoutAnswer, IsLayoutRefused, IsReadError, IsTaken, layout_file};
 
-use crate::identity::{FileIdentity, identity_of};
-use crate::inputs::OpenError;
-use dsr_cells::{NoMemory, Text};
+use crate::command::Asked;
+use crate::file_source::FileSource;
+use crate::identity::FileIdentity;
+use crate::report_world::ReportWorld;
+use crate::world::OpenFault;
+use dsr_file::{Failed, Source};
+use dsr_intake::Options;
 use dsr_records::{Layout, LayoutError};
 use std::alloc::Global;
-use std::fs;
-use std::fs::{File, Files};
-use std::io::Read;
-
-/// The file of a layout, with the name by which it was opened.
-#[derive(Drop)]
-pub struct LayoutFile<R> {
-    pub(crate) name: Text,
-    pub(crate) reader: R,
-}
-
-impl LayoutFile<File> {
-    /// Which file it is, if that is known.
-    pub fn identity(&self) -> Option<FileIdentity> {
-        identity_of(&self.reader.metadata().ok())
-    }
-}
-
-/// Opens the layout's file, if one is named.
-///
-/// # Errors
-///
-/// `CannotOpen`: it cannot be opened. `Memory`: out of memory.
-pub fn open_layout<H: Files<File = File>>(
-    rt: &H,
-    alloc: Global,
-    name: &Option<Text>,
-) -> Result<Option<LayoutFile<File>>, OpenError>
-    ensures opened { IfOk result (IsOpened name.now) }
-    ensures refused { IfErr result (IsLayoutUnopened name.now) }
-{
-    let Some(name) = name else {
-        return Ok(None);
-    };
-    let copy = match name.copy(alloc) {
-        Ok(copy) => copy,
-        Err(NoMemory) => return Err(OpenError::Memory),
-    };
-    match fs::open(rt, name.as_str()) {
-        Ok(reader) => Ok(Some(LayoutFile { name: copy, reader })),
-        Err(_) => Err(OpenError::CannotOpen(copy)),
-    }
-}
 
 /// Why there is no layout.
 #[derive(Clone, Copy, PartialEq, Eq)]
 pub enum LayoutReadError {
+    /// Its file cannot be opened.
+    CannotOpen,
     /// A read failed.
     Read,
     /// The bytes are no layout; this is their first fault.
     Bad(LayoutError),
     /// Memory was refused.
     Memory,
+}
+
+/// The options of a run, and the leave to open its files.
+#[derive(Drop)]
+pub struct RunOptions<P> {
+    /// The options, in a box, since a layout takes about 2 kB.
+    pub options: Box<Options>,
+    /// The leave to open the files.
+    pub permit: P,
+    /// Which file the layout was read from, if there is one and it is known.
+    pub layout: Option<FileIdentity>,
+}
+
+/// The options that the words ask for, with the layout that its file gives, or the standard one if none is named.
+///
+/// # Errors
+///
+/// `CannotOpen` and `Read`: the layout's file cannot be opened or read. `Bad`: it is no layout, by its first fault. `Memory`:
+/// out of memory.
+pub fn read_options<W: ReportWorld>(
+    alloc: Global,
+    world: &W,
+    asked: &Asked,
+) -> Result<RunOptions<W::Permit>, LayoutReadError>
+    requires { Asks (W.disk world.now) asked.now }
+    ensures { WhereTold (W.disk world.now) (λ d. MatchResult result
+        (λ o. AreAsked d asked.now o.options.value × (o.layout ≡ layout_file d asked.now.layout))
+        (IsLayoutRefused W.Reader.told d asked.now.layout)) }
+{
+    match &asked.layout {
+        Some(name) => {
+            let reader = match world.open_layout(name.as_str()) {
+                Ok(reader) => reader,
+                Err(OpenFault::Missing) => return Err(LayoutReadError::CannotOpen),
+                Err(OpenFault::Memory) => return Err(LayoutReadError::Memory),
+            };
+            let mut reader = reader;
+            let file = reader.identity();
+            let layout = match read_layout(alloc, &mut reader) {
+                Ok(layout) => layout,
+                Err(error) => return Err(error),
+            };
+            with_options(alloc, asked, layout, world.permit_after(reader), file)
+        }
+        None => with_options(
+            alloc,
+            asked,
+            Layout::standard(),
+            world.permit_without(asked),
+            None,
+        ),
+    }
+}
+
+/// The options with this layout.
+fn with_options<P: Drop>(
+    alloc: Global,
+    asked: &Asked,
+    layout: Layout,
+    permit: P,
+    file: Option<FileIdentity>,
+) -> Result<RunOptions<P>, LayoutReadError>
+    ensures options { IfOk result (λ o. o.options.value ≡ record {
+      capacity = asked.now.capacity;
+      max_reads = asked.now.max_reads;
+      layout = layout;
+    }) }
+    ensures layout { IfOk result (λ o. o.layout ≡ file) }
+    ensures memory { IfErr result (λ e. e ≡ LayoutReadError.Memory) }
+{
+    let options = Options {
+        capacity: asked.capacity,
+        max_reads: asked.max_reads,
+        layout,
+    };
+    match Box::new(alloc, options) {
+        Ok(options) => Ok(RunOptions {
+            options,
+            permit,
+            layout: file,
+        }),
+        Err(_) => Err(LayoutReadError::Memory),
+    }
 }
 
 /// The most bytes that are read: one more than a layout may have.
@@ -72,8 +118,8 @@ const MOST_BYTES: usize = 65_537;
 /// # Errors
 ///
 /// `Read`: a read failed. `Bad`: the bytes are no layout, by their first fault. `Memory`: out of memory.
-pub fn read_layout<R: Read>(alloc: Global, reader: &mut R) -> Result<Layout, LayoutReadError>
-    ensures { IsLayoutAnswer (R.remaining reader.old) (R.remaining reader.new) result }
+fn read_layout<R: Source>(alloc: Global, reader: &mut R) -> Result<Layout, LayoutReadError>
+    ensures { IsLayoutAnswer (R.told reader.old) (R.told reader.new) result }
 {
     let bytes = read_bytes(alloc, reader)?;
     match Layout::read(&bytes) {
@@ -83,17 +129,18 @@ pub fn read_layout<R: Read>(alloc: Global, reader: &mut R) -> Result<Layout, Lay
 }
 
 /// All bytes of the reader, or the first 65,537 if there are more.
-fn read_bytes<R: Read>(alloc: Global, reader: &mut R) -> Result<Vec<u8>, LayoutReadError>
-    ensures taken { IfOk result (λ v. IsTaken (R.remaining reader.old)
-        (R.remaining reader.new) v.items) }
-    ensures refused { IfErr result (IsReadError (R.remaining reader.old) (R.remaining reader.new)) }
+fn read_bytes<R: Source>(alloc: Global, reader: &mut R) -> Result<Vec<u8>, LayoutReadError>
+    ensures taken { IfOk result (λ v. IsTaken (R.told reader.old).remaining
+        (R.told reader.new).remaining v.items) }
+    ensures refused { IfErr result (IsReadError (R.told reader.new)) }
 {
     let mut bytes = Vec::new(alloc);
     let mut piece = [0; 4096];
     while bytes.len() < MOST_BYTES {
         let room = (MOST_BYTES - bytes.len()).min(4096);
-        let Ok(count) = reader.read(&mut piece[..room]) else {
-            return Err(LayoutReadError::Read);
+        let count = match reader.read(&mut piece[..room]) {
+            Ok(count) => count,
+            Err(Failed) => return Err(LayoutReadError::Read),
         };
         if count == 0 {
             return Ok(bytes);

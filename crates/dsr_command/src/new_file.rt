@@ -1,63 +1,13 @@
 //! A new file for `--output`, beside the one whose place it takes once it is whole.
-ghost use Rattle.std.specs.Prelude.{◌≡◌, false, All, IfOk, IfErr};
-ghost use Rattle.dsr_command.specs.NewFiles.{IsApart};
+ghost use Rattle.std.specs.Prelude.{◌≡◌, ◌≢◌, ◌∷◌, false, true, All, IfOk, Some, map};
+ghost use Rattle.std.specs.List.{Any};
+ghost use Rattle.dsr_command.specs.NewFiles.{IsCreated, IsPlaceFault};
+ghost use Rattle.dsr_command.specs.World.{WhereTold};
 
-use crate::identity::FileIdentity;
-use crate::inputs::Input;
-use crate::replacement::{Replacement, Stage};
-use dsr_cells::{NoMemory, Text};
-use dsr_file::Failed;
-use dsr_intake::{Outlet, ToWrite};
-use itoa::Buffer;
-use std::alloc::Global;
-use std::fs;
-use std::fs::{File, Files};
-use std::io::ErrorKind;
-use std::random::RandomSource;
-
-/// The place of a new file, and that of the file which it replaces.
-#[derive(Drop)]
-pub struct Place<H> {
-    rt: H,
-    /// The new file, opened once more to be synced.
-    file: File,
-    /// The name of the new file: that of the other, random digits, and `part`.
-    part: Text,
-    /// The name of the file that is replaced.
-    name: Text,
-    /// That file, if there was one.
-    replaced: Option<FileIdentity>,
-    stage: Stage,
-}
-
-impl<H: Files<File = File>> Replacement for Place<H> {
-    ghost stage = { λ p. p.stage };
-
-    fn take_place(&mut self) -> Result<(), Failed> {
-        if self.file.sync_all().is_err() {
-            return Err(Failed);
-        }
-        if fs::rename(&self.rt, self.part.as_str(), self.name.as_str()).is_err() {
-            return Err(Failed);
-        }
-        self.stage = Stage::InPlace;
-        Ok(())
-    }
-
-    fn remove(&mut self) {
-        let _ = fs::remove_file(&self.rt, self.part.as_str());
-        self.stage = Stage::Removed;
-    }
-}
-
-/// A new file that is written.
-#[derive(Drop)]
-pub struct NewFile<H> {
-    /// What is written to it.
-    pub out: ToWrite<File>,
-    /// Where it is.
-    pub place: Place<H>,
-}
+use crate::file_source::FileSource;
+use crate::identity::{FileIdentity, Place};
+use crate::world::{CreateFault, World};
+use dsr_cells::Text;
 
 /// Why there is no new file.
 #[derive(Clone, Copy, PartialEq, Eq)]
@@ -70,110 +20,65 @@ pub enum NewFileError {
     Memory,
 }
 
-/// Creates a new file beside the one of this name, which is none of the inputs, and not the file `besides`.
+/// Creates a new file beside the one of this name, which is none of those that are read: the sources, and the file `besides`.
 ///
 /// # Errors
 ///
 /// `IsRead`, `CannotCreate` and `Memory`: nothing was created.
-pub fn create_beside<H: Files<File = File> + RandomSource + Copy>(
-    rt: &H,
-    alloc: Global,
+pub fn create_beside<W: World>(
+    world: &mut W,
     name: &Text,
-    inputs: &[Input],
+    sources: &[W::Reader],
     besides: Option<FileIdentity>,
-) -> Result<NewFile<H>, NewFileError>
-    ensures named { IfOk result (λ n. n.place.name ≡ name.now) }
-    ensures apart { IfOk result (λ n. IsApart n.place.replaced besides
-        × All (λ i. IsApart n.place.replaced i.identity) inputs.now) }
-    ensures sound { IfOk result (λ n. (⟦<ToWrite<File> as Outlet>⟧.told n.out).failed ≡ false) }
-    ensures beside { IfOk result (λ n. n.place.stage ≡ Stage.Beside) }
+) -> Result<W::New, NewFileError>
+    ensures sound { IfOk result (λ n. (W.New.told n).failed ≡ false) }
+    ensures created { WhereTold (W.disk world.old) (λ d. IsCreated W.New.told d (W.disk world.new)
+        (besides ∷ map W.Reader.file sources.now) name.now result) }
 {
-    let replaced = replaced_file(rt, name)?;
-    if is_read(replaced, inputs, besides) {
-        return Err(NewFileError::IsRead);
+    let place = world.place(name.as_str());
+    if let Some(error) = place_fault(place, sources, besides) {
+        return Err(error);
     }
-    let part = part_name(rt, alloc, name)?;
-    let name = match name.copy(alloc) {
-        Ok(name) => name,
-        Err(NoMemory) => return Err(NewFileError::Memory)
-    };
-    create_part(rt, part, name, replaced)
-}
-
-/// The ordinary file of this name; None if there is no file.
-fn replaced_file<H: Files>(rt: &H, name: &Text) -> Result<Option<FileIdentity>, NewFileError> {
-    match rt.metadata(name.as_str()) {
-        Ok(metadata) if metadata.is_file() => Ok(Some(FileIdentity::of(&metadata))),
-        Err(error) if error.kind() == ErrorKind::NotFound && !name.as_str().is_empty() => Ok(None),
-        _ => Err(NewFileError::CannotCreate),
+    match world.create_beside(name.as_str()) {
+        Ok(new) => Ok(new),
+        Err(CreateFault::Failed) => Err(NewFileError::CannotCreate),
+        Err(CreateFault::Memory) => Err(NewFileError::Memory),
     }
 }
 
-/// Whether the replaced file is one that is read.
-fn is_read(replaced: Option<FileIdentity>, inputs: &[Input], besides: Option<FileIdentity>) -> bool
-    ensures besides { result ≡ false → IsApart replaced besides }
-    ensures inputs { result ≡ false → All (λ i. IsApart replaced i.identity) inputs.now }
+/// Why there can be no new file for this place, if there can be none.
+fn place_fault<R: FileSource>(
+    place: Place,
+    sources: &[R],
+    besides: Option<FileIdentity>,
+) -> Option<NewFileError>
+    ensures { IsPlaceFault place (besides ∷ map R.file sources.now) result }
 {
-    if replaced.is_none() {
-        return false;
+    match place {
+        Place::Free => None,
+        Place::Ordinary(file) => {
+            if is_read(file, sources, besides) {
+                Some(NewFileError::IsRead)
+            } else {
+                None
+            }
+        }
+        Place::Other => Some(NewFileError::CannotCreate),
     }
-    if besides == replaced {
+}
+
+/// Whether a file is one of those that are read.
+fn is_read<R: FileSource>(file: FileIdentity, sources: &[R], besides: Option<FileIdentity>) -> bool
+    ensures read { result ≡ true → Any (λ f. f ≡ Some file) (besides ∷ map R.file sources.now) }
+    ensures apart { result ≡ false → All (λ f. f ≢ Some file) (besides ∷ map R.file sources.now) }
+{
+    if besides == Some(file) {
         return true;
     }
-    for input in inputs {
-        if input.identity() == replaced {
+    for source in sources {
+        if source.identity() == Some(file) {
             return true;
         }
     }
     false
-}
-
-/// The name of a new file beside the one of this name.
-fn part_name<H: RandomSource>(rt: &H, alloc: Global, name: &Text) -> Result<Text, NewFileError> {
-    let mut bytes = [0u8; 8];
-    if rt.fill_bytes(&mut bytes).is_err() {
-        return Err(NewFileError::CannotCreate);
-    }
-    let mut digits = Buffer::new();
-    let digits = digits.format(u64::from_le_bytes(bytes));
-    let Ok(part) = format!(in alloc; "{}.{}.part", name.as_str(), digits) else {
-        return Err(NewFileError::Memory);
-    };
-    match Text::of_string(alloc, part) {
-        Ok(part) => Ok(part),
-        Err(NoMemory) => Err(NewFileError::Memory),
-    }
-}
-
-/// Creates the new file of this name.
-fn create_part<H: Files<File = File> + Copy>(
-    rt: &H,
-    part: Text,
-    name: Text,
-    replaced: Option<FileIdentity>,
-) -> Result<NewFile<H>, NewFileError>
-    ensures named { IfOk result (λ n. n.place.name ≡ name) }
-    ensures replaced { IfOk result (λ n. n.place.replaced ≡ replaced) }
-    ensures sound { IfOk result (λ n. (⟦<ToWrite<File> as Outlet>⟧.told n.out).failed ≡ false) }
-    ensures beside { IfOk result (λ n. n.place.stage ≡ Stage.Beside) }
-{
-    let Ok(written) = File::create_new(rt, part.as_str()) else {
-        return Err(NewFileError::CannotCreate);
-    };
-    let Ok(file) = written.try_clone() else {
-        drop(written);
-        let _ = fs::remove_file(rt, part.as_str());
-        return Err(NewFileError::CannotCreate);
-    };
-    Ok(NewFile {
-        out: ToWrite::new(written),
-        place: Place {
-            rt: *rt,
-            file,
-            part,
-            name,
-            replaced,
-            stage: Stage::Beside,
-        },
-    })
 }

@@ -11,15 +11,19 @@ use crate::print::write_parts;
 use dsr_cells::Text;
 use dsr_intake::Outlet;
 
-/// Writes why there is no layout, and returns the exit status.
-pub(crate) fn layout_refused<F: Outlet>(name: &Text, error: LayoutReadError, fault: &mut F) -> u8
+/// Writes why there is no layout, of the file of this name if one is named, and returns the exit status.
+pub fn layout_refused<F: Outlet>(name: &str, error: LayoutReadError, fault: &mut F) -> u8
     ensures status { result ≡ layout_refused_status error }
     ensures told { IsTold (F.told fault.old) (F.told fault.new)
         (layout_refused_line name.now error) }
 {
     match error {
+        LayoutReadError::CannotOpen => {
+            write_parts(&["dsr: cannot open ", name, "\n"], fault);
+            REFUSED
+        }
         LayoutReadError::Read => {
-            write_parts(&["dsr: cannot read ", name.as_str(), "\n"], fault);
+            write_parts(&["dsr: cannot read ", name, "\n"], fault);
             REFUSED
         }
         LayoutReadError::Bad(error) => {

@@ -1,63 +1,61 @@
 //! Putting a new file in another one's place, or removing it.
-ghost use Rattle.std.specs.Prelude.{◌≡◌, MatchResult};
-ghost use Rattle.dsr_command.specs.NewFiles.{IsSettled};
+ghost use Rattle.std.specs.Prelude.{◌≡◌};
+ghost use Rattle.dsr_command.specs.NewFiles.{IsPlaced, IsSettled};
+ghost use Rattle.dsr_command.specs.World.{WhereTold};
 
+use crate::world::World;
+use dsr_cells::Text;
 use dsr_file::Failed;
 
-/// Where a new file is.
-#[derive(Clone, Copy, PartialEq, Eq)]
-pub enum Stage {
-    /// Beside the file whose place it is to take, which is as it was.
-    Beside,
-    /// In the place of that file.
-    InPlace,
-    /// Nowhere: it was removed, and the file is as it was.
-    Removed,
-}
-
-/// A new file beside the one whose place it takes once it is whole.
-pub trait Replacement {
-    ghost use Rattle.dsr_command.specs.declared.replacement.Stage.{Stage};
-
-    /// Where it is.
-    ghost stage: { Self → Stage };
-
-    /// Syncs it to the disk, and gives it the name of the file whose place it takes.
-    ///
-    /// # Errors
-    ///
-    /// `Failed`: it could not be synced or renamed, and is still beside the file.
-    fn take_place(&mut self) -> Result<(), Failed>
-        requires { stage self.old ≡ Stage.Beside }
-        ensures { MatchResult result (λ _. stage self.new ≡ Stage.InPlace)
-            (λ _. stage self.new ≡ Stage.Beside) };
-
-    /// Removes it.
-    fn remove(&mut self)
-        requires { stage self.old ≡ Stage.Beside }
-        ensures { stage self.new ≡ Stage.Removed };
-}
-
-/// Puts a new file in its place if the answer is Ok, and removes it if not.
+/// Puts a new file in the place of the one of this name if the answer is Ok, and removes it if not.
 ///
 /// # Errors
 ///
 /// `Failed`: the answer is Ok, but the file could not be put in its place; it was removed.
-pub fn settle<N: Replacement, T, E>(place: &mut N, answer: &Result<T, E>) -> Result<(), Failed>
-    requires { N.stage place.old ≡ Stage.Beside }
-    ensures { IsSettled answer.now result (N.stage place.new) }
+pub fn settle<W: World, T, E>(
+    world: &mut W,
+    new: W::New,
+    name: &Text,
+    answer: &Result<T, E>,
+) -> Result<(), Failed>
+    ensures { WhereTold (W.disk world.old) (λ d. IsSettled (W.New.told new).contents name.now d
+        (W.disk world.new) answer.now result) }
 {
     match answer {
-        Ok(_) => match place.take_place() {
-            Ok(()) => Ok(()),
-            Err(Failed) => {
-                place.remove();
-                Err(Failed)
-            }
-        },
+        Ok(_) => take_place(world, new, name),
         Err(_) => {
-            place.remove();
+            world.remove(new);
             Ok(())
+        }
+    }
+}
+
+/// Syncs a new file to the disk and puts it in the place of the one of this name, or removes it.
+fn take_place<W: World>(world: &mut W, new: W::New, name: &Text) -> Result<(), Failed>
+    ensures { WhereTold (W.disk world.old) (λ d. IsPlaced (W.New.told new).contents name.now d
+        (W.disk world.new) result) }
+{
+    let mut new = new;
+    match world.sync(&mut new) {
+        Ok(()) => put_or_remove(world, new, name),
+        Err(Failed) => {
+            world.remove(new);
+            Err(Failed)
+        }
+    }
+}
+
+/// Puts a new file, of which all bytes were synced, in the place of the one of this name, or removes it.
+fn put_or_remove<W: World>(world: &mut W, new: W::New, name: &Text) -> Result<(), Failed>
+    requires { W.New.synced new ≡ (W.New.told new).contents }
+    ensures { WhereTold (W.disk world.old) (λ d. IsPlaced (W.New.told new).contents name.now d
+        (W.disk world.new) result) }
+{
+    match world.put(&new, name.as_str()) {
+        Ok(()) => Ok(()),
+        Err(Failed) => {
+            world.remove(new);
+            Err(Failed)
         }
     }
 }

@@ -1,46 +1,41 @@
 //! Sources whose reads are counted, for `--progress`.
 ghost use Rattle.std.specs.Prelude.{◌≡◌, true, false, IfOk, MatchOption, map};
+ghost use Rattle.dsr_command.specs.World.{Asks};
 
 use crate::command::Asked;
-use crate::inputs::{Input, Inputs};
+use crate::file_source::FileSource;
 use crate::progress::Progress;
+use crate::report_world::ReportWorld;
 use dsr_cells::NoMemory;
 use dsr_file::{Failed, Source};
 use std::alloc::Global;
 use std::io::Eprint;
 use std::time::Clock;
 
-/// What writes the progress of a run to standard error. There is one only where progress was asked for.
-#[derive(Drop)]
-pub struct Printer<H> {
-    rt: H,
-}
-
-impl<H: Copy> Printer<H> {
-    /// The printer of the progress, if it was asked for.
-    pub fn asked_for(rt: &H, asked: &Asked) -> Option<Printer<H>>
-        ensures { MatchOption result (asked.now.progress ≡ false) (λ _. asked.now.progress ≡ true) }
-    {
-        if asked.progress {
-            Some(Printer { rt: *rt })
-        } else {
-            None
-        }
+/// What tells the progress of a run, if the words ask for it.
+pub fn teller_of<W: ReportWorld>(world: &W, asked: &Asked) -> Option<W::Teller>
+    requires { Asks (W.disk world.now) asked.now }
+    ensures { MatchOption result (asked.now.progress ≡ false) (λ _. asked.now.progress ≡ true) }
+{
+    if asked.progress {
+        Some(world.teller(asked))
+    } else {
+        None
     }
 }
 
 /// A source whose reads are counted. It gives what the source inside gives.
 #[derive(Drop)]
-pub struct Watched<H> {
-    input: Input,
-    progress: Progress<H>,
+pub struct Watched<R, T> {
+    source: R,
+    progress: Progress<T>,
 }
 
-impl<H: Clock + Eprint + Copy> Source for Watched<H> {
-    ghost told = { λ s. ⟦<Input as Source>⟧.told s.input };
+impl<R: Source, T: Clock + Eprint + Copy> Source for Watched<R, T> {
+    ghost told = { λ s. R.told s.source };
 
     fn read(&mut self, piece: &mut [u8]) -> Result<usize, Failed> {
-        let answer = self.input.read(piece);
+        let answer = self.source.read(piece);
         match answer {
             Ok(bytes) => self.progress.count(bytes),
             Err(Failed) => self.progress.count(0),
@@ -49,36 +44,36 @@ impl<H: Clock + Eprint + Copy> Source for Watched<H> {
     }
 
     fn failed(&self) -> bool {
-        self.input.failed()
+        self.source.failed()
     }
 }
 
 /// The size of all files in bytes, if that is known.
-fn whole_size(inputs: &Inputs) -> Option<u64> {
+fn whole_size<R: FileSource>(sources: &Vec<R>) -> Option<u64> {
     let mut size = 0u64;
-    for input in inputs {
-        size = size.checked_add(input.size()?)?;
+    for source in sources {
+        size = size.checked_add(source.size()?)?;
     }
     Some(size)
 }
 
-/// Wraps the sources, so that their reads are counted and their progress is printed.
+/// Wraps the sources, so that their reads are counted and their progress is told.
 ///
 /// # Errors
 ///
 /// `NoMemory`: out of memory.
-pub fn watch<H: Clock + Eprint + Copy>(
-    printer: Printer<H>,
+pub fn watch<R: FileSource + Drop, T: Clock + Eprint + Copy + Drop>(
+    teller: T,
     alloc: Global,
-    inputs: Inputs,
-) -> Result<Vec<Watched<H>>, NoMemory>
-    ensures { IfOk result (λ v. map (λ w. w.input) v.items ≡ inputs.items) }
+    sources: Vec<R>,
+) -> Result<Vec<Watched<R, T>>, NoMemory>
+    ensures { IfOk result (λ v. map (λ w. w.source) v.items ≡ sources.items) }
 {
-    let progress = Progress::begin(&printer.rt, alloc, inputs.len(), whole_size(&inputs))?;
+    let progress = Progress::begin(&teller, alloc, sources.len(), whole_size(&sources))?;
     let mut watched = Vec::new(alloc);
-    for input in inputs {
+    for source in sources {
         let progress = progress.share()?;
-        let Ok(()) = watched.push(Watched { input, progress }) else {
+        let Ok(()) = watched.push(Watched { source, progress }) else {
             return Err(NoMemory);
         };
     }

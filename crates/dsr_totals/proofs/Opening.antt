@@ -1,49 +1,33 @@
--- The statements that are opened, or the one that is not.
-use Rattle.std.proofs.Common.{◌≡◌, ℕ, List, true, false, refl, subst, inl, inr, length, codes}
-use Rattle.std.specs.Prelude.{◌⊎◌, ◌≤◌, Result, Ok, Err, MatchResult, take}
+-- The statements that are opened, those that are given and those that were paid.
+use Rattle.std.proofs.Common.{◌≡◌, ◌∙◌, ◌≢◌, ℕ, List, [], ◌∷◌, ◌++◌, refl, ap, ap₂, sym, subst, map, length}
+use Rattle.std.specs.Prelude.{Option, None, Some, Result, Ok, Err}
+use Rattle.std.proofs.lemmas.List.{append-nil, map-append}
+use Rattle.dsr_command.proofs.Opening.{files_named, texts_named}
+use Rattle.dsr_command.specs.declared.identity.FileIdentity.{FileIdentity}
 use Rattle.dsr_command.specs.declared.inputs.OpenError.{OpenError}
 use Rattle.dsr_command.specs.declared.inputs.OpenError.TheVariants.{CannotOpen, Memory}
-use Rattle.dsr_command.specs.Faults.{cannot_open_line, line_of, unopened_line, unopened_status, IsTold}
 use Rattle.dsr_command.specs.Inputs.{IsRefusal}
-use Rattle.dsr_io.specs.meaning.Written.{Written, IsFlushed, IsCut}
-use Rattle.dsr_totals.specs.Refusals.{dsr_totals}
-use Rattle.dsr_totals.specs.Serving.{IsOnlyTold, IsUnopened, IsWithoutMemory, outputs}
+use Rattle.dsr_command.specs.World.{AreFresh, AreSources, Disk, files_for, texts_for, texts_of}
+use Rattle.dsr_io.specs.meaning.Told.{Told}
+use Rattle.dsr_totals.specs.declared.command.Asked.{Asked}
+use Rattle.dsr_totals.specs.Serving.{both_texts, files_asked, texts_asked}
 
--- only this was told, and the output is as it was
-pub only_told : (out f g : Written) (text : List ℕ) → IsTold f g text → IsOnlyTold text (outputs out f) (outputs out g)
-only_told out f g text told = record { out = refl; told = told }
+fresh_both : {R : Type 0} (told : R → Told) (rs : List R) (ts : List (List ℕ)) (qs : List R) (us : List (List ℕ))
+    → AreFresh told rs ts → AreFresh told qs us → AreFresh told (rs ++ qs) (ts ++ us)
+fresh_both told [] [] qs us are more = more
+fresh_both told [] (t ∷ ts) qs us are more = absurd are
+fresh_both told (r ∷ rs) [] qs us are more = absurd are
+fresh_both told (r ∷ rs) (t ∷ ts) qs us are more = (are.0, fresh_both told rs ts qs us are.1 more)
 
--- one of these statements is not opened
-unopened_of : (names : List (List ℕ)) (error : OpenError) (out f g : Written) (s : ℕ) → IsRefusal names error
-    → s ≡ unopened_status error → IsTold f g (unopened_line dsr_totals error)
-    → IsUnopened names (outputs out f) (outputs out g) s ⊎ IsWithoutMemory (outputs out f) (outputs out g) s
-unopened_of names (CannotOpen refused) out f g s among status told =
-    inl (
-      (
-        among.0,
-        among.1,
-        among.2,
-        among.3,
-        only_told out f g (cannot_open_line dsr_totals among.1) (subst (λ n. IsTold f g (cannot_open_line dsr_totals n)) among.4 told),
-      ),
-      status,
-    )
-unopened_of names Memory out f g s among status told = inr (only_told out f g (line_of dsr_totals (codes "out of memory")) told, status)
-
-past : {A B C : Type 0} → A ⊎ C → A ⊎ (B ⊎ C)
-past (inl a) = inl a
-past (inr c) = inr (inr c)
-
--- one of the statements is not opened
-pub unopened : (given paid : List (List ℕ)) (error : OpenError) (out f g : Written) (s : ℕ) → IsRefusal given error ⊎ IsRefusal paid error
-    → s ≡ unopened_status error → IsTold f g (unopened_line dsr_totals error)
-    → IsUnopened given (outputs out f) (outputs out g) s
-    ⊎ (IsUnopened paid (outputs out f) (outputs out g) s ⊎ IsWithoutMemory (outputs out f) (outputs out g) s)
-unopened given paid error out f g s (inl among) status told = past (unopened_of given error out f g s among status told)
-unopened given paid error out f g s (inr among) status told = inr (unopened_of paid error out f g s among status told)
-
--- a text was told
-pub told_text : (f g : Written) (text : List ℕ) (answer : Result (Unit {0}) ℕ)
-    → MatchResult answer (λ _. IsFlushed text f g) (λ n. (n ≤ length text) × IsCut (take n text) f g) → IsTold f g text
-told_text f g text (Ok x) h = (true, h)
-told_text f g text (Err n) h = (false, (n, h.0, h.1))
+-- some were paid
+pub some_paid : {R : Type 0} (told : R → Told) (file : R → Option FileIdentity) (d : Disk) (asked : Asked) (sources paid : List R)
+    → length asked.paid ≢ 0 → AreSources told file (texts_for d asked.given) (files_for d asked.given) sources
+    → AreSources told file (texts_for d asked.paid) (files_for d asked.paid) paid
+    → AreSources told file (texts_asked d asked) (files_asked d asked) (sources ++ paid)
+some_paid told file d asked sources paid some are more =
+    record {
+      bytes = are.bytes ++ more.bytes;
+      texts_are = ap₂ both_texts are.texts_are (sym (texts_named d asked.paid some) ∙ more.texts_are);
+      fresh = fresh_both told sources are.bytes paid more.bytes are.fresh more.fresh;
+      files_are = map-append file sources paid ∙ ap₂ (λ xs ys. xs ++ ys) are.files_are (more.files_are ∙ files_named d asked.paid some);
+    }

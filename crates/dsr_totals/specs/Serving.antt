@@ -1,96 +1,98 @@
--- What the program does with its arguments: what it writes to standard output and standard error or to a new file, and its
--- exit status.
-use Rattle.std.specs.Prelude.{◌≡◌, ◌≤◌, ◌⊎◌, ℕ, List, All, length, take, map, codes, ◌++◌, Option, None, Some}
-use Rattle.std.specs.List.{Any}
-use Rattle.std.specs.declared.fs.File.{File}
+-- What the program does: what it writes to standard output and standard error or to a file, and its exit status, by its words
+-- and the bytes behind names.
+use Rattle.std.specs.Prelude.{◌≡◌, ◌⊎◌, ◌-◌, ◌∷◌, ◌++◌, ℕ, List, [], map, Option, None, Some, Result, Ok, Err}
 use Rattle.dsr_command.specs.declared.command.CommandFault.{CommandFault}
-use Rattle.dsr_command.specs.declared.command.CommandFault.TheVariants.{Help, Refused, Memory}
-use Rattle.dsr_command.specs.declared.inputs.Input.{Input}
-use Rattle.dsr_command.specs.declared.new_file.NewFile.{NewFile}
+use Rattle.dsr_command.specs.declared.identity.FileIdentity.{FileIdentity}
 use Rattle.dsr_command.specs.declared.new_file.NewFileError.{NewFileError}
-use Rattle.dsr_command.specs.Faults.{cannot_open_line, failed_line, line_of, IsTold}
-use Rattle.dsr_command.specs.NewFiles.{IsApart, new_file_line, new_file_status}
-use Rattle.dsr_command.specs.Inputs.{sources_of}
-use Rattle.dsr_io.specs.declared.to_write.ToWrite.{ToWrite}
+use Rattle.dsr_command.specs.declared.world.WordsFault.{WordsFault}
+use Rattle.dsr_command.specs.Faults.{cannot_open_line, IsTold}
+use Rattle.dsr_command.specs.NewFiles.{IsNotCreated, cannot_replace_line, new_file_line, new_file_status}
+use Rattle.dsr_command.specs.Outputs.{IsOnlyTold, IsTurnedDown, IsWithoutMemory, Outputs, no_words_line, no_words_status}
+use Rattle.dsr_command.specs.World.{AreFresh, Disk, IsApart, IsReplacedIn, LacksWords, failing, files_for, made, removed, texts_for, texts_of}
 use Rattle.dsr_io.specs.meaning.Told.{Told}
-use Rattle.dsr_io.specs.meaning.Written.{Written, IsFlushed, IsCut}
+use Rattle.dsr_io.specs.meaning.Written.{Written}
 use Rattle.dsr_totals.specs.CommandLine.{IsAskedFor, IsFaultFor}
 use Rattle.dsr_totals.specs.declared.command.Asked.{Asked}
+use Rattle.dsr_totals.specs.declared.totaling.WriteError.{WriteError}
 use Rattle.dsr_totals.specs.Refusals.{dsr_totals}
-use Rattle.dsr_totals.specs.Totaling.{HadTotals, HadTotalsInto}
+use Rattle.dsr_totals.specs.Totaling.{IsAnswerTold, WroteTotals, status_after}
 
--- standard output and standard error
-pub record Outputs : Type 0 where
-  pub out : Written
-  pub fault : Written
+-- what the sources and the new files of a world tell
+pub record Ghosts (R N : Type 0) : Type 0 where
+  pub told : R → Told
+  pub written : N → Written
 
-abbrev pub outputs : Written → Written → Outputs
-outputs out fault = record { out = out; fault = fault }
+abbrev pub ghosts : {R N : Type 0} → (R → Told) → (N → Written) → Ghosts R N
+ghosts told written = record { told = told; written = written }
 
--- nothing was written but this text, to standard error, of which only the first bytes were written if that failed
-pub record IsOnlyTold (text : List ℕ) (before after : Outputs) : Type 0 where
-  pub out : after.out ≡ before.out
-  pub told : IsTold before.fault after.fault text
+-- texts before others; or the first name that has none
+abbrev pub both_texts : Result (List (List ℕ)) (List ℕ) → Result (List (List ℕ)) (List ℕ) → Result (List (List ℕ)) (List ℕ)
+both_texts (Err name) more = Err name
+both_texts (Ok texts) (Err name) = Err name
+both_texts (Ok texts) (Ok more) = Ok (texts ++ more)
 
--- memory was refused before a statement was read
-abbrev pub IsWithoutMemory : Outputs → Outputs → ℕ → Type 0
-IsWithoutMemory before after status = IsOnlyTold (line_of dsr_totals (codes "out of memory")) before after × (status ≡ 3)
+-- the bytes of the statements, first those that are given, or of standard input if there is none, and then those that were paid
+abbrev pub texts_asked : Disk → Asked → Result (List (List ℕ)) (List ℕ)
+texts_asked disk asked = both_texts (texts_for disk asked.given) (texts_of disk.files asked.paid)
 
--- the totals were written to standard output; or, with nothing on standard output, to a new file for the file that was named,
--- which is none of those that were read
-abbrev pub HadTotalsTo : Type 0 → (Input → Told) → (ToWrite File → Written) → Asked → Option (List ℕ) → List Input → List Input → Outputs → Outputs → ℕ → Type 0
-HadTotalsTo H told written asked None inputs left before after status =
-    HadTotals told asked inputs left before.out after.out before.fault after.fault status
-HadTotalsTo H told written asked (Some name) inputs left before after status =
-    (new : NewFile H) × (whole : NewFile H) × (new.place.name ≡ name) × All (λ i. IsApart new.place.replaced i.identity) inputs
-    × HadTotalsInto told asked name inputs left (written new.out) (written whole.out) before.fault after.fault whole.place.stage status
-    × (after.out ≡ before.out)
+abbrev pub files_asked : Disk → Asked → List (Option FileIdentity)
+files_asked disk asked = files_for disk asked.given ++ map disk.file asked.paid
 
--- there is no new file for the file that was named
-abbrev pub IsNoOutput : Option (List ℕ) → Outputs → Outputs → ℕ → Type 0
-IsNoOutput None before after status = ⊥
-IsNoOutput (Some name) before after status =
-    (error : NewFileError) × IsOnlyTold (new_file_line dsr_totals name error) before after × (status ≡ new_file_status error)
+-- the totals of these sources were written to standard output, or not, and the exit status and standard error say so
+abbrev pub HadTotals : {R : Type 0} → (R → Told) → Asked → List R → Outputs → Outputs → ℕ → Type 0
+HadTotals {R} told asked sources before after status = (answer : Result (Unit {0}) WriteError) × (left : List R)
+    × WroteTotals told asked sources left before.out after.out answer × IsAnswerTold asked before.fault after.fault answer
+    × (status ≡ status_after answer)
 
--- one of these files cannot be opened
-abbrev pub IsUnopened : List (List ℕ) → Outputs → Outputs → ℕ → Type 0
-IsUnopened names before after status = Any (λ name. IsOnlyTold (cannot_open_line dsr_totals name) before after) names × (status ≡ 2)
+-- where the new file is: only if the totals were written to it is it in the place of the file of this name, and else it is
+-- removed; if it cannot be put there, a line says so
+abbrev pub IsEnded : Asked → Option (List ℕ) → List ℕ → Disk → Option Disk → Written → Written → ℕ → Result (Unit {0}) WriteError → Type 0
+IsEnded asked contents name disk left before after status (Ok done) =
+    (IsReplacedIn contents name (disk.parts - 1) disk left × (after ≡ before) × (status ≡ 0))
+    ⊎ ((left ≡ Some (removed (failing disk))) × IsTold before after (cannot_replace_line dsr_totals name) × (status ≡ 3))
+IsEnded asked contents name disk left before after status (Err error) =
+    (left ≡ Some (removed disk)) × IsAnswerTold asked before after (Err error) × (status ≡ status_after (Err error))
 
--- the statements that were asked for were opened, in their order, those that were paid last, and their totals were written or
--- not, or there was no output for them; or one of them cannot be opened, or memory was refused
-abbrev pub IsServed : Type 0 → (Input → Told) → (ToWrite File → Written) → Asked → Outputs → Outputs → ℕ → Type 0
-IsServed H told written asked before after status =
-    ((inputs : List Input) × (left : List Input) × (map (λ i. i.name) inputs ≡ sources_of asked.given ++ map Some asked.paid)
-    × (HadTotalsTo H told written asked asked.output inputs left before after status ⊎ IsNoOutput asked.output before after status))
-    ⊎ (IsUnopened asked.given before after status ⊎ (IsUnopened asked.paid before after status ⊎ IsWithoutMemory before after status))
+-- the totals of these sources were written to this new file, or not, and this is where the file is
+abbrev pub HadTotalsInto : {R N : Type 0} → Ghosts R N → Asked → List R → N → List ℕ → Disk → Option Disk → Written → Written → ℕ → Type 0
+HadTotalsInto {R} {N} g asked sources new name disk left before after status =
+    (answer : Result (Unit {0}) WriteError) × (rest : List R) × (whole : N)
+    × WroteTotals g.told asked sources rest (g.written new) (g.written whole) answer
+    × IsEnded asked (g.written whole).contents name disk left before after status answer
 
--- a text that was asked for was written whole; or the output failed in it, and a line says after how many bytes
-abbrev pub IsShown : List ℕ → Outputs → Outputs → ℕ → Type 0
-IsShown text before after status =
-    (IsFlushed text before.out after.out × (after.fault ≡ before.fault) × (status ≡ 0))
-    ⊎ ((n : ℕ) × (n ≤ length text) × IsCut (take n text) before.out after.out
-    × IsTold before.fault after.fault (failed_line dsr_totals n) × (status ≡ 3))
+-- the totals of sources of these bytes went to standard output; or, with nothing there, to a new file for the file that is
+-- named, which is none of those that are read; or no such file can be had
+abbrev pub HadOutput : {R N : Type 0} → Ghosts R N → Disk → Option Disk → Asked → List (List ℕ) → Outputs → Outputs → ℕ → Option (List ℕ) → Type 0
+HadOutput {R} {N} g disk left asked texts before after status None =
+    (sources : List R) × AreFresh g.told sources texts × HadTotals g.told asked sources before after status × (left ≡ Some disk)
+HadOutput {R} {N} g disk left asked texts before after status (Some name) =
+    ((sources : List R) × AreFresh g.told sources texts × IsApart (disk.place name) (None ∷ files_asked disk asked)
+    × (new : N) × ((g.written new).contents ≡ Some [])
+    × HadTotalsInto g asked sources new name (made disk) left before.fault after.fault status × (after.out ≡ before.out))
+    ⊎ ((error : NewFileError) × IsNotCreated disk left (None ∷ files_asked disk asked) name error
+    × IsOnlyTold (new_file_line dsr_totals name error) before after × (status ≡ new_file_status error))
 
--- what is done for words that ask for no totals
-abbrev pub IsTurnedDown : CommandFault → Outputs → Outputs → ℕ → Type 0
-IsTurnedDown (Help text) before after status = IsShown text before after status
-IsTurnedDown (Refused text) before after status = IsOnlyTold text before after × (status ≡ 2)
-IsTurnedDown Memory before after status = IsWithoutMemory before after status
+-- the statements of these bytes were added up; or one of them cannot be opened, the first one
+abbrev pub HadTexts : {R N : Type 0} → Ghosts R N → Disk → Option Disk → Asked → Outputs → Outputs → ℕ → Result (List (List ℕ)) (List ℕ) → Type 0
+HadTexts g disk left asked before after status (Ok texts) = HadOutput g disk left asked texts before after status asked.output
+HadTexts g disk left asked before after status (Err name) =
+    IsOnlyTold (cannot_open_line dsr_totals name) before after × (status ≡ 2) × (left ≡ Some disk)
+
+-- the same, unless memory was refused
+abbrev pub IsServedFor : {R N : Type 0} → Ghosts R N → Disk → Option Disk → Asked → Outputs → Outputs → ℕ → Type 0
+IsServedFor g disk left asked before after status =
+    HadTexts g disk left asked before after status (texts_asked disk asked)
+    ⊎ (IsWithoutMemory dsr_totals before after status × (left ≡ Some disk))
 
 -- what the program does for these words: what they ask for, if they have no fault
-abbrev pub IsDone : Type 0 → (Input → Told) → (ToWrite File → Written) → List (List ℕ) → Outputs → Outputs → ℕ → Type 0
-IsDone H told written words before after status =
-    ((asked : Asked) × IsAskedFor words asked × IsServed H told written asked before after status)
-    ⊎ ((fault : CommandFault) × IsFaultFor words fault × IsTurnedDown fault before after status)
+abbrev pub IsDone : {R N : Type 0} → Ghosts R N → Disk → Option Disk → List (List ℕ) → Outputs → Outputs → ℕ → Type 0
+IsDone g disk left words before after status =
+    ((asked : Asked) × IsAskedFor words asked × IsServedFor g disk left asked before after status)
+    ⊎ ((fault : CommandFault) × IsFaultFor words fault × IsTurnedDown dsr_totals fault before after status × (left ≡ Some disk))
 
--- the arguments cannot be had: one is not UTF-8, or memory was refused
-abbrev pub AreUnread : Written → Written → ℕ → Type 0
-AreUnread before after status =
-    ((status ≡ 2) × IsTold before after (line_of dsr_totals (codes "an argument is not UTF-8")))
-    ⊎ ((status ≡ 3) × IsTold before after (line_of dsr_totals (codes "out of memory")))
-
--- what the program does for its arguments: what it does for their words, or it cannot have them
-abbrev pub IsAnswered : Type 0 → (Input → Told) → (ToWrite File → Written) → Outputs → Outputs → ℕ → Type 0
-IsAnswered H told written before after status =
-    ((words : List (List ℕ)) × IsDone H told written words before after status)
-    ⊎ ((after.out ≡ before.out) × AreUnread before.fault after.fault status)
+-- what the program does: what it does for its words, or it has none
+abbrev pub IsServed : {R N : Type 0} → Ghosts R N → Disk → Option Disk → Outputs → Outputs → ℕ → Type 0
+IsServed g disk left before after status =
+    ((words : List (List ℕ)) × (disk.words ≡ Some words) × IsDone g disk left words before after status)
+    ⊎ ((error : WordsFault) × LacksWords disk error
+    × IsOnlyTold (no_words_line dsr_totals error) before after × (status ≡ no_words_status error) × (left ≡ Some disk))

@@ -1,9 +1,6 @@
--- What is done with the totals of statements: where they are written, the exit status and the line on standard error.
-use Rattle.std.specs.Prelude.{◌≡◌, ◌≤◌, ◌⊎◌, ◌-◌, ℕ, Bool, nat_lt, if◌then◌else◌, List, [], ◌∷◌, codes, length, take, slice_get, Result, Ok, Err, unwrap_or}
-use Rattle.dsr_command.specs.declared.replacement.Stage.{Stage}
-use Rattle.dsr_command.specs.declared.replacement.Stage.TheVariants.{InPlace, Removed}
+-- What is done with the totals of statements: what is written, the exit status and the line on standard error.
+use Rattle.std.specs.Prelude.{◌≡◌, ◌≤◌, ◌-◌, ℕ, Bool, nat_lt, if◌then◌else◌, List, [], ◌∷◌, codes, length, take, slice_get, Result, Ok, Err, unwrap_or}
 use Rattle.dsr_command.specs.Faults.{failed_line, IsTold}
-use Rattle.dsr_command.specs.NewFiles.{cannot_replace_line}
 use Rattle.dsr_io.specs.meaning.Told.{Told}
 use Rattle.dsr_io.specs.meaning.Written.{Written, IsFlushed, IsCut}
 use Rattle.dsr_sums.specs.declared.answer.TotalsError.{TotalsError}
@@ -63,23 +60,3 @@ error_line asked (Write n) = failed_line dsr_totals n
 abbrev pub IsAnswerTold : Asked → Written → Written → Result (Unit {0}) WriteError → Type 0
 IsAnswerTold asked before after (Ok done) = after ≡ before
 IsAnswerTold asked before after (Err error) = IsTold before after (error_line asked error)
-
--- the totals were written, or not, and the exit status and standard error say so
-abbrev pub HadTotals : {R : Type 0} → (R → Told) → Asked → List R → List R → Written → Written → Written → Written → ℕ → Type 0
-HadTotals told asked sources left before after fault_before fault_after status = (answer : Result (Unit {0}) WriteError)
-    × WroteTotals told asked sources left before after answer × IsAnswerTold asked fault_before fault_after answer
-    × (status ≡ status_after answer)
-
--- where a new file is after the totals were written to it, or not
-abbrev pub stage_after : Result (Unit {0}) WriteError → Stage
-stage_after (Ok done) = InPlace
-stage_after (Err error) = Removed
-
--- the totals were written to a new file, or not. It is in the place of the file of this name only if they were written whole;
--- if it could not be put there, it was removed, and a line says so
-abbrev pub HadTotalsInto : {R : Type 0} → (R → Told) → Asked → List ℕ → List R → List R → Written → Written → Written → Written → Stage → ℕ → Type 0
-HadTotalsInto told asked name sources left before after fault_before fault_after stage status =
-    ((answer : Result (Unit {0}) WriteError) × WroteTotals told asked sources left before after answer
-    × IsAnswerTold asked fault_before fault_after answer × (stage ≡ stage_after answer) × (status ≡ status_after answer))
-    ⊎ (((text : List ℕ) × HasTotals told (given_count asked.given) asked.with_remarks sources left text × IsFlushed text before after)
-    × (stage ≡ Removed) × IsTold fault_before fault_after (cannot_replace_line dsr_totals name) × (status ≡ 3))

@@ -16,11 +16,10 @@ const VERSION: &str = "0.9.0
 rattle-kit-13f logic dac8208d650f15bf";
 
 /// The first lines of the help.
-const ABOUT: &str =
-    "Reads statements of sales reports, as dsr prints them, and prints what they add up to: \
-each
-statement, the sums of each currency, of each territory and use type, and what
-each party is owed. Nothing is printed if one of the statements is refused.";
+const ABOUT: &str = "Reads statements of sales reports, as dsr prints them, and prints what they
+add up to: each statement, the sums of each currency, of each territory and
+use type, and what each party is owed. Nothing is printed if one of the
+statements is refused.";
 
 /// The last lines of the help.
 const STATUSES: &str = "Examples:
@@ -46,7 +45,8 @@ fn paid_option<'a>(alloc: Global) -> Arg<'a>
         .value_name("STATEMENT")
         .action(ArgAction::Append)
         .help(
-            "A statement of one of the given reports, whose amounts were paid already: they are subtracted",
+            "A statement of one of the given reports, whose amounts
+were paid already: they are subtracted",
         )
 }
 
@@ -70,7 +70,10 @@ fn output_option<'a>(alloc: Global) -> Arg<'a>
         .long("output")
         .value_name("FILE")
         .action(ArgAction::Set)
-        .help("Writes the totals to FILE, which is replaced only once they are whole")
+        .help(
+            "Writes the totals to FILE, which is replaced only once
+they are whole",
+        )
 }
 
 /// The names of the statements.

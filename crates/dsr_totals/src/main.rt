@@ -4,7 +4,8 @@
 //!    creates the output.
 //! 2. `totaling` passes the sources to `add_up` of dsr_sums, writes the text to standard output or to the new file, and puts this
 //!    in its place. `faults` has the line for a statement that is refused, and for totals that are out of range.
-//! 3. `main` ends with the exit status that `program` returns.
+//! 3. `main` gives `serve` the words and files of the system (`Host` of dsr_command) and its outputs, and ends with the exit
+//!    status that it returns.
 //!
 //! What both programs do stands in dsr_command. No crate depends on this one: another program calls `add_up` of dsr_sums.
 #![tactic(auto)]
@@ -15,11 +16,13 @@ mod faults;
 mod program;
 mod totaling;
 
+use dsr_command::Host;
 use dsr_io::ToWrite;
 use std::process::ExitCode;
 
 fn main(rt: HostRuntime) -> ExitCode {
+    let mut host = Host { rt };
     let mut out = ToWrite::new(rt.stdout());
     let mut fault = ToWrite::new(rt.stderr());
-    ExitCode::from(program::serve(&rt, &mut out, &mut fault))
+    ExitCode::from(program::serve(&rt, rt.alloc(), &mut host, &mut out, &mut fault))
 }

@@ -1,22 +1,22 @@
 //! The totals, and where they go.
-ghost use Rattle.std.specs.Prelude.{◌≡◌, ◌⊎◌, ◌++◌, false, All, IfErr, IfOk, Some, map};
-ghost use Rattle.dsr_command.specs.Inputs.{IsRefusal, sources_of};
+ghost use Rattle.std.specs.Prelude.{◌≡◌, false, List, All, IfOk, MatchResult};
+ghost use Rattle.dsr_command.specs.Inputs.{IsRefusal};
 ghost use Rattle.dsr_command.specs.Faults.{IsTold};
-ghost use Rattle.dsr_totals.specs.Totaling.{HadTotals, HadTotalsInto, IsAnswerTold, WroteTotals, error_line, error_status, given_count, name_at, name_in, refused_name, status_after};
+ghost use Rattle.dsr_command.specs.Outputs.{outputs};
+ghost use Rattle.dsr_command.specs.World.{AreSources, WhereTold};
+ghost use Rattle.dsr_totals.specs.Serving.{HadTotals, HadTotalsInto, files_asked, ghosts, texts_asked};
+ghost use Rattle.dsr_totals.specs.Totaling.{IsAnswerTold, WroteTotals, error_line, error_status, given_count, name_at, name_in, refused_name, status_after};
 
 use crate::command::Asked;
 use crate::faults::{DSR_TOTALS, no_totals};
 use dsr_cells::Text;
 use dsr_command::{
-    Input, Inputs, Names, OpenError, Replacement, Stage, UNFINISHED, cannot_replace, open_inputs,
-    print_text, settle, write_failed,
+    Names, OpenError, StatementWorld, UNFINISHED, cannot_replace, open_inputs, print_text, settle,
+    write_failed,
 };
 use dsr_io::{Failed, Outlet, Source};
 use dsr_sums::{TotalsError, add_up};
 use std::alloc::Global;
-use std::fs::{File, Files};
-use std::io;
-use std::io::StdinLock;
 use std::random::RandomSource;
 
 /// The seed if there are no random bytes.
@@ -32,22 +32,23 @@ pub(crate) fn random_seed<H: RandomSource>(rt: &H) -> u64 {
 }
 
 /// Opens the statements: the given ones, or standard input if none is named, and then those that were paid.
-pub(crate) fn open_statements<H: Files<File = File> + io::Input<Reader = StdinLock<'static>>>(
-    rt: &H,
+pub(crate) fn open_statements<W: StatementWorld>(
     alloc: Global,
+    world: &W,
     asked: &Asked,
-) -> Result<Inputs, OpenError>
-    ensures unfailed { IfOk result (λ v. All
-        (λ i. (⟦<Input as Source>⟧.told i).failed ≡ false) v.items) }
-    ensures sources { IfOk result (λ v. map (λ i. i.name) v.items
-        ≡ sources_of asked.now.given ++ map Some asked.now.paid) }
-    ensures refused { IfErr result (λ e. IsRefusal asked.now.given e ⊎ IsRefusal asked.now.paid e) }
+) -> Result<Vec<W::Reader>, OpenError>
+    ensures unfailed { IfOk result (λ v. All (λ r. (W.Reader.told r).failed ≡ false) v.items) }
+    ensures opened { WhereTold (W.disk world.now) (λ d. MatchResult result
+        (λ v. AreSources W.Reader.told W.Reader.file (texts_asked d asked.now)
+        (files_asked d asked.now) v.items)
+        (IsRefusal (texts_asked d asked.now))) }
 {
-    let mut inputs = open_inputs(rt, alloc, &asked.given)?;
+    let permit = world.permit();
+    let mut inputs = open_inputs(alloc, world, &permit, &asked.given)?;
     if asked.paid.len() == 0 {
         return Ok(inputs);
     }
-    let mut paid = match open_inputs(rt, alloc, &asked.paid) {
+    let mut paid = match open_inputs(alloc, world, &permit, &asked.paid) {
         Ok(paid) => paid,
         Err(error) => {
             drop(inputs);
@@ -110,21 +111,22 @@ pub(crate) enum WriteError {
 }
 
 /// Reads the statements and writes their totals.
-pub(crate) fn write_totals<H: RandomSource, W: Outlet>(
+fn write_totals<R: Source + Drop, H: RandomSource, O: Outlet>(
     rt: &H,
     alloc: Global,
     asked: &Asked,
-    inputs: &mut Inputs,
-    out: &mut W,
+    inputs: Vec<R>,
+    out: &mut O,
 ) -> Result<(), WriteError>
-    requires sources { All (λ i. (⟦<Input as Source>⟧.told i).failed ≡ false) inputs.old.items }
-    ensures { WroteTotals (⟦<Input as Source>⟧.told) asked.now inputs.old.items inputs.new.items
-        (W.told out.old) (W.told out.new) result }
+    requires sources { All (λ r. (R.told r).failed ≡ false) inputs.items }
+    ensures { (left : List R) × WroteTotals R.told asked.now inputs.items left
+        (O.told out.old) (O.told out.new) result }
 {
+    let mut inputs = inputs;
     let text = match add_up(
         alloc,
         random_seed(rt),
-        inputs,
+        &mut inputs,
         given_count(asked),
         asked.with_remarks,
     ) {
@@ -163,41 +165,41 @@ fn status_of<F: Outlet>(answer: &Result<(), WriteError>, asked: &Asked, fault: &
 }
 
 /// Reads the statements and prints their totals. Returns the exit status.
-pub(crate) fn print_totals<H: RandomSource, W: Outlet, F: Outlet>(
+pub(crate) fn print_totals<R: Source + Drop, H: RandomSource, O: Outlet, F: Outlet>(
     rt: &H,
     alloc: Global,
     asked: &Asked,
-    inputs: &mut Inputs,
-    out: &mut W,
+    inputs: Vec<R>,
+    out: &mut O,
     fault: &mut F,
 ) -> u8
-    requires sources { All (λ i. (⟦<Input as Source>⟧.told i).failed ≡ false) inputs.old.items }
-    ensures { HadTotals (⟦<Input as Source>⟧.told) asked.now inputs.old.items inputs.new.items
-        (W.told out.old) (W.told out.new) (F.told fault.old) (F.told fault.new) result }
+    requires sources { All (λ r. (R.told r).failed ≡ false) inputs.items }
+    ensures { HadTotals R.told asked.now inputs.items (outputs (O.told out.old) (F.told fault.old))
+        (outputs (O.told out.new) (F.told fault.new)) result }
 {
     status_of(&write_totals(rt, alloc, asked, inputs, out), asked, fault)
 }
 
 /// Reads the statements and writes their totals to a new file, which is put in the place of the file of this name only if
 /// they are whole. Returns the exit status.
-pub(crate) fn replace_by_totals<H: RandomSource, W: Outlet, N: Replacement, F: Outlet>(
+pub(crate) fn replace_by_totals<H: RandomSource, W: StatementWorld, F: Outlet>(
     rt: &H,
     alloc: Global,
+    world: &mut W,
     asked: &Asked,
-    inputs: &mut Inputs,
+    inputs: Vec<W::Reader>,
     name: &Text,
-    out: &mut W,
-    place: &mut N,
+    new: W::New,
     fault: &mut F,
 ) -> u8
-    requires sources { All (λ i. (⟦<Input as Source>⟧.told i).failed ≡ false) inputs.old.items }
-    requires beside { N.stage place.old ≡ Stage.Beside }
-    ensures { HadTotalsInto (⟦<Input as Source>⟧.told) asked.now name.now inputs.old.items
-        inputs.new.items (W.told out.old) (W.told out.new) (F.told fault.old) (F.told fault.new)
-        (N.stage place.new) result }
+    requires sources { All (λ r. (W.Reader.told r).failed ≡ false) inputs.items }
+    ensures { WhereTold (W.disk world.old) (λ d. HadTotalsInto (ghosts (W.Reader.told) (W.New.told))
+        asked.now inputs.items new name.now d (W.disk world.new) (F.told fault.old)
+        (F.told fault.new) result) }
 {
-    let answer = write_totals(rt, alloc, asked, inputs, out);
-    match settle(place, &answer) {
+    let mut new = new;
+    let answer = write_totals(rt, alloc, asked, inputs, &mut new);
+    match settle(world, new, name, &answer) {
         Ok(()) => status_of(&answer, asked, fault),
         Err(Failed) => cannot_replace(DSR_TOTALS, name, fault),
     }

@@ -1,19 +1,17 @@
 use Rattle.std.proofs.Common.{◌≡◌, false}
-use Rattle.dsr.proofs.Answering.{of_each, reported_within, unwritten_within}
+use Rattle.dsr.proofs.Answering.{answer_within, of_each, without_memory}
 use Rattle.dsr.proofs.running.run_inputs.Goals as goal
 
 pub run_sources-requires-in-Ok-clause-sources : goal.run_sources-requires-in-Ok-clause-sources
 run_sources-requires-in-Ok-clause-sources g c κs within =
-    of_each (λ i. i.source.failed ≡ false) (λ w. w.input) c.in-Ok.watched.items (rw c.in-Ok.ensures c.requires.sources)
+    of_each (λ r. (g.R.Source.told r).failed ≡ false) (λ w. w.source) c.in-Ok.watched.items (rw c.in-Ok.ensures c.requires.sources)
 
-pub returns-in-Ok-clause-reported : goal.returns-in-Ok-clause-reported
-returns-in-Ok-clause-reported g c =
+pub returns-in-Ok : goal.returns-in-Ok
+returns-in-Ok g c =
     let run = c.run_sources-in-Ok in
-    reported_within _ (λ w. w.input) c.args.reading.options.value c.args.reading.inputs.items c.in-Ok.watched.items
-    (g.W.Outlet.told c.args.out.now) (g.W.Outlet.told run.new.out) run.result c.in-Ok.ensures run.ensures.reported
+    answer_within g.R.Source.told (λ w. w.source) c.args.reading.options.value c.args.reading.inputs.items c.in-Ok.watched.items
+    (g.O.Outlet.told c.args.out.now) (g.O.Outlet.told run.new.out) run.result c.in-Ok.ensures run.ensures
 
-pub returns-in-Ok-clause-unwritten : goal.returns-in-Ok-clause-unwritten
-returns-in-Ok-clause-unwritten g c =
-    let run = c.run_sources-in-Ok in
-    unwritten_within _ (λ w. w.input) c.args.reading.options.value c.args.reading.inputs.items c.in-Ok.watched.items
-    (g.W.Outlet.told c.args.out.now) (g.W.Outlet.told run.new.out) run.result c.in-Ok.ensures run.ensures.unwritten
+pub returns-in-Err : goal.returns-in-Err
+returns-in-Err g c =
+    (c.args.reading.inputs.items, without_memory g.R.Source.told c.args.reading.options.value c.args.reading.inputs.items (g.O.Outlet.told c.args.out.now))

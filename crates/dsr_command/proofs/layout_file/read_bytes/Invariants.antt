@@ -5,7 +5,7 @@ use Rattle.dsr_command.proofs.layout_file.read_bytes.Given as goal
 abbrev pub invariant-loop-piece : goal.invariant-loop-piece
 invariant-loop-piece g l =
     record {
-      consumed : Consumes (g.R.Read.remaining l.fn.reader) (g.R.Read.remaining l.reader) l.bytes.items;
+      consumed : Consumes (g.R.Source.told l.fn.reader).remaining (g.R.Source.told l.reader).remaining l.bytes.items;
       most : length l.bytes.items ≤ 65537;
     }
 

@@ -1,13 +1,28 @@
-use Rattle.dsr_command.proofs.Common.{◌<◌, All, length, sym, subst, take, slice_index_or, rules, take_more, All-push, IsApart}
+use Rattle.dsr_command.proofs.Common.{◌≡◌, ◌≢◌, ◌<◌, ◌∙◌, All, Some, ap, subst, length, take, slice_index_or, rules, arith, common_steps, take_all}
+use Rattle.dsr_command.proofs.Apart.{apart_more, none_read, one_read}
 use Rattle.dsr_command.proofs.new_file.is_read.Goals as goal
 
-pub loop-input-preserved : goal.loop-input-preserved
-loop-input-preserved c =
-    let inputs = c.args.inputs.now in
-    let k = c.loop-input.input-index in
-    let item = c.input-item.result in
-    let under : k < length inputs = search rules in
-    let apart : IsApart c.args.replaced item.identity = search rules in
-    subst (All (λ i. IsApart c.args.replaced i.identity)) (sym (take_more inputs k item under))
-    (All-push (λ i. IsApart c.args.replaced i.identity) (take k inputs) (slice_index_or inputs k item) c.loop-input.invariant
-    (subst (λ i. IsApart c.args.replaced i.identity) c.input-item.is apart))
+pub returns-then-eq-2-clause-read : goal.returns-then-eq-2-clause-read
+returns-then-eq-2-clause-read g c =
+    let sources = c.args.sources.now in
+    let k = c.loop-source.source-index in
+    let item = c.source-item.result in
+    let is : g.R.FileSource.file item ≡ Some c.args.file = search rules in
+    λ _. one_read g.R.FileSource.file c.args.besides sources k item c.args.file c.loop-source-test.true
+    (subst (λ r. g.R.FileSource.file r ≡ Some c.args.file) c.source-item.is is)
+
+pub loop-source-preserved : goal.loop-source-preserved
+loop-source-preserved g c =
+    let sources = c.args.sources.now in
+    let k = c.loop-source.source-index in
+    let item = c.source-item.result in
+    let not : g.R.FileSource.file item ≢ Some c.args.file = search rules in
+    apart_more g.R.FileSource.file sources k item c.args.file c.loop-source-test.true c.loop-source.invariant
+    (subst (λ r. g.R.FileSource.file r ≢ Some c.args.file) c.source-item.is not)
+
+pub returns-clause-apart : goal.returns-clause-apart
+returns-clause-apart g c =
+    let sources = c.args.sources.now in
+    let not : c.args.besides ≢ Some c.args.file = search rules in
+    λ _. none_read g.R.FileSource.file c.args.besides sources c.args.file not
+    (subst (All (λ r. g.R.FileSource.file r ≢ Some c.args.file)) (take_all c.loop-source.source-index sources c.loop-source-test.false) c.loop-source.invariant)

@@ -1,5 +1,5 @@
 use Rattle.dsr_command.proofs.Common.{◌≡◌, ◌++◌, map, into_iter_items}
 use Rattle.dsr_command.proofs.watched.watch.Given as goal
 
-abbrev pub invariant-loop-input : goal.invariant-loop-input
-invariant-loop-input g l = map (λ w. w.input) l.watched.items ++ into_iter_items l.input-iterator ≡ l.fn.inputs.items
+abbrev pub invariant-loop-source : goal.invariant-loop-source
+invariant-loop-source g l = map (λ w. w.source) l.watched.items ++ into_iter_items l.source-iterator ≡ l.fn.sources.items

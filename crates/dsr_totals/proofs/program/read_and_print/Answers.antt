@@ -1,32 +1,24 @@
-use Rattle.std.proofs.Common.{inl, inr, refl}
-use Rattle.dsr_totals.proofs.Opening.{only_told, unopened}
+use Rattle.dsr_command.proofs.Worlds.{at_disk, where_told}
+use Rattle.dsr_command.specs.World.{made}
+use Rattle.dsr_totals.proofs.Serving.{stored, unstored}
+use Rattle.dsr_totals.specs.Serving.{ghosts}
 use Rattle.dsr_totals.proofs.program.read_and_print.Goals as goal
-
-pub returns-in-Err : goal.returns-in-Err
-returns-in-Err g c =
-    inr (unopened c.args.asked.now.given c.args.asked.now.paid c.in-Err.error (g.W.Outlet.told c.args.out.now) (g.F.Outlet.told c.args.fault.now)
-    (g.F.Outlet.told c.not_opened.new.fault) c.not_opened.result c.in-Err.ensures.refused c.not_opened.ensures.status c.not_opened.ensures.told)
 
 pub returns-in-Ok-create_beside : goal.returns-in-Ok-create_beside
 returns-in-Ok-create_beside g c =
-    let new = c.in-Ok-create_beside.new in
-    let made = c.in-Ok-create_beside.ensures in
-    let whole = record new { out = c.replace_by_totals.new.out; place = c.replace_by_totals.new.place } in
-    let apart = rw c.deref.ensures.value at made.apart.1 in
-    inl (
-      c.in-Ok.inputs.items,
-      c.replace_by_totals.new.inputs.items,
-      c.in-Ok.ensures.sources,
-      inl (rw c.in-Some.is (new, whole, made.named, apart, c.replace_by_totals.ensures, refl)),
-    )
+    let between = g.W.World.disk c.create_beside.new.world in
+    where_told (g.W.World.disk c.args.world.now) _ (λ d is.
+    let created = rw c.deref.ensures.value at (at_disk _ _ d is c.in-Ok-create_beside.ensures.created) in
+    stored (ghosts g.W.Reader.Source.told g.W.New.Outlet.told) g.W.Reader.FileSource.file d between (g.W.World.disk c.replace_by_totals.new.world)
+    c.args.asked.now c.in-Ok.inputs.items c.in-Some.name c.in-Ok-create_beside.new
+    (g.O.Outlet.told c.args.out.now) (g.F.Outlet.told c.args.fault.now) (g.F.Outlet.told c.replace_by_totals.new.fault) c.replace_by_totals.result
+    (at_disk _ _ d is c.in-Ok.ensures.opened) c.in-Some.is created (at_disk between _ (made d) created.1 c.replace_by_totals.ensures))
 
-pub returns : goal.returns
-returns g c =
-    let told = only_told (g.W.Outlet.told c.args.out.now) (g.F.Outlet.told c.args.fault.now) (g.F.Outlet.told c.no_new_file.new.fault) _
-    c.no_new_file.ensures.told in
-    inl (
-      c.in-Ok.inputs.items,
-      c.in-Ok.inputs.items,
-      c.in-Ok.ensures.sources,
-      inr (rw c.in-Some.is (c.in-Err-create_beside.error, told, c.no_new_file.ensures.status)),
-    )
+pub returns-in-Err-create_beside : goal.returns-in-Err-create_beside
+returns-in-Err-create_beside g c =
+    where_told (g.W.World.disk c.args.world.now) _ (λ d is.
+    unstored (ghosts g.W.Reader.Source.told g.W.New.Outlet.told) g.W.Reader.FileSource.file d (g.W.World.disk c.create_beside.new.world)
+    c.args.asked.now c.in-Ok.inputs.items c.in-Some.name c.in-Err-create_beside.error
+    (g.O.Outlet.told c.args.out.now) (g.F.Outlet.told c.args.fault.now) (g.F.Outlet.told c.no_new_file.new.fault) c.no_new_file.result
+    (at_disk _ _ d is c.in-Ok.ensures.opened) c.in-Some.is
+    (rw c.deref.ensures.value at (at_disk _ _ d is c.in-Err-create_beside.ensures.created)) c.no_new_file.ensures.told c.no_new_file.ensures.status)

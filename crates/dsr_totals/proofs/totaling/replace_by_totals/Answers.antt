@@ -1,15 +1,31 @@
-use Rattle.std.proofs.Common.{inl, inr}
-use Rattle.dsr_totals.proofs.Writing.{settled, unsettled}
+use Rattle.dsr_command.proofs.Worlds.{at_disk, where_told}
+use Rattle.dsr_totals.proofs.Serving.{settled, unsettled}
 use Rattle.dsr_totals.proofs.totaling.replace_by_totals.Goals as goal
 
 pub returns-in-Ok : goal.returns-in-Ok
 returns-in-Ok g c =
     let wrote = c.write_totals-answer in
-    inl (wrote.result, wrote.ensures, c.status_of.ensures.told, settled wrote.result tt _ (rw c.in-Ok.is at c.settle.ensures), c.status_of.ensures.status)
+    let ended = c.status_of in
+    where_told (g.W.World.disk c.args.world.now) _ (λ d is. (
+      wrote.result,
+      wrote.ensures.0,
+      wrote.new.out,
+      wrote.ensures.1,
+      settled c.args.asked.now (g.W.New.Outlet.told wrote.new.out).contents c.args.name.now d (g.W.World.disk c.settle.new.world)
+          (g.F.Outlet.told c.args.fault.now) (g.F.Outlet.told ended.new.fault) ended.result wrote.result tt
+          (at_disk _ _ d is (rw c.in-Ok.is at c.settle.ensures)) ended.ensures.told ended.ensures.status,
+    ))
 
 pub returns-in-Err : goal.returns-in-Err
 returns-in-Err g c =
     let wrote = c.write_totals-answer in
-    let last = unsettled _ c.args.asked.now c.args.inputs.now.items wrote.new.inputs.items (g.W.Outlet.told c.args.out.now)
-    (g.W.Outlet.told wrote.new.out) wrote.result _ _ (rw c.in-Err.is at c.settle.ensures) wrote.ensures in
-    inr (last.0, last.1, c.cannot_replace.ensures.told, c.cannot_replace.ensures.status)
+    let told = c.cannot_replace in
+    where_told (g.W.World.disk c.args.world.now) _ (λ d is. (
+      wrote.result,
+      wrote.ensures.0,
+      wrote.new.out,
+      wrote.ensures.1,
+      unsettled c.args.asked.now (g.W.New.Outlet.told wrote.new.out).contents c.args.name.now d (g.W.World.disk c.settle.new.world)
+          (g.F.Outlet.told c.args.fault.now) (g.F.Outlet.told told.new.fault) told.result wrote.result _
+          (at_disk _ _ d is (rw c.in-Err.is at c.settle.ensures)) told.ensures.told told.ensures.status,
+    ))

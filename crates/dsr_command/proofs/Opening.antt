@@ -1,0 +1,88 @@
+-- The sources of names, opened one after the other, and the name that cannot be opened.
+use Rattle.dsr_command.proofs.Common.{◌≡◌, ◌∙◌, ◌+◌, ◌<◌, ℕ, List, [], ◌∷◌, ◌++◌, None, Some, refl, ap, ap₂, sym, subst, length, take, drop, map, slice_index_or, map-append, take-append-drop, take_more}
+use Rattle.std.proofs.Common.{suc, drop-cons}
+use Rattle.std.specs.Prelude.{◌≢◌, Option, Result, Ok, Err}
+use Rattle.dsr_io.specs.meaning.Told.{Told}
+use Rattle.dsr_command.specs.declared.identity.FileIdentity.{FileIdentity}
+use Rattle.dsr_command.specs.declared.inputs.OpenError.{OpenError}
+use Rattle.dsr_command.specs.declared.inputs.OpenError.TheVariants.{CannotOpen, Memory}
+use Rattle.dsr_command.specs.declared.world.OpenFault.{OpenFault}
+use Rattle.dsr_command.specs.declared.world.OpenFault.TheVariants as fault
+use Rattle.dsr_command.specs.Inputs.{IsRefusal, IsRefusalOf}
+use Rattle.dsr_command.specs.World.{AreFresh, AreSources, Disk, IsFresh, Opens, before_texts, files_for, texts_for, texts_of}
+
+one_more : (o : Option (List ℕ)) (n : List ℕ) (r s : Result (List (List ℕ)) (List ℕ)) (more texts : List (List ℕ))
+    → ((ts : List (List ℕ)) → r ≡ Ok ts → s ≡ Ok (ts ++ more)) → before_texts o n r ≡ Ok texts → before_texts o n s ≡ Ok (texts ++ more)
+one_more None n r s more texts step is = cc
+one_more (Some t) n (Err e) s more texts step is = cc
+one_more (Some t) n (Ok ts) s more texts step is =
+    let e : texts ≡ t ∷ ts = cc in
+    rw (step ts refl, e) refl
+
+texts_push : (files : List ℕ → Option (List ℕ)) (xs : List (List ℕ)) (n : List ℕ) (texts : List (List ℕ)) (b : List ℕ)
+    → texts_of files xs ≡ Ok texts → files n ≡ Some b → texts_of files (xs ++ n ∷ []) ≡ Ok (texts ++ b ∷ [])
+texts_push files [] n texts b are is = let e : texts ≡ [] = cc in rw (is, e) refl
+texts_push files (x ∷ xs) n texts b are is =
+    one_more (files x) x (texts_of files xs) (texts_of files (xs ++ n ∷ [])) (b ∷ []) texts (λ ts e. texts_push files xs n ts b e is) are
+
+missing_more : (o : Option (List ℕ)) (n m : List ℕ) (r s : Result (List (List ℕ)) (List ℕ)) (texts : List (List ℕ))
+    → ((ts : List (List ℕ)) → r ≡ Ok ts → s ≡ Err m) → before_texts o n r ≡ Ok texts → before_texts o n s ≡ Err m
+missing_more None n m r s texts step is = cc
+missing_more (Some t) n m (Err e) s texts step is = cc
+missing_more (Some t) n m (Ok ts) s texts step is = rw (step ts refl) refl
+
+texts_missing : (files : List ℕ → Option (List ℕ)) (xs ys : List (List ℕ)) (n : List ℕ) (texts : List (List ℕ))
+    → texts_of files xs ≡ Ok texts → files n ≡ None → texts_of files (xs ++ n ∷ ys) ≡ Err n
+texts_missing files [] ys n texts are is = rw is refl
+texts_missing files (x ∷ xs) ys n texts are is =
+    missing_more (files x) x n (texts_of files xs) (texts_of files (xs ++ n ∷ ys)) texts (λ ts e. texts_missing files xs ys n ts e is) are
+
+fresh_push : {R : Type 0} (told : R → Told) (rs : List R) (ts : List (List ℕ)) (r : R) (t : List ℕ)
+    → AreFresh told rs ts → IsFresh (told r) t → AreFresh told (rs ++ r ∷ []) (ts ++ t ∷ [])
+fresh_push told [] [] r t are is = (is, tt)
+fresh_push told [] (x ∷ xs) r t are is = absurd are
+fresh_push told (q ∷ qs) [] r t are is = absurd are
+fresh_push told (q ∷ qs) (x ∷ xs) r t are is = (are.0, fresh_push told qs xs r t are.1 is)
+
+-- one more source was opened
+pub sources_more : {R : Type 0} (told : R → Told) (file : R → Option FileIdentity) (disk : Disk) (names : List (List ℕ)) (k : ℕ)
+    (e : List ℕ) (sources : List R) (source : R) → k < length names
+    → AreSources told file (texts_of disk.files (take k names)) (map disk.file (take k names)) sources
+    → Opens told file disk (slice_index_or names k e) (Ok source)
+    → AreSources told file (texts_of disk.files (take (k + 1) names)) (map disk.file (take (k + 1) names)) (sources ++ source ∷ [])
+sources_more told file disk names k e sources source lt are is =
+    let n = slice_index_or names k e in
+    let same = take_more names k e lt in
+    record {
+      bytes = are.bytes ++ is.0 ∷ [];
+      texts_are = subst (λ ns. texts_of disk.files ns ≡ Ok (are.bytes ++ is.0 ∷ [])) (sym same)
+          (texts_push disk.files (take k names) n are.bytes is.0 are.texts_are is.1);
+      fresh = fresh_push told sources are.bytes source is.0 are.fresh is.2.fresh;
+      files_are = map-append file sources (source ∷ []) ∙ (ap₂ (λ xs x. xs ++ x ∷ []) are.files_are is.2.file_is
+          ∙ (sym (map-append disk.file (take k names) (n ∷ [])) ∙ ap (map disk.file) (sym same)));
+    }
+
+-- a name cannot be opened
+pub unopened_at : {R : Type 0} (told : R → Told) (file : R → Option FileIdentity) (disk : Disk) (names : List (List ℕ)) (k : ℕ)
+    (e : List ℕ) (sources : List R) (fault : OpenFault) (error : OpenError) → k < length names
+    → AreSources told file (texts_of disk.files (take k names)) (map disk.file (take k names)) sources
+    → Opens told file disk (slice_index_or names k e) (Err fault) → IsRefusalOf (slice_index_or names k e) fault error
+    → IsRefusal (texts_of disk.files names) error
+unopened_at told file disk names k e sources fault Memory lt are is error = tt
+unopened_at told file disk names k e sources fault.Memory (CannotOpen name) lt are is error = absurd (cc error.0)
+unopened_at told file disk names k e sources fault.Missing (CannotOpen name) lt are is error =
+    let n = slice_index_or names k e in
+    let same : take k names ++ n ∷ drop (suc k) names ≡ names =
+    ap (λ ys. take k names ++ ys) (sym (drop-cons names k e lt)) ∙ take-append-drop k names in
+    subst (λ m. texts_of disk.files names ≡ Err m) (sym error.1)
+    (subst (λ ns. texts_of disk.files ns ≡ Err n) same
+    (texts_missing disk.files (take k names) (drop (suc k) names) n are.bytes are.texts_are is))
+
+-- what is read for names that are there
+pub texts_named : (disk : Disk) (names : List (List ℕ)) → length names ≢ 0 → texts_for disk names ≡ texts_of disk.files names
+texts_named disk [] some = absurd (some refl)
+texts_named disk (n ∷ ns) some = refl
+
+pub files_named : (disk : Disk) (names : List (List ℕ)) → length names ≢ 0 → files_for disk names ≡ map disk.file names
+files_named disk [] some = absurd (some refl)
+files_named disk (n ∷ ns) some = refl

@@ -1,0 +1,141 @@
+-- What a world tells of its words and files, and what its calls do to them. A world that tells nothing may do anything.
+use Rattle.std.specs.Prelude.{◌≡◌, ◌≢◌, ◌+◌, ◌-◌, ℕ, Bool, true, false, List, [], ◌∷◌, All, Option, None, Some, option_map, Result, Ok, Err, map}
+use Rattle.std.specs.List.{Any}
+use Rattle.dsr_io.specs.declared.source.Failed.{Failed}
+use Rattle.dsr_io.specs.meaning.Told.{Told, no_reads}
+use Rattle.dsr_io.specs.meaning.Written.{Written}
+use Rattle.dsr_command.specs.CommandLine.{IsAskedFor}
+use Rattle.dsr_command.specs.declared.command.Asked.{Asked}
+use Rattle.dsr_command.specs.declared.identity.FileIdentity.{FileIdentity}
+use Rattle.dsr_command.specs.declared.identity.Place.{Place}
+use Rattle.dsr_command.specs.declared.identity.Place.TheVariants.{Free, Ordinary, Other}
+use Rattle.dsr_command.specs.declared.world.CreateFault.{CreateFault}
+use Rattle.dsr_command.specs.declared.world.CreateFault.TheVariants as create
+use Rattle.dsr_command.specs.declared.world.OpenFault.{OpenFault}
+use Rattle.dsr_command.specs.declared.world.OpenFault.TheVariants as opening
+use Rattle.dsr_command.specs.declared.world.WordsFault.{WordsFault}
+use Rattle.dsr_command.specs.declared.world.WordsFault.TheVariants as unread
+
+-- the words, if each is UTF-8; the bytes behind each name, if it can be opened, and which file it is then; those of standard
+-- input; what a name is as a place for an output; how many new files wait beside others; whether a call for one has failed
+pub record Disk : Type 0 where
+  pub words : Option (List (List ℕ))
+  pub files : List ℕ → Option (List ℕ)
+  pub file : List ℕ → Option FileIdentity
+  pub input : List ℕ
+  pub input_file : Option FileIdentity
+  pub place : List ℕ → Place
+  pub parts : ℕ
+  pub failed : Bool
+
+-- this holds of what is told
+abbrev pub WhereTold : Option Disk → (Disk → Type 0) → Type 0
+WhereTold None P = Unit {0}
+WhereTold (Some disk) P = P disk
+
+-- a call for a new file has failed
+abbrev pub failing : Disk → Disk
+failing disk = record disk { failed = true }
+
+-- one more new file waits, or one less
+abbrev pub made : Disk → Disk
+made disk = record disk { parts = disk.parts + 1 }
+
+abbrev pub removed : Disk → Disk
+removed disk = record disk { parts = disk.parts - 1 }
+
+-- there are no words since one is not UTF-8, or memory was refused
+abbrev pub LacksWords : Disk → WordsFault → Type 0
+LacksWords disk unread.NotUtf8 = disk.words ≡ None
+LacksWords disk unread.Memory = Unit {0}
+
+-- a source has these bytes left, and was not read
+pub record IsFresh (told : Told) (bytes : List ℕ) : Type 0 where
+  pub remaining : told.remaining ≡ Some bytes
+  pub failed : told.failed ≡ false
+  pub reads : told.reads ≡ no_reads
+
+-- the sources have these bytes left, each those at its place, and were not read
+abbrev pub AreFresh : {R : Type 0} → (R → Told) → List R → List (List ℕ) → Type 0
+AreFresh told [] [] = Unit {0}
+AreFresh told (source ∷ sources) (bytes ∷ texts) = IsFresh (told source) bytes × AreFresh told sources texts
+AreFresh told _ _ = ⊥
+
+-- the source is that of these bytes, and this file
+pub record IsSourceOf {R : Type 0} (told : R → Told) (file : R → Option FileIdentity) (bytes : List ℕ) (is : Option FileIdentity)
+    (source : R) : Type 0 where
+  pub fresh : IsFresh (told source) bytes
+  pub file_is : file source ≡ is
+
+-- the source gives the bytes behind the name; it is refused only if there are none
+abbrev pub Opens : {R : Type 0} → (R → Told) → (R → Option FileIdentity) → Disk → List ℕ → Result R OpenFault → Type 0
+Opens told file disk name (Ok source) =
+    (bytes : List ℕ) × (disk.files name ≡ Some bytes) × IsSourceOf told file bytes (disk.file name) source
+Opens told file disk name (Err opening.Missing) = disk.files name ≡ None
+Opens told file disk name (Err opening.Memory) = Unit {0}
+
+-- a new file holds nothing; one that cannot be created is none
+abbrev pub Creates : {N : Type 0} → (N → Written) → Option Disk → Option Disk → Result N CreateFault → Type 0
+Creates written before after (Ok new) = (after ≡ option_map made before) × WhereTold before (λ disk. (written new).contents ≡ Some [])
+Creates written before after (Err create.Failed) = after ≡ option_map failing before
+Creates written before after (Err create.Memory) = after ≡ before
+
+-- these are the bytes behind the name, those behind each other name are as they were, and this many new files wait
+pub record IsReplaced (contents : Option (List ℕ)) (name : List ℕ) (parts : ℕ) (before after : Disk) : Type 0 where
+  pub there : after.files name ≡ contents
+  pub others : (other : List ℕ) → other ≢ name → after.files other ≡ before.files other
+  pub parts_are : after.parts ≡ parts
+
+abbrev pub IsReplacedIn : Option (List ℕ) → List ℕ → ℕ → Disk → Option Disk → Type 0
+IsReplacedIn contents name parts before after = (left : Disk) × (after ≡ Some left) × IsReplaced contents name parts before left
+
+-- the new file is in the place of the one of this name
+abbrev pub Puts : Option (List ℕ) → Option Disk → Option Disk → List ℕ → Result (Unit {0}) Failed → Type 0
+Puts contents before after name (Ok done) = WhereTold before (λ disk. IsReplacedIn contents name (disk.parts - 1) disk after)
+Puts contents before after name (Err failed) = after ≡ option_map failing before
+
+-- the words ask for this run
+abbrev pub Asks : Option Disk → Asked → Type 0
+Asks told asked = WhereTold told (λ disk. (words : List (List ℕ)) × (disk.words ≡ Some words) × IsAskedFor words asked)
+
+-- a text before others; or the name that has none
+abbrev pub before_texts : Option (List ℕ) → List ℕ → Result (List (List ℕ)) (List ℕ) → Result (List (List ℕ)) (List ℕ)
+before_texts None name more = Err name
+before_texts (Some text) name (Ok texts) = Ok (text ∷ texts)
+before_texts (Some text) name (Err missing) = Err missing
+
+-- the bytes behind the names, in order; or the first name that has none
+abbrev pub texts_of : (List ℕ → Option (List ℕ)) → List (List ℕ) → Result (List (List ℕ)) (List ℕ)
+texts_of files [] = Ok []
+texts_of files (name ∷ names) = before_texts (files name) name (texts_of files names)
+
+-- the bytes that are read for these names, in order, or those of standard input if there is none; or the first name that
+-- cannot be opened
+abbrev pub texts_for : Disk → List (List ℕ) → Result (List (List ℕ)) (List ℕ)
+texts_for disk [] = Ok (disk.input ∷ [])
+texts_for disk (name ∷ names) = texts_of disk.files (name ∷ names)
+
+-- the files that are read for these names
+abbrev pub files_for : Disk → List (List ℕ) → List (Option FileIdentity)
+files_for disk [] = disk.input_file ∷ []
+files_for disk (name ∷ names) = map disk.file (name ∷ names)
+
+-- the sources give the bytes that are read for these names
+pub record AreSources {R : Type 0} (told : R → Told) (file : R → Option FileIdentity) (texts : Result (List (List ℕ)) (List ℕ))
+    (files : List (Option FileIdentity)) (sources : List R) : Type 0 where
+  pub bytes : List (List ℕ)
+  pub texts_are : texts ≡ Ok bytes
+  pub fresh : AreFresh told sources bytes
+  pub files_are : map file sources ≡ files
+
+-- the place of an output is none of the files that are read
+abbrev pub IsApart : Place → List (Option FileIdentity) → Type 0
+IsApart Free read = Unit {0}
+IsApart (Ordinary file) read = All (λ f. f ≢ Some file) read
+IsApart Other read = ⊥
+
+-- the place of an output is one of the files that are read
+abbrev pub IsOneRead : Place → List (Option FileIdentity) → Type 0
+IsOneRead Free read = ⊥
+IsOneRead (Ordinary file) read = Any (λ f. f ≡ Some file) read
+IsOneRead Other read = ⊥

@@ -1,0 +1,73 @@
+-- From what the stages say to what the program does.
+use Rattle.std.proofs.Common.{◌≡◌, ◌∷◌, ℕ, List, refl, subst, sym, ap, inl, inr, codes, map}
+use Rattle.std.specs.Prelude.{◌⊎◌, Option, None, Some, Result, Ok, Err}
+use Rattle.dsr_totals.specs.declared.command.Asked.{Asked}
+use Rattle.dsr_command.specs.declared.identity.FileIdentity.{FileIdentity}
+use Rattle.dsr_command.specs.declared.inputs.OpenError.{OpenError}
+use Rattle.dsr_command.specs.declared.inputs.OpenError.TheVariants.{CannotOpen, Memory}
+use Rattle.dsr_command.specs.declared.new_file.NewFileError.{NewFileError}
+use Rattle.dsr_command.specs.Faults.{IsTold, unopened_line, unopened_status}
+use Rattle.dsr_command.specs.Inputs.{IsRefusal}
+use Rattle.dsr_command.specs.NewFiles.{IsCreated, new_file_line, new_file_status}
+use Rattle.dsr_command.specs.Outputs.{IsOnlyTold, Outputs, outputs}
+use Rattle.dsr_command.specs.World.{AreSources, Disk, made}
+use Rattle.dsr_command.specs.NewFiles.{IsSettled, cannot_replace_line}
+use Rattle.dsr_io.specs.declared.source.Failed.{Failed}
+use Rattle.dsr_io.specs.meaning.Written.{Written}
+use Rattle.dsr_totals.specs.declared.totaling.WriteError.{WriteError}
+use Rattle.dsr_totals.specs.Refusals.{dsr_totals}
+use Rattle.dsr_totals.specs.Totaling.{IsAnswerTold, status_after}
+use Rattle.dsr_totals.specs.Serving.{Ghosts, HadOutput, HadTexts, HadTotals, HadTotalsInto, IsEnded, IsServedFor, files_asked, texts_asked}
+
+-- only this was told, and the output is as it was
+pub only_told : (out f h : Written) (text : List ℕ) → IsTold f h text → IsOnlyTold text (outputs out f) (outputs out h)
+only_told out f h text told = record { out = refl; told = told }
+
+had_texts : {R N : Type 0} (g : Ghosts R N) (d : Disk) (left : Option Disk) (asked : Asked) (before after : Outputs) (s : ℕ)
+    (texts : List (List ℕ)) (output : Option (List ℕ)) → texts_asked d asked ≡ Ok texts → asked.output ≡ output
+    → HadOutput g d left asked texts before after s output → IsServedFor g d left asked before after s
+had_texts g d left asked before after s texts output are is had =
+    inl (subst (HadTexts g d left asked before after s) (sym are) (subst (HadOutput g d left asked texts before after s) (sym is) had))
+
+-- the files that are read, as they were opened
+read_are : {R N : Type 0} (g : Ghosts R N) (file : R → Option FileIdentity) (d : Disk) (asked : Asked) (sources : List R)
+    → AreSources g.told file (texts_asked d asked) (files_asked d asked) sources → None ∷ map file sources ≡ None ∷ files_asked d asked
+read_are g file d asked sources are = ap (λ xs. None ∷ xs) are.files_are
+
+-- the run over the sources wrote to a new file
+pub stored : {R N : Type 0} (g : Ghosts R N) (file : R → Option FileIdentity) (d : Disk) (between left : Option Disk) (asked : Asked)
+    (sources : List R) (name : List ℕ) (new : N) (out f h : Written) (s : ℕ)
+    → AreSources g.told file (texts_asked d asked) (files_asked d asked) sources
+    → asked.output ≡ Some name → IsCreated g.written d between (None ∷ map file sources) name (Ok new)
+    → HadTotalsInto g asked sources new name (made d) left f h s
+    → IsServedFor g d left asked (outputs out f) (outputs out h) s
+stored g file d between left asked sources name new out f h s are is created had =
+    let beside = subst (λ read. IsCreated g.written d between read name (Ok new)) (read_are g file d asked sources are) created in
+    had_texts g d left asked (outputs out f) (outputs out h) s are.bytes (Some name) are.texts_are is
+    (inl (sources, are.fresh, beside.0, new, beside.2, had, refl))
+
+-- there is no new file
+pub unstored : {R N : Type 0} (g : Ghosts R N) (file : R → Option FileIdentity) (d : Disk) (left : Option Disk) (asked : Asked)
+    (sources : List R) (name : List ℕ) (error : NewFileError) (out f h : Written) (s : ℕ)
+    → AreSources g.told file (texts_asked d asked) (files_asked d asked) sources
+    → asked.output ≡ Some name → IsCreated g.written d left (None ∷ map file sources) name (Err error)
+    → IsTold f h (new_file_line dsr_totals name error) → s ≡ new_file_status error
+    → IsServedFor g d left asked (outputs out f) (outputs out h) s
+unstored g file d left asked sources name error out f h s are is none told status =
+    let not = subst (λ read. IsCreated g.written d left read name (Err error)) (read_are g file d asked sources are) none in
+    had_texts g d left asked (outputs out f) (outputs out h) s are.bytes (Some name) are.texts_are is
+    (inr (error, not, only_told out f h (new_file_line dsr_totals name error) told, status))
+
+-- the new file is where the answer says
+pub settled : (asked : Asked) (contents : Option (List ℕ)) (name : List ℕ) (d : Disk) (left : Option Disk) (f h : Written) (s : ℕ)
+    (answer : Result (Unit {0}) WriteError) (done : Unit {0}) → IsSettled contents name d left answer (Ok done) → IsAnswerTold asked f h answer
+    → s ≡ status_after answer → IsEnded asked contents name d left f h s answer
+settled asked contents name d left f h s (Ok v) done placed told is = inl (placed, told, is)
+settled asked contents name d left f h s (Err e) done removed told is = (removed, told, is)
+
+-- it could not be put in its place
+pub unsettled : (asked : Asked) (contents : Option (List ℕ)) (name : List ℕ) (d : Disk) (left : Option Disk) (f h : Written) (s : ℕ)
+    (answer : Result (Unit {0}) WriteError) (failed : Failed) → IsSettled contents name d left answer (Err failed)
+    → IsTold f h (cannot_replace_line dsr_totals name) → s ≡ 3 → IsEnded asked contents name d left f h s answer
+unsettled asked contents name d left f h s (Ok v) failed removed told is = inr (removed, told, is)
+unsettled asked contents name d left f h s (Err e) failed removed told is = absurd removed
