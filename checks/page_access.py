@@ -87,6 +87,7 @@ RULES = """(() => {
     need(new Set(ids).size === ids.length, 'an identifier twice');
     const owners = { row: 'rowgroup', gridcell: 'row', columnheader: 'row', rowgroup: 'grid' };
     for (const it of all('.box [role]')) need(it.parentNode.getAttribute('role') === owners[it.getAttribute('role')], `${it.getAttribute('role')} in ${it.parentNode.outerHTML.slice(0, 60)}`);
+    for (const it of all('.box .cell')) need(/^(gridcell|columnheader)$/.test(it.getAttribute('role')), 'a cell without a role');
     for (const grid of all('[role=grid]')) {
         need(grid.getAttribute('aria-rowcount') > 0 && grid.getAttribute('aria-colcount') > 0, 'a grid without counts');
         need(grid.querySelectorAll('a, button, input, [tabindex]').length === 0, 'a stop of Tab within a grid');

@@ -11,7 +11,7 @@ from page_tools import HERE, content_of, of_page, sealed
 REPORT = ['REPORT', 'R1', '1', '2024-01-01', '2024-01-31', '31']
 HOSTILE = ['<img src=x onerror=alert(1)>', '</script><script>window.hurt = 1</script>', '<!-- <script>', '&lt;b&gt; &amp; "quoted"',
            '{{script}} <!-- ledger -->', 'turned \u202egnp.exe', 'a\rb', '__proto__', 'Bj\u00f6rk \U0001f3b5', '=1+2', '+cmd', '-2+3|x', '@SUM(A1)',
-           'Ada\xa0', 'zero\u200bwidth', ' two  spaces ', 'Hart, "Ada"', '\u05d0\u05d1\u05d2 \u05d3', '\u0410da', 'Ada']
+           'Ada\xa0', 'zero\u200bwidth', ' two  spaces ', 'Hart, "Ada"', '\u05d0\u05d1\u05d2 \u05d3', '\u0410da', 'Ada', '\u05d4\u05d5', '\u05d6\u05d7']
 SHOWN = {'turned \u202egnp.exe': 'turned <U+202E>gnp.exe', 'a\rb': 'a<U+000D>b', 'Ada\xa0': 'Ada<U+00A0>', 'zero\u200bwidth': 'zero<U+200B>width',
          ' two  spaces ': '<U+0020>two  spaces<U+0020>'}
 NORTHWIND = """File 2 (2.tsv), 1 block left out NoIsrc
@@ -69,9 +69,11 @@ class Viewer:
         self.browser.save_to(self.room)
         self.browser.click(f"document.querySelector('#{section} .save')")
         until = time.monotonic() + 60
-        while not glob.glob(os.path.join(self.room, '*.csv')) and time.monotonic() < until:
-            time.sleep(0.05)
-        content = content_of(glob.glob(os.path.join(self.room, '*.csv'))[0])[0]
+        content, before = b'', None
+        while (not content or content != before) and time.monotonic() < until:
+            time.sleep(0.1)
+            before, paths = content, glob.glob(os.path.join(self.room, '*.csv'))
+            content = content_of(paths[0])[0] if paths else b''
         return list(csv.reader(io.StringIO(content.decode('utf-8-sig'), newline=''))), content
 
     def problems(self):
@@ -198,6 +200,7 @@ def follow_hostile(count, viewer):
     text = ('\n'.join(lines) + '\n').encode()
     with open(os.path.join(viewer.room, name), 'wb') as out:
         out.write(text)
+    viewer.browser.show(height=1600)
     viewer.open(['-', name], viewer.room, sealed([text]).encode())
     run = viewer.browser.run
     names = "[...document.querySelectorAll('#parties .body .cell:first-child bdi')].map(it => it.textContent)"
@@ -223,6 +226,7 @@ def follow_hostile(count, viewer):
     same(count, 'quotes in a file', '"Hart, ""Ada""",GBP,' in text, True)
     same(count, 'a title in a file', viewer.saved('ledger')[0][1][1], "'=Song / <i>x</i>")
     count.check('nothing is asked of a network by hostile names', viewer.problems())
+    viewer.browser.show()
 
 
 def follow_parties(count, viewer):
@@ -233,6 +237,9 @@ def follow_parties(count, viewer):
     })""")
     far = [it for it in found if not 0 <= it[2] < 12 or it[3] > 12]
     same(count, 'each party beside its share', [len(found), far], [len(HOSTILE), []])
+    turned = viewer.browser.run("""[...document.querySelectorAll('#remarks td[data-name=Parties] bdi')].map(it => it.getClientRects()[0]).filter((it, at, all) =>
+        at && Math.abs(it.top - all[at - 1].top) < 3 && it.left < all[at - 1].left).length""")
+    same(count, 'a list in its order', turned, 0)
     same(count, 'look-alikes of a list', viewer.browser.run("document.querySelectorAll('#remarks .parties em').length"), 3)
 
 

@@ -71,3 +71,8 @@ def fish(name, interface):
 
 
 SHELLS = {'bash': bash, 'zsh': zsh, 'fish': fish}
+
+
+def text(shell, name, interface):
+    """The completions of a program for a shell."""
+    return '\n'.join(SHELLS[shell](name, interface)) + '\n'

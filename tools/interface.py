@@ -36,14 +36,16 @@ class Entry:
 
 
 class Interface:
-    """A program's name and version, its usage, what it is about, as pairs of a text and the lines that it shows, and its lists."""
+    """The help of a program, or of one of its commands: its text, its usage, what it is about, as pairs of a text and the lines
+    that it shows, and its lists."""
 
     def __init__(self, program, words=()):
         self.program = program
         self.words = list(words)
         self.usage, self.about, self.examples = [], [], []
         self.arguments, self.options, self.statuses, self.files = [], [], [], []
-        for block in self.printed('--help').rstrip('\n').split('\n\n'):
+        self.text = self.printed('--help')
+        for block in self.text.rstrip('\n').split('\n\n'):
             for told, lines in parts_of(block):
                 self.add(told, lines)
         self.commands = [(entry, Interface(program, [*words, entry.written])) for entry in self.arguments if entry.indent == 4]
@@ -54,8 +56,9 @@ class Interface:
         return subprocess.run([self.program, *self.words, *words], capture_output=True, check=True, text=True, timeout=60,
                               env={**os.environ, 'COLUMNS': str(WIDTH)}).stdout
 
-    def version(self):
-        return self.printed('--version').split('\n')[0]
+    def whole_text(self):
+        """Its help, with that of its commands."""
+        return self.text + ''.join(own.text for _, own in self.commands)
 
     def add(self, told, lines):
         """Takes in a part of the help: a text at the margin, and the lines below it."""
