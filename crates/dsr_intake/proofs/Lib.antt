@@ -4,3 +4,4 @@ pub mod Promises
 pub mod Joining
 pub mod Filing
 pub mod Rounds
+pub mod Causes
