@@ -115,7 +115,7 @@ def made_once(table, run, plan, names, asked):
 
 
 def make(table, asked):
-    table.reports, programs, making = os.path.realpath(asked.reports), Programs(), os.path.join(table.statements, b'.making')
+    table.reports, programs, making = os.path.realpath(asked.reports), Programs(), os.path.join(table.statements, b'.making.' + table.id.encode())
     os.makedirs(making, exist_ok=True)
     table.lock()
     names, others = folders_of(table.reports)

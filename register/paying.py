@@ -67,7 +67,7 @@ def owed(table, asked):
     """Prepares a payment run, or prints what would pay wrongly."""
     table.lock()
     os.makedirs(table.payments, exist_ok=True)
-    found, left_out, new = list(looked_up(table)), set(map(table.called, asked.but)), os.path.join(table.payments, b'.new')
+    found, left_out, new = list(looked_up(table)), set(map(table.called, asked.but)), os.path.join(table.payments, b'.new.' + table.id.encode())
     given = [one for one in found if one.state in ('clean', 'accepted') and one.name not in left_out]
     refused = list(wrong(table, found, given, left_out)) or (add_up(table, given, new) if given else [])
     for name, reason in refused:
