@@ -4,4 +4,3 @@ pub mod Promises
 pub mod Joining
 pub mod Filing
 pub mod Rounds
-pub mod Causes

@@ -192,16 +192,15 @@ more_taken old now k t u any one at was new =
     (ap (λ (x : TapView). taken_count (set now k u) + length x.taken) (sym same) ∙ sums) was new
   where
     adds : (any one : Bool) (a b c n m : ℕ) → c + n ≡ b + m → HasMore any a b → HasMore one n m → HasMore (any || one) a c
-    adds true one a b c n m sum was new = (omega (arith, was.0, new.0), (λ _. (let more = was.1.0 refl in omega (arith, more, new.0))), (λ _. refl))
-    adds false true a b c n m sum was new = (omega (arith, was.0, new.0), (λ _. (let more = new.1.0 refl in omega (arith, more, was.0))), (λ _. refl))
+    adds true one a b c n m sum was new = (omega (arith, was.0, new.0), ((λ _. (let more = was.1.0 refl in omega (arith, more, new.0))), (λ _. refl)))
+    adds false true a b c n m sum was new = (omega (arith, was.0, new.0), ((λ _. (let more = new.1.0 refl in omega (arith, more, was.0))), (λ _. refl)))
     adds false false a b c n m sum was new = (
       omega (arith, was.0, new.0),
-      (λ e. absurd (cc)),
-      (λ more. elim (same_or_other n m) [ inl e ↦ was.1.1 (omega (arith, e, more, sum)) | inr other ↦ new.1.1 (omega (arith, other, new.0)) ]),
+      (
+        (λ e. absurd (cc)),
+        (λ more. elim (same_or_other n m) [ inl e ↦ was.1.1 (omega (arith, e, more, sum)) | inr other ↦ new.1.1 (omega (arith, other, new.0)) ]),
+      ),
     )
 
 pub none_taken : (n : ℕ) → HasMore false n n
-none_taken n = (omega arith, (λ e. absurd (cc)), (λ less. absurd (omega (arith, less))))
-
-pub some_taken : (n m : ℕ) → n < m → HasMore true n m
-some_taken n m less = (omega (arith, less), (λ _. less), (λ _. refl))
+none_taken n = (omega arith, ((λ e. absurd (cc)), (λ less. absurd (omega (arith, less)))))

@@ -1,7 +1,6 @@
 use Rattle.dsr_intake.proofs.Common.{ap, ◌∙◌, subst, GaveEach}
 use Rattle.dsr_ledger.specs.inner.BooksWords.{AreClosed}
 use Rattle.dsr_intake.proofs.Joining.{files_of}
-use Rattle.dsr_intake.proofs.Causes.{cause_late}
 use Rattle.dsr_intake.proofs.gather.gather.Goals as goal
 
 pub returns-in-Ok-clause-books : goal.returns-in-Ok-clause-books
@@ -13,6 +12,3 @@ returns-in-Ok-clause-books g c =
       subst (λ rs. GaveEach g.R.Source.told options rs c.settle_all.new.readers.items s.0) given s.1,
       subst (AreClosed c.in-Ok.books) (files_of options.layout _ s.0 s.2) c.in-Ok.ensures.books,
     )
-
-pub returns-in-Err-clause-late : goal.returns-in-Err-clause-late
-returns-in-Err-clause-late g c = c.first_error.ensures.late (cause_late _ _ c.in-Err.ensures.cause)
