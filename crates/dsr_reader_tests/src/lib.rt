@@ -8,6 +8,7 @@
 //! 4. `whole`: all events of a file at once, asked for again if memory is refused.
 //! 5. `refused`: which event `read_file` hands back if its sink refuses one.
 //! 6. `usual`: which lines are read quickly, which contracts do not say.
+//! 7. `flushes`: a flush of an outlet reaches its writer, which contracts do not say.
 //!
 //! `checks/refusals` refuses each allocation of `reads`, of `whole`, and of the second test of `memory`, in turn.
 //!
@@ -17,6 +18,8 @@
 
 #[cfg(test)]
 mod examples;
+#[cfg(test)]
+mod flushes;
 #[cfg(test)]
 mod memory;
 #[cfg(test)]
