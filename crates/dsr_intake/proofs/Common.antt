@@ -20,6 +20,6 @@ pub use Rattle.dsr_ledger.specs.inner.BooksWords.{AllEnded, CanBook, CanEnd, Sta
 pub use Rattle.dsr_ledger.specs.meaning.Files.{File, add_block, end_with, opened, with_block, with_outcome}
 pub use Rattle.dsr_relay.specs.meaning.Views.{TapView}
 pub use Rattle.dsr_intake.specs.declared.options.Options.{Options}
-pub use Rattle.dsr_intake.specs.inner.Collecting.{Changes, IsDrained, IsFileAt, IsFollowed, IsGoing, IsNext, IsStoppedAt, IsTapped, Knows, Opens, TakesAll, first_file, is_opening, with_part, ends_clean, is_clean_end, IsGiven}
+pub use Rattle.dsr_intake.specs.inner.Collecting.{Changes, IsDrained, IsFileAt, IsFollowed, IsGoing, IsNext, IsStoppedAt, IsTapped, Knows, Opens, TakesAll, first_file, is_opening, with_part, ends_clean, is_clean_end, IsGiven, HasMore, taken_count}
 pub use Rattle.dsr_intake.specs.meaning.Texts.{GaveEach, block_in, file_of, first, opening_in, outcome_in}
 unfoldable pub use Rattle.dsr_intake.specs.meaning.Texts.{report_of_texts}

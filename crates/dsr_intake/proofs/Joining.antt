@@ -104,3 +104,8 @@ files_of layout (t ∷ ts) (x ∷ texts) h =
     let rest : map (λ u. u.taken) ts ≡ map (events_of_text layout) texts = cc in
     let more = files_of layout ts texts rest in
     rw (same, more) refl
+
+-- one more thread is joined, and what it returned is kept
+pub joined_more : {F H : Type 0} (of : F → Name) (name : H → Name) (fs : List F) (h : H) (hs : List H) (f : F) (all : List Name)
+    → map of fs ++ map name (h ∷ hs) ≡ all → of f ≡ name h → map of (fs ++ f ∷ []) ++ map name hs ≡ all
+joined_more of name fs h hs f all was same = rw (map-append, append_assoc) (rw same was)

@@ -1,10 +1,15 @@
 -- A thread's list of events, by the result of reading its file.
-use Rattle.dsr_intake.proofs.Common.{◌≡◌, false, List, [], ◌∷◌, ◌++◌, inl, inr, ap, refl, Result, Ok, Err, IfErr, OnOk, Outcome, Placed, Told, run_orderly, Options, ends_clean, IsGiven}
+use Rattle.dsr_intake.proofs.Common.{◌≡◌, ◌∙◌, Bool, true, false, sym, has_ended, List, [], ◌∷◌, ◌++◌, inl, inr, ap, refl, Result, Ok, Err, IfErr, IfOk, OnOk, Outcome, Placed, Told, run_orderly, Options, ends_clean, IsGiven}
 use Rattle.dsr_file.specs.declared.reading.ReadFileError.{ReadFileError}
 use Rattle.dsr_file.specs.declared.reading.ReadFileError.TheVariants.{Memory, Refused}
 use Rattle.dsr_file.specs.meaning.Sources.{IsRead, IsRefused, IsRefusal}
 use Rattle.dsr_file.proofs.FeedLemmas.{known_run}
-use Rattle.dsr_intake.proofs.EndLemmas.{clean_is_whole, memory_is_unclean}
+use Rattle.dsr_file.specs.meaning.Runs.{EndsWith}
+use Rattle.dsr_events.specs.meaning.Names.{is_memory}
+use Rattle.std.specs.Prelude.{not}
+use Rattle.dsr_intake.specs.inner.Collecting.{was_refused_memory}
+use Rattle.dsr_intake.proofs.EndLemmas.{clean_is_whole, ends_clean_push, memory_is_unclean}
+use Rattle.dsr_relay.proofs.Taking.{going_on}
 
 module _ (options : Options) (before after : Told) (sent : List Placed) where
   pub given_from_unclean : ends_clean sent ≡ false → IsGiven options before after sent
@@ -41,3 +46,23 @@ module _ (options : Options) (before after : Told) (sent : List Placed) where
   nothing_was_put (Ok o) is refused = absurd (cc)
   nothing_was_put (Err Memory) is refused = refused.1
   nothing_was_put (Err (Refused e)) is refused = absurd (cc)
+
+  -- what a thread says of memory is how the events end that it sent
+  pub told_memory : (answer : Result Outcome ReadFileError) (sent_last : List Placed) → IfOk answer (λ o. EndsWith sent o)
+      → IfErr answer (IsRefusal options.layout options.max_reads before after sent)
+      → (answer ≡ Err Memory → ends_clean sent_last ≡ false) → ((answer ≡ Err Memory → ⊥) → sent_last ≡ sent) → has_ended sent_last ≡ true
+      → was_refused_memory answer ≡ not (ends_clean sent_last)
+  told_memory (Ok o) last ends refused memory other ended =
+      let same : last ≡ sent = other (λ e. absurd (cc)) in
+      sym (ap (λ l. not (ends_clean l)) (same ∙ ends.1) ∙ ap not (ends_clean_push ends.0 _) ∙ not_not (is_memory o))
+    where
+      not_not : (b : Bool) → not (not b) ≡ b
+      not_not true = refl
+      not_not false = refl
+  told_memory (Err Memory) last ends refused memory other ended = sym (ap not (memory refl))
+  told_memory (Err (Refused e)) last ends refused memory other ended =
+      let same : last ≡ sent = other (λ e. absurd (cc)) in
+      let run = known_run options.layout refused.0 refused.1 (sent ++ e ∷ []) refused.3 in
+      let going : has_ended sent ≡ false = going_on sent e (run_orderly run.0 run.1 _ run.2) in
+      let gone : has_ended last ≡ false = ap has_ended same ∙ going in
+      absurd (cc)

@@ -1,5 +1,6 @@
 -- What holds while the files are opened, and in a round.
-use Rattle.dsr_intake.proofs.Common.{◌≡◌, ℕ, zero, suc, ◌+◌, ◌<◌, ◌≤◌, true, List, [], ◌∷◌, ◌++◌, map, take, set, length, get_or, All, Some, None, Result, Ok, Err, refl, sym, ap, subst, ◌∙◌, arith, length-take, add-one, ◌⊎◌, inl, inr, IsSome, is_some, slice_get, filter_map, OnOk, All-tail, map-append, length-map, map-set, slice_get-map, slice_get-get_or, get_or_from_slice_get, slice_get_within, slice_get_read, EventPart, Outcome, Placed, MayStandAt, has_ended, TapView, Books, File, opened, add_block, end_with, with_block, with_outcome, Stands, files_count, opened_count, CanBook, CanEnd, AllEnded, file_of, first, outcome_in, IsTapped, IsStoppedAt, IsFileAt, Changes, Opens, first_file, IsGoing, Knows, IsNext}
+use Rattle.dsr_intake.proofs.Common.{◌≡◌, ℕ, zero, suc, ◌+◌, ◌<◌, ◌≤◌, Bool, true, false, ◌||◌, List, [], ◌∷◌, ◌++◌, map, take, set, length, get_or, All, Some, None, Result, Ok, Err, refl, sym, ap, subst, ◌∙◌, arith, length-take, add-one, ◌⊎◌, inl, inr, IsSome, is_some, slice_get, filter_map, OnOk, All-tail, map-append, length-map, map-set, slice_get-map, slice_get-get_or, get_or_from_slice_get, slice_get_within, slice_get_read, EventPart, Outcome, Placed, MayStandAt, has_ended, TapView, Books, File, opened, add_block, end_with, with_block, with_outcome, Stands, files_count, opened_count, CanBook, CanEnd, AllEnded, file_of, first, outcome_in, IsTapped, IsStoppedAt, IsFileAt, Changes, Opens, first_file, IsGoing, Knows, IsNext, HasMore, taken_count}
+use Rattle.std.proofs.lemmas.List.Sums.{sum_by-set}
 use Rattle.std.specs.Option.{option_map}
 use Rattle.std.proofs.Math.Seq.{take-suc-set, map-set_same, set-append_seam}
 use Rattle.dsr_events.specs.meaning.Blocks.{BlockParts}
@@ -178,3 +179,28 @@ lent now k t low h = slice_get_read now (length now) k t refl low h
 -- lists of taps with the same names have the same length
 pub same_count : (xs ys : List TapView) → map (λ t. t.name) xs ≡ map (λ t. t.name) ys → length xs ≡ length ys
 same_count xs ys e = sym (length-map xs (λ t. t.name)) ∙ ap length e ∙ length-map ys (λ t. t.name)
+
+-- whether a round took more, after one more tap
+pub more_taken : (old now : List TapView) (k : ℕ) (t u : TapView) (any one : Bool) → slice_get now k ≡ Some t
+    → HasMore any (taken_count old) (taken_count now) → HasMore one (length t.taken) (length u.taken)
+    → HasMore (any || one) (taken_count old) (taken_count (set now k u))
+more_taken old now k t u any one at was new =
+    let low = slice_get_within now k t at in
+    let same = get_or_from_slice_get now k t t at in
+    let sums = sum_by-set (λ (x : TapView). length x.taken) now k u t low in
+    adds any one (taken_count old) (taken_count now) (taken_count (set now k u)) (length t.taken) (length u.taken)
+    (ap (λ (x : TapView). taken_count (set now k u) + length x.taken) (sym same) ∙ sums) was new
+  where
+    adds : (any one : Bool) (a b c n m : ℕ) → c + n ≡ b + m → HasMore any a b → HasMore one n m → HasMore (any || one) a c
+    adds true one a b c n m sum was new = (omega (arith, was.0, new.0), ((λ _. (let more = was.1.0 refl in omega (arith, more, new.0))), (λ _. refl)))
+    adds false true a b c n m sum was new = (omega (arith, was.0, new.0), ((λ _. (let more = new.1.0 refl in omega (arith, more, was.0))), (λ _. refl)))
+    adds false false a b c n m sum was new = (
+      omega (arith, was.0, new.0),
+      (
+        (λ e. absurd (cc)),
+        (λ more. elim (same_or_other n m) [ inl e ↦ was.1.1 (omega (arith, e, more, sum)) | inr other ↦ new.1.1 (omega (arith, other, new.0)) ]),
+      ),
+    )
+
+pub none_taken : (n : ℕ) → HasMore false n n
+none_taken n = (omega arith, ((λ e. absurd (cc)), (λ less. absurd (omega (arith, less)))))

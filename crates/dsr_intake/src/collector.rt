@@ -1,10 +1,10 @@
 //! The collector: it takes the events of all files, books them, and closes the books or makes their report.
-ghost use Rattle.std.specs.Prelude.{◌≡◌, ◌+◌, ◌<◌, ◌≤◌, ◌++◌, true, false, List, [], map, All, OnOk, OnErr, IfOk, IfErr, MatchOption, vec_len};
+ghost use Rattle.std.specs.Prelude.{◌≡◌, ◌+◌, ◌<◌, ◌≤◌, ◌↔◌, ◌||◌, ◌++◌, true, false, List, [], length, map, All, OnOk, OnErr, IfOk, IfErr, IfSome, MatchOption, vec_len};
 ghost use Rattle.dsr_events.specs.meaning.Orderly.{Placed, IsOrderly, is_ended, has_ended, MayStandAt};
 ghost use Rattle.dsr_ledger.specs.inner.BooksWords.{Stands, files_count, AreClosed};
 ghost use Rattle.dsr_ledger.specs.meaning.Reports.{report_of};
 ghost use Rattle.dsr_ledger.specs.meaning.Files.{File};
-ghost use Rattle.dsr_intake.specs.inner.Collecting.{is_clean_end, IsStopped, with_part, is_opening, first_file, IsGoing, Knows, Changes, IsNext, Opens, IsTapped, IsDrained, IsFollowed, TakesAll, IsStoppedAt};
+ghost use Rattle.dsr_intake.specs.inner.Collecting.{is_clean_end, IsStopped, with_part, is_opening, first_file, IsGoing, Knows, Changes, IsNext, Opens, IsTapped, IsDrained, IsFollowed, TakesAll, IsStoppedAt, taken_count, HasMore};
 ghost use Rattle.dsr_intake.specs.meaning.Texts.{file_of};
 
 use crate::errors::CollectError;
@@ -71,6 +71,7 @@ fn take_batch<H: Wait>(rt: &H, tap: &mut Tap, waits: bool) -> Result<Option<Batc
     requires { has_ended tap.old.taken ≡ false }
     ensures taken { IfOk result (λ r. MatchOption r (tap.new ≡ tap.old)
         (λ b. tap.new ≡ record tap.old { taken = tap.old.taken ++ b; held = [] })) }
+    ensures some { IfOk result (λ r. IfSome r (λ b. 0 < length b)) }
     ensures closed { OnErr result (tap.new ≡ tap.old) }
     ensures orderly { IsOrderly tap.new.taken }
 {
@@ -98,6 +99,7 @@ fn go_on<H: Wait>(
     ensures tapped { OnOk result (IsTapped tap.new) }
     ensures booked { OnOk result (Changes books.old books.new k (file_of tap.old.taken)
         (file_of tap.new.taken)) }
+    ensures any { IfOk result (λ any. HasMore any (length tap.old.taken) (length tap.new.taken)) }
     ensures stopped { IfErr result (IsStoppedAt k tap.new) }
 {
     if tap.ended() {
@@ -195,21 +197,29 @@ fn go_round<H: Wait>(
     ensures files { files_count books.new ≡ files_count books.old }
     ensures tapped { OnOk result (All IsTapped taps.new.items) }
     ensures stands { OnOk result (Stands books.new (map (λ t. file_of t.taken) taps.new.items)) }
+    ensures any { IfOk result (λ any. HasMore any (taken_count taps.old.items)
+        (taken_count taps.new.items)) }
     ensures stopped { IfErr result (IsStopped taps.new.items) }
 {
     let mut any = false;
     for k in 0..taps.len() {
         let tap = &mut taps[k];
-        if go_on(rt, books, k as u32, tap, waits && !any)? {
-            any = true;
-        }
+        let now = either(any, go_on(rt, books, k as u32, tap, waits && !any)?);
+        any = now;
     }
     Ok(any)
 }
 
+/// Whether one of these is so.
+fn either(one: bool, other: bool) -> bool
+    ensures { result ≡ (one || other) }
+{
+    one || other
+}
+
 /// Whether every file has ended.
 fn have_ended(taps: &Vec<Tap>) -> bool
-    ensures { result ≡ true → All (λ t. has_ended t.taken ≡ true) taps.now.items }
+    ensures { result ≡ true ↔ All (λ t. has_ended t.taken ≡ true) taps.now.items }
 {
     for k in 0..taps.len() {
         if !taps[k].ended() {

@@ -2,14 +2,14 @@
 ghost use Rattle.std.specs.Prelude.{◌≡◌, ◌<◌, ◌≤◌, false, List, [], map, All, IfOk, OnOk, IfErr, Err, MatchOption, vec_len, vec_capacity};
 ghost use Rattle.dsr_file.specs.meaning.Runs.{FileText, events_of_text};
 ghost use Rattle.dsr_ledger.specs.inner.BooksWords.{AreClosed};
-ghost use Rattle.dsr_intake.specs.inner.Collecting.{IsDrained, AreBooksOf, AreReady, intake_error_of};
+ghost use Rattle.dsr_intake.specs.inner.Collecting.{IsDrained, AreBooksOf, AreReady, IsStartError, IsCause, first_error, intake_error_of};
 ghost use Rattle.dsr_intake.specs.meaning.Texts.{GaveEach, file_of, refusal_of, IsLate};
 ghost use Rattle.dsr_intake.specs.meaning.Outcomes.{IsReportOf};
 
 use crate::collector::collect_books;
 use crate::errors::{CollectError, IntakeError};
 use crate::options::{MOST_MESSAGES, Options, refusal};
-use crate::threads::{Thread, start};
+use crate::threads::{Finished, Thread, start, wanted_memory};
 use dsr_cells::NoMemory;
 use dsr_file::Source;
 use dsr_ledger::{ClosedBooks, Report};
@@ -40,7 +40,8 @@ fn start_all<R: Source + Send + Drop + 'static, H: Threads + Wait + Copy + Send 
     ensures terms { OnOk result (All (λ h. h.promise.options.value ≡ options.now)
         threads.new.items) }
     ensures fresh { OnOk result (All (λ t. t.taken ≡ []) taps.new.items) }
-    ensures late { IfErr result IsLate }
+    ensures few { vec_len threads.new ≤ vec_len readers }
+    ensures cause { IfErr result IsStartError }
 {
     for reader in readers {
         let (feed, tap) = open(alloc, options.capacity)?;
@@ -60,7 +61,7 @@ fn open(alloc: Global, capacity: u32) -> Result<(Feed, Tap), IntakeError>
     requires some { 0 < capacity }
     requires most { capacity ≤ MOST_MESSAGES }
     ensures ends { IfOk result (λ r. (r.0.name ≡ r.1.name) × (r.0.sent ≡ []) × (r.1.taken ≡ [])) }
-    ensures late { IfErr result IsLate }
+    ensures cause { IfErr result (λ e. e ≡ IntakeError.Memory) }
 {
     match open_relay(alloc, capacity) {
         Ok(ends) => Ok(ends),
@@ -101,18 +102,23 @@ fn settle_all<R: Source + Send + Drop + 'static, H: Threads + Wait>(
     }
 }
 
-/// Joins the threads, and returns whether one of them was refused memory.
+/// Joins the threads, and keeps what each of them returned.
 fn join_all<R: Source + Send + Drop + 'static, H: Threads>(
     rt: &H,
     threads: Vec<Thread<R>>,
-) -> bool {
-    let mut memory = false;
+    finished: &mut Vec<Finished<R>>,
+)
+    requires empty { finished.old.items ≡ [] }
+    requires room { vec_len threads ≤ vec_capacity finished.old }
+    ensures { map (λ f. f.feed.name) finished.new.items
+        ≡ map (λ h. h.promise.feed.value.name) threads.items }
+{
     for thread in threads {
-        if thread.join(rt).wanted_memory() {
-            memory = true;
-        }
+        let done = thread.join(rt);
+        let Ok(()) = finished.push(done) else {
+            unreachable!()
+        };
     }
-    memory
 }
 
 /// Starts the threads, and collects what they send.
@@ -140,7 +146,8 @@ fn start_and_collect<
     ensures ended { OnOk result (All IsDrained taps.new.items) }
     ensures books { IfOk result (λ books. AreClosed books
         (map (λ t. file_of t.taken) taps.new.items)) }
-    ensures late { IfErr result IsLate }
+    ensures few { vec_len threads.new ≤ vec_len readers }
+    ensures cause { IfErr result (IsCause taps.new.items) }
 {
     start_all(rt, alloc, readers, options, threads, taps)?;
     match collect_books(rt, alloc, taps) {
@@ -167,6 +174,7 @@ fn gather<
     let count = readers.len();
     let mut threads = with_room(alloc, count)?;
     let mut taps = with_room(alloc, count)?;
+    let mut finished = with_room(alloc, count)?;
     let given = std::mem::replace(readers, with_room(alloc, count)?);
     match start_and_collect(rt, alloc, given, options, &mut threads, &mut taps) {
         Ok(books) => {
@@ -176,11 +184,8 @@ fn gather<
         Err(error) => {
             // Without the taps no thread waits for room in its relay, so all of them end.
             drop(taps);
-            if join_all(rt, threads) {
-                Err(IntakeError::Memory)
-            } else {
-                Err(error)
-            }
+            join_all(rt, threads, &mut finished);
+            Err(first_error(error, wanted_memory(&finished)))
         }
     }
 }
@@ -189,6 +194,7 @@ fn gather<
 fn with_room<T>(alloc: Global, count: usize) -> Result<Vec<T>, IntakeError>
     ensures empty { IfOk result (λ v. v.items ≡ []) }
     ensures room { IfOk result (λ v. count ≤ vec_capacity v) }
+    ensures cause { IfErr result (λ e. e ≡ IntakeError.Memory) }
     ensures late { IfErr result IsLate }
 {
     match Vec::with_capacity(alloc, count) {
@@ -206,6 +212,14 @@ fn collect_error(error: CollectError) -> IntakeError
         CollectError::Memory => IntakeError::Memory,
         CollectError::Closed(k) => IntakeError::Broken(k),
     }
+}
+
+/// The error of an intake that stopped with this one: Memory comes first, if a thread was refused some.
+fn first_error(error: IntakeError, memory: bool) -> IntakeError
+    ensures same { result ≡ first_error error memory }
+    ensures late { IsLate error → IsLate result }
+{
+    if memory { IntakeError::Memory } else { error }
 }
 
 /// Reads the files concurrently, with a thread for each, and returns closed books of them.

@@ -1,10 +1,9 @@
 //! The threads, each of which reads a file and sends its events.
-ghost use Rattle.std.specs.Prelude.{◌≡◌, ◌≢◌, ◌<◌, ◌≤◌, false, List, [], ◌++◌, Err, IfOk, IfErr};
+ghost use Rattle.std.specs.Prelude.{◌≡◌, ◌≢◌, ◌<◌, ◌≤◌, ◌↔◌, true, false, not, List, [], ◌++◌, All, Err, IfOk, IfErr};
 ghost use Rattle.dsr_events.specs.declared.event.EventPart.TheVariants as part;
 ghost use Rattle.dsr_events.specs.declared.fault.FileFault.TheVariants as fault;
 ghost use Rattle.dsr_events.specs.declared.fault.Outcome.TheVariants as outcome;
-ghost use Rattle.dsr_events.specs.meaning.Orderly.{Placed, IsOrderly};
-ghost use Rattle.dsr_intake.specs.meaning.Texts.{IsLate};
+ghost use Rattle.dsr_events.specs.meaning.Orderly.{Placed, IsOrderly, has_ended};
 ghost use Rattle.dsr_intake.specs.inner.Collecting.{ends_clean, was_refused_memory, IsGiven};
 
 use crate::errors::IntakeError;
@@ -42,14 +41,19 @@ impl<R: Source> Promise<Finished<R>> for Reading<R> {
 /// A thread that reads a file.
 pub(crate) type Thread<R> = PromisedHandle<Finished<R>, Reading<R>>;
 
-impl<R> Finished<R> {
-    /// Whether memory was refused while the file was read.
-    pub(crate) fn wanted_memory(&self) -> bool
-        ensures { result ≡ self.now.memory }
-    {
-        self.memory
+/// Whether memory was refused for one of these.
+pub(crate) fn wanted_memory<R>(finished: &Vec<Finished<R>>) -> bool
+    ensures { result ≡ false ↔ All (λ f. f.memory ≡ false) finished.now.items }
+{
+    for k in 0..finished.len() {
+        if finished[k].memory {
+            return true;
+        }
     }
+    false
+}
 
+impl<R> Finished<R> {
     /// Joins the two ends of the relay, and returns the reader.
     pub(crate) fn settle(self, tap: Tap) -> R
         requires { tap.name ≡ self.feed.name }
@@ -82,6 +86,8 @@ fn read_and_send<R: Source, H: Wait>(
     requires empty { feed.sent ≡ [] }
     ensures name { result.feed.name ≡ feed.name }
     ensures given { IsGiven options (R.told reader) (R.told result.reader) result.feed.sent }
+    ensures memory { has_ended result.feed.sent ≡ true
+        → result.memory ≡ not (ends_clean result.feed.sent) }
 {
     let mut reader = reader;
     let mut sink = FeedSink::new(rt, feed);
@@ -162,7 +168,7 @@ pub(crate) fn start<R: Source + Send + Drop + 'static, H: Threads + Wait + Copy 
     requires reads { options.now.max_reads ≤ MOST_READS }
     requires unfailed { (R.told reader).failed ≡ false }
     requires empty { feed.sent ≡ [] }
-    ensures late { IfErr result IsLate }
+    ensures cause { IfErr result (λ e. e ≡ IntakeError.Thread) }
     ensures promise { IfOk result (λ h. (h.promise.reader.value ≡ reader)
         × (h.promise.feed.value ≡ feed) × (h.promise.options.value ≡ options.now)) }
 {

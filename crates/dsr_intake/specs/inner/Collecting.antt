@@ -1,5 +1,6 @@
 -- What is asked of options and readers, what a thread promises, what holds of a tap and of the books while they are collected, and why that stops.
-use Rattle.std.specs.Prelude.{Bool, true, false, not, List, [], ◌∷◌, Result, Ok, Err, ◌≡◌, ◌<◌, ◌≤◌, length, All, map, ℕ, ◌+◌, Some, slice_get, take, ◌^◌, ◌++◌, None, IsSome, slice_set}
+use Rattle.std.specs.Prelude.{Bool, true, false, not, List, [], ◌∷◌, Result, Ok, Err, ◌≡◌, ◌<◌, ◌≤◌, length, All, map, ℕ, ◌+◌, Some, slice_get, take, ◌^◌, ◌++◌, None, IsSome, slice_set, ◌↔◌, ◌⊎◌, if◌then◌else◌}
+use Rattle.std.specs.List.{sum_by}
 use Rattle.dsr_events.specs.declared.event.EventPart.{EventPart}
 use Rattle.dsr_events.specs.declared.fault.Outcome.{Outcome}
 use Rattle.dsr_events.specs.meaning.Orderly.{Placed, has_ended, IsOrderly}
@@ -78,6 +79,18 @@ abbrev pub intake_error_of : CollectError → IntakeError
 intake_error_of Memory = intake.Memory
 intake_error_of (Closed k) = intake.Broken k
 
+-- the error of an intake whose threads were not all started
+abbrev pub IsStartError : IntakeError → Type 0
+IsStartError e = (e ≡ intake.Memory) ⊎ (e ≡ intake.Thread)
+
+-- the error of an intake that has no books: that of its start, or of its collector
+abbrev pub IsCause : List TapView → IntakeError → Type 0
+IsCause taps e = IsStartError e ⊎ ((stopped : CollectError) × IsStopped taps stopped × (e ≡ intake_error_of stopped))
+
+-- if memory was refused for a thread, that is the error
+abbrev pub first_error : IntakeError → Bool → IntakeError
+first_error e memory = if memory then intake.Memory else e
+
 -- memory was refused, and nothing was written; or the outlet took the first bytes of the report's statement, and failed
 abbrev pub IsUnfinished : Report → Written → Written → RunError → Type 0
 IsUnfinished report before after (error.Intake e) = (e ≡ intake.Memory) × IsUntouched before after
@@ -154,3 +167,11 @@ IsStoppedAt i t (Closed k) = (k ≡ i + 1) × (has_ended t.taken ≡ false)
 -- all events of the tap were taken, and it did not end with Memory
 abbrev pub IsDrained : TapView → Type 0
 IsDrained t = IsOrderly t.taken × (ends_clean t.taken ≡ true)
+
+-- the number of all events that were taken
+abbrev pub taken_count : List TapView → ℕ
+taken_count taps = sum_by (λ t. length t.taken) taps
+
+-- whether a count grew
+abbrev pub HasMore : Bool → ℕ → ℕ → Type 0
+HasMore any before after = (before ≤ after) × (any ≡ true ↔ before < after)

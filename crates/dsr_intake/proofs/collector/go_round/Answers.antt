@@ -1,5 +1,5 @@
-use Rattle.dsr_intake.proofs.Common.{◌∙◌, arith, length-set, err_from_is_err_and, All-set, IsTapped}
-use Rattle.dsr_intake.proofs.Rounds.{known_here, round_more, names_set, stopped_at, lent}
+use Rattle.dsr_intake.proofs.Common.{◌∙◌, arith, set, subst, sym, length-set, err_from_is_err_and, All-set, IsTapped, HasMore, taken_count}
+use Rattle.dsr_intake.proofs.Rounds.{known_here, round_more, more_taken, names_set, stopped_at, lent}
 use Rattle.dsr_intake.proofs.collector.go_round.Goals as goal
 
 pub returns-in_err-go_on-clause-names : goal.returns-in_err-go_on-clause-names
@@ -24,6 +24,9 @@ loop-k-preserved g c =
       names = names_set c.loop-k.taps.items c.loop-k.k c.index_mut-tap.result.now c.go_on.new.tap at e.name ∙ was.names;
       tapped = All-set IsTapped c.loop-k.taps.items c.loop-k.k c.go_on.new.tap e.tapped was.tapped;
       stands = round_more c.loop-k.taps.items c.loop-k.k c.loop-k.books c.go_on.new.books c.index_mut-tap.result.now c.go_on.new.tap at was.stands e.booked;
+      any = subst (λ b. HasMore b (taken_count c.args.taps.now.items) (taken_count (set c.loop-k.taps.items c.loop-k.k c.go_on.new.tap)))
+          (sym c.either-now.ensures)
+          (more_taken c.args.taps.now.items c.loop-k.taps.items c.loop-k.k c.index_mut-tap.result.now c.go_on.new.tap _ _ at was.any e.any);
     }
 
 pub go_on-requires-clause-file : goal.go_on-requires-clause-file

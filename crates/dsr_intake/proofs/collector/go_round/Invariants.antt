@@ -1,4 +1,4 @@
-use Rattle.dsr_intake.proofs.Common.{◌≡◌, length, map, All, Stands, files_count, file_of, IsTapped}
+use Rattle.dsr_intake.proofs.Common.{◌≡◌, length, map, All, Stands, files_count, file_of, IsTapped, HasMore, taken_count}
 use Rattle.dsr_intake.proofs.collector.go_round.Given as goal
 
 abbrev pub invariant-loop-k : goal.invariant-loop-k
@@ -9,4 +9,5 @@ invariant-loop-k g l =
       names : map (λ t. t.name) l.taps.items ≡ map (λ t. t.name) l.fn.taps.items;
       tapped : All IsTapped l.taps.items;
       stands : Stands l.books (map (λ t. file_of t.taken) l.taps.items);
+      any : HasMore l.any (taken_count l.fn.taps.items) (taken_count l.taps.items);
     }

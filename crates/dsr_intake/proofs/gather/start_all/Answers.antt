@@ -11,4 +11,5 @@ loop-reader-preserved g c =
           c.in_ok-thread.ensures.promise.0
           (ap (λ f. f.name) c.in_ok-thread.ensures.promise.1 ∙ c.in_ok-feed.ensures.ends.0) c.in_ok-thread.ensures.promise.2 c.in_ok-feed.ensures.ends.2);
       room = grind (arith, common_steps);
+      few = grind (arith, common_steps);
     }
