@@ -90,14 +90,18 @@ class Slurm:
         return False
 
     def attend(self):
-        """Does what an operator does once a controller that was killed finds tasks that it does not know: it drains their node, and
-        holds the jobs."""
+        """Does what an operator does once a controller that was killed finds tasks that it does not know, which drains their node and
+        holds the jobs, or waits for a task whose end it missed: that seems to run for more than a minute, and is queued again."""
         while not self.is_ended.wait(1):
             if 'drain' in self.told('sinfo', '--noheader', '--format=%T'):
                 self.told('scontrol', 'update', f'NodeName={self.host}', 'State=RESUME')
             for line in self.told('squeue', '--noheader', '--format=%F %r').split('\n'):
                 if 'Held' in line:
                     self.told('scontrol', 'release', line.split()[0])
+            for line in self.told('squeue', '--noheader', '--states=RUNNING', '--format=%A %M').splitlines():
+                task, used = line.split()
+                if not used.startswith('0:'):
+                    self.told('scontrol', 'requeue', task)
 
     def kill(self, process, *again):
         """Kills a daemon, and starts it again with these words, if there are any."""
