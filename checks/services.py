@@ -94,7 +94,7 @@ class Slurm:
         holds the jobs, or waits for a task whose end it missed: that seems to run for more than a minute, and is queued again."""
         while not self.is_ended.wait(1):
             if 'drain' in self.told('sinfo', '--noheader', '--format=%T'):
-                self.told('scontrol', 'update', f'NodeName={self.host}', 'State=RESUME')
+                self.set_node('State=RESUME')
             for line in self.told('squeue', '--noheader', '--format=%F %r').split('\n'):
                 if 'Held' in line:
                     self.told('scontrol', 'release', line.split()[0])
@@ -102,6 +102,10 @@ class Slurm:
                 task, used = line.split()
                 if not used.startswith('0:'):
                     self.told('scontrol', 'requeue', task)
+
+    def set_node(self, *words):
+        """Says what the node's state is, as an operator does."""
+        self.told('scontrol', 'update', f'NodeName={self.host}', *words)
 
     def kill(self, process, *again):
         """Kills a daemon, and starts it again with these words, if there are any."""
