@@ -1,8 +1,8 @@
 //! Sources of bytes.
-ghost use Rattle.std.specs.Prelude.{◌≡◌, ◌<◌, true, false, length, MatchResult};
+ghost use Rattle.std.specs.Prelude.{◌≡◌, ◌<◌, ⊤, true, false, length, List, ℕ, MatchResult};
 ghost use Rattle.std.specs.Io.{ReadsAtMost};
 ghost use Rattle.std.specs.Io.KnownBytes.{ReadConsumes};
-ghost use Rattle.dsr_io.specs.meaning.Told.{AddsRead, no_reads, Told};
+ghost use Rattle.dsr_io.specs.meaning.Told.{AddsRead, HoldsRead, no_reads, Told};
 
 use crate::read_count::ReadCount;
 use std::io::Read;
@@ -15,6 +15,9 @@ pub struct Failed;
 pub trait Source {
     /// The bytes that it has left, if they are known, whether a read has failed, and the count of its reads.
     ghost told: { Self → Told };
+
+    /// What it keeps of the bytes that it gave, such as their digest: whether it is that of these bytes. Most keep nothing.
+    ghost holds: { Self → List ℕ → Type 0 } = { λ _ _. ⊤ };
 
     /// Reads bytes into the front of the piece, which is not empty. Returns how many; 0 is the end.
     ///
@@ -29,7 +32,8 @@ pub trait Source {
         ensures failed { MatchResult result (λ _. (told self.new).failed ≡ (told self.old).failed)
             (λ _. (told self.new).failed ≡ true) }
         ensures reads { MatchResult result (AddsRead (told self.old).reads (told self.new).reads)
-            (λ _. AddsRead (told self.old).reads (told self.new).reads 0) };
+            (λ _. AddsRead (told self.old).reads (told self.new).reads 0) }
+        ensures held { HoldsRead holds self.old self.new result piece.new };
 
     /// Whether a read has failed.
     fn failed(&self) -> bool
