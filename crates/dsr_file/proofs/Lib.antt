@@ -15,5 +15,6 @@ pub mod EndLemmas
 pub mod ClosedLemmas
 pub mod FeedLemmas
 pub mod ReadLemmas
+pub mod HoldLemmas
 pub mod ResultLemmas
 pub mod UsualLemmas

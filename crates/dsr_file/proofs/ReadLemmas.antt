@@ -35,7 +35,7 @@ consumes_kept (Some a) (Some b) (Some c) x p q = p ∙ ap (λ z. x ++ z) (sym q)
 pub consumes_none : (old mid new : Option (List ℕ)) (x : List ℕ) → Consumes old mid x → Consumes mid new [] → Consumes old new x
 consumes_none old mid new x p q = subst (Consumes old new) (append-nil x) (consumes_more old mid new x [] p q)
 
-consumes_self : (x : Option (List ℕ)) → Consumes x x []
+pub consumes_self : (x : Option (List ℕ)) → Consumes x x []
 consumes_self None = tt
 consumes_self (Some a) = refl
 

@@ -58,7 +58,8 @@
 //! **The promise.** However the bytes are cut into pieces, the events are those of the text: its
 //! opening, each closed block once and in order, and its outcome. The events of the
 //! bytes so far stay right whatever follows ([`laws`]). `read_file` makes no more reads than its
-//! limit, and none after the end, a failed read or a fault.
+//! limit, and none after the end, a failed read or a fault. A source that keeps something of the bytes
+//! that it gave, such as their digest, keeps that of exactly the bytes that were read.
 //!
 //! **Where to begin.** `specs/meaning/Faults.antt` has the places of the records and the faults of a
 //! line, `specs/meaning/Texts.antt` the events of a text; `src/reader.rt` and `src/reading.rt` have the

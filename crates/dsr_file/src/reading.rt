@@ -1,5 +1,6 @@
 //! Reading a file from a source to its end.
 ghost use Rattle.std.specs.Prelude.{◌≡◌, [], ◌<◌, ◌≤◌, ◌^◌, false, None, IfOk, OnOk, IfErr};
+ghost use Rattle.dsr_io.specs.meaning.Told.{HoldsGiven};
 ghost use Rattle.dsr_records.specs.meaning.Records.{LayoutTable};
 ghost use Rattle.dsr_file.specs.meaning.Runs.{EndsWith};
 ghost use Rattle.dsr_file.specs.meaning.Sources.{IsRead, IsRefused, IsRefusal, refused_event};
@@ -50,6 +51,7 @@ pub fn read_file<R: Source, S: Sink>(
         (IsRead layout.now max_reads (R.told reader.old) (R.told reader.new) (S.list sink.new)) }
     ensures refused { IfErr result
         (IsRefusal layout.now max_reads (R.told reader.old) (R.told reader.new) (S.list sink.new)) }
+    ensures held { HoldsGiven R.told R.holds reader.old reader.new }
 {
     let Ok(mut file) = FileReader::new(alloc, layout) else {
         return Err(ReadFileError::Memory);
@@ -93,6 +95,7 @@ fn read_all<R: Source, S: Sink>(
     ensures refused { IfErr result (λ e. (layout : LayoutTable)
         → Stands layout file.old [] (S.list sink.old)
         → IsRefused layout max_reads (R.told reader.old) (R.told reader.new) (S.list sink.new) e) }
+    ensures held { HoldsGiven R.told R.holds reader.old reader.new }
 {
     let mut piece = [0u8; PIECE];
     for _ in 0..max_reads {

@@ -1,5 +1,6 @@
 use Rattle.dsr_file.proofs.Common.{◌≡◌, ◌≤◌, ◌∙◌, refl, sym, subst, arith, take, length, length-take, common_steps, IfOk-weaker, IfErr-weaker, err_from_is_err_and, Consumes, Reads, AddsRead}
 use Rattle.dsr_file.proofs.ReadLemmas.{done_ends, no_reads, whole_read, whole_refused, failed_read, failed_refused, limit_read, limit_refused, fault_read, more_reads, piece_refused, not_done}
+use Rattle.dsr_file.proofs.HoldLemmas.{holding_none, holding_more, holding_kept, holding_given}
 use Rattle.dsr_file.proofs.reading.read_all.Goals as goal
 
 pub loop-init : goal.loop-init
@@ -9,6 +10,7 @@ loop-init g c = record {
   count = omega (arith, c.requires.new);
   name = refl;
   read = λ layout s. no_reads layout (g.R.Source.told c.args.reader.now) c.args.file.now (g.S.Sink.list c.args.sink.now) s;
+  held = holding_none g.R.Source.told g.R.Source.holds c.args.reader.now;
 }
 
 pub returns-in-Err-clause-read : goal.returns-in-Err-clause-read
@@ -114,6 +116,8 @@ loop-preserved g c =
           counts (omega (arith, size, c.in-Ok.n-test))
           few c.in-Ok.ensures.failed (omega (arith, c.loop-test.true))
           c.feed.ensures.grows (c.in_ok-feed-in-Ok.ensures.fed layout r.given r.stands) (not_done c.done.result c.done.ensures.phase.1 c.if-done.false);
+      held = holding_more g.R.Source.told g.R.Source.holds c.args.reader.now c.loop.reader c.read.new.self (take c.in-Ok.n c.read.new.piece)
+          c.loop.invariant.held c.in-Ok.ensures.bytes.0 c.in-Ok.ensures.held;
     }
 
 pub returns-clause-read : goal.returns-clause-read
@@ -144,3 +148,31 @@ returns-in_err-feed-in-Ok-clause-name g c = grind (arith, common_steps)
 
 pub returns-in-Ok-eq0-clause-name : goal.returns-in-Ok-eq0-clause-name
 returns-in-Ok-eq0-clause-name g c = grind (arith, common_steps)
+
+pub returns-in-Err-clause-held : goal.returns-in-Err-clause-held
+returns-in-Err-clause-held g c =
+    holding_given g.R.Source.told g.R.Source.holds c.args.reader.now c.read.new.self
+    (holding_kept g.R.Source.told g.R.Source.holds c.args.reader.now c.loop.reader c.read.new.self
+    c.loop.invariant.held c.in-Err.ensures.bytes c.in-Err.ensures.held)
+
+pub returns-in-Ok-eq0-clause-held : goal.returns-in-Ok-eq0-clause-held
+returns-in-Ok-eq0-clause-held g c =
+    holding_given g.R.Source.told g.R.Source.holds c.args.reader.now c.read.new.self
+    (holding_more g.R.Source.told g.R.Source.holds c.args.reader.now c.loop.reader c.read.new.self (take c.in-Ok-eq0.field-0 c.read.new.piece)
+    c.loop.invariant.held c.in-Ok-eq0.ensures.bytes.0 c.in-Ok-eq0.ensures.held)
+
+pub returns-in_err-feed-in-Ok-clause-held : goal.returns-in_err-feed-in-Ok-clause-held
+returns-in_err-feed-in-Ok-clause-held g c =
+    holding_given g.R.Source.told g.R.Source.holds c.args.reader.now c.read.new.self
+    (holding_more g.R.Source.told g.R.Source.holds c.args.reader.now c.loop.reader c.read.new.self (take c.in-Ok.n c.read.new.piece)
+    c.loop.invariant.held c.in-Ok.ensures.bytes.0 c.in-Ok.ensures.held)
+
+pub returns-then-done-clause-held : goal.returns-then-done-clause-held
+returns-then-done-clause-held g c =
+    holding_given g.R.Source.told g.R.Source.holds c.args.reader.now c.read.new.self
+    (holding_more g.R.Source.told g.R.Source.holds c.args.reader.now c.loop.reader c.read.new.self (take c.in-Ok.n c.read.new.piece)
+    c.loop.invariant.held c.in-Ok.ensures.bytes.0 c.in-Ok.ensures.held)
+
+pub returns-clause-held : goal.returns-clause-held
+returns-clause-held g c =
+    holding_given g.R.Source.told g.R.Source.holds c.args.reader.now c.loop.reader c.loop.invariant.held

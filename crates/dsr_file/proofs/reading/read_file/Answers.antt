@@ -1,5 +1,6 @@
 use Rattle.dsr_file.proofs.Common.{subst, sym, [], Stands}
 use Rattle.dsr_file.proofs.ResultLemmas.{if_given, if_refused}
+use Rattle.dsr_file.proofs.HoldLemmas.{holds_self}
 use Rattle.dsr_file.proofs.reading.read_file.Goals as goal
 
 pub returns-clause-outcome : goal.returns-clause-outcome
@@ -16,3 +17,6 @@ pub returns-clause-refused : goal.returns-clause-refused
 returns-clause-refused g c =
     let stands = subst (λ es. Stands c.args.layout.now c.in-Ok.file [] es) (sym c.requires.empty) c.in-Ok.ensures.stands in
     rw c.error_of.ensures (if_refused c.read_all-answer.result _ _ (λ e told. told c.args.layout.now stands) c.read_all-answer.ensures.refused)
+
+pub returns-in_default-clause-held : goal.returns-in_default-clause-held
+returns-in_default-clause-held g c = holds_self g.R.Source.told g.R.Source.holds c.args.reader.now
