@@ -1,8 +1,10 @@
 -- What holds while the threads are started, and while they are joined.
-use Rattle.dsr_intake.proofs.Common.{◌≡◌, false, List, [], ◌∷◌, ◌++◌, map, All, refl, sym, ap, subst, ◌∙◌, append_assoc, append-nil, map-append, All-head, All-tail, All-cons, All-append, All-nil, Placed, IsOrderly, FileText, events_of_text, Told, TapView, Options, ends_clean, IsDrained, IsGiven, GaveEach, file_of}
+use Rattle.dsr_intake.proofs.Common.{◌≡◌, ℕ, false, List, [], ◌∷◌, ◌++◌, map, All, refl, sym, ap, subst, ◌∙◌, append_assoc, append-nil, map-append, All-head, All-tail, All-cons, All-append, All-nil, Placed, IsOrderly, FileText, events_of_text, Told, TapView, Options, ends_clean, IsDrained, IsGiven, GaveEach, file_of}
 use Rattle.dsr_file.specs.meaning.Sources.{GaveText}
+use Rattle.dsr_io.specs.meaning.Told.{HoldsGiven}
 use Rattle.dsr_relay.specs.declared.name.Name.{Name}
 use Rattle.dsr_records.specs.meaning.Records.{LayoutTable}
+use Rattle.dsr_intake.specs.meaning.Texts.{HoldEach}
 use Rattle.dsr_intake.proofs.EndLemmas.{clean_is_whole}
 
 All-one : {A : Type 0} (P : A → Type 0) (x : A) → P x → All P (x ∷ [])
@@ -92,6 +94,34 @@ module _ {R H : Type 0} (told : R → Told) (options : Options) (reader : H → 
         ∙ append-nil (map (events_of_text options.layout) j.texts),
   )
   joining_done all lists (t ∷ ts) news j = let e = j.names in cc
+
+module _ {R H : Type 0} (told : R → Told) (holds : R → List ℕ → Type 0) (reader : H → R) where
+  hold_more : (rs ss : List R) (r s : R) → HoldEach told holds rs ss → HoldsGiven told holds r s → HoldEach told holds (rs ++ r ∷ []) (ss ++ s ∷ [])
+  hold_more [] [] r s h new = (new, tt)
+  hold_more (x ∷ rs) (y ∷ ss) r s h new = (h.0, hold_more rs ss r s h.1 new)
+  hold_more [] (y ∷ ss) r s h new = absurd h
+  hold_more (x ∷ rs) [] r s h new = absurd h
+
+  -- the readers of the threads that are joined keep what they gave, and the other threads still run
+  pub record Keeping (all : List R) (hs : List H) (news : List R) : Type 0 where
+    pub before : List R
+    pub held : HoldEach told holds before news
+    pub readers : before ++ map reader hs ≡ all
+
+  pub keeping_none : (hs : List H) → Keeping (map reader hs) hs []
+  keeping_none hs = record { before = []; held = tt; readers = refl }
+
+  pub keeping_more : (all : List R) (h : H) (hs : List H) (news : List R) (new : R) → Keeping all (h ∷ hs) news → HoldsGiven told holds (reader h) new
+      → Keeping all hs (news ++ new ∷ [])
+  keeping_more all h hs news new k held =
+      record {
+        before = k.before ++ reader h ∷ [];
+        held = hold_more k.before news (reader h) new k.held held;
+        readers = append_assoc k.before (reader h ∷ []) (map reader hs) ∙ k.readers;
+      }
+
+  pub keeping_done : (all : List R) (news : List R) → Keeping all [] news → HoldEach told holds all news
+  keeping_done all news k = subst (λ rs. HoldEach told holds rs news) (sym (append-nil k.before) ∙ k.readers) k.held
 
 -- if the events taken are those of the texts, so are the files
 pub files_of : (layout : LayoutTable) (ts : List TapView) (texts : List FileText) → map (λ t. t.taken) ts ≡ map (events_of_text layout) texts

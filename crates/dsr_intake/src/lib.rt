@@ -38,7 +38,8 @@
 //!
 //! **The promise.** If `run` returns Ok, exactly the statement of the texts that its readers gave was written and then
 //! flushed, and the status is that report's. If there is no report, nothing was written; if a write or the flush fails,
-//! exactly the reported number of first bytes was written.
+//! exactly the reported number of first bytes was written. A reader that keeps something of the bytes that it gave, such
+//! as their digest, keeps that of exactly the bytes that were read.
 //!
 //! **Where to begin.** `specs/meaning`, here and in dsr_statement, has the definitions on which the promise of `run`
 //! rests, and `specs/inner` relates the code to them. `errors` has each error with its text.

@@ -8,6 +8,7 @@ use Rattle.dsr_statement.specs.meaning.Statement.{statement_of}
 use Rattle.dsr_statement.specs.meaning.Status.{status_of}
 use Rattle.dsr_io.specs.meaning.Written.{Written, IsFlushed}
 use Rattle.dsr_intake.specs.inner.Collecting.{IsUnfinished}
+use Rattle.dsr_intake.proofs.Rounds.{on_any}
 use Rattle.dsr_intake.proofs.stages.run.Goals as goal
 
 not_refused : {E : Type 0} (o : Option E) (A B : Type 0) (C D : E → Type 0) → MatchOption o A C → ((e : E) → C e → ⊥) → B → MatchOption o B D
@@ -50,3 +51,6 @@ pub returns-in-Ok-clause-refused : goal.returns-in-Ok-clause-refused
 returns-in-Ok-clause-refused g c =
     not_refused (refusal_of (vec_len c.args.readers.now) c.args.options) _ _ _ _ c.in-Ok.ensures.refused (λ e r. true≢false (ap is_ok r.0))
     c.write_books-answer.ensures.late
+
+pub returns-in-Ok-clause-held : goal.returns-in-Ok-clause-held
+returns-in-Ok-clause-held g c = on_any c.write_books-answer.result c.in-Ok.ensures.held
