@@ -76,7 +76,9 @@ mod verdict;
 mod write;
 
 pub use fault::{ReadError, StatementFault};
-pub use line::{DifferenceRef, KeyRef, Line, LineKind, PartyRef, RejectRef, ReportRef};
+pub use line::{DifferenceRef, DigestRef, KeyRef, Line, LineKind, PartyRef, RejectRef, ReportRef};
+pub use lines::put_line;
+pub use pieces::Pieces;
 pub use putting::put;
 pub use reader::StatementReader;
 pub use reading::{LINE_LIMIT, read};
