@@ -19,3 +19,4 @@ pub mod ReportPlaces
 pub mod ReportAgain
 pub mod OneLedger
 pub mod Sealed
+pub mod SealedAgain

@@ -25,7 +25,7 @@ use Rattle.dsr_statement.specs.meaning.Order.{placed, is_placed, adds_up, seals,
 use Rattle.dsr_statement.specs.meaning.Statements.{AreInPlace, IsStatement, all_adjacent, are_parties_in_order, is_before, IsReadable}
 
 -- a line that passes the tests stands where it may
-placed_ok : (before : List Line) (l : Line) → is_placed before l ≡ true → adds_up before l ≡ true → seals before l ≡ true → is_no_report l ≡ false
+pub placed_ok : (before : List Line) (l : Line) → is_placed before l ≡ true → adds_up before l ≡ true → seals before l ≡ true → is_no_report l ≡ false
     → placed before l ≡ Ok l
 placed_ok before l p a s n = rw (p, a, s, n) refl
 

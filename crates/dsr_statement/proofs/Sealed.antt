@@ -11,9 +11,10 @@ use Rattle.dsr_statement.specs.declared.line.Line.TheVariants as lines
 use Rattle.dsr_statement.specs.declared.fault.StatementFault.TheVariants as faults
 use Rattle.dsr_statement.specs.declared.verdict.Status.{Status}
 use Rattle.dsr_statement.specs.declared.verdict.Status.TheVariants as statuses
-use Rattle.dsr_statement.specs.meaning.Order.{adds_up, follows, is_end, is_placed, is_sealed, placed, seals}
+use Rattle.dsr_statement.specs.meaning.Order.{adds_up, files_in, follows, is_end, is_placed, is_sealed, placed, seals}
 use Rattle.dsr_statement.specs.meaning.Status.{is_remark, status_eq, status_of_lines}
 use Rattle.dsr_statement.specs.meaning.Statements.{AreInPlace, IsSealed, IsStatement}
+use Rattle.dsr_statement.proofs.Again.{not_both}
 
 -- the lines after others are in their places
 pub behind : (before xs ys : List Line) → AreInPlace before (xs ++ ys) → AreInPlace (reverse xs ++ before) ys
@@ -40,12 +41,12 @@ after_end : (files n : ℕ) (s : Status) (l : Line) → follows files l (lines.E
 after_end files n s (lines.Report key) = refl
 after_end files n s _ = refl
 
-nothing_behind : (before : List Line) (l : Line) → is_sealed before ≡ true → placed before l ≡ Ok l → ⊥
-nothing_behind [] l sealed h = cc
-nothing_behind (lines.End n s ∷ before) l sealed h =
-    let may = (is_in_place (lines.End n s ∷ before) l h).0 in let not = after_end _ n s l in cc
-nothing_behind (lines.Report key ∷ before) l sealed h = cc
-nothing_behind (_ ∷ before) l sealed h = cc
+nothing_behind : (before : List Line) (l : Line) → placed before l ≡ Ok l → is_sealed before ≡ false
+nothing_behind [] l h = refl
+nothing_behind (lines.End n s ∷ before) l h =
+    not_both (follows (files_in before) l (lines.End n s)) (is_in_place (lines.End n s ∷ before) l h).0 (after_end (files_in before) n s l)
+nothing_behind (lines.Report key ∷ before) l h = refl
+nothing_behind (_ ∷ before) l h = refl
 
 -- no more lines behind those that are sealed
 pub no_prefix : (ls more : List Line) → IsSealed ls → IsSealed (ls ++ more) → more ≡ []
@@ -53,7 +54,7 @@ no_prefix ls [] short long = refl
 no_prefix ls (l ∷ more) short long =
     let rest : AreInPlace (reverse ls) (l ∷ more) =
     subst (λ (b : List Line). AreInPlace b (l ∷ more)) (append-nil (reverse ls)) (behind [] ls (l ∷ more) long.statement.places) in
-    absurd (nothing_behind (reverse ls) l short.sealed rest.0)
+    not_both (is_sealed (reverse ls)) short.sealed (nothing_behind (reverse ls) l rest.0)
 
 same_status : (s t : Status) → status_eq s t ≡ true → s ≡ t
 same_status statuses.Clean statuses.Clean h = refl

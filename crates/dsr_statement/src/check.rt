@@ -1,5 +1,6 @@
 //! Whether a line is one that a statement may have: whether each cell is spelled as in a report and in its range.
 ghost use Rattle.std.specs.Prelude.{true, ◌≡◌, ◌^◌, ◌&&◌, nat_lt};
+ghost use Rattle.std.specs.List.{list_all};
 ghost use Rattle.dsr_cells.specs.meaning.Texts.{is_isrc_text};
 ghost use Rattle.dsr_statement.specs.declared.verdict.Status.{Status as StatusValue};
 ghost use Rattle.dsr_statement.specs.meaning.Digests.{is_small_hex, is_sha256_text};
@@ -200,11 +201,18 @@ fn is_small_hex(byte: u8) -> bool
     byte.is_ascii_digit() || (b'a' <= byte && byte <= b'f')
 }
 
+/// Whether every byte is a digit or a small letter a to f.
+fn all_small_hex(bytes: &[u8]) -> bool
+    ensures { result ≡ list_all is_small_hex bytes.now }
+{
+    bytes.iter().all(|byte| is_small_hex(*byte))
+}
+
 /// Whether a text is a SHA-256: 64 digits and small letters a to f.
 fn is_sha256(text: &str) -> bool
     ensures { result ≡ is_sha256_text text.now }
 {
-    text.as_bytes().iter().all(|byte| is_small_hex(*byte)) && text.len() == 64
+    all_small_hex(text.as_bytes()) && text.len() == 64
 }
 
 /// Whether the parts of the layout's line are spelled as in a seal.
