@@ -19,4 +19,5 @@ pub mod ReportPlaces
 pub mod ReportAgain
 pub mod OneLedger
 pub mod Sealed
+pub mod SealTexts
 pub mod SealedAgain

@@ -1,18 +1,17 @@
 -- What the reader keeps of lines is enough for the next one.
-use Rattle.std.proofs.Common.{arith, ◌≡◌, ℕ, suc, List, [], ◌∷◌, length, Bool, true, false, cond, refl, ap, sym, ◌∙◌, Option, Some, None, Ok, Err, nat_le}
+use Rattle.std.proofs.Common.{◌≡◌, ℕ, suc, List, [], ◌∷◌, true, false, cond, refl, ap, ◌∙◌, nat_le}
 use Rattle.std.specs.Prelude.{◌&&◌, is_some, ℤ, ◌-ℤ◌}
 use Rattle.std.specs.Ordering.{int_eq}
 use Rattle.std.specs.Str.{bytes_eq}
 use Rattle.std.proofs.lemmas.Bool.{and_parts}
 use Rattle.std.proofs.lemmas.Slice.Eq.{bytes_eq-Decides}
-use Rattle.std.specs.List.{list_any}
 use Rattle.dsr_ledger.specs.meaning.Bookings.{Key, key_eq}
 use Rattle.dsr_statement.specs.declared.line.Line.{Line}
 use Rattle.dsr_statement.specs.declared.line.Line.TheVariants as lines
 use Rattle.dsr_statement.specs.declared.reader.StatementReader.{StatementReader}
 use Rattle.dsr_statement.specs.declared.verdict.Status.TheVariants.{Clean, Remarks}
-use Rattle.dsr_statement.specs.meaning.Order.{adds_up, file_follows, files_in, follows, follows_reject, input_follows, end_follows, is_complete, is_key_below, is_placed, is_sealed, is_text_below, ledger_follows, left_of, missing_follows, of_latest, party_follows, reject_follows, summary_follows, unclaimed_follows}
-use Rattle.dsr_statement.specs.meaning.Status.{is_remark, status_of_lines}
+use Rattle.dsr_statement.specs.meaning.Order.{adds_up, file_follows, files_in, follows_reject, input_follows, end_follows, is_complete, is_key_below, is_placed, is_sealed, is_text_below, ledger_follows, left_of, missing_follows, of_latest, party_follows, reject_follows, summary_follows, unclaimed_follows}
+use Rattle.dsr_statement.specs.meaning.Status.{status_of_lines}
 use Rattle.dsr_statement.specs.inner.After.{IsAfter, IsKeyOf, IsLeftOf, IsPartyOf, fits, kept, last_of}
 use Rattle.dsr_statement.specs.inner.Lasts.{end_fits, ends, file_fits, fits_nothing, fits_reject, fits_start, input_fits, ledger_fits, missing_fits, party_fits, reject_fits, summary_fits, unclaimed_fits}
 use Rattle.dsr_statement.proofs.RemarkLines.{any_remark, remark_next, remark_same}

@@ -1,10 +1,9 @@
 -- Sealed statements: how many lines they have, and that they are read again.
-use Rattle.std.proofs.Common.{arith, ◌≡◌, ◌≤◌, ℕ, suc, ◌+◌, List, [], ◌∷◌, ◌++◌, length, map, Bool, true, false, cond, refl, ap, sym, subst, ◌∙◌, inl, inr, append_assoc, append-nil, length-append, Option, Some, None, Ok, Err, eqb, nat_le}
-use Rattle.std.specs.Prelude.{◌&&◌, ◌||◌, reverse}
-use Rattle.std.specs.List.{flat_map, list_all, list_any}
-use Rattle.std.proofs.lemmas.Bool.{and_parts, and_from, cases_Bool, eqb-true, eq-eqb, le-leb}
-use Rattle.std.proofs.lemmas.List.{length-reverse, reverse-append, reverse-reverse}
-use Rattle.std.proofs.lemmas.List.Folds.{list_all-append, list_any-append}
+use Rattle.std.proofs.Common.{arith, ◌≡◌, ℕ, List, [], ◌∷◌, ◌++◌, length, Bool, true, false, cond, refl, ap, sym, subst, ◌∙◌, inl, inr, append_assoc, append-nil, length-append, Ok, Err, eqb}
+use Rattle.std.specs.Prelude.{reverse}
+use Rattle.std.specs.List.{list_any}
+use Rattle.std.proofs.lemmas.Bool.{and_parts, cases_Bool, eqb-true}
+use Rattle.std.proofs.lemmas.List.{length-reverse, reverse-append}
 use Rattle.std.proofs.lemmas.List.Sorted.{IsPermutation-reverse, list_any-IsPermutation}
 use Rattle.dsr_statement.specs.declared.line.Line.{Line}
 use Rattle.dsr_statement.specs.declared.line.Line.TheVariants as lines
@@ -13,7 +12,7 @@ use Rattle.dsr_statement.specs.declared.verdict.Status.{Status}
 use Rattle.dsr_statement.specs.declared.verdict.Status.TheVariants as statuses
 use Rattle.dsr_statement.specs.meaning.Order.{adds_up, files_in, follows, is_end, is_placed, is_sealed, placed, seals}
 use Rattle.dsr_statement.specs.meaning.Status.{is_remark, status_eq, status_of_lines}
-use Rattle.dsr_statement.specs.meaning.Statements.{AreInPlace, IsSealed, IsStatement}
+use Rattle.dsr_statement.specs.meaning.Statements.{AreInPlace, IsSealed}
 use Rattle.dsr_statement.proofs.Again.{not_both}
 
 -- the lines after others are in their places
@@ -62,7 +61,7 @@ same_status statuses.Remarks statuses.Remarks h = refl
 same_status statuses.Clean statuses.Remarks h = cc
 same_status statuses.Remarks statuses.Clean h = cc
 
-any_reverse : (test : Line → Bool) (ls : List Line) → list_any test ls ≡ list_any test (reverse ls)
+pub any_reverse : (test : Line → Bool) (ls : List Line) → list_any test ls ≡ list_any test (reverse ls)
 any_reverse test ls = list_any-IsPermutation test ls (reverse ls) (IsPermutation-reverse ls)
 
 -- END has the number and the status of the lines before it

@@ -1,11 +1,8 @@
 -- The sealed statement of a readable report is a statement, and sealed.
-use Rattle.std.proofs.Common.{arith, lit<, ◌≡◌, ◌<◌, ◌≤◌, ◌^◌, ℕ, suc, ◌+◌, List, [], ◌∷◌, ◌++◌, length, map, Bool, true, false, cond, refl, ap, sym, subst, ◌∙◌, append_assoc, append-nil, length-append, Option, Some, None, Ok, nat_eq, nat_lt, nat_le}
-use Rattle.std.specs.Prelude.{◌&&◌, ◌||◌, not, codes, decimal, reverse}
-use Rattle.std.specs.List.{flat_map, join_with_byte, list_all, list_any}
-use Rattle.std.specs.Str.{is_utf8}
-use Rattle.std.proofs.lemmas.Bool.{and_parts, and_from, eq-eqb, le-leb, ltb-true}
-use Rattle.std.proofs.lemmas.Bool.Decides.{nat_tests}
-use Rattle.std.proofs.lemmas.Fmt.{length-decimal-le}
+use Rattle.std.proofs.Common.{arith, ◌≡◌, ◌<◌, ℕ, suc, ◌+◌, List, [], ◌∷◌, ◌++◌, length, map, true, false, cond, refl, ap, sym, subst, ◌∙◌, append_assoc, append-nil, Option, Some, None, Ok, nat_le}
+use Rattle.std.specs.Prelude.{◌&&◌, reverse}
+use Rattle.std.specs.List.{flat_map, list_all, list_any}
+use Rattle.std.proofs.lemmas.Bool.{and_from, eq-eqb, le-leb}
 use Rattle.std.proofs.lemmas.List.{length-reverse, reverse-append}
 use Rattle.std.proofs.lemmas.List.Concat.{flat_map-cons}
 use Rattle.std.proofs.lemmas.List.Folds.{list_all-append, list_any-append}
@@ -22,17 +19,18 @@ use Rattle.dsr_statement.specs.declared.line.Line.TheVariants as lines
 use Rattle.dsr_statement.specs.declared.verdict.Status.{Status}
 use Rattle.dsr_statement.specs.declared.verdict.Status.TheVariants as statuses
 use Rattle.dsr_statement.specs.meaning.Digests.{Digest}
-use Rattle.dsr_statement.specs.meaning.Lines.{is_line, line_text}
-use Rattle.dsr_statement.specs.meaning.Order.{files_in, follows_layout, follows_reject, input_follows, is_complete, is_end, is_sealed, may_end, of_latest, placed}
-use Rattle.dsr_statement.specs.meaning.Readings.{IsReading, most_bytes}
-use Rattle.dsr_statement.specs.meaning.Seals.{AreDigestsOf, inputs_from, layout_lines, origin_lines, seal_lines, seal_of, sealed_lines}
+use Rattle.dsr_statement.specs.meaning.Lines.{is_line}
+use Rattle.dsr_statement.specs.meaning.Order.{files_in, follows_layout, follows_reject, input_follows, is_complete, is_end, is_sealed, of_latest}
+use Rattle.dsr_statement.specs.meaning.Readings.{IsReading}
+use Rattle.dsr_statement.specs.meaning.Seals.{AreDigestsOf, inputs_from, origin_lines, seal_lines, seal_of, sealed_lines}
 use Rattle.dsr_statement.specs.meaning.Statement.{files_from, head_of, lines_of_ledger, statement_lines, text_of}
-use Rattle.dsr_statement.specs.meaning.Statements.{AreInPlace, IsReadable, IsSealed, IsStatement, has_no_feed, is_text}
+use Rattle.dsr_statement.specs.meaning.Statements.{AreInPlace, IsReadable, IsSealed, is_text}
 use Rattle.dsr_statement.specs.meaning.Status.{is_remark, status_eq, status_of, status_of_lines}
 use Rattle.dsr_statement.proofs.AgainTexts.{is_read_again}
 use Rattle.dsr_statement.proofs.RemarkLines.{report_status}
 use Rattle.dsr_statement.proofs.ReportPlaces.{is_statement, placed_ok}
 use Rattle.dsr_statement.proofs.Sealed.{any_reverse}
+use Rattle.dsr_statement.proofs.SealTexts.{seal_texts}
 
 -- lines behind others are in their places if they are behind these, whole
 in_place_then : (before xs ys : List Line) → AreInPlace before xs → (is_complete (reverse xs ++ before) ≡ true → AreInPlace (reverse xs ++ before) ys)
@@ -44,8 +42,8 @@ in_place_then before (x ∷ xs) ys h then =
 
 -- how many FILE lines there are
 files_append : (a b : List Line) → files_in (a ++ b) ≡ files_in a + files_in b
-files_append [] b = refl
-files_append (lines.File place f ∷ a) b = ap suc (files_append a b)
+files_append [] b = omega arith
+files_append (lines.File place f ∷ a) b = omega (arith, files_append a b)
 files_append (lines.Report key ∷ a) b = files_append a b
 files_append (_ ∷ a) b = files_append a b
 
@@ -119,13 +117,14 @@ no_end_head None ls h = h
 
 no_end_report : (r : Report) → list_any is_end (statement_lines r) ≡ false
 no_end_report r =
-    let rejects = no_end (λ (x : Reject). lines.Reject x) (λ x. refl) r.rejects in
-    let differences = no_end (λ (d : Difference). lines.Summary d) (λ d. refl) r.differences in
-    let missing = no_end (λ (n : ℕ). lines.Missing n) (λ n. refl) r.missing in
-    no_end_head r.key _ (neither (files_from 1 r.files) _ (no_end_files 1 r.files)
-    (neither (map (λ (n : ℕ). lines.Missing n) r.missing) _ missing
-    (neither (map (λ (d : Difference). lines.Summary d) r.differences) _ differences
-    (neither (flat_map lines_of_ledger r.ledger) (map (λ (x : Reject). lines.Reject x) r.rejects) (no_end_ledger r.ledger) rejects))))
+    let rejects = map (λ (x : Reject). lines.Reject x) r.rejects in let ledger = flat_map lines_of_ledger r.ledger in
+    let differences = map (λ (d : Difference). lines.Summary d) r.differences in
+    let missing = map (λ (n : ℕ). lines.Missing n) r.missing in let files = files_from 1 r.files in
+    no_end_head r.key (files ++ (missing ++ (differences ++ (ledger ++ rejects))))
+    (neither files (missing ++ (differences ++ (ledger ++ rejects))) (no_end_files 1 r.files)
+    (neither missing (differences ++ (ledger ++ rejects)) (no_end (λ (n : ℕ). lines.Missing n) (λ n. refl) r.missing)
+    (neither differences (ledger ++ rejects) (no_end (λ (d : Difference). lines.Summary d) (λ d. refl) r.differences)
+    (neither ledger rejects (no_end_ledger r.ledger) (no_end (λ (x : Reject). lines.Reject x) (λ x. refl) r.rejects)))))
 
 -- lines that are whole and have no END are ready for a seal
 ready : (before : List Line) → list_any is_end before ≡ false → is_complete before ≡ true → of_latest false follows_reject before ≡ true
@@ -201,10 +200,7 @@ same_status s t e = ap (status_eq s) (sym e) ∙ itself s
     itself statuses.Remarks = refl
 
 module _ (key : ReportKey) (r : Report) (h : IsReadable key r) (layout : Option Digest) (inputs : List Digest) (d : AreDigestsOf layout inputs r) where
-  statement : List Line
-  statement = statement_lines r
-
-  places : AreInPlace [] (statement ++ seal_of layout inputs r)
+  places : AreInPlace [] (sealed_lines layout inputs r)
   places =
       let none = append-nil (reverse (statement_lines r)) in
       let of_report : status_of r ≡ status_of_lines (reverse (statement_lines r)) =
@@ -215,3 +211,28 @@ module _ (key : ReportKey) (r : Report) (h : IsReadable key r) (layout : Option 
       (ready (reverse (statement_lines r)) (sym (any_reverse is_end (statement_lines r)) ∙ no_end_report r) (ap is_complete (sym none) ∙ whole))
       (files_reverse (statement_lines r) ∙ files_of_report r ∙ sym d.each) (sym (length-reverse (statement_lines r)))
       (same_status (status_of r) (status_of_lines (reverse (statement_lines r))) of_report)))
+
+  -- they are a statement, and sealed
+  pub is_sealed_statement : IsSealed (sealed_lines layout inputs r)
+  is_sealed_statement =
+      let one = is_statement key r h in
+      let end = lines.End (length (statement_lines r) + length (origin_lines layout inputs)) (status_of r) ∷ [] in
+      let whole : (statement_lines r ++ origin_lines layout inputs) ++ end ≡ sealed_lines layout inputs r =
+      append_assoc (statement_lines r) (origin_lines layout inputs) end in
+      record {
+        statement =
+            record {
+              spelled =
+                  list_all-append is_line (statement_lines r) (seal_of layout inputs r)
+                  ∙ and_from (list_all is_line (statement_lines r)) (list_all is_line (seal_of layout inputs r)) one.spelled d.spelled;
+              texts =
+                  list_all-append is_text (statement_lines r) (seal_of layout inputs r)
+                  ∙ and_from (list_all is_text (statement_lines r)) (list_all is_text (seal_of layout inputs r)) one.texts
+                  (seal_texts layout inputs (length (statement_lines r)) (status_of r) d.spelled);
+              places = places;
+            };
+        sealed = ap (λ ls. is_sealed (reverse ls)) (sym whole) ∙ ap is_sealed (reverse-append (statement_lines r ++ origin_lines layout inputs) end);
+      }
+
+  pub sealed_again : IsReading (text_of (sealed_lines layout inputs r)) (Ok (sealed_lines layout inputs r))
+  sealed_again = is_read_again (sealed_lines layout inputs r) is_sealed_statement.statement

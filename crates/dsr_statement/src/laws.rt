@@ -64,6 +64,15 @@ pub fn one_ledger()
         → statement_of first ≡ statement_of last → first.ledger ≡ last.ledger }
 {}
 
+/// The sealed statement of a readable report is a sealed statement: so its lines are read from their text.
+pub fn sealed_report_is_read_again()
+    ensures sealed { (key : ReportKey) (report : Report) (layout : Option Digest) (inputs : List Digest)
+        → IsReadable key report → AreDigestsOf layout inputs report → IsSealed (sealed_lines layout inputs report) }
+    ensures again { (key : ReportKey) (report : Report) (layout : Option Digest) (inputs : List Digest)
+        → IsReadable key report → AreDigestsOf layout inputs report
+        → IsReading (text_of (sealed_lines layout inputs report)) (Ok (sealed_lines layout inputs report)) }
+{}
+
 /// The status of a report is that of the lines of its statement.
 #[tactic(auto, using(crate::proofs::RemarkLines::report_status))]
 pub fn status_is_that_of_the_lines()
