@@ -1,19 +1,19 @@
 -- A statement is read again from the text of its lines.
-use Rattle.std.proofs.Common.{rules, arith, ◌≡◌, ℕ, List, [], ◌∷◌, ◌++◌, length, get_or, Bool, true, false, refl, ap, sym, subst, ◌∙◌, append_assoc, inl, inr, None, Result, Ok, Err, eqb, nat_lt, nat_le}
+use Rattle.std.proofs.Common.{rules, arith, ◌≡◌, ℕ, List, [], ◌∷◌, ◌++◌, length, get_or, true, false, refl, ap, sym, subst, ◌∙◌, append_assoc, inl, inr, None, Result, Ok, Err, eqb, nat_lt, nat_le}
 use Rattle.std.specs.Prelude.{codes, not, ◌&&◌}
-use Rattle.std.specs.List.{list_all, join_with_byte, onto_first}
+use Rattle.std.specs.List.{list_all, onto_first}
 use Rattle.std.specs.Str.{IsAscii, is_utf8}
 use Rattle.std.proofs.lemmas.Bool.{and_parts, and_from, cases_Bool, eq-eqb}
 use Rattle.std.proofs.lemmas.Bool.Decides.{nat_tests}
 use Rattle.std.proofs.lemmas.Str.{IsUtf8-from_ascii, is_utf8-from_IsUtf8}
 use Rattle.std.proofs.lemmas.List.Concat.{flat_map-cons}
-use Rattle.std.proofs.lemmas.List.Folds.{list_all-append, list_all_at}
+use Rattle.std.proofs.lemmas.List.Folds.{list_all_at}
 use Rattle.std.proofs.lemmas.List.Splits.{slice_split-cons_yes, slice_split-cons_no}
 use Rattle.dsr_cells.proofs.Splits.{Lacks, pieces, pieces_first}
 use Rattle.dsr_statement.specs.declared.line.Line.{Line}
 use Rattle.dsr_statement.specs.declared.line.Line.TheVariants as lines
 use Rattle.dsr_statement.specs.declared.fault.StatementFault.TheVariants as faults
-use Rattle.dsr_statement.specs.meaning.Lines.{cell_texts, line_bytes, line_cells, line_text, is_line}
+use Rattle.dsr_statement.specs.meaning.Lines.{line_bytes, line_text, is_line}
 use Rattle.dsr_statement.specs.meaning.Readings.{IsLineOf, IsReading, IsReadingAfter, Refusal, bytes_fault, most_bytes, refused_after}
 use Rattle.dsr_statement.specs.meaning.Statement.{text_of}
 use Rattle.dsr_statement.specs.meaning.Statements.{AreInPlace, IsStatement, has_no_feed, is_text}
