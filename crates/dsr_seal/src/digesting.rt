@@ -1,5 +1,5 @@
 //! A source that makes the digest of the bytes that it gives.
-ghost use Rattle.std.specs.Prelude.{◌≡◌, ◌×◌, ℕ, ◌<◌, ◌^◌, List, [], length};
+ghost use Rattle.std.specs.Prelude.{◌≡◌, ℕ, ◌<◌, ◌^◌, List, [], length};
 ghost use Rattle.dsr_seal.specs.meaning.Digests.{digest_of};
 ghost use Rattle.sha2.specs.Hashers.{Holds256};
 
@@ -30,6 +30,8 @@ impl<R: Source> Digesting<R> {
 
     /// The digest of all bytes that it gave, if they are fewer than 2^61, for which SHA-256 is defined.
     pub fn into_digest(self) -> Digest
+    where
+        R: Drop,
         ensures { (given : List ℕ) → ⟦<Digesting<R> as Source>⟧.holds self given → length given < 2 ^ 61
             → result ≡ digest_of given }
     {
@@ -41,7 +43,7 @@ impl<R: Source> Digesting<R> {
 impl<R: Source> Source for Digesting<R> {
     ghost told = { λ s. R.told s.source };
 
-    /// Its state is that of the digest of exactly these bytes, and so many are counted.
+    // Its state is that of the digest of exactly these bytes, and so many are counted.
     ghost holds = { λ s given. Holds256 s.hasher given × (length given < 2 ^ 61 → s.bytes ≡ length given) };
 
     /// A read that fails or gives no bytes adds nothing to the digest.
