@@ -1,15 +1,18 @@
 //! An outlet that counts the lines that it takes.
-ghost use Rattle.std.specs.Prelude.{◌≡◌};
-ghost use Rattle.dsr_seal.specs.meaning.Counts.{IsCounted, line_feeds};
+ghost use Rattle.std.specs.Prelude.{◌≡◌, ◌≤◌};
+ghost use Rattle.dsr_seal.specs.meaning.Counts.{IsCounted, IsInside, line_feeds, told_counted};
 
 use dsr_io::{Failed, Outlet};
 
-/// An outlet that passes on to another one what it takes, and counts the line feeds of it.
+/// An outlet that passes on to another one what it takes, and counts its bytes and line feeds. What it holds is known to
+/// contracts while the number of line feeds is that of the bytes that it took: from the beginning on, if it was known then.
 #[derive(Drop)]
 pub struct Counted<O: Outlet> {
     out: O,
+    bytes: u64,
     lines: u64,
-    ghost counted: { IsCounted lines (O.told out) },
+    ghost all: { bytes ≡ (O.told out).taken },
+    ghost few: { lines ≤ bytes },
 }
 
 impl<O: Outlet> Counted<O> {
@@ -18,10 +21,21 @@ impl<O: Outlet> Counted<O> {
         requires { (O.told out).taken ≡ 0 }
         ensures { ⟦<Counted<O> as Outlet>⟧.told result ≡ O.told out }
     {
-        Counted { out, lines: 0 }
+        Counted {
+            out,
+            bytes: 0,
+            lines: 0,
+        }
     }
 
-    /// The number of line feeds that it took.
+    /// The number of bytes that it took.
+    pub fn taken(&self) -> u64
+        ensures { result ≡ (⟦<Counted<O> as Outlet>⟧.told self.now).taken }
+    {
+        self.bytes
+    }
+
+    /// The number of line feeds among them.
     pub fn lines(&self) -> u64
         ensures { IsCounted result (⟦<Counted<O> as Outlet>⟧.told self.now) }
     {
@@ -30,30 +44,20 @@ impl<O: Outlet> Counted<O> {
 
     /// Returns the outlet to which it passes on.
     pub fn into_outlet(self) -> O
-        ensures { O.told result ≡ ⟦<Counted<O> as Outlet>⟧.told self }
+        ensures { IsInside (⟦<Counted<O> as Outlet>⟧.told self) (O.told result) }
     {
         let Counted { out, .. } = self;
         out
     }
 }
 
-/// The number of line feeds.
-fn line_feeds(bytes: &[u8]) -> u64
-    ensures { result ≡ line_feeds bytes.now }
-{
-    let mut count = 0;
-    for byte in bytes {
-        count += u64::from(*byte == b'\n');
-    }
-    count
-}
-
 impl<O: Outlet> Outlet for Counted<O> {
-    ghost told = { λ s. O.told s.out };
+    ghost told = { λ s. told_counted s.lines (O.told s.out) };
 
     /// Of a write that fails nothing is counted.
     fn write(&mut self, piece: &[u8]) -> Result<usize, Failed> {
         let count = self.out.write(piece)?;
+        self.bytes += count as u64;
         self.lines += line_feeds(&piece[..count]);
         Ok(count)
     }
@@ -65,4 +69,17 @@ impl<O: Outlet> Outlet for Counted<O> {
     fn failed(&self) -> bool {
         self.out.failed()
     }
+}
+
+/// The number of line feeds.
+fn line_feeds(bytes: &[u8]) -> u64
+    ensures { result ≡ line_feeds bytes.now }
+{
+    let mut count = 0;
+    for byte in bytes {
+        if *byte == b'\n' {
+            count += 1;
+        }
+    }
+    count
 }

@@ -1,9 +1,9 @@
 //! Writing the seal of a statement.
-ghost use Rattle.std.specs.Prelude.{◌≡◌, ◌≤◌, length, take, OnOk, IfErr};
+ghost use Rattle.std.specs.Prelude.{◌≡◌, ◌≤◌, ◌+◌, ◌-◌, ◌^◌, length, min, take, OnOk, IfErr};
 ghost use Rattle.std.specs.Option.{option_map};
 ghost use Rattle.dsr_io.specs.meaning.Written.{IsFlushed, IsCut};
 ghost use Rattle.dsr_statement.specs.inner.Pieces.{Puts};
-ghost use Rattle.dsr_statement.specs.meaning.Seals.{inputs_from, layout_lines, seal_lines};
+ghost use Rattle.dsr_statement.specs.meaning.Seals.{inputs_from, layout_lines, origin_lines, seal_lines};
 ghost use Rattle.dsr_statement.specs.meaning.Statement.{text_of};
 
 use crate::digest::Digest;
@@ -46,9 +46,13 @@ pub fn write_seal<W: Outlet>(
     answer
 }
 
-/// The number of all lines before END.
-fn lines_before_end(layout: Option<&Digest>, inputs: &[Digest], lines: u64) -> u64 {
-    // A sum past 2^64 - 1 is never written: the outlet takes no byte past 2^64 - 1, and so many lines would be more.
+/// The number of all lines before END, but at most 2^64 - 1. A larger one is never written: the outlet takes no byte past
+/// 2^64 - 1, and so fails before END.
+fn lines_before_end(layout: Option<&Digest>, inputs: &[Digest], lines: u64) -> u64
+    ensures { result ≡ min
+        (lines + length (origin_lines (option_map (λ d. d.now) layout.entry) inputs.now))
+        (2 ^ 64 - 1) }
+{
     lines
         .saturating_add(u64::from(layout.is_some()))
         .saturating_add(inputs.len() as u64)
