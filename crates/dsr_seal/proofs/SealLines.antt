@@ -1,6 +1,8 @@
 -- The lines of a seal: how many they are, and putting them one after another.
 use Rattle.std.proofs.Common.{arith, ◌≡◌, ℕ, suc, ◌+◌, ◌<◌, ◌≤◌, List, [], ◌∷◌, ◌++◌, length, take, get_or, ap, sym, refl, ◌∙◌, append_assoc, length-append}
-use Rattle.std.specs.Prelude.{Option, None, Some, is_some, cond}
+use Rattle.std.specs.Prelude.{Option, None, Some, is_some, Bool}
+use Rattle.std.specs.Option.{option_map}
+use mir.Val.{bool_byte}
 use Rattle.std.proofs.lemmas.Grind.{flat_map-append}
 use Rattle.std.proofs.lemmas.List.{append-nil, length-take-le, take_more}
 use Rattle.dsr_statement.specs.declared.verdict.Status.{Status}
@@ -48,11 +50,16 @@ more_inputs {W} {told} {p} {q} {r} {digest} inputs i place d less at before now 
     let line = ap (λ xs. text_of (inputs_from 1 xs)) next ∙ inputs_more 1 was digest in
     turn (then before (turn now (ap (λ n. line_bytes (lines.Input n digest)) here))) (sym line)
 
--- one line more of a layout
-pub length-origin_lines : (layout : Option Digest) (inputs : List Digest)
-    → length (origin_lines layout inputs) ≡ cond (is_some layout) 1 0 + length inputs
-length-origin_lines None inputs = length-inputs_from 1 inputs ∙ omega arith
-length-origin_lines (Some digest) inputs = let e = length-inputs_from 1 inputs in omega (arith, e)
+-- a layout has one line, and each file has one
+pub length-origin_lines : {T : Type 0} (view : T → Digest) (layout : Option T) (inputs : List Digest) (is : Bool) (one : ℕ)
+    → is ≡ is_some layout → one ≡ bool_byte is → length (origin_lines (option_map view layout) inputs) ≡ one + length inputs
+length-origin_lines view None inputs is one e n =
+    let zero_lines : one ≡ 0 = n ∙ ap bool_byte e in
+    length-inputs_from 1 inputs ∙ omega (arith, zero_lines)
+length-origin_lines view (Some digest) inputs is one e n =
+    let one_line : one ≡ 1 = n ∙ ap bool_byte e in
+    let rest = length-inputs_from 1 inputs in
+    omega (arith, one_line, rest)
 
 abbrev pub end : Status → ℕ → List ℕ
 end status count = line_bytes (lines.End count status)
