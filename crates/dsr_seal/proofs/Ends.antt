@@ -26,10 +26,10 @@ module _ (lines more : ℕ) (front : List ℕ) (end : ℕ → List ℕ) (before 
   cut_seal n (part, h) =
       let less : n ≤ 2 ^ 64 - 1 - before.taken = omega (arith, h.counted.1, length-take-le n put part) in
       elim (cases_lt (2 ^ 64 - 1) (lines + more)) [
-        inr e ↦
+        | inr e ↦
             let same : min (lines + more) (2 ^ 64 - 1) ≡ lines + more = omega (arith, e) in
             subst (λ k. (n ≤ length (front ++ end k)) × IsCut (take n (front ++ end k)) before after) same (part, h)
-      | inl e ↦
+        | inl e ↦
             let first : n ≤ length front = omega (arith, e, less, range, few, enough) in
             let cut : take n put ≡ take n seal =
             take-append-le n front (end (min (lines + more) (2 ^ 64 - 1))) first ∙ sym (take-append-le n front (end (lines + more)) first) in

@@ -10,3 +10,6 @@ pub use counted::Counted;
 pub use digest::Digest;
 pub use digesting::Digesting;
 pub use write::write_seal;
+
+#[cfg(test)]
+mod tests;

@@ -18,12 +18,12 @@ returns-clause-whole g c =
     let front = text_of origin in
     let line = end c.args.status in
     let puts = turn (seal_put layout inputs (line c.lines_before_end.result) c.put_layout.ensures c.put_inputs.ensures c.put_line.ensures)
-        (ap (λ n. front ++ line n) c.lines_before_end.ensures) in
+    (ap (λ n. front ++ line n) c.lines_before_end.ensures) in
     let all = puts.holds [] before c.new-pieces.ensures.nothing in
     let range : c.args.lines < 2 ^ 64 = search rules in
     let here = if_ok c.finish-answer.result
-        (λ whole. subst (λ t. IsFlushed t before (g.W.Outlet.told c.finish-answer.new.self.sender.out.now)) (seal_is layout inputs c.args.lines c.args.status)
-        (flushed_seal c.args.lines (length origin) front line before _ range c.requires (lines_within origin) (whole _ before all))) c.finish-answer.ensures.whole in
+    (λ whole. subst (λ t. IsFlushed t before (g.W.Outlet.told c.finish-answer.new.self.sender.out.now)) (seal_is layout inputs c.args.lines c.args.status)
+    (flushed_seal c.args.lines (length origin) front line before _ range c.requires (lines_within origin) (whole _ before all))) c.finish-answer.ensures.whole in
     search rules
 
 pub returns-clause-part : goal.returns-clause-part
@@ -35,10 +35,10 @@ returns-clause-part g c =
     let front = text_of origin in
     let line = end c.args.status in
     let puts = turn (seal_put layout inputs (line c.lines_before_end.result) c.put_layout.ensures c.put_inputs.ensures c.put_line.ensures)
-        (ap (λ n. front ++ line n) c.lines_before_end.ensures) in
+    (ap (λ n. front ++ line n) c.lines_before_end.ensures) in
     let all = puts.holds [] before c.new-pieces.ensures.nothing in
     let range : c.args.lines < 2 ^ 64 = search rules in
     let here = if_err c.finish-answer.result
-        (λ n part. subst (λ t. (n ≤ length t) × IsCut (take n t) before (g.W.Outlet.told c.finish-answer.new.self.sender.out.now)) (seal_is layout inputs c.args.lines c.args.status)
-        (cut_seal c.args.lines (length origin) front line before _ range c.requires (lines_within origin) n (part _ before all))) c.finish-answer.ensures.part in
+    (λ n part. subst (λ t. (n ≤ length t) × IsCut (take n t) before (g.W.Outlet.told c.finish-answer.new.self.sender.out.now)) (seal_is layout inputs c.args.lines c.args.status)
+    (cut_seal c.args.lines (length origin) front line before _ range c.requires (lines_within origin) n (part _ before all))) c.finish-answer.ensures.part in
     search rules
