@@ -18,6 +18,7 @@ pub struct Digesting<R> {
 impl<R: Source> Digesting<R> {
     /// A source that passes on what this one gives.
     pub fn new(source: R) -> Digesting<R>
+        ensures source { result.source ≡ source }
         ensures told { ⟦<Digesting<R> as Source>⟧.told result ≡ R.told source }
         ensures nothing { ⟦<Digesting<R> as Source>⟧.holds result [] }
     {
