@@ -25,7 +25,8 @@ impl HostNew {
     ///
     /// `Failed`: it cannot be created. `Memory`: out of memory.
     pub(super) fn create(rt: HostRuntime, place: String) -> Result<HostNew, CreateFault>
-        ensures { IfOk result (λ n. (⟦<HostNew as Outlet>⟧.told n).failed ≡ false) }
+        ensures sound { IfOk result (λ n. (⟦<HostNew as Outlet>⟧.told n).failed ≡ false) }
+        ensures empty { IfOk result (λ n. (⟦<HostNew as Outlet>⟧.told n).taken ≡ 0) }
     {
         let mut digits = [0u8; 8];
         if rt.fill_bytes(&mut digits).is_err() {
