@@ -80,7 +80,7 @@ pub trait World {
         ensures opened { WhereTold (disk self.now) (λ d. IfOk result
             (IsSourceOf (Self.Reader.told) (Self.Reader.file) d.input d.input_file)) };
 
-    /// What the name is as a place for an output.
+    /// What the name is as a place for an output, its links followed.
     fn place(&self, name: &str) -> Place
         ensures { WhereTold (disk self.now) (λ d. result ≡ d.place name.now) };
 
@@ -104,7 +104,7 @@ pub trait World {
             × (Self.New.synced new.new ≡ (Self.New.told new.new).contents))
             (λ _. disk self.new ≡ option_map failing (disk self.old)) };
 
-    /// Gives a new file, of which all bytes were synced, this name.
+    /// Puts a new file, of which all bytes were synced, in the place of what this name stands for.
     ///
     /// # Errors
     ///
