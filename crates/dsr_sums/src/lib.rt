@@ -5,7 +5,7 @@
 //!    which keep the sums of each account (`sums`). What was paid is subtracted. A sum that leaves the range of 128 bits is
 //!    remembered, and nothing more is added. `seeded` has the hashers of the books.
 //! 3. `reports` has the reports of the statements that were read, which were given or paid, and refuses a statement for those
-//!    before it.
+//!    before it. [`Rules`] (`rules`) say what is taken beside sealed statements without remarks.
 //! 4. [`add_up`] (`answer`) reads one statement after another, and makes the text of their totals (`text`), or says why there
 //!    is none ([`TotalsError`]).
 //! 5. [`laws`] has the law of totals.
@@ -37,12 +37,14 @@ mod book;
 pub mod laws;
 mod reading;
 mod reports;
+mod rules;
 mod seeded;
 mod sums;
 mod text;
 mod totals;
 
 pub use answer::{TotalsError, add_up};
+pub use rules::Rules;
 
 #[cfg(test)]
 mod tests;
