@@ -1,6 +1,8 @@
 //! Reading a statement from a source, and adding its lines to the totals.
-ghost use Rattle.std.specs.Prelude.{◌≡◌, ◌≤◌, [], false, suc, List, OnOk, IfOk, IfErr, drop, take, length, vec_len};
+ghost use Rattle.std.specs.Prelude.{◌≡◌, ◌≤◌, ◌||◌, [], false, suc, List, OnOk, IfOk, IfErr, drop, take, length, vec_len};
 ghost use Rattle.dsr_statement.specs.declared.line.Line.{Line as LineValue};
+ghost use Rattle.dsr_statement.specs.inner.After.{IsAfter};
+ghost use Rattle.dsr_statement.specs.meaning.Order.{is_sealed};
 ghost use Rattle.dsr_sums.specs.meaning.Statements.{key_of_line, either};
 ghost use Rattle.dsr_sums.specs.inner.Readings.{Reads, TakesLine, TakesLines, HasNoLineFeed, IsRefusedAt, IsRefusedIn, FinishesAt, IsReadFrom};
 
@@ -55,6 +57,14 @@ fn key_in(alloc: Global, line: &Line<'_>) -> Result<Option<ReportKey>, NoMemory>
         Line::Report(report) => Ok(Some(copy_key(alloc, report)?)),
         _ => Ok(None),
     }
+}
+
+/// Whether a statement is taken that ends here: it is sealed, or need not be.
+fn is_taken(reader: &StatementReader, unsealed: bool) -> bool
+    ensures { (before : List LineValue) → IsAfter reader.now before
+        → result ≡ unsealed || is_sealed before }
+{
+    unsealed || reader.is_sealed()
 }
 
 impl Reading {
@@ -157,7 +167,7 @@ impl Reading {
         if let Err(fault) = reader.finish(rest, failed) {
             return Err(ReadingError::Refused(end, fault));
         }
-        if !unsealed && !reader.is_sealed() {
+        if !is_taken(&reader, unsealed) {
             return Err(ReadingError::Refused(end, StatementFault::Unsealed));
         }
         let remark = reader.remark();

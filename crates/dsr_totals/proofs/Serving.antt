@@ -17,7 +17,7 @@ use Rattle.dsr_io.specs.meaning.Written.{Written}
 use Rattle.dsr_totals.specs.declared.totaling.WriteError.{WriteError}
 use Rattle.dsr_totals.specs.Refusals.{dsr_totals}
 use Rattle.dsr_totals.specs.Totaling.{IsAnswerTold, status_after}
-use Rattle.dsr_totals.specs.Serving.{Ghosts, HadOutput, HadTexts, HadTotals, HadTotalsInto, IsEnded, IsServedFor, files_asked, texts_asked}
+use Rattle.dsr_totals.specs.Serving.{Ghosts, HadOutput, HadTexts, HadTotals, HadTotalsInto, IsEnded, HadStatements, files_asked, texts_asked}
 
 -- only this was told, and the output is as it was
 pub only_told : (out f h : Written) (text : List ℕ) → IsTold f h text → IsOnlyTold text (outputs out f) (outputs out h)
@@ -25,7 +25,7 @@ only_told out f h text told = record { out = refl; told = told }
 
 had_texts : {R N : Type 0} (g : Ghosts R N) (d : Disk) (left : Option Disk) (asked : Asked) (before after : Outputs) (s : ℕ)
     (texts : List (List ℕ)) (output : Option (List ℕ)) → texts_asked d asked ≡ Ok texts → asked.output ≡ output
-    → HadOutput g d left asked texts before after s output → IsServedFor g d left asked before after s
+    → HadOutput g d left asked texts before after s output → HadStatements g d left asked before after s
 had_texts g d left asked before after s texts output are is had =
     inl (subst (HadTexts g d left asked before after s) (sym are) (subst (HadOutput g d left asked texts before after s) (sym is) had))
 
@@ -40,7 +40,7 @@ pub stored : {R N : Type 0} (g : Ghosts R N) (file : R → Option FileIdentity) 
     → AreSources g.told file (texts_asked d asked) (files_asked d asked) sources
     → asked.output ≡ Some name → IsCreated g.written d between (None ∷ map file sources) name (Ok new)
     → HadTotalsInto g asked sources new name (made d) left f h s
-    → IsServedFor g d left asked (outputs out f) (outputs out h) s
+    → HadStatements g d left asked (outputs out f) (outputs out h) s
 stored g file d between left asked sources name new out f h s are is created had =
     let beside = subst (λ read. IsCreated g.written d between read name (Ok new)) (read_are g file d asked sources are) created in
     had_texts g d left asked (outputs out f) (outputs out h) s are.bytes (Some name) are.texts_are is
@@ -52,7 +52,7 @@ pub unstored : {R N : Type 0} (g : Ghosts R N) (file : R → Option FileIdentity
     → AreSources g.told file (texts_asked d asked) (files_asked d asked) sources
     → asked.output ≡ Some name → IsCreated g.written d left (None ∷ map file sources) name (Err error)
     → IsTold f h (new_file_line dsr_totals name error) → s ≡ new_file_status error
-    → IsServedFor g d left asked (outputs out f) (outputs out h) s
+    → HadStatements g d left asked (outputs out f) (outputs out h) s
 unstored g file d left asked sources name error out f h s are is none told status =
     let not = subst (λ read. IsCreated g.written d left read name (Err error)) (read_are g file d asked sources are) none in
     had_texts g d left asked (outputs out f) (outputs out h) s are.bytes (Some name) are.texts_are is

@@ -1,5 +1,5 @@
 -- What the sources of statements gave, and the totals of it.
-use Rattle.std.specs.Prelude.{◌≡◌, ◌⊎◌, ℕ, suc, ◌++◌, nat_lt, true, if◌then◌else◌, List, [], ◌∷◌, length, Ok, Err}
+use Rattle.std.specs.Prelude.{◌≡◌, ◌⊎◌, ℕ, suc, ◌++◌, nat_lt, Bool, true, if◌then◌else◌, List, [], ◌∷◌, length, Ok, Err}
 use Rattle.std.specs.Io.KnownBytes.{Consumes, IsAtEnd}
 use Rattle.dsr_io.specs.meaning.Told.{Told}
 use Rattle.dsr_statement.specs.meaning.Readings.{IsReadingOf}
