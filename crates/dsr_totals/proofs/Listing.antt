@@ -1,11 +1,13 @@
 -- The names in lists, cut off one after another.
-use Rattle.std.proofs.Common.{◌≡◌, ◌∙◌, ◌+◌, ◌<◌, ◌≢◌, ℕ, zero, suc, List, [], ◌∷◌, ◌++◌, true, false, refl, ap, ap₂, sym, subst, cond, Bool, length, length-append, take, drop, append_assoc, append-nil, arith, inl, inr, slice_index_or, drop-cons}
+use Rattle.std.proofs.Common.{◌≡◌, ◌∙◌, ◌+◌, ◌<◌, ◌≢◌, ℕ, zero, suc, List, [], ◌∷◌, ◌++◌, true, false, refl, ap, ap₂, sym, subst, cond, Bool, get_or, length, length-append, take, drop, append_assoc, append-nil, arith, inl, inr, slice_index_or, drop-cons}
 use Rattle.std.specs.Prelude.{◌⊎◌, ◌==◌, All, IsUtf8, Option, None, Some, Result, Ok, Err}
 use Rattle.std.specs.Io.KnownBytes.{Consumes, IsAtEnd}
-use Rattle.std.specs.List.{Any, Contains, flat_map, onto_first, slice_split}
-use Rattle.std.proofs.lemmas.Bool.{eq-eqb}
+use Rattle.std.specs.List.{Any, Contains, flat_map, onto_first, position, position_or_len, slice_split}
+use Rattle.std.proofs.lemmas.Bool.{cases_lt, eq-eqb, eqb-true, lt-ltb}
 use Rattle.std.proofs.lemmas.Grind.{flat_map-append}
-use Rattle.std.proofs.lemmas.List.{get_or_default, take_more, take-append-drop}
+use Rattle.std.proofs.lemmas.List.{get_or_default, get_or-take, length-take, take_more, take-append-drop}
+use Rattle.std.proofs.lemmas.List.Quantifiers.{position-Some}
+use Rattle.std.proofs.lemmas.List.Sums.{fails_before_first}
 use Rattle.std.proofs.lemmas.List.Splits.{slice_split_at, slice_split_none}
 use Rattle.dsr_command.specs.declared.inputs.OpenError.TheVariants.{CannotOpen, Memory}
 use Rattle.dsr_command.specs.declared.world.OpenFault.{OpenFault}
@@ -19,6 +21,32 @@ use Rattle.dsr_totals.specs.declared.lists.ListFault.{ListFault}
 use Rattle.dsr_totals.specs.declared.lists.ListFault.TheVariants as faults
 use Rattle.dsr_totals.specs.Lists.{AreListed, AreUnlisted, GaveAll, HasBadName, IsListFault, IsListRead, IsUnreadable, names_ended, names_in, names_listed, without_empty_last}
 use Rattle.dsr_totals.specs.Steps.{IsCutAt, IsUnopened, IsUnread}
+
+-- bytes are cut at their first end
+pub cut_found : (end : ℕ) (bytes : List ℕ) (i : ℕ) → position (λ b. b == end) bytes ≡ Some i → IsCutAt end bytes (take i bytes) (drop (i + 1) bytes)
+cut_found end bytes i e =
+    let first = position-Some (λ b. b == end) bytes i 0 e in
+    record {
+      plain = λ k d below.
+          let lower : k < i = omega (arith, length-take i bytes) in
+          ap (λ b. b == end) (get_or-take i bytes k d lower) ∙ (position-Some (λ b. b == end) bytes i d e).2 k lower;
+      parts = inl (
+          sym (take-append-drop i bytes) ∙ ap (λ l. take i bytes ++ l) (drop-cons bytes i 0 first.0)
+          ∙ (λ j. take i bytes ++ eqb-true (get_or bytes i 0) end first.1 j ∷ drop (next j) bytes));
+    }
+  where
+    next : suc i ≡ i + 1
+    next = omega arith
+
+-- bytes without an end are one name
+pub cut_nowhere : (end : ℕ) (bytes : List ℕ) → position (λ b. b == end) bytes ≡ None → IsCutAt end bytes bytes []
+cut_nowhere end bytes e = elim (cases_lt (position_or_len (λ b. b == end) bytes) (length bytes)) [
+  | inl some ↦ let there = rw (lt-ltb _ _ some) at e in cc
+  | inr none ↦ record {
+    plain = λ k d below. fails_before_first (λ b. b == end) bytes k d (omega arith);
+    parts = inr (refl, refl);
+  }
+]
 
 -- there is a first piece
 split_some : (p : ℕ → Bool) (xs : List ℕ) → (q : List ℕ) × (qs : List (List ℕ)) × (slice_split p xs ≡ q ∷ qs)

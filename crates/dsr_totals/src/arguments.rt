@@ -97,8 +97,8 @@ fn unsealed_option<'a>(alloc: Global) -> Arg<'a>
         .long("unsealed")
         .action(ArgAction::SetTrue)
         .help(
-            "Takes statements without a seal, too, though nothing shows
-whether they are whole",
+            "Takes statements without a seal, too, though nothing
+shows whether they are whole",
         )
 }
 
@@ -111,8 +111,8 @@ fn message_option<'a>(alloc: Global) -> Arg<'a>
         .long("same-message")
         .action(ArgAction::SetTrue)
         .help(
-            "Takes given statements of one MessageId with another number
-of files or another period, too",
+            "Takes given statements of one MessageId with another
+number of files or another period, too",
         )
 }
 

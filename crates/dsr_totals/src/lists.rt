@@ -1,5 +1,6 @@
 //! The names of paid statements in lists.
-ghost use Rattle.std.specs.Prelude.{◌≡◌, ◌++◌, ◌∷◌, [], MatchResult, IsUtf8};
+ghost use Rattle.std.specs.Prelude.{◌≡◌, ◌==◌, ◌<◌, ◌++◌, ◌∷◌, [], length, IfSome, MatchResult, IsUtf8};
+ghost use Rattle.std.specs.List.{position};
 ghost use Rattle.dsr_command.specs.World.{WhereTold};
 ghost use Rattle.dsr_totals.specs.Lists.{AreListed, AreUnlisted, GaveAll, HasBadName, IsListFault, IsListRead, name_end, names_in};
 ghost use Rattle.dsr_totals.specs.Steps.{IsCutAt, IsUnopened, IsUnread};
@@ -57,11 +58,19 @@ fn name_end(bytes: &[u8]) -> u8
     if bytes.contains(&0) { 0 } else { b'\n' }
 }
 
+/// The place of the first end.
+fn end_in(bytes: &[u8], end: u8) -> Option<usize>
+    ensures place { result ≡ position (λ b. b == end) bytes.now }
+    ensures within { IfSome result (λ place. place < length bytes.now) }
+{
+    bytes.iter().position(|byte| *byte == end)
+}
+
 /// The bytes before the first end, and those behind it.
 fn cut(bytes: &[u8], end: u8) -> (&[u8], &[u8])
     ensures { IsCutAt end bytes.now result.0.now result.1.now }
 {
-    match bytes.iter().position(|byte| *byte == end) {
+    match end_in(bytes, end) {
         Some(place) => (&bytes[..place], &bytes[place + 1..]),
         None => (bytes, &[]),
     }
