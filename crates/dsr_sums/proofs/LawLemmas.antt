@@ -1,5 +1,5 @@
 -- What parties claim and what nobody claims add up to the amount.
-use Rattle.std.proofs.Common.{◌≡◌, ap, sym, ◌∙◌, refl, subst, ℕ, Bool, true, false, true≢false, cond, ◌&&◌, not, if◌then◌else◌, List, [], ◌∷◌, ◌++◌, arith, Ok, Err, Result}
+use Rattle.std.proofs.Common.{◌≡◌, ap, sym, ◌∙◌, refl, subst, ℕ, Bool, true, false, true≢false, cond, ◌&&◌, ◌||◌, not, if◌then◌else◌, List, [], ◌∷◌, ◌++◌, arith, Ok, Err, Result}
 use Rattle.std.proofs.lemmas.Bool.{and_parts}
 use Rattle.std.proofs.lemmas.Bool.Decides.{Decides-int_eq}
 use Rattle.std.proofs.lemmas.Grind.{flat_map-append}
@@ -8,7 +8,7 @@ use Rattle.std.proofs.lemmas.List.Elements.{filter-append}
 use Rattle.std.proofs.lemmas.Slice.Eq.{bytes_eq-Decides}
 use Rattle.std.specs.List.{AllByRecursion, flat_map}
 use Rattle.std.specs.Str.{bytes_eq}
-use Rattle.std.specs.Prelude.{ℤ, pos, ◌+ℤ◌, ◌-ℤ◌, map, Option, Some, None}
+use Rattle.std.specs.Prelude.{ℤ, pos, ◌+ℤ◌, ◌-ℤ◌, map, reverse, Option, Some, None}
 use Rattle.dsr_ledger.proofs.EachLemmas.{int_sum_by-append}
 use Rattle.dsr_ledger.specs.meaning.Bookings.{Key, key_eq}
 use Rattle.dsr_ledger.specs.declared.report.PartyLine.{PartyLine}
@@ -16,19 +16,21 @@ use Rattle.dsr_ledger.specs.declared.report.ReportKey.{ReportKey}
 use Rattle.dsr_statement.proofs.ReadLines.{are_in_place}
 use Rattle.dsr_statement.specs.declared.line.Line.{Line}
 use Rattle.dsr_statement.specs.declared.line.Line.TheVariants as lines
-use Rattle.dsr_statement.specs.meaning.Order.{adds_up, follows, is_placed, left_of, may_end, of_latest, party_follows, placed, unclaimed_follows}
+use Rattle.dsr_statement.specs.meaning.Order.{adds_up, files_in, follows, is_placed, is_sealed, left_of, may_end, of_latest, party_follows, placed, seals, unclaimed_follows}
 use Rattle.dsr_statement.specs.meaning.Readings.{Refusal, IsReadingOf}
 use Rattle.dsr_statement.specs.meaning.Statements.{AreInPlace}
+use Rattle.dsr_statement.specs.meaning.Status.{first_remark}
 use Rattle.dsr_sums.specs.declared.account.Account.{Account}
 use Rattle.dsr_sums.specs.declared.answer.TotalsError.{TotalsError}
 use Rattle.dsr_sums.specs.declared.reports.Role.{Role}
 use Rattle.dsr_sums.specs.declared.reports.Role.TheVariants.{Given, Paid}
+use Rattle.dsr_sums.specs.declared.rules.Rules.{Rules}
 use Rattle.dsr_sums.specs.declared.sums.Sums.{Sums}
 use Rattle.dsr_sums.specs.meaning.Accounts.{account_eq, currency_account}
 use Rattle.dsr_sums.specs.meaning.Answers.{StatementText, accepted, and_then, joined, statement_of, statement_with, statements_after, unless}
 use Rattle.dsr_sums.specs.meaning.Laws.{AddUp, currency_sums}
 use Rattle.dsr_sums.specs.meaning.Postings.{Posting, balance, posted_to, posting, signed, signed_sums, sums_of}
-use Rattle.dsr_sums.specs.meaning.Statements.{Statement, booked_lines, fault_after, first_remark, key_of_lines, reports_of}
+use Rattle.dsr_sums.specs.meaning.Statements.{Statement, booked_lines, fault_after, key_of_lines, reports_of}
 use Rattle.dsr_sums.specs.meaning.Totals.{booked, claimed, numbers, to_currency, unclaimed}
 
 -- what sums lack
@@ -80,11 +82,11 @@ all_taken true x y e = omega (arith, ints)
 all_taken false x y e = refl
 
 -- a line that is placed passes its tests
-passes : {A E : Type 0} (p a n : Bool) (x : A) (e f g : E)
-    → (if not p then Err e else if not a then Err f else if n then Err g else Ok x) ≡ Ok x → (p ≡ true) × (a ≡ true)
-passes true true n x e f g h = (refl, refl)
-passes true false n x e f g h = absurd cc
-passes false a n x e f g h = absurd cc
+passes : {A E : Type 0} (p a s n : Bool) (x : A) (e f g k : E)
+    → (if not p then Err e else if not a then Err f else if not s then Err g else if n then Err k else Ok x) ≡ Ok x → (p ≡ true) × (a ≡ true)
+passes true true s n x e f g k h = (refl, refl)
+passes true false s n x e f g k h = absurd cc
+passes false a s n x e f g k h = absurd cc
 
 module _ (account : Account) where
   -- what an account's postings lack
@@ -170,7 +172,7 @@ module _ (account : Account) where
         ap (λ ps. gap (ps ++ posted ls)) none ∙ rest ∙ ap (λ n. signed role (pos 0 -ℤ n)) (is ∙ sym was)
 
     tested : (before : List Line) (l : Line) → placed before l ≡ Ok l → (is_placed before l ≡ true) × (adds_up before l ≡ true)
-    tested before l h = passes (is_placed before l) (adds_up before l) _ l _ _ _ h
+    tested before l h = passes (is_placed before l) (adds_up before l) (seals before l) _ l _ _ _ _ h
 
     -- the lines lack what is left before them
     closes : (before ls : List Line) → AreInPlace before ls → gap (posted ls) ≡ signed role (pos 0 -ℤ due before)
@@ -178,25 +180,34 @@ module _ (account : Account) where
         none_of role ∙ ap (λ n. signed role (pos 0 -ℤ n)) (sym (closed may_end (λ k u a. refl) (λ k p. refl) false before h))
     closes before (lines.Report key ∷ ls) h =
         let l = lines.Report key in
-        stays l before ls refl (closed (follows l) (λ k u a. refl) (λ k p. refl) true before (tested before l h.0).0) refl (closes (l ∷ before) ls h.1)
+        stays l before ls refl (closed (follows (files_in before) l) (λ k u a. refl) (λ k p. refl) true before (tested before l h.0).0) refl (closes (l ∷ before) ls h.1)
     closes before (lines.NoReport ∷ ls) h =
         let l = lines.NoReport in
-        stays l before ls refl (closed (follows l) (λ k u a. refl) (λ k p. refl) true before (tested before l h.0).0) refl (closes (l ∷ before) ls h.1)
+        stays l before ls refl (closed (follows (files_in before) l) (λ k u a. refl) (λ k p. refl) true before (tested before l h.0).0) refl (closes (l ∷ before) ls h.1)
     closes before (lines.File place f ∷ ls) h =
         let l = lines.File place f in
-        stays l before ls refl (closed (follows l) (λ k u a. refl) (λ k p. refl) false before (tested before l h.0).0) refl (closes (l ∷ before) ls h.1)
+        stays l before ls refl (closed (follows (files_in before) l) (λ k u a. refl) (λ k p. refl) false before (tested before l h.0).0) refl (closes (l ∷ before) ls h.1)
     closes before (lines.Missing number ∷ ls) h =
         let l = lines.Missing number in
-        stays l before ls refl (closed (follows l) (λ k u a. refl) (λ k p. refl) false before (tested before l h.0).0) refl (closes (l ∷ before) ls h.1)
+        stays l before ls refl (closed (follows (files_in before) l) (λ k u a. refl) (λ k p. refl) false before (tested before l h.0).0) refl (closes (l ∷ before) ls h.1)
     closes before (lines.Summary d ∷ ls) h =
         let l = lines.Summary d in
-        stays l before ls refl (closed (follows l) (λ k u a. refl) (λ k p. refl) false before (tested before l h.0).0) refl (closes (l ∷ before) ls h.1)
+        stays l before ls refl (closed (follows (files_in before) l) (λ k u a. refl) (λ k p. refl) false before (tested before l h.0).0) refl (closes (l ∷ before) ls h.1)
     closes before (lines.Reject r ∷ ls) h =
         let l = lines.Reject r in
-        stays l before ls refl (closed (follows l) (λ k u a. refl) (λ k p. refl) false before (tested before l h.0).0) refl (closes (l ∷ before) ls h.1)
+        stays l before ls refl (closed (follows (files_in before) l) (λ k u a. refl) (λ k p. refl) false before (tested before l h.0).0) refl (closes (l ∷ before) ls h.1)
+    closes before (lines.Layout digest ∷ ls) h =
+        let l = lines.Layout digest in
+        stays l before ls refl (closed (follows (files_in before) l) (λ k u a. refl) (λ k p. refl) false before (tested before l h.0).0) refl (closes (l ∷ before) ls h.1)
+    closes before (lines.Input place digest ∷ ls) h =
+        let l = lines.Input place digest in
+        stays l before ls refl (closed (follows (files_in before) l) (λ k u a. refl) (λ k p. refl) false before (tested before l h.0).0) refl (closes (l ∷ before) ls h.1)
+    closes before (lines.End count status ∷ ls) h =
+        let l = lines.End count status in
+        stays l before ls refl (closed (follows (files_in before) l) (λ k u a. refl) (λ k p. refl) false before (tested before l h.0).0) refl (closes (l ∷ before) ls h.1)
     closes before (lines.Ledger key usages amount ∷ ls) h =
         let l = lines.Ledger key usages amount in
-        let none = closed (follows l) (λ k u a. refl) (λ k p. refl) false before (tested before l h.0).0 in
+        let none = closed (follows (files_in before) l) (λ k u a. refl) (λ k p. refl) false before (tested before l h.0).0 in
         adds l key (numbers usages amount) amount before ls refl (of_ledger role usages amount)
         (zero_first (in_currency key amount) ∙ ap (λ n. n +ℤ in_currency key amount) (sym none)) (closes (l ∷ before) ls h.1)
     closes before (lines.Party key p ∷ ls) h =
@@ -229,34 +240,39 @@ one_more : (ss : List Statement) (s : Statement) → AreAllInPlace ss → AreInP
 one_more [] s h its = (its, tt)
 one_more (t ∷ ss) s h its = (h.0, one_more ss s h.1 its)
 
-module _ (remarks : Bool) (earlier : List Statement) (h : AreAllInPlace earlier) (role : Role) (ls : List Line) (its : AreInPlace [] ls) where
+module _ (rules : Rules) (earlier : List Statement) (h : AreAllInPlace earlier) (role : Role) (ls : List Line) (its : AreInPlace [] ls) where
   accepted_in_place : (s : Statement) → s.lines ≡ ls → (o : Option Refusal) (ss : List Statement) → joined earlier (unless s o) ≡ Ok ss → AreAllInPlace ss
   accepted_in_place s same None ss e = subst AreAllInPlace (grind arith) (one_more earlier s h (subst (AreInPlace []) (sym same) its))
   accepted_in_place s same (Some r) ss e = absurd cc
 
-  with_key : (o : Option ReportKey) (ss : List Statement) → joined earlier (accepted remarks earlier (statement_with role ls o)) ≡ Ok ss → AreAllInPlace ss
+  with_key : (o : Option ReportKey) (ss : List Statement) → joined earlier (accepted rules earlier (statement_with role ls o)) ≡ Ok ss → AreAllInPlace ss
   with_key None ss e = absurd cc
   with_key (Some key) ss e =
       let s : Statement = record { report = record { role = role; key = key; remark = first_remark 1 ls }; lines = ls } in
-      accepted_in_place s refl (fault_after remarks (reports_of earlier) s.report) ss e
+      accepted_in_place s refl (fault_after rules (reports_of earlier) s.report) ss e
 
-next_in_place : (remarks : Bool) (earlier : List Statement) (t : StatementText) → AreAllInPlace earlier
+  if_whole : (b : Bool) (refusal : Refusal) (ss : List Statement)
+      → joined earlier (accepted rules earlier (if b then statement_with role ls (key_of_lines ls) else Err refusal)) ≡ Ok ss → AreAllInPlace ss
+  if_whole true refusal ss e = with_key (key_of_lines ls) ss e
+  if_whole false refusal ss e = absurd cc
+
+next_in_place : (rules : Rules) (earlier : List Statement) (t : StatementText) → AreAllInPlace earlier
     → (r : Result (List Line) Refusal) → IsReadingOf t.bytes t.failed r
-    → (ss : List Statement) → joined earlier (accepted remarks earlier (statement_of t.role r)) ≡ Ok ss → AreAllInPlace ss
-next_in_place remarks earlier t h (Ok ls) is ss e =
-    with_key remarks earlier h t.role ls (are_in_place t.bytes t.failed ls is) (key_of_lines ls) ss e
-next_in_place remarks earlier t h (Err refusal) is ss e = absurd cc
+    → (ss : List Statement) → joined earlier (accepted rules earlier (statement_of rules.unsealed t.role r)) ≡ Ok ss → AreAllInPlace ss
+next_in_place rules earlier t h (Ok ls) is ss e =
+    if_whole rules earlier h t.role ls (are_in_place t.bytes t.failed ls is) (rules.unsealed || is_sealed (reverse ls)) _ ss e
+next_in_place rules earlier t h (Err refusal) is ss e = absurd cc
 
 -- the lines of statements that are read are in their places
-all_in_place : (remarks : Bool) (texts : List StatementText) (read : Result (List Statement) TotalsError)
+all_in_place : (rules : Rules) (texts : List StatementText) (read : Result (List Statement) TotalsError)
     → ((earlier : List Statement) → read ≡ Ok earlier → AreAllInPlace earlier)
-    → (ss : List Statement) → statements_after remarks read texts ≡ Ok ss → AreAllInPlace ss
-all_in_place remarks [] read h ss e = h ss e
-all_in_place remarks (t ∷ texts) read h ss e = all_in_place remarks texts (and_then remarks read t) (next read h) ss e
+    → (ss : List Statement) → statements_after rules read texts ≡ Ok ss → AreAllInPlace ss
+all_in_place rules [] read h ss e = h ss e
+all_in_place rules (t ∷ texts) read h ss e = all_in_place rules texts (and_then rules read t) (next read h) ss e
   where
     next : (read : Result (List Statement) TotalsError) → ((earlier : List Statement) → read ≡ Ok earlier → AreAllInPlace earlier)
-        → (more : List Statement) → and_then remarks read t ≡ Ok more → AreAllInPlace more
-    next (Ok earlier) was more is = next_in_place remarks earlier t (was earlier refl) t.read t.is_read more is
+        → (more : List Statement) → and_then rules read t ≡ Ok more → AreAllInPlace more
+    next (Ok earlier) was more is = next_in_place rules earlier t (was earlier refl) t.read t.is_read more is
     next (Err error) was more is = absurd cc
 
 abbrev nothing : Result (List Statement) TotalsError
@@ -266,9 +282,9 @@ none_read : (ss : List Statement) → nothing ≡ Ok ss → AreAllInPlace ss
 none_read [] e = tt
 none_read (s ∷ ss) e = absurd cc
 
-pub add_up : (remarks : Bool) (texts : List StatementText) (ss : List Statement) → statements_after remarks (Ok []) texts ≡ Ok ss
+pub add_up : (rules : Rules) (texts : List StatementText) (ss : List Statement) → statements_after rules (Ok []) texts ≡ Ok ss
     → (currency : Account) → AddUp (currency_sums ss currency)
-add_up remarks texts ss e currency =
+add_up rules texts ss e currency =
     let s = currency_sums ss currency in
     nothing_lacks s.amount s.claimed s.unclaimed
-    (all_closed currency ss (all_in_place remarks texts (Ok []) none_read ss e))
+    (all_closed currency ss (all_in_place rules texts (Ok []) none_read ss e))

@@ -1,10 +1,10 @@
 -- Lines that are read one after another.
 use Rattle.std.proofs.Common.{◌≡◌, ℕ, suc, ◌+◌, ap, sym, ◌∙◌, refl, subst, Bool, true, false, cond, List, [], ◌∷◌, ◌++◌, append_assoc, append-nil, length, length-append, ◌<◌, take, drop, get_or, arith, inl, Ok, Err, Result}
-use Rattle.std.proofs.lemmas.List.{length-reverse, reverse-append, length-take, get_or-take, take-append-drop, take_more, map-append}
+use Rattle.std.proofs.lemmas.List.{length-reverse, reverse-append, reverse-reverse, length-take, get_or-take, take-append-drop, take_more, map-append}
 use Rattle.std.proofs.lemmas.List.Sums.{fails_before_first, passes_at_first}
 use Rattle.std.proofs.Math.Seq.{drop-cons}
 use Rattle.std.proofs.lemmas.List.Splits.{slice_split_at, slice_split_none}
-use Rattle.std.specs.Prelude.{◌==◌, nat_lt, reverse, map, Option, Some, None}
+use Rattle.std.specs.Prelude.{◌==◌, ◌||◌, nat_lt, reverse, map, Option, Some, None}
 use Rattle.dsr_ledger.specs.declared.report.ReportKey.{ReportKey}
 use Rattle.std.proofs.lemmas.Bool.{lt-ltb, eqb-true}
 use Rattle.std.proofs.lemmas.List.Elements.{All-head, All-tail}
@@ -13,16 +13,19 @@ use Rattle.dsr_statement.specs.declared.fault.StatementFault.{StatementFault}
 use Rattle.dsr_statement.specs.declared.line.Line.{Line}
 use Rattle.dsr_statement.specs.declared.fault.StatementFault.TheVariants as faults
 use Rattle.dsr_statement.specs.inner.After.{IsAfter}
+use Rattle.dsr_statement.specs.meaning.Order.{is_sealed}
+use Rattle.dsr_statement.specs.meaning.Status.{first_remark}
 use Rattle.dsr_statement.specs.meaning.Readings.{most_bytes, IsNextLine, IsReadingAfter, Refusal, end_fault, ended, with_line}
 use Rattle.dsr_sums.specs.declared.reading.ReadingError.{ReadingError}
 use Rattle.dsr_sums.specs.declared.reading.ReadingError.TheVariants as errors
-use Rattle.dsr_sums.specs.inner.Readings.{pieces, HasNoLineFeed, with_lines, AreLinesOf, refusal, IsRefusedAt, IsRefusedIn, Reads, TakesLine, TakesLines}
+use Rattle.dsr_sums.specs.inner.Readings.{FinishesAt, pieces, HasNoLineFeed, with_lines, AreLinesOf, refusal, IsRefusedAt, IsRefusedIn, Reads, TakesLine, TakesLines}
 use Rattle.dsr_sums.specs.inner.Books.{HoldsLines}
 use Rattle.dsr_sums.specs.declared.reading.Reading.{Reading}
 use Rattle.dsr_sums.specs.declared.reports.Role.{Role}
 use Rattle.dsr_sums.specs.declared.totals.Totals.{Totals}
 use Rattle.dsr_sums.specs.meaning.Totals.{Booked, booked}
-use Rattle.dsr_sums.specs.meaning.Statements.{key_of_line, key_of_lines, either, is_remark, first_remark}
+use Rattle.dsr_sums.specs.meaning.Answers.{statement_with}
+use Rattle.dsr_sums.specs.meaning.Statements.{key_of_line, key_of_lines, either}
 
 with_line_is : (l : Line) (r : Result (List Line) Refusal) → with_line l r ≡ with_lines (l ∷ []) r
 with_line_is l (Ok ls) = refl
@@ -127,7 +130,7 @@ module _ (done : List Line) where
       let end : IsReadingAfter (reverse done) (rest ∷ []) failed (ended (reverse done) (end_fault (reverse done) rest failed)) = refl in
       turn (reverse done) failed end (sym (slice_split_none (λ b. b == 10) rest short)) refl
 
--- the report and the first remark of one more line
+-- the report of one more line
 pub key-push : (ls : List Line) (l : Line) → key_of_lines (ls ++ l ∷ []) ≡ either (key_of_lines ls) (key_of_line l)
 key-push [] l = by (key_of_line l)
   where
@@ -139,17 +142,6 @@ key-push (m ∷ ls) l = ap (either (key_of_line m)) (key-push ls l) ∙ by (key_
     by : (o : Option ReportKey) → either o (either (key_of_lines ls) (key_of_line l)) ≡ either (either o (key_of_lines ls)) (key_of_line l)
     by (Some k) = refl
     by None = refl
-
-pub remark-push : (n : ℕ) (ls : List Line) (l : Line)
-    → first_remark n (ls ++ l ∷ []) ≡ either (first_remark n ls) (cond (is_remark l) (Some (n + length ls)) None)
-remark-push n [] l = ap (λ m. cond (is_remark l) (Some m) None) (omega arith)
-remark-push n (m ∷ ls) l = by (is_remark m) (remark-push (suc n) ls l)
-  where
-    by : (b : Bool) → first_remark (suc n) (ls ++ l ∷ []) ≡ either (first_remark (suc n) ls) (cond (is_remark l) (Some (suc n + length ls)) None)
-        → cond b (Some n) (first_remark (suc n) (ls ++ l ∷ []))
-        ≡ either (cond b (Some n) (first_remark (suc n) ls)) (cond (is_remark l) (Some (n + suc (length ls))) None)
-    by true h = refl
-    by false h = h ∙ ap (λ m. either (first_remark (suc n) ls) (cond (is_remark l) (Some m) None)) (omega arith)
 
 module _ (rest : List ℕ) (end : ℕ) (is : end ≡ position_or_len (λ b. b == 10) rest) where
   -- the line before the next line feed has none
@@ -208,13 +200,22 @@ takes_more r0 r1 r2 t0 t1 t2 done a text same short take first =
 
 -- one more line was read
 pub reads_more : (r0 r1 : Reading) (done : List Line) (l : Line) → Reads r0 done → IsAfter r1.reader (l ∷ reverse done)
-    → r1.line ≡ r0.line + 1 → r1.key ≡ either r0.key (key_of_line l) → r1.remark ≡ either r0.remark (cond (is_remark l) (Some r0.line) None)
-    → Reads r1 (done ++ l ∷ [])
-reads_more r0 r1 done l reads after line key remark = record {
+    → r1.key ≡ either r0.key (key_of_line l) → Reads r1 (done ++ l ∷ [])
+reads_more r0 r1 done l reads after key = record {
   after = subst (IsAfter r1.reader) (sym (reverse-push done l)) after;
-  line = line ∙ ap (λ n. n + 1) reads.line ∙ omega (arith, length-append done (l ∷ []));
   key = key ∙ ap (λ k. either k (key_of_line l)) reads.key ∙ sym (key-push done l);
-  remark =
-      remark ∙ (λ i. either (reads.remark i) (cond (is_remark l) (Some (reads.line i)) None))
-      ∙ ap (λ n. either (first_remark 1 done) (cond (is_remark l) (Some n) None)) (omega arith) ∙ sym (remark-push 1 done l);
 }
+
+-- the statement ended, and has a report
+pub finishes : (unsealed : Bool) (r : Reading) (done : List Line) (rest : List ℕ) (failed : Bool) (key : ReportKey) (remark : Option ℕ) → Reads r done
+    → end_fault (reverse done) rest failed ≡ None → (unsealed || is_sealed (reverse done)) ≡ true → r.key ≡ Some key
+    → remark ≡ first_remark 1 (reverse (reverse done))
+    → FinishesAt unsealed r.role done rest failed (Ok (record { role = r.role; key = key; remark = remark }))
+finishes unsealed r done rest failed key remark reads ends taken is found = (
+  ends,
+  ap (λ b. cond b (statement_with r.role done (key_of_lines done)) (Err (refusal (suc (length done)) faults.Unsealed))) taken
+      ∙ ap (statement_with r.role done) (sym reads.key ∙ is)
+      ∙ ap (λ m. Ok (record { report = record { role = r.role; key = key; remark = m }; lines = done })) (
+      ap (first_remark 1) (sym (reverse-reverse done)) ∙ sym found),
+  refl,
+)

@@ -17,9 +17,8 @@ use Rattle.dsr_sums.specs.declared.reports.Role.{Role}
 use Rattle.dsr_sums.specs.declared.totals.Totals.{Totals}
 use Rattle.dsr_sums.specs.inner.Books.{HoldsLines}
 use Rattle.dsr_sums.specs.inner.Readings.{FinishesAt, HasNoLineFeed, IsReadFrom, IsReading, IsRefusedIn, ReadAs, Reads, TakesLines, pieces, refusal, text_with, with_lines}
-use Rattle.dsr_sums.specs.meaning.Answers.{StatementText, statement_in, statement_of, statement_with}
+use Rattle.dsr_sums.specs.meaning.Answers.{StatementText, statement_of, whole_statement}
 use Rattle.dsr_sums.specs.meaning.Sources.{Gave, IsSettled}
-use Rattle.dsr_sums.specs.meaning.Statements.{key_of_lines}
 use Rattle.dsr_sums.specs.meaning.Totals.{booked}
 use Rattle.dsr_sums.proofs.ReadingLemmas.{at_end, long_end, long_line, map_pair, more_lines, no_lines, refused_after_lines, turn}
 
@@ -54,7 +53,8 @@ nothing_read told role t r kept sound same reads none = record {
   short = subst HasNoLineFeed (sym none) (λ k d below. absurd (omega arith));
 }
 
-module _ (before now : Told) (role : Role) (start totals : Totals) (r : Reading) (kept : List ℕ) (w : IsReading before now role start totals r kept) where
+module _ (before now : Told) (unsealed : Bool) (role : Role) (start totals : Totals) (r : Reading) (kept : List ℕ)
+    (w : IsReading before now role start totals r kept) where
   -- what is read at the end
   abbrev end_read : Bool → Result (List Line) Refusal
   end_read failed = with_lines w.ls (ended (reverse w.ls) (end_fault (reverse w.ls) kept failed))
@@ -66,9 +66,9 @@ module _ (before now : Told) (role : Role) (start totals : Totals) (r : Reading)
   end_text failed = text_with role (w.bytes ++ kept) failed (end_read failed) (read_at_end failed)
 
   whole_read : (failed : Bool) → end_fault (reverse w.ls) kept failed ≡ None
-      → statement_in (end_text failed) ≡ statement_with role w.ls (key_of_lines w.ls)
+      → statement_of unsealed role (end_read failed) ≡ whole_statement unsealed role w.ls
   whole_read failed e =
-      ap (statement_of role) (ap (λ o. with_lines w.ls (ended (reverse w.ls) o)) e ∙ ap Ok (append-nil w.ls))
+      ap (statement_of unsealed role) (ap (λ o. with_lines w.ls (ended (reverse w.ls) o)) e ∙ ap Ok (append-nil w.ls))
 
   end_refused : (failed : Bool) (fault : StatementFault) → end_fault (reverse w.ls) kept failed ≡ Some fault
       → end_read failed ≡ Err (refusal (suc (length w.ls)) fault)
@@ -76,27 +76,27 @@ module _ (before now : Told) (role : Role) (start totals : Totals) (r : Reading)
       ap (λ o. with_lines w.ls (ended (reverse w.ls) o)) e ∙ ap (λ n. Err (refusal (suc n) fault)) (length-reverse w.ls)
 
   -- the statement ended
-  read_as : (failed : Bool) (result : Result StatementReport ReadingError) → FinishesAt role w.ls kept failed result
-      → ReadAs role start totals (statement_in (end_text failed)) result
+  read_as : (failed : Bool) (result : Result StatementReport ReadingError) → FinishesAt unsealed role w.ls kept failed result
+      → ReadAs role start totals (statement_of unsealed role (end_read failed)) result
   read_as failed (Ok report) h = (w.ls, whole_read failed h.0 ∙ h.1, h.2, w.added)
   read_as failed (Err (errors.Refused line fault)) (inl h) =
-      ap (statement_of role) (end_refused failed fault h.0) ∙ ap (λ n. Err (refusal n fault)) (sym h.1)
+      ap (statement_of unsealed role) (end_refused failed fault h.0) ∙ ap (λ n. Err (refusal n fault)) (sym h.1)
   read_as failed (Err (errors.Refused line fault)) (inr h) = whole_read failed h.0 ∙ h.1
   read_as failed (Err errors.Memory) h = tt
 
   pub finished : (failed : Bool) (left : Told) (result : Result StatementReport ReadingError)
-      → ((done : List Line) → Reads r done → FinishesAt r.role done kept failed result)
+      → ((done : List Line) → Reads r done → FinishesAt unsealed r.role done kept failed result)
       → Consumes before.remaining left.remaining (w.bytes ++ kept) → left.failed ≡ failed
       → (IsAtEnd left.remaining ⊎ ((failed ≡ true) ⊎ IsSettled (end_text failed)))
-      → IsReadFrom before left role start totals result
+      → IsReadFrom before left unsealed role start totals result
   finished failed left result ends consumed failure whole =
-      by result (read_as failed result (subst (λ o. FinishesAt o w.ls kept failed result) w.role_is (ends w.ls w.reads)))
+      by result (read_as failed result (subst (λ o. FinishesAt unsealed o w.ls kept failed result) w.role_is (ends w.ls w.reads)))
     where
       gave : Gave before left (end_text failed)
       gave = record { consumed = consumed; failure = failure; whole = whole }
 
-      by : (result : Result StatementReport ReadingError) → ReadAs role start totals (statement_in (end_text failed)) result
-          → IsReadFrom before left role start totals result
+      by : (result : Result StatementReport ReadingError) → ReadAs role start totals (statement_of unsealed role (end_read failed)) result
+          → IsReadFrom before left unsealed role start totals result
       by (Ok report) h = (w.bytes ++ kept, failed, end_read failed, read_at_end failed, gave, h)
       by (Err (errors.Refused line fault)) h = (w.bytes ++ kept, failed, end_read failed, read_at_end failed, gave, h)
       by (Err errors.Memory) h = tt
@@ -110,13 +110,13 @@ module _ (before now : Told) (role : Role) (start totals : Totals) (r : Reading)
 
   -- the line so far is too long
   pub finished_long : (result : Result StatementReport ReadingError) → most_bytes < length kept
-      → ((done : List Line) → Reads r done → FinishesAt r.role done kept false result) → IsReadFrom before now role start totals result
+      → ((done : List Line) → Reads r done → FinishesAt unsealed r.role done kept false result) → IsReadFrom before now unsealed role start totals result
   finished_long result long ends = finished false now result ends w.consumed w.sound (inr (inr (long_settles long)))
 
   -- the source is at its end
   pub finished_whole : (left : Told) (n : ℕ) (piece : List ℕ) (result : Result StatementReport ReadingError) → n ≡ 0 → 0 < length piece
       → Consumes now.remaining left.remaining (take n piece) × (n ≡ 0 → 0 < length piece → IsAtEnd left.remaining) → left.failed ≡ now.failed
-      → ((done : List Line) → Reads r done → FinishesAt r.role done kept false result) → IsReadFrom before left role start totals result
+      → ((done : List Line) → Reads r done → FinishesAt unsealed r.role done kept false result) → IsReadFrom before left unsealed role start totals result
   finished_whole left n piece result none some h same ends =
       let nothing : Consumes now.remaining left.remaining [] = subst (λ m. Consumes now.remaining left.remaining (take m piece)) none h.0 in
       let all = consumes_more before.remaining now.remaining left.remaining (w.bytes ++ kept) [] w.consumed nothing in
@@ -124,7 +124,7 @@ module _ (before now : Told) (role : Role) (start totals : Totals) (r : Reading)
 
   -- a read failed
   pub finished_failed : (left : Told) (result : Result StatementReport ReadingError) → Keeps now.remaining left.remaining → left.failed ≡ true
-      → ((done : List Line) → Reads r done → FinishesAt r.role done kept true result) → IsReadFrom before left role start totals result
+      → ((done : List Line) → Reads r done → FinishesAt unsealed r.role done kept true result) → IsReadFrom before left unsealed role start totals result
   finished_failed left result keeps failure ends =
       finished true left result ends (consumes_kept before.remaining now.remaining left.remaining (w.bytes ++ kept) w.consumed keeps) failure (inr (inl refl))
 
@@ -136,7 +136,7 @@ module _ (before now : Told) (role : Role) (start totals : Totals) (r : Reading)
 
     -- a line that was read has a fault
     pub refused_within : (e : ReadingError) → ((done : List Line) → Reads r done → IsRefusedIn done (kept ++ piece) e)
-        → IsReadFrom before next role start totals (Err e)
+        → IsReadFrom before next unsealed role start totals (Err e)
     refused_within errors.Memory h = tt
     refused_within (errors.Refused line fault) h =
         let text = w.bytes ++ (kept ++ piece) in

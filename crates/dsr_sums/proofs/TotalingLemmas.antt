@@ -14,6 +14,7 @@ use Rattle.dsr_statement.specs.declared.fault.StatementFault.{StatementFault}
 use Rattle.dsr_sums.specs.inner.Readings.{IsReadFrom, refusal, text_with}
 use Rattle.std.specs.List.{flat_map}
 use Rattle.dsr_sums.specs.declared.reports.StatementReport.{StatementReport}
+use Rattle.dsr_sums.specs.declared.rules.Rules.{Rules}
 use Rattle.dsr_sums.specs.declared.totals.Totals.{Totals}
 use Rattle.dsr_sums.specs.inner.Books.{HoldsLines, AreSorted}
 use Rattle.dsr_sums.specs.declared.reading.ReadingError.{ReadingError}
@@ -33,10 +34,10 @@ pub reports-push : (ss : List Statement) (s : Statement) → reports_of (ss ++ s
 reports-push ss s = map-append (λ s. s.report) ss (s ∷ [])
 
 -- one more text
-pub after-push : (remarks : Bool) (read : Result (List Statement) TotalsError) (texts : List StatementText) (t : StatementText)
-    → statements_after remarks read (texts ++ t ∷ []) ≡ and_then remarks (statements_after remarks read texts) t
-after-push remarks read [] t = refl
-after-push remarks read (s ∷ texts) t = after-push remarks (and_then remarks read s) texts t
+pub after-push : (rules : Rules) (read : Result (List Statement) TotalsError) (texts : List StatementText) (t : StatementText)
+    → statements_after rules read (texts ++ t ∷ []) ≡ and_then rules (statements_after rules read texts) t
+after-push rules read [] t = refl
+after-push rules read (s ∷ texts) t = after-push rules (and_then rules read s) texts t
 
 module _ {R : Type 0} (told : R → Told) (given : ℕ) where
   -- sources that were not read
@@ -84,10 +85,10 @@ no_fault None e = refl
 no_fault (Some r) e = absurd (cc)
 
 -- a statement that was read and has no fault after the earlier ones
-pub next_read : (old new : Totaling) (remarks : Bool) (role : Role) (before left : Told) (report : StatementReport) (ss : List Statement) → HoldsStatements old ss
-    → IsReadFrom before left role old.totals new.totals (Ok report) → None ≡ option_map line_and_fault (fault_after remarks old.reports.items report)
-    → new.reports.items ≡ old.reports.items ++ report ∷ [] → ReadsNext remarks before left role ss new (Ok tt)
-next_read old new remarks role before left report ss held (bytes, failed, was_read, is, gave, (ls, e, same, adds)) none pushed =
+pub next_read : (old new : Totaling) (rules : Rules) (role : Role) (before left : Told) (report : StatementReport) (ss : List Statement) → HoldsStatements old ss
+    → IsReadFrom before left rules.unsealed role old.totals new.totals (Ok report) → None ≡ option_map line_and_fault (fault_after rules old.reports.items report)
+    → new.reports.items ≡ old.reports.items ++ report ∷ [] → ReadsNext rules before left role ss new (Ok tt)
+next_read old new rules role before left report ss held (bytes, failed, was_read, is, gave, (ls, e, same, adds)) none pushed =
     let s : Statement = record { report = report; lines = ls } in (
       bytes,
       failed,
@@ -96,7 +97,7 @@ next_read old new remarks role before left report ss held (bytes, failed, was_re
       gave,
       (
         s,
-        ap (accepted remarks ss) e ∙ ap (unless s) (ap (λ rs. fault_after remarks rs report) (sym held.reports) ∙ no_fault _ none),
+        ap (accepted rules ss) e ∙ ap (unless s) (ap (λ rs. fault_after rules rs report) (sym held.reports) ∙ no_fault _ none),
         record {
           lines =
               subst (HoldsLines new.totals) (sym (booked-push ss s)) (
@@ -112,14 +113,14 @@ found (Some r) line fault e =
     let pair : line_and_fault r ≡ (line, fault) = cc in ap (λ (p : ℕ × StatementFault). Some (refusal p.0 p.1)) pair
 
 -- a statement that was read and has a fault after the earlier ones
-pub next_refused : (old : Totaling) (after : Totals) (remarks : Bool) (role : Role) (before left : Told) (report : StatementReport) (ss : List Statement)
-    (line : ℕ) (fault : StatementFault) → HoldsStatements old ss → IsReadFrom before left role old.totals after (Ok report)
-    → Some (line, fault) ≡ option_map line_and_fault (fault_after remarks old.reports.items report)
-    → ReadsNext remarks before left role ss old (Err (errors.Refused line fault))
-next_refused old after remarks role before left report ss line fault held (bytes, failed, was_read, is, gave, (ls, e, same, adds)) refused =
+pub next_refused : (old : Totaling) (after : Totals) (rules : Rules) (role : Role) (before left : Told) (report : StatementReport) (ss : List Statement)
+    (line : ℕ) (fault : StatementFault) → HoldsStatements old ss → IsReadFrom before left rules.unsealed role old.totals after (Ok report)
+    → Some (line, fault) ≡ option_map line_and_fault (fault_after rules old.reports.items report)
+    → ReadsNext rules before left role ss old (Err (errors.Refused line fault))
+next_refused old after rules role before left report ss line fault held (bytes, failed, was_read, is, gave, (ls, e, same, adds)) refused =
     let s : Statement = record { report = report; lines = ls } in
-    let its = ap (λ rs. fault_after remarks rs report) (sym held.reports) ∙ found _ line fault refused in
-    (bytes, failed, was_read, is, gave, ap (accepted remarks ss) e ∙ ap (unless s) its)
+    let its = ap (λ rs. fault_after rules rs report) (sym held.reports) ∙ found _ line fault refused in
+    (bytes, failed, was_read, is, gave, ap (accepted rules ss) e ∙ ap (unless s) its)
 
 tail_of : {R : Type 0} (rest : List R) → 0 < length rest → (r : R) × (more : List R) × (rest ≡ r ∷ more)
 tail_of [] h = absurd (omega arith)
@@ -129,8 +130,8 @@ none_left : {R : Type 0} (rest : List R) → length rest ≡ 0 → rest ≡ []
 none_left [] h = refl
 none_left (r ∷ more) h = absurd (omega arith)
 
-module _ {R : Type 0} (told : R → Told) (given : ℕ) (remarks : Bool) where
-  pub none_read : (before : List R) (t : Totaling) → HoldsStatements t [] → t.with_remarks ≡ remarks → HaveRead told given remarks 0 before before t
+module _ {R : Type 0} (told : R → Told) (given : ℕ) (rules : Rules) where
+  pub none_read : (before : List R) (t : Totaling) → HoldsStatements t [] → t.rules ≡ rules → HaveRead told given rules 0 before before t
   none_read before t holds same = record {
     front = [];
     changed = [];
@@ -145,15 +146,15 @@ module _ {R : Type 0} (told : R → Told) (given : ℕ) (remarks : Bool) where
     gave = tt;
     read = refl;
     holds = holds;
-    remarks_are = same;
+    rules_are = same;
   }
 
-  module _ (place : ℕ) (before now : List R) (t : Totaling) (w : HaveRead told given remarks place before now t) where
+  module _ (place : ℕ) (before now : List R) (t : Totaling) (w : HaveRead told given rules place before now t) where
     changed_length : length w.changed ≡ place
     changed_length = gave-length told given 0 w.front w.changed w.texts w.gave ∙ w.places
 
     -- all sources were read
-    pub all_read : length now ≤ place → (text : List ℕ) → totals_of (Ok w.ss) ≡ Ok text → HasTotals told given remarks before now text
+    pub all_read : length now ≤ place → (text : List ℕ) → totals_of (Ok w.ss) ≡ Ok text → HasTotals told given rules before now text
     all_read done text e =
         let none : w.rest ≡ [] = none_left w.rest (omega (arith, ap length w.is, length-append w.changed w.rest, changed_length)) in
         let was : w.front ≡ before = sym (w.was ∙ ap (λ l. w.front ++ l) none ∙ append-nil w.front) in
@@ -164,7 +165,7 @@ module _ {R : Type 0} (told : R → Told) (given : ℕ) (remarks : Bool) where
           ap totals_of w.read ∙ e,
         )
 
-    pub all_out : length now ≤ place → (e : TotalsError) → IsNoTextOf w.ss e → HasNoTotals told given remarks before now e
+    pub all_out : length now ≤ place → (e : TotalsError) → IsNoTextOf w.ss e → HasNoTotals told given rules before now e
     all_out done (Refused p l f) h = absurd h
     all_out done OutOfRange h =
         let none : w.rest ≡ [] = none_left w.rest (omega (arith, ap length w.is, length-append w.changed w.rest, changed_length)) in
@@ -211,12 +212,12 @@ module _ {R : Type 0} (told : R → Told) (given : ℕ) (remarks : Bool) where
         role_is : text.role ≡ role_of given (0 + length w.front)
         role_is = ap (role_of given) (sym w.places ∙ omega arith)
 
-        read_is : {x : Result Statement Refusal} → accepted remarks w.ss (statement_in text) ≡ x
-            → statements_after remarks (Ok []) (w.texts ++ text ∷ []) ≡ joined w.ss x
-        read_is e = after-push remarks (Ok []) w.texts text ∙ ap (λ o. and_then remarks o text) w.read ∙ ap (joined w.ss) e
+        read_is : {x : Result Statement Refusal} → accepted rules w.ss (statement_in rules text) ≡ x
+            → statements_after rules (Ok []) (w.texts ++ text ∷ []) ≡ joined w.ss x
+        read_is e = after-push rules (Ok []) w.texts text ∙ ap (λ o. and_then rules o text) w.read ∙ ap (joined w.ss) e
 
-        pub one_read : (t2 : Totaling) (s : Statement) → accepted remarks w.ss (statement_in text) ≡ Ok s → HoldsStatements t2 (w.ss ++ s ∷ [])
-            → t2.with_remarks ≡ t.with_remarks → HaveRead told given remarks (place + 1) before (set now place q) t2
+        pub one_read : (t2 : Totaling) (s : Statement) → accepted rules w.ss (statement_in rules text) ≡ Ok s → HoldsStatements t2 (w.ss ++ s ∷ [])
+            → t2.rules ≡ t.rules → HaveRead told given rules (place + 1) before (set now place q) t2
         one_read t2 s e holds same = record {
           front = w.front ++ next.0 ∷ [];
           changed = w.changed ++ q ∷ [];
@@ -231,11 +232,11 @@ module _ {R : Type 0} (told : R → Told) (given : ℕ) (remarks : Bool) where
           gave = gave-append told given 0 w.front w.changed (next.0 ∷ []) (q ∷ []) w.texts (text ∷ []) w.gave (w.many ∙ sym w.places) (gave_next, role_is, tt);
           read = read_is e;
           holds = holds;
-          remarks_are = same ∙ w.remarks_are;
+          rules_are = same ∙ w.rules_are;
         }
 
-        pub one_refused : (line : ℕ) (fault : StatementFault) → accepted remarks w.ss (statement_in text) ≡ Err (refusal line fault)
-            → HasNoTotals told given remarks before (set now place q) (Refused place line fault)
+        pub one_refused : (line : ℕ) (fault : StatementFault) → accepted rules w.ss (statement_in rules text) ≡ Err (refusal line fault)
+            → HasNoTotals told given rules before (set now place q) (Refused place line fault)
         one_refused line fault e =
             let each = gave-append told given 0 w.front w.changed (next.0 ∷ next.1) (q ∷ next.1) w.texts (text ∷ []) w.gave (w.many ∙ sym w.places)
             (gave_next, role_is, unread told given _ next.1) in (
@@ -246,22 +247,22 @@ module _ {R : Type 0} (told : R → Told) (given : ℕ) (remarks : Bool) where
             )
 
       at_role : (d q : R) (t2 : Totaling) (role : Role) (result : Result (Unit {0}) ReadingError) → role ≡ role_of given place
-          → ReadsNext t.with_remarks (told (get_or now place d)) (told q) role w.ss t2 result
-          → ReadsNext remarks (told (get_or now place d)) (told q) (role_of given place) w.ss t2 result
+          → ReadsNext t.rules (told (get_or now place d)) (told q) role w.ss t2 result
+          → ReadsNext rules (told (get_or now place d)) (told q) (role_of given place) w.ss t2 result
       at_role d q t2 role result same h =
-          subst (λ o. ReadsNext remarks (told (get_or now place d)) (told q) o w.ss t2 result) same (
-          subst (λ b. ReadsNext b (told (get_or now place d)) (told q) role w.ss t2 result) w.remarks_are h)
+          subst (λ o. ReadsNext rules (told (get_or now place d)) (told q) o w.ss t2 result) same (
+          subst (λ b. ReadsNext b (told (get_or now place d)) (told q) role w.ss t2 result) w.rules_are h)
 
       -- the next statement was read, or refused
-      pub one_more : (d q : R) (t2 : Totaling) (role : Role) → role ≡ role_of given place → t2.with_remarks ≡ t.with_remarks
-          → ReadsNext t.with_remarks (told (get_or now place d)) (told q) role w.ss t2 (Ok tt)
-          → HaveRead told given remarks (place + 1) before (set now place q) t2
+      pub one_more : (d q : R) (t2 : Totaling) (role : Role) → role ≡ role_of given place → t2.rules ≡ t.rules
+          → ReadsNext t.rules (told (get_or now place d)) (told q) role w.ss t2 (Ok tt)
+          → HaveRead told given rules (place + 1) before (set now place q) t2
       one_more d q t2 role same kept h =
           let k = at_role d q t2 role (Ok tt) same h in one_read d q k.0 k.1 k.2 k.3 k.4 t2 k.5.0 k.5.1 k.5.2 kept
 
       pub no_more : (d q : R) (t2 : Totaling) (role : Role) (e : ReadingError) → role ≡ role_of given place
-          → ReadsNext t.with_remarks (told (get_or now place d)) (told q) role w.ss t2 (Err e)
-          → HasNoTotals told given remarks before (set now place q) (error_of place e)
+          → ReadsNext t.rules (told (get_or now place d)) (told q) role w.ss t2 (Err e)
+          → HasNoTotals told given rules before (set now place q) (error_of place e)
       no_more d q t2 role errors.Memory same h = tt
       no_more d q t2 role (errors.Refused line fault) same h =
           let k = at_role d q t2 role (Err (errors.Refused line fault)) same h in one_refused d q k.0 k.1 k.2 k.3 k.4 line fault k.5

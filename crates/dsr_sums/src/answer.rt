@@ -8,6 +8,7 @@ ghost use Rattle.dsr_sums.specs.meaning.Sources.{role_of, HasTotals, HasNoTotals
 
 use crate::reading::{ReadingError, read_statement};
 use crate::reports::{Role, StatementReport, push_report, refusal_after};
+use crate::rules::Rules;
 use crate::seeded::Seeded;
 use crate::text::{SumsLine, put_book, put_statements};
 use crate::totals::Totals;
@@ -31,21 +32,20 @@ pub enum TotalsError {
 #[derive(Drop)]
 pub(crate) struct Totaling {
     alloc: Global,
-    /// Whether given statements may have remarks.
-    with_remarks: bool,
+    rules: Rules,
     pub(crate) totals: Totals,
     pub(crate) reports: Vec<StatementReport>,
 }
 
 impl Totaling {
     /// No statement was read yet.
-    fn new(alloc: Global, seed: u64, with_remarks: bool) -> Totaling
+    fn new(alloc: Global, seed: u64, rules: Rules) -> Totaling
         ensures holds { HoldsStatements result [] }
-        ensures remarks { result.with_remarks ≡ with_remarks }
+        ensures rules { result.rules ≡ rules }
     {
         Totaling {
             alloc,
-            with_remarks,
+            rules,
             totals: Totals::new(alloc, Seeded::with_seed(seed)),
             reports: Vec::new(alloc),
         }
@@ -54,13 +54,14 @@ impl Totaling {
     /// Reads a statement, and adds it.
     fn read<R: Source>(&mut self, source: &mut R, role: Role) -> Result<(), ReadingError>
         requires { (R.told source.old).failed ≡ false }
-        ensures remarks { self.new.with_remarks ≡ self.old.with_remarks }
+        ensures rules { self.new.rules ≡ self.old.rules }
         ensures next { (ss : List Statement) → HoldsStatements self.old ss
-            → ReadsNext self.old.with_remarks (R.told source.old) (R.told source.new) role ss
+            → ReadsNext self.old.rules (R.told source.old) (R.told source.new) role ss
             self.new result }
     {
-        let report = read_statement(self.alloc, source, role, &mut self.totals)?;
-        match refusal_after(self.with_remarks, &self.reports, &report) {
+        let unsealed = self.rules.unsealed;
+        let report = read_statement(self.alloc, source, role, unsealed, &mut self.totals)?;
+        match refusal_after(self.rules, &self.reports, &report) {
             Some((line, fault)) => Err(ReadingError::Refused(line, fault)),
             None => match push_report(&mut self.reports, report) {
                 Ok(()) => Ok(()),
@@ -132,7 +133,7 @@ fn error_at(place: usize, error: ReadingError) -> TotalsError
 }
 
 /// Reads statements, the given ones first and then those that were paid, and returns the text of their totals. `seed` is
-/// that of hashes, on which nothing depends.
+/// that of hashes, on which nothing depends; `rules` say which statements are taken.
 ///
 /// # Errors
 ///
@@ -142,14 +143,14 @@ pub fn add_up<R: Source>(
     seed: u64,
     sources: &mut [R],
     given: usize,
-    with_remarks: bool,
+    rules: Rules,
 ) -> Result<Vec<u8>, TotalsError>
     requires { All (λ r. (R.told r).failed ≡ false) sources.old }
     ensures { MatchResult result
-        (λ text. HasTotals R.told given with_remarks sources.old sources.new text.items)
-        (HasNoTotals R.told given with_remarks sources.old sources.new) }
+        (λ text. HasTotals R.told given rules sources.old sources.new text.items)
+        (HasNoTotals R.told given rules sources.old sources.new) }
 {
-    let mut totaling = Totaling::new(alloc, seed, with_remarks);
+    let mut totaling = Totaling::new(alloc, seed, rules);
     for place in 0..sources.len() {
         match totaling.read(&mut sources[place], role_at(given, place)) {
             Ok(()) => {}

@@ -1,16 +1,16 @@
 //! Reading a statement from a source, and adding its lines to the totals.
-ghost use Rattle.std.specs.Prelude.{◌≡◌, ◌+◌, ◌≤◌, [], false, List, Some, None, OnOk, IfOk, IfErr, drop, take, length, vec_len, if◌then◌else◌};
+ghost use Rattle.std.specs.Prelude.{◌≡◌, ◌≤◌, ◌||◌, [], false, suc, List, OnOk, IfOk, IfErr, drop, take, length, vec_len};
 ghost use Rattle.dsr_statement.specs.declared.line.Line.{Line as LineValue};
-ghost use Rattle.dsr_statement.specs.meaning.Status.{is_clean_file};
-ghost use Rattle.dsr_sums.specs.meaning.Statements.{is_remark, key_of_line, either};
+ghost use Rattle.dsr_statement.specs.inner.After.{IsAfter};
+ghost use Rattle.dsr_statement.specs.meaning.Order.{is_sealed};
+ghost use Rattle.dsr_sums.specs.meaning.Statements.{key_of_line, either};
 ghost use Rattle.dsr_sums.specs.inner.Readings.{Reads, TakesLine, TakesLines, HasNoLineFeed, IsRefusedAt, IsRefusedIn, FinishesAt, IsReadFrom};
 
 use crate::reports::{Role, StatementReport};
 use crate::totals::Totals;
 use dsr_cells::{NoMemory, Text};
-use dsr_events::Outcome;
 use dsr_io::{Failed, Source};
-use dsr_ledger::{FileLine, ReportKey, Standing};
+use dsr_ledger::ReportKey;
 use dsr_statement::{LINE_LIMIT, Line, ReadError, ReportRef, StatementFault, StatementReader};
 use dsr_texts::line_end;
 use std::alloc::Global;
@@ -33,30 +33,8 @@ pub(crate) struct Reading {
     alloc: Global,
     role: Role,
     reader: StatementReader,
-    /// The number of the next line, from 1.
-    line: u64,
     /// The report that the statement is of.
     key: Option<ReportKey>,
-    /// The number of the first remark's line.
-    remark: Option<u64>,
-}
-
-/// Whether a file is Ours and whole.
-fn is_clean(file: &FileLine) -> bool
-    ensures { result ≡ is_clean_file file.now }
-{
-    matches!(file.standing, Standing::Ours) && matches!(file.outcome, Outcome::Whole)
-}
-
-/// Whether a line is a remark.
-fn is_a_remark(line: &Line<'_>) -> bool
-    ensures { result ≡ is_remark line.now }
-{
-    match line {
-        Line::File(_, file) => !is_clean(file),
-        Line::Missing(_) | Line::Summary(_) | Line::Reject(_) => true,
-        _ => false,
-    }
 }
 
 /// The key of a report.
@@ -81,6 +59,14 @@ fn key_in(alloc: Global, line: &Line<'_>) -> Result<Option<ReportKey>, NoMemory>
     }
 }
 
+/// Whether a statement is taken that ends here: it is sealed, or need not be.
+fn is_taken(reader: &StatementReader, unsealed: bool) -> bool
+    ensures { (before : List LineValue) → IsAfter reader.now before
+        → result ≡ unsealed || is_sealed before }
+{
+    unsealed || reader.is_sealed()
+}
+
 impl Reading {
     /// Nothing was read yet.
     pub(crate) fn new(alloc: Global, role: Role) -> Reading
@@ -91,10 +77,15 @@ impl Reading {
             alloc,
             role,
             reader: StatementReader::new(alloc),
-            line: 1,
             key: None,
-            remark: None,
         }
+    }
+
+    /// The number of the next line, from 1.
+    fn next_line(&self) -> u64
+        ensures { (done : List LineValue) → Reads self.now done → result ≡ suc (length done) }
+    {
+        self.reader.next_line()
     }
 
     /// Takes a line, given without its line feed, and adds it to the totals.
@@ -105,37 +96,31 @@ impl Reading {
         ensures refused { (done : List LineValue) → Reads self.old done → IfErr result
             (IsRefusedAt done bytes.now) }
     {
+        let next_line = self.next_line();
         match self.reader.line(bytes) {
             Ok(line) => {
                 if let Err(NoMemory) = totals.add(&line, self.role) {
                     return Err(ReadingError::Memory);
                 }
-                match self.note(&line) {
+                match self.keep_key(&line) {
                     Ok(()) => Ok(()),
                     Err(NoMemory) => Err(ReadingError::Memory),
                 }
             }
-            Err(ReadError::Fault(fault)) => Err(ReadingError::Refused(self.line, fault)),
+            Err(ReadError::Fault(fault)) => Err(ReadingError::Refused(next_line, fault)),
             Err(ReadError::Memory) => Err(ReadingError::Memory),
         }
     }
 
-    /// Notes a line that was read.
-    fn note(&mut self, line: &Line<'_>) -> Result<(), NoMemory>
+    /// Keeps the report that a line names.
+    fn keep_key(&mut self, line: &Line<'_>) -> Result<(), NoMemory>
         ensures role { self.new.role ≡ self.old.role }
         ensures reader { self.new.reader ≡ self.old.reader }
-        ensures line { OnOk result (self.new.line ≡ self.old.line + 1) }
         ensures key { OnOk result (self.new.key ≡ either self.old.key (key_of_line line.now)) }
-        ensures remark { OnOk result (self.new.remark ≡ either self.old.remark
-            (if is_remark line.now then Some self.old.line else None)) }
     {
-        if self.remark.is_none() && is_a_remark(line) {
-            self.remark = Some(self.line);
-        }
         if self.key.is_none() {
             self.key = key_in(self.alloc, line)?;
         }
-        self.line = self.line.checked_add(1).ok_or(NoMemory)?;
         Ok(())
     }
 
@@ -162,22 +147,30 @@ impl Reading {
         }
     }
 
-    /// Ends reading with what follows the last line feed.
-    fn finish(self, rest: &[u8], failed: bool) -> Result<StatementReport, ReadingError>
+    /// Ends reading with what follows the last line feed. Without a seal it is refused unless `unsealed`.
+    fn finish(
+        self,
+        rest: &[u8],
+        failed: bool,
+        unsealed: bool,
+    ) -> Result<StatementReport, ReadingError>
         ensures { (done : List LineValue) → Reads self done
-            → FinishesAt self.role done rest.now failed result }
+            → FinishesAt unsealed self.role done rest.now failed result }
     {
+        let end = self.next_line();
         let Reading {
             alloc: _,
             role,
             reader,
-            line,
             key,
-            remark,
         } = self;
         if let Err(fault) = reader.finish(rest, failed) {
-            return Err(ReadingError::Refused(line, fault));
+            return Err(ReadingError::Refused(end, fault));
         }
+        if !is_taken(&reader, unsealed) {
+            return Err(ReadingError::Refused(end, StatementFault::Unsealed));
+        }
+        let remark = reader.remark();
         match key {
             Some(key) => Ok(StatementReport { role, key, remark }),
             None => Err(ReadingError::Refused(1, StatementFault::NoReport)),
@@ -195,30 +188,33 @@ fn drop_front(bytes: &mut Vec<u8>, count: usize)
     bytes.truncate(rest);
 }
 
-/// Reads a statement to its end or its first fault, and adds its lines to the totals.
+/// Reads a statement to its end or its first fault, and adds its lines to the totals. One without a seal is refused unless
+/// `unsealed`.
 pub(crate) fn read_statement<R: Source>(
     alloc: Global,
     source: &mut R,
     role: Role,
+    unsealed: bool,
     totals: &mut Totals,
 ) -> Result<StatementReport, ReadingError>
     requires { (R.told source.old).failed ≡ false }
-    ensures { IsReadFrom (R.told source.old) (R.told source.new) role totals.old totals.new result }
+    ensures { IsReadFrom (R.told source.old) (R.told source.new) unsealed role totals.old totals.new
+        result }
 {
     let mut piece = [0u8; PIECE];
     let mut kept = Vec::new(alloc);
     let mut reading = Reading::new(alloc, role);
     'reads: for _ in 0..u64::MAX {
         if kept.len() > LINE_LIMIT {
-            return reading.finish(&kept, false);
+            return reading.finish(&kept, false, unsealed);
         }
         match source.read(&mut piece) {
-            Ok(0) => return reading.finish(&kept, false),
+            Ok(0) => return reading.finish(&kept, false, unsealed),
             Ok(count) => match kept.extend_from_slice(&piece[..count]) {
                 Ok(()) => {}
                 Err(_) => return Err(ReadingError::Memory),
             },
-            Err(Failed) => return reading.finish(&kept, true),
+            Err(Failed) => return reading.finish(&kept, true, unsealed),
         }
         match reading.take_lines(&kept, totals) {
             Ok(used) => drop_front(&mut kept, used),

@@ -1,8 +1,10 @@
 //! The reports of the statements that were read, and which statements are refused for those before them.
 ghost use Rattle.std.specs.Prelude.{◌≡◌, ◌∷◌, ◌++◌, [], OnOk, option_map};
-ghost use Rattle.dsr_sums.specs.meaning.Statements.{is_same_report, has_report, fault_after, line_and_fault, role_eq};
+ghost use Rattle.std.specs.List.{position};
+ghost use Rattle.dsr_sums.specs.meaning.Statements.{is_of_message, is_of_report, is_same_report, has_report, fault_after, given_fault, line_and_fault, role_eq};
 
-use dsr_cells::NoMemory;
+use crate::rules::Rules;
+use dsr_cells::{NoMemory, Text};
 use dsr_ledger::ReportKey;
 use dsr_statement::StatementFault;
 
@@ -54,32 +56,81 @@ pub(crate) fn is_role(one: Role, other: Role) -> bool
     one == other
 }
 
+/// Whether a statement has this role and this report.
+fn is_of_report(role: Role, key: &ReportKey, report: &StatementReport) -> bool
+    ensures { result ≡ is_of_report role key.now report.now }
+{
+    is_role(report.role, role) && is_same(key, &report.key)
+}
+
+/// Whether it is a given statement of this message.
+fn is_of_message(message: &Text, report: &StatementReport) -> bool
+    ensures { result ≡ is_of_message message.now report.now }
+{
+    is_role(report.role, Role::Given) && *message == report.key.message_id
+}
+
 /// Whether a statement with this role has this report.
 pub(crate) fn has(role: Role, key: &ReportKey, reports: &[StatementReport]) -> bool
     ensures { result ≡ has_report role key.now reports.now }
 {
-    reports.iter().any(|report| is_role(report.role, role) && is_same(key, &report.key))
+    reports.iter().any(|report| is_of_report(role, key, report))
 }
 
-/// The line and the fault of a statement after the earlier ones; `with_remarks` says whether given ones may have remarks.
+/// The place of the first statement with this role and this report.
+fn place_of(role: Role, key: &ReportKey, reports: &[StatementReport]) -> Option<usize>
+    ensures { result ≡ position (is_of_report role key.now) reports.now }
+{
+    reports
+        .iter()
+        .position(|report| is_of_report(role, key, report))
+}
+
+/// The place of the first given statement of this message.
+fn place_of_message(message: &Text, reports: &[StatementReport]) -> Option<usize>
+    ensures { result ≡ position (is_of_message message.now) reports.now }
+{
+    reports
+        .iter()
+        .position(|report| is_of_message(message, report))
+}
+
+/// The line and the fault of a statement after the earlier ones.
 #[tactic(auto, unfolding(crate::specs::meaning::Statements::fault_after))]
 pub(crate) fn refusal_after(
-    with_remarks: bool,
+    rules: Rules,
     earlier: &[StatementReport],
     report: &StatementReport,
 ) -> Option<(u64, StatementFault)>
-    ensures { result ≡ option_map line_and_fault
-        (fault_after with_remarks earlier.now report.now) }
+    ensures { result ≡ option_map line_and_fault (fault_after rules earlier.now report.now) }
 {
-    if has(report.role, &report.key, earlier) {
-        return Some((1, StatementFault::Twice));
+    if let Some(place) = place_of(report.role, &report.key, earlier) {
+        return Some((1, StatementFault::Twice(place)));
     }
     match report.role {
-        Role::Given if with_remarks => None,
-        Role::Given => remark_refusal(report.remark),
+        Role::Given => given_refusal(rules, earlier, report),
         Role::Paid if has(Role::Given, &report.key, earlier) => None,
         Role::Paid => Some((1, StatementFault::NotGiven)),
     }
+}
+
+/// The line and the fault of a given statement whose report no earlier given one has.
+fn given_refusal(
+    rules: Rules,
+    earlier: &[StatementReport],
+    report: &StatementReport,
+) -> Option<(u64, StatementFault)>
+    ensures { result ≡ option_map line_and_fault (given_fault rules earlier.now report.now) }
+{
+    if !rules.same_message {
+        if let Some(place) = place_of_message(&report.key.message_id, earlier) {
+            return Some((1, StatementFault::SameMessage(place)));
+        }
+    }
+    if rules.with_remarks {
+        return None;
+    }
+    remark_refusal(report.remark)
 }
 
 /// The line and the fault of a statement whose first remark has this line.

@@ -1,11 +1,11 @@
 //! The totals of small statements.
-use crate::{TotalsError, add_up};
+use crate::{Rules, TotalsError, add_up};
 use dsr_io::FromRead;
 use dsr_statement::StatementFault;
 use std::alloc::Global;
 use std::test::Fail;
 
-/// A report with two ledger lines, one of which two parties claim.
+/// A sealed statement with two ledger lines, one of which two parties claim.
 const STATEMENT: &str = "REPORT\tR1\t1\t2024-01-01\t2024-01-31\t31
 FILE\t1\t1\tOurs\t2\tWhole
 LEDGER\tGBABC2400001\tGB\tOnDemandStream\tGBP\t10\t0.5000000000
@@ -14,7 +14,16 @@ PARTY\tGBABC2400001\tGB\tOnDemandStream\tGBP\tP2\t0.1250000000
 UNCLAIMED\tGBABC2400001\tGB\tOnDemandStream\tGBP\t0.1250000000
 LEDGER\tGBABC2400002\tGB\tOnDemandStream\tGBP\t20\t1.0000000000
 UNCLAIMED\tGBABC2400002\tGB\tOnDemandStream\tGBP\t1.0000000000
+INPUT\t1\t0\te3b0c44298fc1c149afbf4c8996fb92427ae41e4649b934ca495991b7852b855
+END\t9\tClean
 ";
+
+/// Sealed statements without remarks.
+const RULES: Rules = Rules {
+    with_remarks: false,
+    unsealed: false,
+    same_message: false,
+};
 
 /// What the statement adds up to.
 const TOTALS: &str = "STATEMENT\t1\tR1\t1\t2024-01-01\t2024-01-31\tClean\t-
@@ -27,7 +36,7 @@ PARTY\tP2\tGBP\t0.1250000000
 /// The text of the totals of a given statement, or why there is none.
 fn totals_of(alloc: Global, statement: &str) -> Result<Vec<u8>, TotalsError> {
     let mut sources = [FromRead::new(statement.as_bytes())];
-    add_up(alloc, 0, &mut sources, 1, false)
+    add_up(alloc, 0, &mut sources, 1, RULES)
 }
 
 #[test]
@@ -43,11 +52,11 @@ fn a_second_statement_of_one_report_is_refused(rt: HostRuntime) {
         FromRead::new(STATEMENT.as_bytes()),
         FromRead::new(STATEMENT.as_bytes()),
     ];
-    let refused = add_up(rt.alloc(), 0, &mut sources, 2, false);
+    let refused = add_up(rt.alloc(), 0, &mut sources, 2, RULES);
     assert!(rt;
         matches!(
             &refused,
-            Err(TotalsError::Refused(1, 1, StatementFault::Twice))
+            Err(TotalsError::Refused(1, 1, StatementFault::Twice(0)))
         )
     );
 }

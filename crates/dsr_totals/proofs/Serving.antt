@@ -6,7 +6,7 @@ use Rattle.dsr_command.specs.declared.identity.FileIdentity.{FileIdentity}
 use Rattle.dsr_command.specs.declared.inputs.OpenError.{OpenError}
 use Rattle.dsr_command.specs.declared.inputs.OpenError.TheVariants.{CannotOpen, Memory}
 use Rattle.dsr_command.specs.declared.new_file.NewFileError.{NewFileError}
-use Rattle.dsr_command.specs.Faults.{IsTold, unopened_line, unopened_status}
+use Rattle.dsr_command.specs.Faults.{IsTold, cannot_open_line, line_of}
 use Rattle.dsr_command.specs.Inputs.{IsRefusal}
 use Rattle.dsr_command.specs.NewFiles.{IsCreated, new_file_line, new_file_status}
 use Rattle.dsr_command.specs.Outputs.{IsOnlyTold, Outputs, outputs}
@@ -15,9 +15,12 @@ use Rattle.dsr_command.specs.NewFiles.{IsSettled, cannot_replace_line}
 use Rattle.dsr_io.specs.declared.source.Failed.{Failed}
 use Rattle.dsr_io.specs.meaning.Written.{Written}
 use Rattle.dsr_totals.specs.declared.totaling.WriteError.{WriteError}
-use Rattle.dsr_totals.specs.Refusals.{dsr_totals}
+use Rattle.dsr_totals.specs.declared.lists.InputError.{InputError}
+use Rattle.dsr_totals.specs.declared.lists.InputError.TheVariants.{Open, Read}
+use Rattle.dsr_totals.specs.Refusals.{cannot_read_line, dsr_totals, unread_line, unread_status}
+use Rattle.dsr_totals.specs.Steps.{AreOpened, AreUnopened}
 use Rattle.dsr_totals.specs.Totaling.{IsAnswerTold, status_after}
-use Rattle.dsr_totals.specs.Serving.{Ghosts, HadOutput, HadTexts, HadTotals, HadTotalsInto, IsEnded, IsServedFor, files_asked, texts_asked}
+use Rattle.dsr_totals.specs.Serving.{Ghosts, HadLists, HadOutput, HadStatements, HadTexts, HadTotals, HadTotalsInto, IsEnded, IsServedFor, files_asked, texts_asked, with_listed}
 
 -- only this was told, and the output is as it was
 pub only_told : (out f h : Written) (text : List ℕ) → IsTold f h text → IsOnlyTold text (outputs out f) (outputs out h)
@@ -25,7 +28,7 @@ only_told out f h text told = record { out = refl; told = told }
 
 had_texts : {R N : Type 0} (g : Ghosts R N) (d : Disk) (left : Option Disk) (asked : Asked) (before after : Outputs) (s : ℕ)
     (texts : List (List ℕ)) (output : Option (List ℕ)) → texts_asked d asked ≡ Ok texts → asked.output ≡ output
-    → HadOutput g d left asked texts before after s output → IsServedFor g d left asked before after s
+    → HadOutput g d left asked texts before after s output → HadStatements g d left asked before after s
 had_texts g d left asked before after s texts output are is had =
     inl (subst (HadTexts g d left asked before after s) (sym are) (subst (HadOutput g d left asked texts before after s) (sym is) had))
 
@@ -40,7 +43,7 @@ pub stored : {R N : Type 0} (g : Ghosts R N) (file : R → Option FileIdentity) 
     → AreSources g.told file (texts_asked d asked) (files_asked d asked) sources
     → asked.output ≡ Some name → IsCreated g.written d between (None ∷ map file sources) name (Ok new)
     → HadTotalsInto g asked sources new name (made d) left f h s
-    → IsServedFor g d left asked (outputs out f) (outputs out h) s
+    → HadStatements g d left asked (outputs out f) (outputs out h) s
 stored g file d between left asked sources name new out f h s are is created had =
     let beside = subst (λ read. IsCreated g.written d between read name (Ok new)) (read_are g file d asked sources are) created in
     had_texts g d left asked (outputs out f) (outputs out h) s are.bytes (Some name) are.texts_are is
@@ -52,7 +55,7 @@ pub unstored : {R N : Type 0} (g : Ghosts R N) (file : R → Option FileIdentity
     → AreSources g.told file (texts_asked d asked) (files_asked d asked) sources
     → asked.output ≡ Some name → IsCreated g.written d left (None ∷ map file sources) name (Err error)
     → IsTold f h (new_file_line dsr_totals name error) → s ≡ new_file_status error
-    → IsServedFor g d left asked (outputs out f) (outputs out h) s
+    → HadStatements g d left asked (outputs out f) (outputs out h) s
 unstored g file d left asked sources name error out f h s are is none told status =
     let not = subst (λ read. IsCreated g.written d left read name (Err error)) (read_are g file d asked sources are) none in
     had_texts g d left asked (outputs out f) (outputs out h) s are.bytes (Some name) are.texts_are is
@@ -71,3 +74,24 @@ pub unsettled : (asked : Asked) (contents : Option (List ℕ)) (name : List ℕ)
     → IsTold f h (cannot_replace_line dsr_totals name) → s ≡ 3 → IsEnded asked contents name d left f h s answer
 unsettled asked contents name d left f h s (Ok v) failed removed told is = inr (removed, told, is)
 unsettled asked contents name d left f h s (Err e) failed removed told is = absurd removed
+
+module _ {R N : Type 0} (g : Ghosts R N) (file : R → Option FileIdentity) (d : Disk) (left : Option Disk) (asked : Asked) where
+  -- the statements were opened and added up
+  pub served : (now : Asked) (sources : List R) (before after : Outputs) (s : ℕ) → AreOpened g.told file d asked now sources
+      → HadStatements g d left now before after s → IsServedFor g d left asked before after s
+  served now sources before after s opened had =
+      inl (subst (HadLists g d left asked before after s) (sym opened.lists_are)
+      (subst (λ a. HadStatements g d left a before after s) opened.now_is had))
+
+  -- they were not opened
+  pub unserved : (error : InputError) (out f h : Written) (s : ℕ) → AreUnopened g.told d asked error → IsTold f h (unread_line error)
+      → s ≡ unread_status error → left ≡ Some d → IsServedFor g d left asked (outputs out f) (outputs out h) s
+  unserved (Open (CannotOpen name)) out f h s (inl e) told is same =
+      inl (subst (HadLists g d left asked (outputs out f) (outputs out h) s) (sym e) (only_told out f h (cannot_open_line dsr_totals name) told, is, same))
+  unserved (Open (CannotOpen name)) out f h s (inr (texts, lists, e)) told is same =
+      inl (subst (HadLists g d left asked (outputs out f) (outputs out h) s) (sym lists) (inl (
+      subst (HadTexts g d left (with_listed asked texts) (outputs out f) (outputs out h) s) (sym e)
+      (only_told out f h (cannot_open_line dsr_totals name) told, is, same))))
+  unserved (Open Memory) out f h s e told is same = inr (inr ((only_told out f h (line_of dsr_totals (codes "out of memory")) told, is), same))
+  unserved (Read list) out f h s (named, unreadable) told is same =
+      inr (inl (list, named, unreadable, only_told out f h (cannot_read_line list) told, is, same))

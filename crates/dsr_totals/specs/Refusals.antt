@@ -1,8 +1,10 @@
 -- The line for totals that cannot be had, and the exit status.
 use Rattle.std.specs.Prelude.{ℕ, List, [], ◌∷◌, ◌++◌, codes, decimal}
-use Rattle.dsr_command.specs.Faults.{line_of}
+use Rattle.dsr_command.specs.Faults.{line_of, unopened_line, unopened_status}
 use Rattle.dsr_statement.specs.declared.fault.StatementFault.{StatementFault}
 use Rattle.dsr_statement.specs.declared.fault.StatementFault.TheVariants as fault
+use Rattle.dsr_totals.specs.declared.lists.InputError.{InputError}
+use Rattle.dsr_totals.specs.declared.lists.InputError.TheVariants.{Open, Read}
 use Rattle.dsr_sums.specs.declared.answer.TotalsError.{TotalsError}
 use Rattle.dsr_sums.specs.declared.answer.TotalsError.TheVariants.{Refused, OutOfRange, Memory}
 
@@ -22,23 +24,49 @@ fault_text fault.Place = codes "Place"
 fault_text fault.Sum = codes "Sum"
 fault_text fault.NoReport = codes "NoReport"
 fault_text fault.Cut = codes "Cut"
-fault_text fault.Twice = codes "Twice"
+fault_text fault.Seal = codes "Seal"
+fault_text fault.Unsealed = codes "Unsealed"
+fault_text (fault.SameMessage place) = codes "SameMessage"
+fault_text (fault.Twice place) = codes "Twice"
 fault_text fault.NotGiven = codes "NotGiven"
 fault_text fault.Remarks = codes "Remarks"
 
--- the line for a statement that is refused: its name, the number of the line, from 1, and the name of the fault
-abbrev pub refusal_line : List ℕ → ℕ → List ℕ → List ℕ
-refusal_line name line why =
-    codes "dsr_totals: " ++ (name ++ (codes ": line " ++ (decimal line ++ (codes ": " ++ (why ++ 10 ∷ [])))))
+-- what stands between the name of a fault and that of the earlier statement that it names, if it names one
+abbrev pub of_other : StatementFault → List ℕ
+of_other (fault.SameMessage place) = codes " of "
+of_other (fault.Twice place) = codes " of "
+of_other _ = []
 
--- the line for totals that cannot be had; the name is that of the statement that is refused, if one is
-abbrev pub no_totals_line : List ℕ → TotalsError → List ℕ
-no_totals_line name (Refused place line why) = refusal_line name line (fault_text why)
-no_totals_line name OutOfRange = line_of dsr_totals (codes "total out of range")
-no_totals_line name Memory = line_of dsr_totals (codes "out of memory")
+-- the line for a statement that is refused: its name, the number of the line, from 1, the name of the fault, and that of the
+-- earlier statement that it names, if it names one
+abbrev pub refusal_line : List ℕ → ℕ → StatementFault → List ℕ → List ℕ
+refusal_line name line why other =
+    codes "dsr_totals: "
+    ++ (name ++ (codes ": line " ++ (decimal line ++ (codes ": " ++ (fault_text why ++ (of_other why ++ (other ++ 10 ∷ [])))))))
+
+-- the line for totals that cannot be had; the names are those of the statement that is refused, if one is, and of the earlier one
+-- that its fault names
+abbrev pub no_totals_line : List ℕ → List ℕ → TotalsError → List ℕ
+no_totals_line name other (Refused place line why) = refusal_line name line why other
+no_totals_line name other OutOfRange = line_of dsr_totals (codes "total out of range")
+no_totals_line name other Memory = line_of dsr_totals (codes "out of memory")
 
 -- the exit status: 1 if a statement is refused
 abbrev pub no_totals_status : TotalsError → ℕ
 no_totals_status (Refused place line why) = 1
 no_totals_status OutOfRange = 3
 no_totals_status Memory = 3
+
+-- the line for a list that cannot be read
+abbrev pub cannot_read_line : List ℕ → List ℕ
+cannot_read_line name = codes "dsr_totals: cannot read " ++ (name ++ 10 ∷ [])
+
+-- the line for statements or lists that are not opened, or a list that is not read
+abbrev pub unread_line : InputError → List ℕ
+unread_line (Open error) = unopened_line dsr_totals error
+unread_line (Read list) = cannot_read_line list
+
+-- the exit status: 2 unless memory was refused
+abbrev pub unread_status : InputError → ℕ
+unread_status (Open error) = unopened_status error
+unread_status (Read list) = 2

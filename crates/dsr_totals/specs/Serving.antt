@@ -1,6 +1,7 @@
 -- What the program does: what it writes to standard output and standard error or to a file, and its exit status, by its words
 -- and the bytes behind names.
 use Rattle.std.specs.Prelude.{◌≡◌, ◌⊎◌, ◌-◌, ◌∷◌, ◌++◌, ℕ, List, [], map, Option, None, Some, Result, Ok, Err}
+use Rattle.std.specs.List.{Contains}
 use Rattle.dsr_command.specs.declared.command.CommandFault.{CommandFault}
 use Rattle.dsr_command.specs.declared.identity.FileIdentity.{FileIdentity}
 use Rattle.dsr_command.specs.declared.new_file.NewFileError.{NewFileError}
@@ -14,7 +15,8 @@ use Rattle.dsr_io.specs.meaning.Written.{Written}
 use Rattle.dsr_totals.specs.CommandLine.{IsAskedFor, IsFaultFor}
 use Rattle.dsr_totals.specs.declared.command.Asked.{Asked}
 use Rattle.dsr_totals.specs.declared.totaling.WriteError.{WriteError}
-use Rattle.dsr_totals.specs.Refusals.{dsr_totals}
+use Rattle.dsr_totals.specs.Lists.{IsUnreadable, names_listed}
+use Rattle.dsr_totals.specs.Refusals.{cannot_read_line, dsr_totals}
 use Rattle.dsr_totals.specs.Totaling.{IsAnswerTold, WroteTotals, status_after}
 
 -- what the sources and the new files of a world tell
@@ -24,6 +26,19 @@ pub record Ghosts (R N : Type 0) : Type 0 where
 
 abbrev pub ghosts : {R N : Type 0} → (R → Told) → (N → Written) → Ghosts R N
 ghosts told written = record { told = told; written = written }
+
+-- what is asked for once lists of these bytes were read: the names in them stand behind those of the paid statements
+abbrev pub with_listed : Asked → List (List ℕ) → Asked
+with_listed asked texts = record asked { paid = asked.paid ++ names_listed texts }
+
+-- texts behind given ones that are there
+abbrev pub behind_given : Result (List (List ℕ)) (List ℕ) → Result (List (List ℕ)) (List ℕ) → Result (List (List ℕ)) (List ℕ)
+behind_given (Err name) texts = Err name
+behind_given (Ok given) texts = texts
+
+-- the bytes of the lists, in order; or the first of the given statements and the lists that cannot be opened
+abbrev pub lists_asked : Disk → Asked → Result (List (List ℕ)) (List ℕ)
+lists_asked disk asked = behind_given (texts_for disk asked.given) (texts_of disk.files asked.lists)
 
 -- texts before others; or the first name that has none
 abbrev pub both_texts : Result (List (List ℕ)) (List ℕ) → Result (List (List ℕ)) (List ℕ) → Result (List (List ℕ)) (List ℕ)
@@ -79,10 +94,29 @@ HadTexts g disk left asked before after status (Err name) =
     IsOnlyTold (cannot_open_line dsr_totals name) before after × (status ≡ 2) × (left ≡ Some disk)
 
 -- the same, unless memory was refused
-abbrev pub IsServedFor : {R N : Type 0} → Ghosts R N → Disk → Option Disk → Asked → Outputs → Outputs → ℕ → Type 0
-IsServedFor g disk left asked before after status =
+abbrev pub HadStatements : {R N : Type 0} → Ghosts R N → Disk → Option Disk → Asked → Outputs → Outputs → ℕ → Type 0
+HadStatements g disk left asked before after status =
     HadTexts g disk left asked before after status (texts_asked disk asked)
     ⊎ (IsWithoutMemory dsr_totals before after status × (left ≡ Some disk))
+
+-- the same with the names in lists of these bytes; or a given statement or a list cannot be opened, the first one
+abbrev pub HadLists : {R N : Type 0} → Ghosts R N → Disk → Option Disk → Asked → Outputs → Outputs → ℕ → Result (List (List ℕ)) (List ℕ) → Type 0
+HadLists g disk left asked before after status (Ok texts) = HadStatements g disk left (with_listed asked texts) before after status
+HadLists g disk left asked before after status (Err name) =
+    IsOnlyTold (cannot_open_line dsr_totals name) before after × (status ≡ 2) × (left ≡ Some disk)
+
+-- one of the lists cannot be read
+abbrev pub LackedList : {R : Type 0} → (R → Told) → Disk → Option Disk → Asked → Outputs → Outputs → ℕ → Type 0
+LackedList told disk left asked before after status =
+    (list : List ℕ) × Contains asked.lists list × IsUnreadable told disk list
+    × IsOnlyTold (cannot_read_line list) before after × (status ≡ 2) × (left ≡ Some disk)
+
+-- what the program does for what is asked for
+abbrev pub IsServedFor : {R N : Type 0} → Ghosts R N → Disk → Option Disk → Asked → Outputs → Outputs → ℕ → Type 0
+IsServedFor g disk left asked before after status =
+    HadLists g disk left asked before after status (lists_asked disk asked)
+    ⊎ (LackedList g.told disk left asked before after status
+    ⊎ (IsWithoutMemory dsr_totals before after status × (left ≡ Some disk)))
 
 -- what the program does for these words: what they ask for, if they have no fault
 abbrev pub IsDone : {R N : Type 0} → Ghosts R N → Disk → Option Disk → List (List ℕ) → Outputs → Outputs → ℕ → Type 0

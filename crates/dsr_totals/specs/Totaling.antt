@@ -3,6 +3,8 @@ use Rattle.std.specs.Prelude.{◌≡◌, ◌≤◌, ◌-◌, ℕ, Bool, nat_lt, 
 use Rattle.dsr_command.specs.Faults.{failed_line, IsTold}
 use Rattle.dsr_io.specs.meaning.Told.{Told}
 use Rattle.dsr_io.specs.meaning.Written.{Written, IsFlushed, IsCut}
+use Rattle.dsr_statement.specs.declared.fault.StatementFault.{StatementFault}
+use Rattle.dsr_statement.specs.declared.fault.StatementFault.TheVariants as fault
 use Rattle.dsr_sums.specs.declared.answer.TotalsError.{TotalsError}
 use Rattle.dsr_sums.specs.declared.answer.TotalsError.TheVariants.{Refused, OutOfRange, Memory}
 use Rattle.dsr_sums.specs.meaning.Sources.{HasTotals, HasNoTotals}
@@ -31,15 +33,27 @@ refused_name asked (Refused place line fault) = name_at asked place
 refused_name asked OutOfRange = codes "-"
 refused_name asked Memory = codes "-"
 
+-- the name of the earlier statement that a fault names, if it names one
+abbrev pub other_name : Asked → StatementFault → List ℕ
+other_name asked (fault.SameMessage place) = name_at asked place
+other_name asked (fault.Twice place) = name_at asked place
+other_name asked _ = []
+
+-- the same of the fault of the statement that is refused, if one is
+abbrev pub refused_other : Asked → TotalsError → List ℕ
+refused_other asked (Refused place line fault) = other_name asked fault
+refused_other asked OutOfRange = []
+refused_other asked Memory = []
+
 -- the text of the sources' totals was written and flushed; or they have none, and nothing was written; or just the first n
 -- bytes of the text were written, and the output failed
 abbrev pub WroteTotals : {R : Type 0} → (R → Told) → Asked → List R → List R → Written → Written → Result (Unit {0}) WriteError → Type 0
 WroteTotals told asked sources left before after (Ok done) =
-    (text : List ℕ) × HasTotals told (given_count asked.given) asked.with_remarks sources left text × IsFlushed text before after
+    (text : List ℕ) × HasTotals told (given_count asked.given) asked.rules sources left text × IsFlushed text before after
 WroteTotals told asked sources left before after (Err (NoTotals error)) =
-    HasNoTotals told (given_count asked.given) asked.with_remarks sources left error × (after ≡ before)
+    HasNoTotals told (given_count asked.given) asked.rules sources left error × (after ≡ before)
 WroteTotals told asked sources left before after (Err (Write n)) =
-    (text : List ℕ) × HasTotals told (given_count asked.given) asked.with_remarks sources left text
+    (text : List ℕ) × HasTotals told (given_count asked.given) asked.rules sources left text
     × (n ≤ length text) × IsCut (take n text) before after
 
 -- the exit status: 0 only if the totals were written
@@ -53,7 +67,7 @@ status_after (Err error) = error_status error
 
 -- the line on standard error
 abbrev pub error_line : Asked → WriteError → List ℕ
-error_line asked (NoTotals error) = no_totals_line (refused_name asked error) error
+error_line asked (NoTotals error) = no_totals_line (refused_name asked error) (refused_other asked error) error
 error_line asked (Write n) = failed_line dsr_totals n
 
 -- standard error has the line of an error, and nothing more if there is none

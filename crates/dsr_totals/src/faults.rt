@@ -1,9 +1,10 @@
 //! The lines for totals that cannot be had.
 ghost use Rattle.std.specs.Prelude.{◌≡◌};
 ghost use Rattle.dsr_command.specs.Faults.{IsTold, IsWritten};
-ghost use Rattle.dsr_totals.specs.Refusals.{fault_text, no_totals_line, no_totals_status, refusal_line};
+ghost use Rattle.dsr_totals.specs.Refusals.{cannot_read_line, fault_text, no_totals_line, no_totals_status, of_other, refusal_line, unread_line, unread_status};
 
-use dsr_command::{UNFINISHED, no_memory, write_line, write_parts};
+use crate::lists::InputError;
+use dsr_command::{REFUSED, UNFINISHED, no_memory, not_opened, write_line, write_parts};
 use dsr_io::Outlet;
 use dsr_statement::StatementFault;
 use dsr_sums::TotalsError;
@@ -30,32 +31,67 @@ fn fault_name(fault: StatementFault) -> &'static str
         StatementFault::Sum => "Sum",
         StatementFault::NoReport => "NoReport",
         StatementFault::Cut => "Cut",
-        StatementFault::Twice => "Twice",
+        StatementFault::Seal => "Seal",
+        StatementFault::Unsealed => "Unsealed",
+        StatementFault::SameMessage(_) => "SameMessage",
+        StatementFault::Twice(_) => "Twice",
         StatementFault::NotGiven => "NotGiven",
         StatementFault::Remarks => "Remarks",
     }
 }
 
-/// Writes why a statement of this name is refused, by the name of its fault, and returns whether the outlet took all of it.
-fn write_refusal<F: Outlet>(name: &str, line: u64, why: &str, out: &mut F) -> bool
-    ensures { IsWritten result (F.told out.old) (F.told out.new) (refusal_line name.now line why.now) }
+/// What stands between the name of a fault and that of the earlier statement that it names, if it names one.
+fn of_other(fault: StatementFault) -> &'static str
+    ensures { result.now ≡ of_other fault }
+{
+    match fault {
+        StatementFault::SameMessage(_) | StatementFault::Twice(_) => " of ",
+        _ => "",
+    }
+}
+
+/// Writes why a statement of this name is refused, and returns whether the outlet took all of it. `other` is the name of the
+/// earlier statement that the fault names, if it names one.
+fn write_refusal<F: Outlet>(
+    name: &str,
+    line: u64,
+    why: StatementFault,
+    other: &str,
+    out: &mut F,
+) -> bool
+    ensures { IsWritten result (F.told out.old) (F.told out.new)
+        (refusal_line name.now line why other.now) }
 {
     let mut digits = Buffer::new();
     let line = digits.format(line);
+    let of = of_other(why);
+    let why = fault_name(why);
     write_parts(
-        &["dsr_totals: ", name, ": line ", line, ": ", why, "\n"],
+        &[
+            "dsr_totals: ",
+            name,
+            ": line ",
+            line,
+            ": ",
+            why,
+            of,
+            other,
+            "\n",
+        ],
         out,
     )
 }
 
-/// Writes why there are no totals, and returns the exit status. `name` is that of the statement that is refused, if one is.
-pub(crate) fn no_totals<F: Outlet>(error: TotalsError, name: &str, fault: &mut F) -> u8
+/// Writes why there are no totals, and returns the exit status. `name` is that of the statement that is refused, if one is, and
+/// `other` that of the earlier statement that its fault names, if it names one.
+pub(crate) fn no_totals<F: Outlet>(error: TotalsError, name: &str, other: &str, fault: &mut F) -> u8
     ensures status { result ≡ no_totals_status error }
-    ensures told { IsTold (F.told fault.old) (F.told fault.new) (no_totals_line name.now error) }
+    ensures told { IsTold (F.told fault.old) (F.told fault.new)
+        (no_totals_line name.now other.now error) }
 {
     match error {
         TotalsError::Refused(_, line, why) => {
-            write_refusal(name, line, fault_name(why), fault);
+            write_refusal(name, line, why, other, fault);
             REFUSED_STATEMENT
         }
         TotalsError::OutOfRange => {
@@ -63,5 +99,19 @@ pub(crate) fn no_totals<F: Outlet>(error: TotalsError, name: &str, fault: &mut F
             UNFINISHED
         }
         TotalsError::Memory => no_memory(DSR_TOTALS, fault),
+    }
+}
+
+/// Writes why statements or lists are not opened, or a list is not read, and returns the exit status.
+pub(crate) fn not_read<F: Outlet>(error: &InputError, fault: &mut F) -> u8
+    ensures status { result ≡ unread_status error.now }
+    ensures told { IsTold (F.told fault.old) (F.told fault.new) (unread_line error.now) }
+{
+    match error {
+        InputError::Open(error) => not_opened(DSR_TOTALS, error, fault),
+        InputError::Read(list) => {
+            write_parts(&["dsr_totals: cannot read ", list.as_str(), "\n"], fault);
+            REFUSED
+        }
     }
 }

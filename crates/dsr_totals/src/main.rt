@@ -1,7 +1,7 @@
 //! The second program: it reads statements and prints what they add up to.
 //!
-//! 1. `program` runs its stages: it reads the command line (`arguments`, which gives a `command`), opens the statements and
-//!    creates the output.
+//! 1. `program` runs its stages: it reads the command line (`arguments`, which gives a `command`), reads the names in lists
+//!    (`lists`) and opens the statements (`opening`), and creates the output.
 //! 2. `totaling` passes the sources to `add_up` of dsr_sums, writes the text to standard output or to the new file, and puts this
 //!    in its place. `faults` has the line for a statement that is refused, and for totals that are out of range.
 //! 3. `main` gives `serve` the words and files of the system (`Host` of dsr_command) and its outputs, and ends with the exit
@@ -13,6 +13,8 @@
 mod arguments;
 mod command;
 mod faults;
+mod lists;
+mod opening;
 mod program;
 mod totaling;
 

@@ -1,15 +1,16 @@
 //! From the program's words to its exit status.
-ghost use Rattle.std.specs.Prelude.{◌≡◌, Some, map};
+ghost use Rattle.std.specs.Prelude.{◌≡◌, false, All, Some, map};
 ghost use Rattle.std.specs.String.{string_bytes};
 ghost use Rattle.dsr_command.specs.Outputs.{outputs};
-ghost use Rattle.dsr_command.specs.World.{WhereTold};
-ghost use Rattle.dsr_totals.specs.Serving.{IsDone, IsServed, IsServedFor, ghosts};
+ghost use Rattle.dsr_command.specs.World.{AreSources, WhereTold};
+ghost use Rattle.dsr_totals.specs.Serving.{HadStatements, IsDone, IsServed, IsServedFor, files_asked, ghosts, texts_asked};
 
 use crate::arguments::asked;
 use crate::command::Asked;
-use crate::faults::DSR_TOTALS;
-use crate::totaling::{open_statements, print_totals, replace_by_totals};
-use dsr_command::{StatementWorld, create_beside, no_new_file, no_words, not_opened, turn_down};
+use crate::faults::{DSR_TOTALS, not_read};
+use crate::opening::open_statements;
+use crate::totaling::{print_totals, replace_by_totals};
+use dsr_command::{StatementWorld, create_beside, no_new_file, no_words, turn_down};
 use dsr_io::Outlet;
 use std::alloc::Global;
 use std::random::RandomSource;
@@ -47,7 +48,7 @@ fn answer<H: RandomSource, W: StatementWorld, O: Outlet, F: Outlet>(
         result) }
 {
     match asked(alloc, words) {
-        Ok(asked) => read_and_print(rt, alloc, world, &asked, out, fault),
+        Ok(asked) => read_and_print(rt, alloc, world, asked, out, fault),
         Err(error) => turn_down(DSR_TOTALS, &error, out, fault),
     }
 }
@@ -57,18 +58,38 @@ fn read_and_print<H: RandomSource, W: StatementWorld, O: Outlet, F: Outlet>(
     rt: &H,
     alloc: Global,
     world: &mut W,
-    asked: &Asked,
+    asked: Asked,
     out: &mut O,
     fault: &mut F,
 ) -> u8
     ensures { WhereTold (W.disk world.old) (λ d. IsServedFor (ghosts (W.Reader.told) (W.New.told))
-        d (W.disk world.new) asked.now (outputs (O.told out.old) (F.told fault.old))
+        d (W.disk world.new) asked (outputs (O.told out.old) (F.told fault.old))
         (outputs (O.told out.new) (F.told fault.new)) result) }
 {
-    let inputs = match open_statements(alloc, world, asked) {
-        Ok(inputs) => inputs,
-        Err(error) => return not_opened(DSR_TOTALS, &error, fault),
-    };
+    let mut asked = asked;
+    match open_statements(alloc, world, &mut asked) {
+        Ok(inputs) => print_opened(rt, alloc, world, &asked, inputs, out, fault),
+        Err(error) => not_read(&error, fault),
+    }
+}
+
+/// Reads the statements that were opened and writes their totals. Returns the exit status.
+fn print_opened<H: RandomSource, W: StatementWorld, O: Outlet, F: Outlet>(
+    rt: &H,
+    alloc: Global,
+    world: &mut W,
+    asked: &Asked,
+    inputs: Vec<W::Reader>,
+    out: &mut O,
+    fault: &mut F,
+) -> u8
+    requires sources { All (λ r. (W.Reader.told r).failed ≡ false) inputs.items }
+    ensures { WhereTold (W.disk world.old) (λ d. AreSources W.Reader.told W.Reader.file
+        (texts_asked d asked.now) (files_asked d asked.now) inputs.items
+        → HadStatements (ghosts (W.Reader.told) (W.New.told)) d (W.disk world.new) asked.now
+        (outputs (O.told out.old) (F.told fault.old)) (outputs (O.told out.new) (F.told fault.new))
+        result) }
+{
     let Some(name) = &asked.output else {
         return print_totals(rt, alloc, asked, inputs, out, fault);
     };

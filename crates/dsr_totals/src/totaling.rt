@@ -1,20 +1,19 @@
 //! The totals, and where they go.
-ghost use Rattle.std.specs.Prelude.{◌≡◌, false, List, All, IfOk, MatchResult};
-ghost use Rattle.dsr_command.specs.Inputs.{IsRefusal};
+ghost use Rattle.std.specs.Prelude.{◌≡◌, false, List, All};
 ghost use Rattle.dsr_command.specs.Faults.{IsTold};
 ghost use Rattle.dsr_command.specs.Outputs.{outputs};
-ghost use Rattle.dsr_command.specs.World.{AreSources, WhereTold};
-ghost use Rattle.dsr_totals.specs.Serving.{HadTotals, HadTotalsInto, files_asked, ghosts, texts_asked};
-ghost use Rattle.dsr_totals.specs.Totaling.{IsAnswerTold, WroteTotals, error_line, error_status, given_count, name_at, name_in, refused_name, status_after};
+ghost use Rattle.dsr_command.specs.World.{WhereTold};
+ghost use Rattle.dsr_totals.specs.Serving.{HadTotals, HadTotalsInto, ghosts};
+ghost use Rattle.dsr_totals.specs.Totaling.{IsAnswerTold, WroteTotals, error_line, error_status, given_count, name_at, name_in, other_name, refused_name, refused_other, status_after};
 
 use crate::command::Asked;
 use crate::faults::{DSR_TOTALS, no_totals};
 use dsr_cells::Text;
 use dsr_command::{
-    Names, OpenError, StatementWorld, UNFINISHED, cannot_replace, open_inputs, print_text, settle,
-    write_failed,
+    Names, StatementWorld, UNFINISHED, cannot_replace, print_text, settle, write_failed,
 };
 use dsr_io::{Failed, Outlet, Source};
+use dsr_statement::StatementFault;
 use dsr_sums::{TotalsError, add_up};
 use std::alloc::Global;
 use std::random::RandomSource;
@@ -28,36 +27,6 @@ pub(crate) fn random_seed<H: RandomSource>(rt: &H) -> u64 {
     match rt.fill_bytes(&mut bytes) {
         Ok(()) => u64::from_le_bytes(bytes),
         Err(_) => FIXED_SEED,
-    }
-}
-
-/// Opens the statements: the given ones, or standard input if none is named, and then those that were paid.
-pub(crate) fn open_statements<W: StatementWorld>(
-    alloc: Global,
-    world: &W,
-    asked: &Asked,
-) -> Result<Vec<W::Reader>, OpenError>
-    ensures unfailed { IfOk result (λ v. All (λ r. (W.Reader.told r).failed ≡ false) v.items) }
-    ensures opened { WhereTold (W.disk world.now) (λ d. MatchResult result
-        (λ v. AreSources W.Reader.told W.Reader.file (texts_asked d asked.now)
-        (files_asked d asked.now) v.items)
-        (IsRefusal (texts_asked d asked.now))) }
-{
-    let permit = world.permit();
-    let mut inputs = open_inputs(alloc, world, &permit, &asked.given)?;
-    if asked.paid.len() == 0 {
-        return Ok(inputs);
-    }
-    let mut paid = match open_inputs(alloc, world, &permit, &asked.paid) {
-        Ok(paid) => paid,
-        Err(error) => {
-            drop(inputs);
-            return Err(error);
-        }
-    };
-    match inputs.append(&mut paid) {
-        Ok(()) => Ok(inputs),
-        Err(_) => Err(OpenError::Memory),
     }
 }
 
@@ -101,6 +70,26 @@ fn refused_name(asked: &Asked, error: TotalsError) -> &str
     }
 }
 
+/// The name of the earlier statement that a fault names, if it names one.
+fn other_name(asked: &Asked, fault: StatementFault) -> &str
+    ensures { result.now ≡ other_name asked.now fault }
+{
+    match fault {
+        StatementFault::SameMessage(place) | StatementFault::Twice(place) => name_at(asked, place),
+        _ => "",
+    }
+}
+
+/// The same of the fault of the statement that is refused, if one is.
+fn refused_other(asked: &Asked, error: TotalsError) -> &str
+    ensures { result.now ≡ refused_other asked.now error }
+{
+    match error {
+        TotalsError::Refused(_, _, fault) => other_name(asked, fault),
+        _ => "",
+    }
+}
+
 /// Why there are no totals, or they are not written.
 #[derive(Debug, Clone, Copy, PartialEq, Eq)]
 pub(crate) enum WriteError {
@@ -128,7 +117,7 @@ fn write_totals<R: Source + Drop, H: RandomSource, O: Outlet>(
         random_seed(rt),
         &mut inputs,
         given_count(asked),
-        asked.with_remarks,
+        asked.rules,
     ) {
         Ok(text) => text,
         Err(error) => return Err(WriteError::NoTotals(error)),
@@ -145,7 +134,12 @@ fn tell<F: Outlet>(error: WriteError, asked: &Asked, fault: &mut F) -> u8
     ensures told { IsTold (F.told fault.old) (F.told fault.new) (error_line asked.now error) }
 {
     match error {
-        WriteError::NoTotals(error) => no_totals(error, refused_name(asked, error), fault),
+        WriteError::NoTotals(error) => no_totals(
+            error,
+            refused_name(asked, error),
+            refused_other(asked, error),
+            fault,
+        ),
         WriteError::Write(written) => {
             write_failed(DSR_TOTALS, written, fault);
             UNFINISHED

@@ -13,9 +13,9 @@ use Rattle.dsr_sums.specs.declared.reading.ReadingError.TheVariants as errors
 use Rattle.dsr_sums.specs.declared.reports.StatementReport.{StatementReport}
 use Rattle.dsr_sums.specs.declared.reports.Role.{Role}
 use Rattle.dsr_sums.specs.declared.totals.Totals.{Totals}
-use Rattle.dsr_sums.specs.meaning.Answers.{StatementText, statement_with, statement_in}
+use Rattle.dsr_sums.specs.meaning.Answers.{StatementText, statement_of, whole_statement}
 use Rattle.dsr_sums.specs.meaning.Sources.{Gave}
-use Rattle.dsr_sums.specs.meaning.Statements.{Statement, key_of_lines, first_remark}
+use Rattle.dsr_sums.specs.meaning.Statements.{Statement, key_of_lines}
 use Rattle.dsr_sums.specs.meaning.Totals.{Booked, booked}
 use Rattle.dsr_sums.specs.inner.Books.{HoldsLines}
 
@@ -29,9 +29,7 @@ HasNoLineFeed bytes = All (λ b. (b == 10) ≡ false) bytes
 -- these lines were read
 pub record Reads (r : Reading) (done : List Line) : Type 0 where
   pub after : IsAfter r.reader (reverse done)
-  pub line : r.line ≡ suc (length done)
   pub key : r.key ≡ key_of_lines done
-  pub remark : r.remark ≡ first_remark 1 done
 
 -- the totals hold these lines of a statement too
 abbrev pub AddsLines : Role → Totals → Totals → List Line → Type 0
@@ -77,14 +75,14 @@ IsRefusedIn done bytes (errors.Refused line fault) =
 IsRefusedIn done bytes errors.Memory = Unit {0}
 
 -- the statement ends here, with what follows its last line feed
-abbrev pub FinishesAt : Role → List Line → List ℕ → Bool → Result StatementReport ReadingError → Type 0
-FinishesAt role done rest failed (Ok report) =
-    (end_fault (reverse done) rest failed ≡ None) × (statement_with role done (key_of_lines done) ≡ Ok (record { report = report; lines = done }))
+abbrev pub FinishesAt : Bool → Role → List Line → List ℕ → Bool → Result StatementReport ReadingError → Type 0
+FinishesAt unsealed role done rest failed (Ok report) =
+    (end_fault (reverse done) rest failed ≡ None) × (whole_statement unsealed role done ≡ Ok (record { report = report; lines = done }))
     × (report.role ≡ role)
-FinishesAt role done rest failed (Err (errors.Refused line fault)) =
+FinishesAt unsealed role done rest failed (Err (errors.Refused line fault)) =
     ((end_fault (reverse done) rest failed ≡ Some fault) × (line ≡ suc (length done)))
-    ⊎ ((end_fault (reverse done) rest failed ≡ None) × (statement_with role done (key_of_lines done) ≡ Err (refusal line fault)))
-FinishesAt role done rest failed (Err errors.Memory) = Unit {0}
+    ⊎ ((end_fault (reverse done) rest failed ≡ None) × (whole_statement unsealed role done ≡ Err (refusal line fault)))
+FinishesAt unsealed role done rest failed (Err errors.Memory) = Unit {0}
 
 abbrev pub text_with : Role → (bytes : List ℕ) (failed : Bool) (read : Result (List Line) Refusal) → IsReadingOf bytes failed read → StatementText
 text_with role bytes failed read is = record { role = role; bytes = bytes; failed = failed; read = read; is_read = is }
@@ -96,11 +94,11 @@ ReadAs role before after s (Ok report) =
 ReadAs role before after s (Err e) = IsErrorOf s e
 
 -- the source gave a text, which was read so; unless memory was refused
-abbrev pub IsReadFrom : Told → Told → Role → Totals → Totals → Result StatementReport ReadingError → Type 0
-IsReadFrom told left role before after (Err errors.Memory) = Unit {0}
-IsReadFrom told left role before after result =
+abbrev pub IsReadFrom : Told → Told → Bool → Role → Totals → Totals → Result StatementReport ReadingError → Type 0
+IsReadFrom told left unsealed role before after (Err errors.Memory) = Unit {0}
+IsReadFrom told left unsealed role before after result =
     (bytes : List ℕ) × (failed : Bool) × (read : Result (List Line) Refusal) × (is : IsReadingOf bytes failed read)
-    × Gave told left (text_with role bytes failed read is) × ReadAs role before after (statement_in (text_with role bytes failed read is)) result
+    × Gave told left (text_with role bytes failed read is) × ReadAs role before after (statement_of unsealed role read) result
 
 -- what was read so far: the lines of some bytes, and what follows their last line feed
 pub record IsReading (before now : Told) (role : Role) (start totals : Totals) (r : Reading) (kept : List ℕ) : Type 0 where

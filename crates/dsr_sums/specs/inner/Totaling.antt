@@ -11,6 +11,7 @@ use Rattle.dsr_sums.specs.declared.reading.ReadingError.{ReadingError}
 use Rattle.dsr_sums.specs.declared.reading.ReadingError.TheVariants as errors
 use Rattle.dsr_sums.specs.declared.reports.StatementReport.{StatementReport}
 use Rattle.dsr_sums.specs.declared.reports.Role.{Role}
+use Rattle.dsr_sums.specs.declared.rules.Rules.{Rules}
 use Rattle.dsr_sums.specs.declared.totals.Totals.{Totals}
 use Rattle.dsr_sums.specs.meaning.Answers.{StatementText, accepted, statement_in, statements_after, totals_of}
 use Rattle.dsr_sums.specs.meaning.Sources.{Gave, GaveEach}
@@ -36,12 +37,12 @@ IsNext next ss t (Ok done) = (s : Statement) × (next ≡ Ok s) × HoldsStatemen
 IsNext next ss t (Err e) = IsErrorOf next e
 
 -- the source gave the text of the next statement; unless memory was refused
-abbrev pub ReadsNext : Bool → Told → Told → Role → List Statement → Totaling → Result (Unit {0}) ReadingError → Type 0
-ReadsNext remarks before after role ss t (Err errors.Memory) = Unit {0}
-ReadsNext remarks before after role ss t result =
+abbrev pub ReadsNext : Rules → Told → Told → Role → List Statement → Totaling → Result (Unit {0}) ReadingError → Type 0
+ReadsNext rules before after role ss t (Err errors.Memory) = Unit {0}
+ReadsNext rules before after role ss t result =
     (bytes : List ℕ) × (failed : Bool) × (read : Result (List Line) Refusal) × (is : IsReadingOf bytes failed read)
     × Gave before after (text_with role bytes failed read is)
-    × IsNext (accepted remarks ss (statement_in (text_with role bytes failed read is))) ss t result
+    × IsNext (accepted rules ss (statement_in rules (text_with role bytes failed read is))) ss t result
 
 -- the error of the statement at this place
 abbrev pub error_of : ℕ → ReadingError → TotalsError
@@ -55,7 +56,7 @@ IsNoTextOf ss totals_errors.Memory = Unit {0}
 IsNoTextOf ss (totals_errors.Refused place line fault) = ⊥
 
 -- the first sources were read, as many as `place`
-pub record HaveRead {R : Type 0} (told : R → Told) (given : ℕ) (remarks : Bool) (place : ℕ) (before now : List R) (t : Totaling) : Type 0 where
+pub record HaveRead {R : Type 0} (told : R → Told) (given : ℕ) (rules : Rules) (place : ℕ) (before now : List R) (t : Totaling) : Type 0 where
   pub front : List R
   pub changed : List R
   pub rest : List R
@@ -67,6 +68,6 @@ pub record HaveRead {R : Type 0} (told : R → Told) (given : ℕ) (remarks : Bo
   pub count : length ss ≡ place
   pub many : length texts ≡ place
   pub gave : GaveEach told given 0 front changed texts
-  pub read : statements_after remarks (Ok []) texts ≡ Ok ss
+  pub read : statements_after rules (Ok []) texts ≡ Ok ss
   pub holds : HoldsStatements t ss
-  pub remarks_are : t.with_remarks ≡ remarks
+  pub rules_are : t.rules ≡ rules

@@ -7,6 +7,7 @@ use Rattle.dsr_sums.specs.declared.answer.TotalsError.{TotalsError}
 use Rattle.dsr_sums.specs.declared.answer.TotalsError.TheVariants.{Refused, OutOfRange, Memory}
 use Rattle.dsr_sums.specs.declared.reports.Role.{Role}
 use Rattle.dsr_sums.specs.declared.reports.Role.TheVariants.{Given, Paid}
+use Rattle.dsr_sums.specs.declared.rules.Rules.{Rules}
 use Rattle.dsr_sums.specs.meaning.Answers.{StatementText, totals}
 
 -- a text is read as the same whatever follows it: it has a fault
@@ -32,14 +33,14 @@ GaveEach told given place (r ∷ rs) (q ∷ qs) (t ∷ ts) =
 GaveEach told given place _ _ _ = ⊥
 
 -- all sources gave their texts, and this is the text of their totals
-abbrev pub HasTotals : {R : Type 0} → (R → Told) → ℕ → Bool → List R → List R → List ℕ → Type 0
-HasTotals told given remarks before after text =
-    (texts : List StatementText) × GaveEach told given 0 before after texts × (length texts ≡ length before) × (totals remarks texts ≡ Ok text)
+abbrev pub HasTotals : {R : Type 0} → (R → Told) → ℕ → Rules → List R → List R → List ℕ → Type 0
+HasTotals told given rules before after text =
+    (texts : List StatementText) × GaveEach told given 0 before after texts × (length texts ≡ length before) × (totals rules texts ≡ Ok text)
 
 -- the sources gave these texts, and this is why they have no totals; only a refusal comes before all sources were read
-abbrev pub HasNoTotals : {R : Type 0} → (R → Told) → ℕ → Bool → List R → List R → TotalsError → Type 0
-HasNoTotals told given remarks before after (Refused place line fault) =
-    (texts : List StatementText) × GaveEach told given 0 before after texts × (totals remarks texts ≡ Err (Refused place line fault))
-HasNoTotals told given remarks before after OutOfRange =
-    (texts : List StatementText) × GaveEach told given 0 before after texts × (length texts ≡ length before) × (totals remarks texts ≡ Err OutOfRange)
-HasNoTotals told given remarks before after Memory = Unit {0}
+abbrev pub HasNoTotals : {R : Type 0} → (R → Told) → ℕ → Rules → List R → List R → TotalsError → Type 0
+HasNoTotals told given rules before after (Refused place line fault) =
+    (texts : List StatementText) × GaveEach told given 0 before after texts × (totals rules texts ≡ Err (Refused place line fault))
+HasNoTotals told given rules before after OutOfRange =
+    (texts : List StatementText) × GaveEach told given 0 before after texts × (length texts ≡ length before) × (totals rules texts ≡ Err OutOfRange)
+HasNoTotals told given rules before after Memory = Unit {0}

@@ -1,11 +1,10 @@
 -- Statements that were read whole: which of them are refused, and the text of the totals of the others.
 use Rattle.std.specs.Prelude.{ℕ, suc, ◌==◌, ◌&&◌, Bool, true, false, not, if◌then◌else◌, List, [], ◌∷◌, ◌++◌, Option, None, Some, option_map, map, codes, decimal, is_some}
-use Rattle.std.specs.List.{flat_map, list_any}
+use Rattle.std.specs.List.{flat_map, list_any, position}
 use Rattle.std.specs.Str.{bytes_eq}
 use Rattle.dsr_cells.specs.meaning.Written.{written_day}
 use Rattle.dsr_cells.specs.meaning.Days.{CivilDay}
 use Rattle.dsr_ledger.specs.declared.report.ReportKey.{ReportKey}
-use Rattle.dsr_statement.specs.meaning.Status.{is_clean_file}
 use Rattle.dsr_statement.specs.declared.line.Line.{Line}
 use Rattle.dsr_statement.specs.declared.line.Line.TheVariants as lines
 use Rattle.dsr_statement.specs.declared.fault.StatementFault.{StatementFault}
@@ -14,25 +13,13 @@ use Rattle.dsr_statement.specs.meaning.Readings.{Refusal}
 use Rattle.dsr_sums.specs.declared.reports.StatementReport.{StatementReport}
 use Rattle.dsr_sums.specs.declared.reports.Role.{Role}
 use Rattle.dsr_sums.specs.declared.reports.Role.TheVariants.{Given, Paid}
+use Rattle.dsr_sums.specs.declared.rules.Rules.{Rules}
 use Rattle.dsr_sums.specs.meaning.Totals.{Booked, booked, line, sums_text}
 
 -- a statement that was read whole: its report, and its lines
 pub record Statement : Type 0 where
   pub report : StatementReport
   pub lines : List Line
-
--- a line that is a remark: of a file that is not Ours or not whole, a missing file, a difference, a rejected block
-abbrev pub is_remark : Line → Bool
-is_remark (lines.File place f) = not (is_clean_file f)
-is_remark (lines.Missing number) = true
-is_remark (lines.Summary d) = true
-is_remark (lines.Reject r) = true
-is_remark _ = false
-
--- the number of the first remark's line, where the first line has this number
-abbrev pub first_remark : ℕ → List Line → Option ℕ
-first_remark n [] = None
-first_remark n (l ∷ ls) = if is_remark l then Some n else first_remark (suc n) ls
 
 abbrev pub key_of_line : Line → Option ReportKey
 key_of_line (lines.Report key) = Some key
@@ -62,24 +49,43 @@ role_eq Given Paid = false
 role_eq Paid Given = false
 role_eq Paid Paid = true
 
+-- a statement with this role and this report
+abbrev pub is_of_report : Role → ReportKey → StatementReport → Bool
+is_of_report role key r = role_eq r.role role && is_same_report key r.key
+
+-- a given statement of this message
+abbrev pub is_of_message : List ℕ → StatementReport → Bool
+is_of_message message r = role_eq r.role Given && bytes_eq message r.key.message_id
+
 -- a statement with this role has this report
 abbrev pub has_report : Role → ReportKey → List StatementReport → Bool
-has_report role key rs = list_any (λ r. role_eq r.role role && is_same_report key r.key) rs
+has_report role key rs = list_any (is_of_report role key) rs
 
 abbrev pub at_first_line : StatementFault → Refusal
 at_first_line fault = record { line = 1; fault = fault }
 
--- the fault of a statement whose report no earlier one of its role has; `remarks` says whether given ones may have remarks
-abbrev pub fault_of_role : Bool → List StatementReport → Role → StatementReport → Option Refusal
-fault_of_role remarks earlier Given r =
-    if remarks then None else option_map (λ n. record { line = n; fault = faults.Remarks }) r.remark
-fault_of_role remarks earlier Paid r =
-    if has_report Given r.key earlier then None else Some (at_first_line faults.NotGiven)
+-- an earlier statement with the same role has the same report; the fault has the place of the first one, from 0
+abbrev pub twice : List StatementReport → StatementReport → Option Refusal
+twice earlier r = option_map (λ place. at_first_line (faults.Twice place)) (position (is_of_report r.role r.key) earlier)
+
+-- an earlier given statement is of the same message
+abbrev pub same_message : List StatementReport → StatementReport → Option Refusal
+same_message earlier r = option_map (λ place. at_first_line (faults.SameMessage place)) (position (is_of_message r.key.message_id) earlier)
+
+-- the fault of a given statement whose report no earlier given one has
+abbrev pub given_fault : Rules → List StatementReport → StatementReport → Option Refusal
+given_fault rules earlier r =
+    either (if rules.same_message then None else same_message earlier r)
+    (if rules.with_remarks then None else option_map (λ n. record { line = n; fault = faults.Remarks }) r.remark)
+
+-- the fault of a statement whose report no earlier one of its role has
+abbrev pub fault_of_role : Rules → List StatementReport → Role → StatementReport → Option Refusal
+fault_of_role rules earlier Given r = given_fault rules earlier r
+fault_of_role rules earlier Paid r = if has_report Given r.key earlier then None else Some (at_first_line faults.NotGiven)
 
 -- the fault of a statement after the earlier ones
-unfoldable pub fault_after : Bool → List StatementReport → StatementReport → Option Refusal
-fault_after remarks earlier r =
-    if has_report r.role r.key earlier then Some (at_first_line faults.Twice) else fault_of_role remarks earlier r.role r
+unfoldable pub fault_after : Rules → List StatementReport → StatementReport → Option Refusal
+fault_after rules earlier r = either (twice earlier r) (fault_of_role rules earlier r.role r)
 
 abbrev pub line_and_fault : Refusal → ℕ × StatementFault
 line_and_fault r = (r.line, r.fault)

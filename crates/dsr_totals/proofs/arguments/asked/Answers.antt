@@ -32,6 +32,7 @@ pub returns-in-Ok-read_matches-clause-asked : goal.returns-in-Ok-read_matches-cl
 returns-in-Ok-read_matches-clause-asked c =
     let is = c.in-Ok.ensures in
     let rows = c.in-Ok-try_get_matches_from.ensures.matches (ap is_simple is ∙ simple) in (
+      sym c.lacks_equals.ensures ∙ c.if-lacks_equals.false,
       subst (λ a. fault_of a (map string_bytes c.args.words.now) ≡ []) is
           (c.in-Ok-try_get_matches_from.ensures.kinds (ap is_simple_and_free is ∙ simple_and_free)),
       subst (λ r. IsAskedBy r c.in-Ok-read_matches.asked) (rows.0 ∙ ap (λ a. matches_of a (map string_bytes c.args.words.now)) is)
@@ -41,7 +42,10 @@ returns-in-Ok-read_matches-clause-asked c =
 pub returns-clause-fault : goal.returns-clause-fault
 returns-clause-fault c =
     let is = c.in-Ok.ensures in
-    answered _ c.in-Err.error c.fault_of_error.result
-    (subst (λ a. HasKind (fault_of a (map string_bytes c.args.words.now)) c.in-Err.error) is
-    (c.in-Err.ensures.kinds (ap is_simple_and_free is ∙ simple_and_free)))
-    c.fault_of_error.ensures
+    inr (
+      sym c.lacks_equals.ensures ∙ c.if-lacks_equals.false,
+      answered _ c.in-Err.error c.answer_to.result
+          (subst (λ a. HasKind (fault_of a (map string_bytes c.args.words.now)) c.in-Err.error) is
+          (c.in-Err.ensures.kinds (ap is_simple_and_free is ∙ simple_and_free)))
+          c.answer_to.ensures,
+    )
