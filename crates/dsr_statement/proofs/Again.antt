@@ -77,6 +77,9 @@ line_read (lines.Ledger key u a) row result read h e = read key u a h e
 line_read (lines.Party key p) row result read h e = read key p h e
 line_read (lines.Unclaimed key a) row result read h e = read key a h e
 line_read (lines.Reject r) row result read h e = read r h e
+line_read (lines.Layout d) row result read h e = read d h e
+line_read (lines.Input place d) row result read h e = read place d h e
+line_read (lines.End n s) row result read h e = read n s h e
 
 -- ten cells are enough to see whether a line has the cells of its kind
 first_ten : (kind : LineKind) (row : List (List ℕ)) → has_cells kind (take 10 row) ≡ has_cells kind row
@@ -96,6 +99,9 @@ first_ten kind (a ∷ b ∷ c ∷ d ∷ e ∷ f ∷ g ∷ h ∷ i ∷ j ∷ k �
     many kinds.Party = rw (over 7 (omega arith)) refl
     many kinds.Unclaimed = rw (over 6 (omega arith)) refl
     many kinds.Reject = rw (over 5 (omega arith)) refl
+    many kinds.Layout = rw (over 3 (omega arith)) refl
+    many kinds.Input = rw (over 4 (omega arith)) refl
+    many kinds.End = rw (over 3 (omega arith)) refl
 first_ten kind _ = refl
 
 pub some_cells : (text : List ℕ) → 0 < length (take 10 (cells text))

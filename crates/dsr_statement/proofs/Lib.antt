@@ -10,9 +10,13 @@ pub mod Rows
 pub mod Plain
 pub mod Again
 pub mod OneLine
+pub mod RemarkLines
+pub mod Readers
 pub mod ReadLines
 pub mod OneReading
 pub mod AgainTexts
 pub mod ReportPlaces
 pub mod ReportAgain
 pub mod OneLedger
+pub mod Sealed
+pub mod SealedAgain

@@ -17,15 +17,15 @@ use Rattle.dsr_events.specs.declared.fault.Outcome.TheVariants as outcomes
 use Rattle.dsr_ledger.specs.meaning.Bookings.{Key}
 use Rattle.dsr_statement.specs.declared.line.Line.{Line}
 use Rattle.dsr_statement.specs.declared.line.Line.TheVariants as lines
-use Rattle.dsr_statement.specs.meaning.Names.{standing_name, reason_name}
-use Rattle.dsr_statement.specs.meaning.Cells.{Cell, Number64, Number32, FileNumber, Usages, Amount, OnDay, Stands, Why, cell_text, is_cell, is_printed_fault}
+use Rattle.dsr_statement.specs.meaning.Names.{standing_name, reason_name, status_name}
+use Rattle.dsr_statement.specs.meaning.Cells.{Cell, Number64, Number32, FileNumber, Usages, Amount, OnDay, Stands, Why, StatusName, cell_text, is_cell, is_printed_fault}
 use Rattle.dsr_statement.specs.meaning.Faults.{named}
 use Rattle.dsr_statement.specs.meaning.Lines.{line_cells, cell_texts, is_line, column_cells, outcome_cells}
 use Rattle.dsr_statement.specs.meaning.Readings.{Spells}
-use Rattle.dsr_statement.specs.inner.Lenient.{Reads, kind_of, standings_in_order, reasons_in_order, columns_in_order, plain_faults}
+use Rattle.dsr_statement.specs.inner.Lenient.{Reads, kind_of, standings_in_order, reasons_in_order, statuses_in_order, columns_in_order, plain_faults}
 use Rattle.dsr_statement.specs.inner.Numbers.{number_in, usages_in, amount_in, ◌>>=◌}
 use Rattle.dsr_statement.proofs.Again.{kind_again, name_first, row_again}
-use Rattle.dsr_statement.proofs.Rows.{nth, all_behind, read_64, read_32, usages_read, amount_read, day_read, reason_read, standing_read, file_number_read}
+use Rattle.dsr_statement.proofs.Rows.{nth, all_behind, read_64, read_32, usages_read, amount_read, day_read, reason_read, standing_read, status_read, file_number_read}
 
 -- two values of a cell that print the same are the same, if a value is read from its text
 same : {A : Type 0} (cell : A → Cell) (from : List ℕ → Option A) → ((text : List ℕ) → Reads cell text (from text))
@@ -155,6 +155,23 @@ one_kind (lines.Reject r) (lines.Reject q) s h g e =
     let id : r.block_id ≡ q.block_id = at 3 in
     let why = same Why (named reason_name reasons_in_order) (λ t. reason_read t _ refl) r.reason q.reason refl refl (at 4) in
     λ i. lines.Reject (record { file = file i; position = place i; block_id = id i; reason = why i })
+one_kind (lines.Layout d) (lines.Layout c) s h g e =
+    let at = λ (i : ℕ). ap (λ r. get_or r i []) e in
+    let bytes = same Number64 (number_in (2 ^ 64)) (λ t. read_64 t _ refl) d.bytes c.bytes (nth (line_cells (lines.Layout d)) 1 h) (nth (line_cells (lines.Layout c)) 1 g) (at 1) in
+    let sha256 : d.sha256 ≡ c.sha256 = at 2 in
+    λ i. lines.Layout (record { bytes = bytes i; sha256 = sha256 i })
+one_kind (lines.Input p d) (lines.Input q c) s h g e =
+    let at = λ (i : ℕ). ap (λ r. get_or r i []) e in
+    let first = λ (i : ℕ). nth (line_cells (lines.Input p d)) i h in let other = λ (i : ℕ). nth (line_cells (lines.Input q c)) i g in
+    let place = same Number64 (number_in (2 ^ 64)) (λ t. read_64 t _ refl) p q (first 1) (other 1) (at 1) in
+    let bytes = same Number64 (number_in (2 ^ 64)) (λ t. read_64 t _ refl) d.bytes c.bytes (first 2) (other 2) (at 2) in
+    let sha256 : d.sha256 ≡ c.sha256 = at 3 in
+    λ i. lines.Input (place i) (record { bytes = bytes i; sha256 = sha256 i })
+one_kind (lines.End n s) (lines.End m t) k h g e =
+    let at = λ (i : ℕ). ap (λ r. get_or r i []) e in
+    let count = same Number64 (number_in (2 ^ 64)) (λ t. read_64 t _ refl) n m (nth (line_cells (lines.End n s)) 1 h) (nth (line_cells (lines.End m t)) 1 g) (at 1) in
+    let status = same StatusName (named status_name statuses_in_order) (λ t. status_read t _ refl) s t refl refl (at 2) in
+    λ i. lines.End (count i) (status i)
 one_kind _ _ s h g e = cc
 
 -- the cells of two lines with one text are the same

@@ -27,8 +27,11 @@ use Rattle.dsr_ledger.specs.declared.verdict.Standing.{Standing}
 use Rattle.dsr_ledger.specs.declared.verdict.Standing.TheVariants as standings
 use Rattle.dsr_ledger.specs.declared.verdict.Reason.{Reason}
 use Rattle.dsr_ledger.specs.declared.verdict.Reason.TheVariants as reasons
-use Rattle.dsr_statement.specs.meaning.Names.{kind_name, standing_name, reason_name}
-use Rattle.dsr_statement.specs.meaning.Cells.{Cell, Name, Number64, Number32, FileNumber, Usages, Amount, OnDay, DaysIn, Identifier, Isrc, Territory, UseType, Currency, PartyName, Stands, Why, Whole, Faulty, FaultName, ColumnName, cell_text, is_cell, has_no_tab, are_usages, are_days, days_in, amount_cell}
+use Rattle.dsr_statement.specs.declared.verdict.Status.{Status}
+use Rattle.dsr_statement.specs.declared.verdict.Status.TheVariants as statuses
+use Rattle.dsr_statement.specs.meaning.Digests.{is_small_hex}
+use Rattle.dsr_statement.specs.meaning.Names.{kind_name, standing_name, reason_name, status_name}
+use Rattle.dsr_statement.specs.meaning.Cells.{Cell, Name, Number64, Number32, FileNumber, Usages, Amount, OnDay, DaysIn, Identifier, Isrc, Territory, UseType, Currency, PartyName, Stands, Why, Whole, Faulty, FaultName, ColumnName, Sha256, StatusName, cell_text, is_cell, has_no_tab, are_usages, are_days, days_in, amount_cell}
 use Rattle.dsr_statement.proofs.Numbers.{signed_text, units_text, as_written}
 
 -- what passes one test passes a weaker one
@@ -61,6 +64,9 @@ capital b h = grind (arith, nat_tests)
 
 capital_or_digit : (b : ℕ) → is_capital_or_digit b ≡ true → plain_byte b ≡ true
 capital_or_digit b h = grind (arith, nat_tests)
+
+small_hex : (b : ℕ) → is_small_hex b ≡ true → plain_byte b ≡ true
+small_hex b h = grind (arith, nat_tests)
 
 plain_append : (a b : List ℕ) → has_no_tab a ≡ true → has_no_tab b ≡ true → has_no_tab (a ++ b) ≡ true
 plain_append a b p q = list_all-append plain_byte a b ∙ and_from _ _ p q
@@ -132,6 +138,11 @@ unfolding reason_name
 reason_plain reasons.ForeignFile = refl
 reason_plain _ = refl
 
+status_plain : (s : Status) → has_no_tab (status_name s) ≡ true
+unfolding status_name
+status_plain statuses.Clean = refl
+status_plain statuses.Remarks = refl
+
 column_plain : (c : Column) → has_no_tab (column_name c) ≡ true
 column_plain MessageId = refl
 column_plain _ = refl
@@ -164,6 +175,8 @@ cell_plain Whole h = refl
 cell_plain Faulty h = refl
 cell_plain (FaultName f) h = fault_plain f
 cell_plain (ColumnName c) h = column_plain c
+cell_plain (Sha256 text) h = passes is_small_hex small_hex text (and_parts (list_all is_small_hex text) (eqb (length text) 64) h).0
+cell_plain (StatusName s) h = status_plain s
 
 -- plain texts, joined, are cut into the same texts
 lacks_tab : (text : List ℕ) → has_no_tab text ≡ true → Lacks 9 text

@@ -14,7 +14,7 @@ use Rattle.dsr_statement.specs.declared.fault.ReadError.{ReadError}
 use Rattle.dsr_statement.specs.declared.fault.ReadError.TheVariants as errors
 use Rattle.dsr_statement.specs.inner.After.{IsErrorOf}
 use Rattle.dsr_statement.specs.meaning.Lines.{line_bytes}
-use Rattle.dsr_statement.specs.meaning.Order.{placed, is_placed, adds_up, is_no_report, is_complete}
+use Rattle.dsr_statement.specs.meaning.Order.{placed, is_placed, adds_up, seals, is_no_report, is_complete}
 use Rattle.dsr_statement.specs.meaning.Readings.{IsLineOf, IsNextLine, IsReadingAfter, IsReadingOf, Refusal, Spells, end_fault, ended, fault_of, most_bytes, refused_after}
 use Rattle.dsr_statement.specs.meaning.Statement.{text_of}
 use Rattle.dsr_statement.specs.meaning.Statements.{AreInPlace}
@@ -50,9 +50,12 @@ placed_same before x l e = elim (cases_Bool (is_placed before x)) [
   | inr f ↦ let none : placed before x ≡ Err faults.Place = rw f refl in cc
   | inl a ↦ elim (cases_Bool (adds_up before x)) [
     | inr f ↦ let none : placed before x ≡ Err faults.Sum = rw (a, f) refl in cc
-    | inl b ↦ elim (cases_Bool (is_no_report x)) [
-      | inl f ↦ let none : placed before x ≡ Err faults.NoReport = rw (a, b, f) refl in cc
-      | inr c ↦ let some : placed before x ≡ Ok x = rw (a, b, c) refl in cc
+    | inl b ↦ elim (cases_Bool (seals before x)) [
+      | inr f ↦ let none : placed before x ≡ Err faults.Seal = rw (a, b, f) refl in cc
+      | inl s ↦ elim (cases_Bool (is_no_report x)) [
+        | inl f ↦ let none : placed before x ≡ Err faults.NoReport = rw (a, b, s, f) refl in cc
+        | inr c ↦ let some : placed before x ≡ Ok x = rw (a, b, s, c) refl in cc
+      ]
     ]
   ]
 ]

@@ -21,12 +21,13 @@ use Rattle.dsr_ledger.specs.declared.report.Report.{Report}
 use Rattle.dsr_statement.specs.declared.line.Line.{Line}
 use Rattle.dsr_statement.specs.declared.line.Line.TheVariants as lines
 use Rattle.dsr_statement.specs.meaning.Statement.{head_of, files_from, lines_of_ledger, statement_lines}
-use Rattle.dsr_statement.specs.meaning.Order.{placed, is_placed, adds_up, is_no_report, of_latest, left_of, may_end, is_key_below, is_text_below, follows_file, follows_missing, follows_summary, follows_ledger, unclaimed_follows}
+use Rattle.dsr_statement.specs.meaning.Order.{placed, is_placed, adds_up, seals, is_no_report, of_latest, left_of, may_end, is_key_below, is_text_below, follows_file, follows_missing, follows_summary, follows_ledger, unclaimed_follows}
 use Rattle.dsr_statement.specs.meaning.Statements.{AreInPlace, IsStatement, all_adjacent, are_parties_in_order, is_before, IsReadable}
 
 -- a line that passes the tests stands where it may
-placed_ok : (before : List Line) (l : Line) → is_placed before l ≡ true → adds_up before l ≡ true → is_no_report l ≡ false → placed before l ≡ Ok l
-placed_ok before l p a n = rw (p, a, n) refl
+pub placed_ok : (before : List Line) (l : Line) → is_placed before l ≡ true → adds_up before l ≡ true → seals before l ≡ true → is_no_report l ≡ false
+    → placed before l ≡ Ok l
+placed_ok before l p a s n = rw (p, a, s, n) refl
 
 -- the latest of some lines passes
 abbrev Latest : (Line → Bool) → List Line → Type 0
@@ -103,21 +104,21 @@ rejects_in_place : (rs : List Reject) (before : List Line) → Latest follows_le
     → AreInPlace before (map (λ x. lines.Reject x) rs ++ [])
 rejects_in_place rs before p h =
     part_in_place (λ (x : Reject). lines.Reject x) is_before follows_ledger may_end [] reject_first
-    (λ x y b q. placed_ok (lines.Reject x ∷ b) (lines.Reject y) q refl refl) ledger_ends (λ x. refl) (λ b q. q) rs before p h
+    (λ x y b q. placed_ok (lines.Reject x ∷ b) (lines.Reject y) q refl refl refl) ledger_ends (λ x. refl) (λ b q. q) rs before p h
 
 differences_in_place : (ds : List Difference) (rest before : List Line)
     → ((b : List Line) → Latest follows_summary b → AreInPlace b rest)
     → Latest follows_missing before → all_adjacent (λ a b. nat_le a.file b.file) ds ≡ true → AreInPlace before (map (λ d. lines.Summary d) ds ++ rest)
 differences_in_place ds rest before then p h =
     part_in_place (λ (d : Difference). lines.Summary d) (λ a b. nat_le a.file b.file) follows_missing follows_summary rest summary_first
-    (λ x y b q. placed_ok (lines.Summary x ∷ b) (lines.Summary y) q refl refl) missing_summary (λ x. refl) then ds before p h
+    (λ x y b q. placed_ok (lines.Summary x ∷ b) (lines.Summary y) q refl refl refl) missing_summary (λ x. refl) then ds before p h
 
 missing_in_place : (ns : List ℕ) (rest before : List Line)
     → ((b : List Line) → Latest follows_missing b → AreInPlace b rest)
     → Latest follows_file before → all_adjacent nat_lt ns ≡ true → AreInPlace before (map (λ n. lines.Missing n) ns ++ rest)
 missing_in_place ns rest before then p h =
     part_in_place (λ (n : ℕ). lines.Missing n) nat_lt follows_file follows_missing rest missing_first
-    (λ x y b q. placed_ok (lines.Missing x ∷ b) (lines.Missing y) q refl refl) file_missing (λ x. refl) then ns before p h
+    (λ x y b q. placed_ok (lines.Missing x ∷ b) (lines.Missing y) q refl refl refl) file_missing (λ x. refl) then ns before p h
 
 -- equal keys
 key_itself : (key : Key) → key_eq key key ≡ true
@@ -130,7 +131,7 @@ key_itself key =
 unclaimed_in_place : (key : Key) (before : List Line) (amount : ℤ) → of_latest false (unclaimed_follows key) before ≡ true → left_of before ≡ amount
     → placed before (lines.Unclaimed key amount) ≡ Ok (lines.Unclaimed key amount)
 unclaimed_in_place key before amount p left =
-    placed_ok before (lines.Unclaimed key amount) p ((Decides-int_eq amount (left_of before)).1 (sym left)) refl
+    placed_ok before (lines.Unclaimed key amount) p ((Decides-int_eq amount (left_of before)).1 (sym left)) refl refl
 
 taken : (left amount others unclaimed : ℤ) → left ≡ (amount +ℤ others) +ℤ unclaimed → left -ℤ amount ≡ others +ℤ unclaimed
 taken left amount others unclaimed e = omega (arith, ints)
@@ -145,7 +146,7 @@ parties_after key q [] before rest unclaimed then h left =
     (unclaimed_in_place key (lines.Party key q ∷ before) unclaimed (key_itself key) (left ∙ omega (arith, ints)), then (lines.Party key q ∷ before))
 parties_after key q (p ∷ ps) before rest unclaimed then h left =
     let both = and_parts (is_text_below q.party p.party) (all_adjacent (λ x y. is_text_below x.party y.party) (p ∷ ps)) h in (
-      placed_ok (lines.Party key q ∷ before) (lines.Party key p) (and_from _ _ (key_itself key) both.0) refl refl,
+      placed_ok (lines.Party key q ∷ before) (lines.Party key p) (and_from _ _ (key_itself key) both.0) refl refl refl,
       parties_after key p ps (lines.Party key q ∷ before) rest unclaimed then both.1
           (taken (left_of (lines.Party key q ∷ before)) p.amount (int_sum_by (λ x. x.amount) ps) unclaimed left),
     )
@@ -169,7 +170,7 @@ ledger_after l before rest then h sum = go l.parties h sum
       then (lines.Ledger (key_of_line l) l.usages l.amount ∷ before),
     )
     go (p ∷ ps) o s = (
-      placed_ok (lines.Ledger (key_of_line l) l.usages l.amount ∷ before) (lines.Party (key_of_line l) p) (key_itself (key_of_line l)) refl refl,
+      placed_ok (lines.Ledger (key_of_line l) l.usages l.amount ∷ before) (lines.Party (key_of_line l) p) (key_itself (key_of_line l)) refl refl refl,
       parties_after (key_of_line l) p ps (lines.Ledger (key_of_line l) l.usages l.amount ∷ before) rest l.unclaimed then o
           (taken l.amount p.amount (int_sum_by (λ x. x.amount) ps) l.unclaimed (sym s)),
     )
@@ -205,7 +206,7 @@ ledgers_after l (m ∷ ms) before rest then h o s =
     let keys = and_parts (is_key_below (key_of_line l) (key_of_line m)) (all_adjacent (λ a b. is_key_below (key_of_line a) (key_of_line b)) (m ∷ ms)) h in
     let parties = and_parts (are_parties_in_order m) (list_all are_parties_in_order ms) o in
     let before_it = lines.Unclaimed (key_of_line l) l.unclaimed ∷ before in
-    let here = placed_ok before_it (lines.Ledger (key_of_line m) m.usages m.amount) keys.0 refl refl in
+    let here = placed_ok before_it (lines.Ledger (key_of_line m) m.usages m.amount) keys.0 refl refl refl in
     let all : AreInPlace before_it (block m (flat_map lines_of_ledger ms ++ rest)) =
     (here, ledger_after m before_it (flat_map lines_of_ledger ms ++ rest) (λ b. ledgers_after m ms b rest then keys.1 parties.1 s.1) parties.0 s.0) in
     subst (λ (t : List Line). AreInPlace before_it t) (sym (block_lines m ms rest)) all
@@ -227,7 +228,7 @@ files_after : (place : ℕ) (g : FileLine) (fs : List FileLine) (rest before : L
     → AreInPlace (lines.File place g ∷ before) (files_from (suc place) fs ++ rest)
 files_after place g [] rest before then = then (lines.File place g ∷ before) refl
 files_after place g (f ∷ fs) rest before then = (
-  placed_ok (lines.File place g ∷ before) (lines.File (suc place) f) (eq-eqb (suc place) (suc place) refl) refl refl,
+  placed_ok (lines.File place g ∷ before) (lines.File (suc place) f) (eq-eqb (suc place) (suc place) refl) refl refl refl,
   files_after (suc place) f fs rest (lines.File place g ∷ before) then,
 )
 

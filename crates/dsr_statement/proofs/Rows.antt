@@ -22,14 +22,16 @@ use Rattle.dsr_ledger.specs.declared.verdict.Reason.TheVariants as reasons
 use Rattle.dsr_ledger.specs.declared.verdict.Standing.{Standing}
 use Rattle.dsr_ledger.specs.declared.verdict.Standing.TheVariants as standings
 use Rattle.dsr_ledger.specs.meaning.Bookings.{Key}
-use Rattle.dsr_statement.specs.meaning.Names.{standing_name, reason_name}
-use Rattle.dsr_statement.specs.meaning.Cells.{Cell, Number64, Number32, FileNumber, Usages, Amount, OnDay, Stands, Why, Whole, cell_text, is_cell, is_printed_fault, are_days, amount_cell}
+use Rattle.dsr_statement.specs.declared.verdict.Status.{Status}
+use Rattle.dsr_statement.specs.declared.verdict.Status.TheVariants as statuses
+use Rattle.dsr_statement.specs.meaning.Names.{standing_name, reason_name, status_name}
+use Rattle.dsr_statement.specs.meaning.Cells.{Cell, Number64, Number32, FileNumber, Usages, Amount, OnDay, Stands, Why, Whole, StatusName, cell_text, is_cell, is_printed_fault, are_days, amount_cell}
 use Rattle.dsr_statement.specs.meaning.Lines.{line_cells, cell_texts, is_line, column_cells}
 use Rattle.dsr_statement.specs.meaning.Faults.{named}
 use Rattle.dsr_statement.specs.inner.Numbers.{number_in, usages_in, amount_in}
 use Rattle.dsr_statement.proofs.Digits.{number_again}
 use Rattle.dsr_statement.proofs.Numbers.{usages_again, amount_again, usages_spelled, amount_spelled}
-use Rattle.dsr_statement.specs.inner.Lenient.{IsSome, Reads, ReadsFault, ReadsOutcome, standings_in_order, reasons_in_order}
+use Rattle.dsr_statement.specs.inner.Lenient.{IsSome, Reads, ReadsFault, ReadsOutcome, standings_in_order, reasons_in_order, statuses_in_order}
 
 pub nth : (cs : List Cell) (i : ℕ) → list_all is_cell cs ≡ true → is_cell (get_or cs i Whole) ≡ true
 nth [] i h = refl
@@ -100,6 +102,14 @@ standing_again _ = refl
 
 pub standing_read : (text : List ℕ) (result : Option Standing) → result ≡ named standing_name standings_in_order text → Reads Stands text result
 standing_read text result read = λ s h e. read ∙ ap (named standing_name standings_in_order) e ∙ standing_again s
+
+status_again : (s : Status) → named status_name statuses_in_order (status_name s) ≡ Some s
+unfolding status_name
+status_again statuses.Clean = refl
+status_again statuses.Remarks = refl
+
+pub status_read : (text : List ℕ) (result : Option Status) → result ≡ named status_name statuses_in_order text → Reads StatusName text result
+status_read text result read = λ s h e. read ∙ ap (named status_name statuses_in_order) e ∙ status_again s
 
 pub all_behind : (cs : List Cell) (i : ℕ) → list_all is_cell cs ≡ true → list_all is_cell (drop i cs) ≡ true
 all_behind cs zero h = h

@@ -1,6 +1,7 @@
 -- The definitions to be trusted: the cells of each line, what they print and which are valid; the lines of a report's
--- statement, their order and their bytes; what a text is read as; and whether a statement has remarks.
+-- statement, their order and their bytes; its seal; what a text is read as; and whether a statement has remarks.
 pub mod Names
+pub mod Digests
 pub mod Cells
 pub mod Lines
 pub mod Faults
@@ -8,4 +9,5 @@ pub mod Order
 pub mod Readings
 pub mod Statement
 pub mod Statements
+pub mod Seals
 pub mod Status

@@ -1,11 +1,14 @@
 //! Whether a line is one that a statement may have: whether each cell is spelled as in a report and in its range.
 ghost use Rattle.std.specs.Prelude.{true, ◌≡◌, ◌^◌, ◌&&◌, nat_lt};
+ghost use Rattle.std.specs.List.{list_all};
 ghost use Rattle.dsr_cells.specs.meaning.Texts.{is_isrc_text};
+ghost use Rattle.dsr_statement.specs.declared.verdict.Status.{Status as StatusValue};
+ghost use Rattle.dsr_statement.specs.meaning.Digests.{is_small_hex, is_sha256_text};
 ghost use Rattle.dsr_statement.specs.meaning.Cells.{Cell, FileNumber, OnDay, DaysIn, has_no_tab, is_cell, is_amount, are_usages, is_printed_fault, are_days};
 ghost use Rattle.dsr_statement.specs.meaning.Lines.{is_line};
 ghost use Rattle.dsr_statement.specs.inner.Checks.{HasPlainParty, is_outcome};
 
-use crate::line::{DifferenceRef, KeyRef, Line, PartyRef, RejectRef, ReportRef};
+use crate::line::{DifferenceRef, DigestRef, KeyRef, Line, PartyRef, RejectRef, ReportRef};
 use dsr_cells::{Day, Isrc, is_currency, is_identifier, is_territory, is_use_type};
 use dsr_events::{FileFault, Outcome};
 use dsr_ledger::FileLine;
@@ -191,6 +194,48 @@ fn is_reject(reject: &RejectRef<'_>) -> bool
     is_u64(reject.file) && is_u64(reject.position) && is_identifier(reject.block_id, 32)
 }
 
+/// Whether a byte is a digit or a small letter a to f.
+fn is_small_hex(byte: u8) -> bool
+    ensures { result ≡ is_small_hex byte }
+{
+    byte.is_ascii_digit() || (b'a' <= byte && byte <= b'f')
+}
+
+/// Whether every byte is a digit or a small letter a to f.
+fn all_small_hex(bytes: &[u8]) -> bool
+    ensures { result ≡ list_all is_small_hex bytes.now }
+{
+    bytes.iter().all(|byte| is_small_hex(*byte))
+}
+
+/// Whether a text is a SHA-256: 64 digits and small letters a to f.
+fn is_sha256(text: &str) -> bool
+    ensures { result ≡ is_sha256_text text.now }
+{
+    all_small_hex(text.as_bytes()) && text.len() == 64
+}
+
+/// Whether the parts of the layout's line are spelled as in a seal.
+fn is_layout(digest: &DigestRef<'_>) -> bool
+    ensures { result ≡ is_line (Line.Layout digest.now) }
+{
+    is_u64(digest.bytes) && is_sha256(digest.sha256)
+}
+
+/// Whether the parts of the line of a file's bytes are spelled as in a seal.
+fn is_input(place: u64, digest: &DigestRef<'_>) -> bool
+    ensures { result ≡ is_line (Line.Input place digest.now) }
+{
+    is_u64(place) && is_u64(digest.bytes) && is_sha256(digest.sha256)
+}
+
+/// Whether the parts of the last line of a sealed statement are in their ranges: they are.
+fn is_end(count: u64) -> bool
+    ensures { (status : StatusValue) → result ≡ is_line (Line.End count status) }
+{
+    is_u64(count)
+}
+
 /// Whether a line is one that a statement may have. The party of one that is read from a row (`is_row`) has no TAB.
 pub(crate) fn is_line(line: &Line<'_>, is_row: bool) -> bool
     requires { is_row ≡ true → HasPlainParty line.now }
@@ -206,5 +251,8 @@ pub(crate) fn is_line(line: &Line<'_>, is_row: bool) -> bool
         Line::Party(key, part) => is_party(key, part, is_row),
         Line::Unclaimed(key, amount) => is_unclaimed(key, *amount),
         Line::Reject(reject) => is_reject(reject),
+        Line::Layout(digest) => is_layout(digest),
+        Line::Input(place, digest) => is_input(*place, digest),
+        Line::End(count, _) => is_end(*count),
     }
 }

@@ -19,12 +19,19 @@ pub enum StatementFault {
     Place,
     /// The parties' amounts and the unclaimed amount do not add up to the ledger line's amount.
     Sum,
+    /// The number of lines or the status in END is not that of the lines before it.
+    Seal,
     /// The statement is of no report.
     NoReport,
     /// The statement ends too early.
     Cut,
-    /// An earlier statement has the same report.
-    Twice,
+    /// The statement is whole, but has no END.
+    Unsealed,
+    /// An earlier statement has the same report: the one at this place among all, from 0.
+    Twice(usize),
+    /// An earlier given statement has the same MessageId, and another number of files or another period: the one at this place
+    /// among all, from 0.
+    SameMessage(usize),
     /// No given statement has the report of a paid one.
     NotGiven,
     /// The statement has remarks.

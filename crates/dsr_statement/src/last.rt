@@ -2,7 +2,7 @@
 ghost use Rattle.std.specs.Prelude.{◌≡◌, OnOk};
 ghost use Rattle.dsr_ledger.specs.meaning.Bookings.{key_eq};
 ghost use Rattle.dsr_statement.specs.meaning.Order.{is_key_below};
-ghost use Rattle.dsr_statement.specs.inner.Lasts.{last_line, file_fits, fits_file, fits_missing, fits_summary, fits_ledger, missing_fits, summary_fits, ledger_fits, party_fits, unclaimed_fits, reject_fits, fits_start, ends};
+ghost use Rattle.dsr_statement.specs.inner.Lasts.{last_line, file_fits, fits_file, fits_missing, fits_summary, fits_ledger, fits_reject, fits_layout, missing_fits, summary_fits, ledger_fits, party_fits, unclaimed_fits, reject_fits, input_fits, end_fits, fits_start, fits_nothing, ends};
 
 use crate::line::{KeyRef, Line};
 use dsr_cells::{NoMemory, Text};
@@ -30,6 +30,12 @@ pub(crate) enum Last {
     Unclaimed,
     /// REJECT, with its file and position.
     Reject(u64, u64),
+    /// LAYOUT.
+    Layout,
+    /// INPUT, with its place.
+    Input(u64),
+    /// END.
+    End,
 }
 
 impl Last {
@@ -46,6 +52,9 @@ impl Last {
             Line::Party(_, _) => Last::Party,
             Line::Unclaimed(_, _) => Last::Unclaimed,
             Line::Reject(reject) => Last::Reject(reject.file, reject.position),
+            Line::Layout(_) => Last::Layout,
+            Line::Input(place, _) => Last::Input(*place),
+            Line::End(_, _) => Last::End,
         }
     }
 
@@ -60,10 +69,14 @@ impl Last {
     pub(crate) fn may_end(self) -> bool
         ensures { result ≡ ends self }
     {
-        !matches!(
-            self,
-            Last::Start | Last::Report | Last::Ledger | Last::Party
-        )
+        self.is_end() || self.is_reject()
+    }
+
+    /// Whether it is END.
+    pub(crate) fn is_end(self) -> bool
+        ensures { result ≡ fits_nothing self }
+    {
+        matches!(self, Last::End)
     }
 
     /// Whether the line of the file at this place may stand next.
@@ -103,6 +116,40 @@ impl Last {
         ensures { result ≡ fits_ledger self }
     {
         matches!(self, Last::Unclaimed) || self.is_summary()
+    }
+
+    /// Whether a statement that is not sealed may end with it.
+    pub(crate) fn is_reject(self) -> bool
+        ensures { result ≡ fits_reject self }
+    {
+        matches!(self, Last::Reject(_, _)) || self.is_unclaimed()
+    }
+
+    /// Whether it is one of these or the line of the layout.
+    fn is_layout(self) -> bool
+        ensures { result ≡ fits_layout self }
+    {
+        matches!(self, Last::Layout) || self.is_reject()
+    }
+
+    /// Whether the line of the bytes of the file at this place may stand next.
+    pub(crate) fn precedes_input(self, place: u64) -> bool
+        ensures { result ≡ input_fits place self }
+    {
+        match self {
+            Last::Input(before) => before < place && place - before == 1,
+            _ => self.is_layout() && place == 1,
+        }
+    }
+
+    /// Whether END may stand next, after so many files.
+    pub(crate) fn precedes_end(self, files: u64) -> bool
+        ensures { result ≡ end_fits files self }
+    {
+        match self {
+            Last::Input(place) => place == files,
+            _ => false,
+        }
     }
 
     /// Whether the line of this missing file may stand next.

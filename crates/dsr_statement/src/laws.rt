@@ -1,12 +1,16 @@
 //! Laws of lines and of statements: functions that do nothing, whose contracts are the laws.
-ghost use Rattle.std.specs.Prelude.{◌≡◌, ℕ, [], Bool, List, None, Result, Ok, Err};
+ghost use Rattle.std.specs.Prelude.{◌≡◌, ℕ, [], ◌∷◌, ◌++◌, length, Bool, List, Option, None, Result, Ok, Err};
 ghost use Rattle.dsr_ledger.specs.declared.report.Report.{Report};
 ghost use Rattle.dsr_ledger.specs.declared.report.ReportKey.{ReportKey};
 ghost use Rattle.dsr_statement.specs.declared.line.Line.{Line};
 ghost use Rattle.dsr_statement.specs.declared.fault.StatementFault.TheVariants as faults;
 ghost use Rattle.dsr_statement.specs.meaning.Readings.{IsReading, IsReadingOf, Refusal, Spells, refused_after};
 ghost use Rattle.dsr_statement.specs.meaning.Statement.{statement_lines, statement_of, text_of};
-ghost use Rattle.dsr_statement.specs.meaning.Statements.{AreInPlace, IsReadable, IsStatement};
+ghost use Rattle.dsr_statement.specs.meaning.Statements.{AreInPlace, IsReadable, IsSealed, IsStatement};
+ghost use Rattle.dsr_statement.specs.meaning.Digests.{Digest};
+ghost use Rattle.dsr_statement.specs.meaning.Seals.{AreDigestsOf, sealed_lines};
+ghost use Rattle.dsr_statement.specs.meaning.Status.{status_of, status_of_lines};
+ghost use Rattle.dsr_statement.specs.declared.verdict.Status.{Status};
 
 /// A text is that of one line at most.
 pub fn one_line()
@@ -58,4 +62,31 @@ pub fn one_ledger()
     ensures { (first_key last_key : ReportKey) (first last : Report)
         → IsReadable first_key first → IsReadable last_key last
         → statement_of first ≡ statement_of last → first.ledger ≡ last.ledger }
+{}
+
+/// The status of a report is that of the lines of its statement.
+#[tactic(auto, using(crate::proofs::RemarkLines::report_status))]
+pub fn status_is_that_of_the_lines()
+    ensures { (report : Report) → status_of_lines (statement_lines report) ≡ status_of report }
+{}
+
+/// END has the number of the lines before it, and their status.
+#[tactic(auto, using(crate::proofs::Sealed::end_counts))]
+pub fn end_counts_the_lines()
+    ensures { (lines : List Line) (count : ℕ) (status : Status) → IsSealed (lines ++ Line.End count status ∷ [])
+        → (count ≡ length lines) × (status ≡ status_of_lines lines) }
+{}
+
+/// No proper prefix of the lines of a sealed statement is a sealed statement.
+#[tactic(auto, using(crate::proofs::Sealed::no_prefix))]
+pub fn no_prefix_is_sealed()
+    ensures { (lines more : List Line) → IsSealed lines → IsSealed (lines ++ more) → more ≡ [] }
+{}
+
+/// Of two lists of which one has more lines, between the same others or behind them, not both are sealed statements: none is
+/// with a line taken away, doubled or added.
+#[tactic(auto, using(crate::proofs::Sealed::no_more_lines))]
+pub fn no_line_less_or_more_is_sealed()
+    ensures { (before more after : List Line) → IsSealed (before ++ after)
+        → IsSealed (before ++ (more ++ after)) → more ≡ [] }
 {}

@@ -3,7 +3,7 @@
 //! 1. `line`: the lines, which borrow their texts. `specs/meaning/Cells.antt` and `Lines.antt` have the table of their cells.
 //! 2. [`put`] puts the text of a line into a [`Sink`] (`sink`), cell by cell (`cells`, `names`): into bytes to be written, or
 //!    against a text that has to be the same.
-//! 3. [`read`] reads the line whose text it is given: leniently (`number` and `cut`, `lenient`, `file`), then it tests that the
+//! 3. [`read`] reads the line whose text it is given: leniently (`number` and `cut`, `lenient`, `file`, `seal`), then it tests that the
 //!    line is one that a statement may have (`check`), and that this is its text.
 //! 4. `reader` reads the lines of a statement one after another: it keeps of them what the next one depends on (`last`,
 //!    `left`), tests that it may stand there and that the amounts of a ledger line add up, and says why not (`fault`).
@@ -70,17 +70,20 @@ mod reader;
 mod reading;
 mod remarks;
 mod room;
+mod seal;
 mod sink;
 mod slice_buffer;
 mod verdict;
 mod write;
 
 pub use fault::{ReadError, StatementFault};
-pub use line::{DifferenceRef, KeyRef, Line, LineKind, PartyRef, RejectRef, ReportRef};
+pub use line::{DifferenceRef, DigestRef, KeyRef, Line, LineKind, PartyRef, RejectRef, ReportRef};
+pub use lines::put_line;
+pub use pieces::Pieces;
 pub use putting::put;
 pub use reader::StatementReader;
 pub use reading::{LINE_LIMIT, read};
-pub use remarks::{status, view_status};
+pub use remarks::{is_remark, status, view_status};
 pub use room::Room;
 pub use sink::{Match, Sink};
 pub use verdict::Status;

@@ -1,4 +1,5 @@
 //! The lines of a statement, which borrow their texts from the text that was read.
+use crate::verdict::Status;
 use dsr_cells::Day;
 use dsr_ledger::{FileLine, Reason};
 use std::marker::Model;
@@ -130,7 +131,24 @@ impl<'a> Model for RejectRef<'a> {
     } };
 }
 
-/// A line of a statement.
+/// How many bytes a file has, and their SHA-256. Contracts see it as a `Digest`.
+#[derive(Drop)]
+pub struct DigestRef<'a> {
+    /// The number of bytes.
+    pub bytes: u64,
+    /// Their SHA-256 (FIPS 180-4): 64 digits and small letters a to f.
+    pub sha256: &'a str,
+}
+
+impl<'a> Model for DigestRef<'a> {
+    ghost use Rattle.dsr_statement.specs.meaning.Digests.{Digest};
+
+    ghost Value = { Digest };
+
+    ghost view = { λ read. record { bytes = read.bytes; sha256 = read.sha256.now } };
+}
+
+/// A line of a statement, or of its seal.
 #[derive(Drop)]
 pub enum Line<'a> {
     /// The report.
@@ -151,6 +169,12 @@ pub enum Line<'a> {
     Unclaimed(KeyRef<'a>, i128),
     /// A rejected block.
     Reject(RejectRef<'a>),
+    /// The bytes of the layout.
+    Layout(DigestRef<'a>),
+    /// The bytes of a file, with its place in the order given, from 1.
+    Input(u64, DigestRef<'a>),
+    /// The number of lines before it, and their status.
+    End(u64, Status),
 }
 
 /// The kind of a line.
@@ -174,4 +198,10 @@ pub enum LineKind {
     Unclaimed,
     /// A rejected block.
     Reject,
+    /// The bytes of the layout.
+    Layout,
+    /// The bytes of a file.
+    Input,
+    /// The end of a sealed statement.
+    End,
 }

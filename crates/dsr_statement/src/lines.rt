@@ -22,7 +22,7 @@ use dsr_ledger::{
 };
 
 /// Puts a line.
-pub(crate) fn put_line<W: Outlet>(out: &mut Pieces<'_, W>, line: &Line<'_>)
+pub fn put_line<W: Outlet>(out: &mut Pieces<'_, W>, line: &Line<'_>)
     ensures { Puts W.told out.old out.new (line_bytes line.now) }
 {
     put(out, line);

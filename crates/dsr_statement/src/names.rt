@@ -1,11 +1,12 @@
-//! The names of kinds, standings, reasons, columns and faults, in both directions.
+//! The names of kinds, standings, reasons, statuses, columns and faults, in both directions.
 ghost use Rattle.std.specs.Prelude.{◌≡◌};
 ghost use Rattle.dsr_events.specs.meaning.Names.{column_name, name_of};
-ghost use Rattle.dsr_statement.specs.meaning.Names.{standing_name, reason_name};
+ghost use Rattle.dsr_statement.specs.meaning.Names.{standing_name, reason_name, status_name};
 ghost use Rattle.dsr_statement.specs.meaning.Faults.{named, kind_in};
-ghost use Rattle.dsr_statement.specs.inner.Lenient.{standings_in_order, reasons_in_order, columns_in_order, plain_faults};
+ghost use Rattle.dsr_statement.specs.inner.Lenient.{standings_in_order, reasons_in_order, statuses_in_order, columns_in_order, plain_faults};
 
 use crate::line::LineKind;
+use crate::verdict::Status;
 use dsr_events::{Column, FileFault};
 use dsr_ledger::{Reason, Standing};
 
@@ -38,6 +39,17 @@ pub(crate) fn reason_name(reason: Reason) -> &'static str
     }
 }
 
+/// The name of a status.
+#[tactic(auto, unfolding(crate::specs::meaning::Names::status_name))]
+pub(crate) fn status_name(status: Status) -> &'static str
+    ensures { result.now ≡ status_name status }
+{
+    match status {
+        Status::Clean => "Clean",
+        Status::Remarks => "Remarks",
+    }
+}
+
 /// The kind of line with this name.
 #[tactic(auto, unfolding(crate::specs::meaning::Faults::kind_in))]
 pub(crate) fn kind_named(name: &str) -> Option<LineKind>
@@ -53,6 +65,9 @@ pub(crate) fn kind_named(name: &str) -> Option<LineKind>
         "FILE" => Some(LineKind::File),
         "MISSING" => Some(LineKind::Missing),
         "SUMMARY" => Some(LineKind::Summary),
+        "LAYOUT" => Some(LineKind::Layout),
+        "INPUT" => Some(LineKind::Input),
+        "END" => Some(LineKind::End),
         _ => None,
     }
 }
@@ -88,6 +103,16 @@ pub(crate) fn reason_named(name: &str) -> Option<Reason>
     .iter()
     .copied()
     .find(|reason| name == reason_name(*reason))
+}
+
+/// The status with this name.
+pub(crate) fn status_named(name: &str) -> Option<Status>
+    ensures { result ≡ named status_name statuses_in_order name.now }
+{
+    [Status::Clean, Status::Remarks]
+        .iter()
+        .copied()
+        .find(|status| name == status_name(*status))
 }
 
 /// The columns.

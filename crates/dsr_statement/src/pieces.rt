@@ -44,7 +44,7 @@ impl<'a, W: Outlet> Sender<'a, W> {
 
 /// A buffered writer to an outlet.
 #[derive(Drop)]
-pub(crate) struct Pieces<'a, W> {
+pub struct Pieces<'a, W> {
     sender: Sender<'a, W>,
     /// The bytes that wait to be written.
     waiting: SliceBuffer<'a>,
@@ -52,7 +52,7 @@ pub(crate) struct Pieces<'a, W> {
 
 impl<'a, W: Outlet> Pieces<'a, W> {
     /// A buffered writer to this outlet, with this room for what waits.
-    pub(crate) fn new(out: &'a mut W, room: &'a mut [u8]) -> Pieces<'a, W>
+    pub fn new(out: &'a mut W, room: &'a mut [u8]) -> Pieces<'a, W>
         ensures same_outlet { result.sender.out.ghost_name ≡ out.entry.ghost_name }
         ensures nothing { Holds W.told [] (W.told out.old) result }
     {
@@ -105,8 +105,12 @@ impl<'a, W: Outlet> Pieces<'a, W> {
         self.waiting.clear();
     }
 
-    /// Writes what waits, and flushes. The error is how many bytes were written.
-    pub(crate) fn finish(&mut self) -> Result<(), u64>
+    /// Writes what waits, and flushes.
+    ///
+    /// # Errors
+    ///
+    /// How many bytes were written before a write or the flush failed.
+    pub fn finish(&mut self) -> Result<(), u64>
         ensures same_outlet { self.new.sender.out.ghost_name ≡ self.old.sender.out.ghost_name }
         ensures whole { OnOk result ((put : List ℕ) (before : Written)
             → Holds W.told put before self.old
@@ -126,7 +130,7 @@ impl<'a, W: Outlet> Pieces<'a, W> {
     }
 
     /// Returns the outlet.
-    pub(crate) fn into_outlet(self) -> &'a mut W
+    pub fn into_outlet(self) -> &'a mut W
         ensures same_outlet { result.ghost_name ≡ self.entry.sender.out.ghost_name }
         ensures held { result.now ≡ self.entry.sender.out.now }
     {

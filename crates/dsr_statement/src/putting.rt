@@ -2,12 +2,13 @@
 ghost use Rattle.std.specs.Prelude.{◌∷◌};
 ghost use Rattle.dsr_statement.specs.meaning.Cells.{Cell, FileNumber, cell_text};
 ghost use Rattle.dsr_statement.specs.meaning.Lines.{line_text};
-ghost use Rattle.dsr_statement.specs.inner.Rows.{key_text, outcome_text, file_head};
+ghost use Rattle.dsr_statement.specs.inner.Rows.{key_text, outcome_text, file_head, digest_text};
 
 use crate::cells::{put_amount, put_day, put_number, put_signed, put_text};
-use crate::line::{DifferenceRef, KeyRef, Line, PartyRef, RejectRef, ReportRef};
-use crate::names::{reason_name, standing_name};
+use crate::line::{DifferenceRef, DigestRef, KeyRef, Line, PartyRef, RejectRef, ReportRef};
+use crate::names::{reason_name, standing_name, status_name};
 use crate::sink::Sink;
+use crate::verdict::Status;
 use dsr_events::Outcome;
 use dsr_ledger::FileLine;
 
@@ -25,6 +26,9 @@ pub fn put<S: Sink>(out: &mut S, line: &Line<'_>)
         Line::Party(key, part) => put_party(out, key, part),
         Line::Unclaimed(key, amount) => put_unclaimed(out, key, *amount),
         Line::Reject(reject) => put_reject(out, reject),
+        Line::Layout(digest) => put_layout(out, digest),
+        Line::Input(place, digest) => put_input(out, *place, digest),
+        Line::End(count, status) => put_end(out, *count, *status),
     }
 }
 
@@ -157,4 +161,38 @@ fn put_reject<S: Sink>(out: &mut S, reject: &RejectRef<'_>)
     put_number(out, reject.position);
     put_text(out, reject.block_id);
     put_text(out, reason_name(reject.reason));
+}
+
+/// Puts the cells of a digest.
+fn put_digest<S: Sink>(out: &mut S, digest: &DigestRef<'_>)
+    ensures { S.took out.old (digest_text digest.now) out.new }
+{
+    put_number(out, digest.bytes);
+    put_text(out, digest.sha256);
+}
+
+/// Puts the line of the layout.
+fn put_layout<S: Sink>(out: &mut S, digest: &DigestRef<'_>)
+    ensures { S.took out.old (line_text (Line.Layout digest.now)) out.new }
+{
+    out.put(b"LAYOUT");
+    put_digest(out, digest);
+}
+
+/// Puts the line of a file's bytes.
+fn put_input<S: Sink>(out: &mut S, place: u64, digest: &DigestRef<'_>)
+    ensures { S.took out.old (line_text (Line.Input place digest.now)) out.new }
+{
+    out.put(b"INPUT");
+    put_number(out, place);
+    put_digest(out, digest);
+}
+
+/// Puts the last line of a sealed statement.
+fn put_end<S: Sink>(out: &mut S, count: u64, status: Status)
+    ensures { S.took out.old (line_text (Line.End count status)) out.new }
+{
+    out.put(b"END");
+    put_number(out, count);
+    put_text(out, status_name(status));
 }

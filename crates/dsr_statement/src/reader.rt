@@ -1,15 +1,18 @@
 //! Reading the lines of a statement one after another.
-ghost use Rattle.std.specs.Prelude.{◌≡◌, ◌-ℤ◌, true, [], ◌∷◌, List, Some, None, Ok, IfOk, IfErr, OnOk, MatchResult, MatchOption};
+ghost use Rattle.std.specs.Prelude.{◌≡◌, ◌==◌, ◌-ℤ◌, true, [], ◌∷◌, suc, List, length, reverse, Some, None, Ok, IfOk, IfErr, OnOk, MatchResult, MatchOption, if◌then◌else◌};
 ghost use Rattle.dsr_statement.specs.declared.line.Line.{Line as LineValue};
-ghost use Rattle.dsr_statement.specs.meaning.Order.{is_placed, adds_up, placed, is_no_report, is_complete, is_text_below};
+ghost use Rattle.dsr_statement.specs.meaning.Order.{is_placed, adds_up, seals, placed, is_no_report, is_complete, is_sealed, is_text_below};
+ghost use Rattle.dsr_statement.specs.meaning.Status.{first_remark, status_of_lines, status_eq};
 ghost use Rattle.dsr_statement.specs.meaning.Readings.{IsNextLine, end_fault};
-ghost use Rattle.dsr_statement.specs.inner.After.{IsAfter, IsErrorOf, fits, kept};
+ghost use Rattle.dsr_statement.specs.inner.After.{IsAfter, IsErrorOf, fits, kept, noted};
 
 use crate::fault::{ReadError, StatementFault};
 use crate::last::{Last, LastKey};
 use crate::left::Left;
 use crate::line::{KeyRef, Line, PartyRef};
 use crate::reading::{LINE_LIMIT, read_line};
+use crate::remarks::is_remark;
+use crate::verdict::Status;
 use dsr_cells::{NoMemory, Text};
 use std::alloc::Global;
 
@@ -21,6 +24,12 @@ pub struct StatementReader {
     key: LastKey,
     party: Text,
     left: Left,
+    /// The number of the next line, from 1.
+    next: u64,
+    /// The number of FILE lines.
+    files: u64,
+    /// The number of the first remark's line, from 1.
+    remark: Option<u64>,
 }
 
 /// Whether it is the line of no report.
@@ -28,6 +37,13 @@ fn is_no_report(line: &Line<'_>) -> bool
     ensures { result ≡ is_no_report line.now }
 {
     matches!(line, Line::NoReport)
+}
+
+/// Whether two statuses are the same.
+fn is_same(one: Status, other: Status) -> bool
+    ensures { result ≡ status_eq one other }
+{
+    matches!(one, Status::Remarks) == matches!(other, Status::Remarks)
 }
 
 impl StatementReader {
@@ -41,6 +57,9 @@ impl StatementReader {
             key: LastKey::new(),
             party: Text::default(),
             left: Left::of(0),
+            next: 1,
+            files: 0,
+            remark: None,
         }
     }
 
@@ -97,6 +116,9 @@ impl StatementReader {
         if !self.adds_up(line) {
             return Some(StatementFault::Sum);
         }
+        if !self.seals(line) {
+            return Some(StatementFault::Seal);
+        }
         if is_no_report(line) {
             return Some(StatementFault::NoReport);
         }
@@ -123,6 +145,28 @@ impl StatementReader {
             return Err(StatementFault::Cut);
         }
         Ok(())
+    }
+
+    /// The number of the next line, from 1.
+    pub fn next_line(&self) -> u64
+        ensures { (before : List LineValue) → IsAfter self.now before → result ≡ suc (length before) }
+    {
+        self.next
+    }
+
+    /// The number of the first remark's line, from 1.
+    pub fn remark(&self) -> Option<u64>
+        ensures { (before : List LineValue) → IsAfter self.now before
+            → result ≡ first_remark 1 (reverse before) }
+    {
+        self.remark
+    }
+
+    /// Whether the last line is END.
+    pub fn is_sealed(&self) -> bool
+        ensures { (before : List LineValue) → IsAfter self.now before → result ≡ is_sealed before }
+    {
+        self.last.is_end()
     }
 
     /// Whether a statement may end here.
@@ -154,6 +198,9 @@ impl StatementReader {
                 .precedes_party(self.key.is(key), self.is_below(party)),
             Line::Unclaimed(key, _) => self.last.precedes_unclaimed(self.key.is(key)),
             Line::Reject(reject) => { self.last.precedes_reject(reject.file, reject.position) }
+            Line::Layout(_) => self.last.is_reject(),
+            Line::Input(place, _) => self.last.precedes_input(*place) && *place <= self.files,
+            Line::End(_, _) => self.last.precedes_end(self.files),
         }
     }
 
@@ -165,6 +212,34 @@ impl StatementReader {
         match line {
             Line::Unclaimed(_, amount) => self.left.is(*amount),
             _ => true,
+        }
+    }
+
+    /// Whether END has the number of the lines before it, and their status.
+    fn seals(&self, line: &Line<'_>) -> bool
+        ensures { (before : List LineValue) → IsAfter self.now before → result ≡ seals before line.now }
+    {
+        match line {
+            Line::End(count, status) => self.is_count(*count) && is_same(*status, self.status()),
+            _ => true,
+        }
+    }
+
+    /// Whether this is the number of the lines.
+    fn is_count(&self, count: u64) -> bool
+        ensures { (before : List LineValue) → IsAfter self.now before → result ≡ (count == length before) }
+    {
+        count < self.next && self.next - count == 1
+    }
+
+    /// The status of the lines.
+    fn status(&self) -> Status
+        ensures { (before : List LineValue) → IsAfter self.now before → result ≡ status_of_lines before }
+    {
+        if self.remark.is_some() {
+            Status::Remarks
+        } else {
+            Status::Clean
         }
     }
 
@@ -187,15 +262,34 @@ impl StatementReader {
         Ok(())
     }
 
-    /// Keeps what the next line depends on of a line.
+    /// Notes a line with this number: whether it is of a file, and whether it is the first remark.
+    #[cold]
+    #[inline(never)]
+    fn note(&mut self, number: u64, line: &Line<'_>) -> Result<(), NoMemory>
+        ensures { OnOk result (self.new ≡ noted number line.now self.old) }
+    {
+        if let Line::File(_, _) = line {
+            self.files = self.files.checked_add(1).ok_or(NoMemory)?;
+        }
+        if self.remark.is_none() && is_remark(line) {
+            self.remark = Some(number);
+        }
+        Ok(())
+    }
+
+    /// Counts a line, and keeps what the next line depends on of it. Memory is refused where the count is at its end, which
+    /// takes 2^64 lines.
     fn keep(&mut self, line: &Line<'_>) -> Result<(), NoMemory>
         ensures { OnOk result (self.new ≡ kept self.old line.now) }
     {
+        let number = self.next;
+        self.next = number.checked_add(1).ok_or(NoMemory)?;
         self.last = Last::of(line);
         match line {
             Line::Ledger(key, _, amount) => self.keep_ledger(key, *amount),
             Line::Party(_, party) => self.keep_party(party),
-            _ => Ok(()),
+            Line::Unclaimed(_, _) => Ok(()),
+            _ => self.note(number, line),
         }
     }
 }

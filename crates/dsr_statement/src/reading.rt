@@ -19,6 +19,7 @@ use crate::lenient::{
 use crate::line::{Line, LineKind};
 use crate::names::kind_named;
 use crate::putting::put;
+use crate::seal::{read_end, read_input, read_layout};
 use crate::sink::Match;
 use dsr_cells::FirstCells;
 use dsr_texts::text_of;
@@ -88,6 +89,9 @@ fn has_cells(kind: LineKind, row: &FirstCells<'_>) -> bool
         LineKind::Party => row.len() == 7,
         LineKind::Unclaimed => row.len() == 6,
         LineKind::Reject => row.len() == 5,
+        LineKind::Layout => row.len() == 3,
+        LineKind::Input => row.len() == 4,
+        LineKind::End => row.len() == 3,
     }
 }
 
@@ -108,6 +112,9 @@ fn read_kind<'l>(kind: LineKind, row: &FirstCells<'l>) -> Option<Line<'l>>
         LineKind::Party => read_party(row),
         LineKind::Unclaimed => read_unclaimed(row),
         LineKind::Reject => read_reject(row),
+        LineKind::Layout => read_layout(row),
+        LineKind::Input => read_input(row),
+        LineKind::End => read_end(row),
     }
 }
 

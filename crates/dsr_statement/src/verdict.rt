@@ -48,7 +48,7 @@ fn are_clean(files: &[FileLine]) -> bool
 }
 
 /// Whether a file is Ours and whole.
-fn is_clean(file: &FileLine) -> bool
+pub(crate) fn is_clean(file: &FileLine) -> bool
     ensures { result ≡ is_clean_file file.now }
 {
     matches!(file.standing, Standing::Ours) && matches!(file.outcome, Outcome::Whole)

@@ -15,6 +15,9 @@ last_line (lines.Ledger key usages amount) = lasts.Ledger
 last_line (lines.Party key p) = lasts.Party
 last_line (lines.Unclaimed key amount) = lasts.Unclaimed
 last_line (lines.Reject r) = lasts.Reject r.file r.position
+last_line (lines.Layout d) = lasts.Layout
+last_line (lines.Input place d) = lasts.Input place
+last_line (lines.End n s) = lasts.End
 
 abbrev pub file_fits : ℕ → Last → Bool
 file_fits place lasts.Report = place == 1
@@ -36,6 +39,14 @@ fits_summary last = fits_missing last
 abbrev pub fits_ledger : Last → Bool
 fits_ledger lasts.Unclaimed = true
 fits_ledger last = fits_summary last
+
+abbrev pub fits_reject : Last → Bool
+fits_reject (lasts.Reject file position) = true
+fits_reject last = fits_ledger last
+
+abbrev pub fits_layout : Last → Bool
+fits_layout lasts.Layout = true
+fits_layout last = fits_reject last
 
 abbrev pub missing_fits : ℕ → Last → Bool
 missing_fits number (lasts.Missing before) = nat_lt before number
@@ -63,13 +74,22 @@ abbrev pub reject_fits : ℕ → ℕ → Last → Bool
 reject_fits file position (lasts.Reject f p) = nat_lt f file || ((f == file) && nat_lt p position)
 reject_fits file position last = fits_ledger last
 
+abbrev pub input_fits : ℕ → Last → Bool
+input_fits place (lasts.Input before) = place == suc before
+input_fits place last = fits_layout last && (place == 1)
+
+abbrev pub end_fits : ℕ → Last → Bool
+end_fits files (lasts.Input place) = place == files
+end_fits files _ = false
+
 abbrev pub fits_start : Last → Bool
 fits_start lasts.Start = true
 fits_start _ = false
 
 abbrev pub ends : Last → Bool
-ends lasts.Start = false
-ends lasts.Report = false
-ends lasts.Ledger = false
-ends lasts.Party = false
-ends _ = true
+ends lasts.End = true
+ends last = fits_reject last
+
+abbrev pub fits_nothing : Last → Bool
+fits_nothing lasts.End = true
+fits_nothing _ = false

@@ -21,6 +21,9 @@ use Rattle.dsr_ledger.specs.declared.report.ReportKey.{ReportKey}
 use Rattle.dsr_ledger.specs.declared.report.PartyLine.{PartyLine}
 use Rattle.dsr_ledger.specs.declared.report.Difference.{Difference}
 use Rattle.dsr_ledger.specs.declared.report.Reject.{Reject}
+use Rattle.dsr_statement.specs.declared.verdict.Status.{Status}
+use Rattle.dsr_statement.specs.declared.verdict.Status.TheVariants as statuses
+use Rattle.dsr_statement.specs.meaning.Digests.{Digest}
 use Rattle.dsr_statement.specs.meaning.Cells.{Cell, cell_text, is_cell, is_printed_fault}
 use Rattle.dsr_statement.specs.meaning.Lines.{column_cells, outcome_cells, cell_texts, is_line}
 
@@ -43,6 +46,9 @@ ReadsKind kinds.Ledger row result = (key : Key) (usages amount : ℤ) → ReadsL
 ReadsKind kinds.Party row result = (key : Key) (p : PartyLine) → ReadsLine (lines.Party key p) row result
 ReadsKind kinds.Unclaimed row result = (key : Key) (amount : ℤ) → ReadsLine (lines.Unclaimed key amount) row result
 ReadsKind kinds.Reject row result = (r : Reject) → ReadsLine (lines.Reject r) row result
+ReadsKind kinds.Layout row result = (d : Digest) → ReadsLine (lines.Layout d) row result
+ReadsKind kinds.Input row result = (place : ℕ) (d : Digest) → ReadsLine (lines.Input place d) row result
+ReadsKind kinds.End row result = (n : ℕ) (s : Status) → ReadsLine (lines.End n s) row result
 
 abbrev pub kind_of : Line → LineKind
 kind_of (lines.Report key) = kinds.Report
@@ -54,6 +60,9 @@ kind_of (lines.Ledger key usages amount) = kinds.Ledger
 kind_of (lines.Party key p) = kinds.Party
 kind_of (lines.Unclaimed key amount) = kinds.Unclaimed
 kind_of (lines.Reject r) = kinds.Reject
+kind_of (lines.Layout d) = kinds.Layout
+kind_of (lines.Input place d) = kinds.Input
+kind_of (lines.End n s) = kinds.End
 
 abbrev pub standings_in_order : List Standing
 standings_in_order = standings.Ours ∷ standings.Foreign ∷ standings.Doubled ∷ standings.Headless ∷ []
@@ -62,6 +71,9 @@ abbrev pub reasons_in_order : List Reason
 reasons_in_order =
     reasons.ForeignFile ∷ reasons.DoubledFile ∷ reasons.DoubledBlock ∷ reasons.NoIsrc ∷ reasons.BadIsrc ∷ reasons.UnknownSummary
     ∷ reasons.ShareOver ∷ []
+
+abbrev pub statuses_in_order : List Status
+statuses_in_order = statuses.Clean ∷ statuses.Remarks ∷ []
 
 abbrev pub columns_in_order : List Column
 columns_in_order =

@@ -11,8 +11,9 @@ use Rattle.dsr_ledger.specs.declared.report.Difference.{Difference}
 use Rattle.dsr_ledger.specs.declared.report.Reject.{Reject}
 use Rattle.dsr_statement.specs.declared.line.Line.TheVariants as lines
 use Rattle.dsr_statement.specs.declared.line.LineKind.TheVariants as kinds
+use Rattle.dsr_statement.specs.meaning.Digests.{Digest}
 use Rattle.dsr_statement.specs.meaning.Cells.{Cell, Name, Number64, FileNumber, Stands, cell_text}
-use Rattle.dsr_statement.specs.meaning.Lines.{key_cells, outcome_cells, line_bytes}
+use Rattle.dsr_statement.specs.meaning.Lines.{key_cells, outcome_cells, digest_cells, line_bytes}
 use Rattle.dsr_statement.specs.meaning.Statement.{lines_of_ledger, text_of}
 
 -- what cells print, each after a tab
@@ -24,6 +25,9 @@ key_text key = tabbed (key_cells key [])
 
 abbrev pub outcome_text : Outcome → List ℕ
 outcome_text o = tabbed (outcome_cells o)
+
+abbrev pub digest_text : Digest → List ℕ
+digest_text digest = tabbed (digest_cells digest)
 
 -- a FILE line up to its outcome
 abbrev pub file_head : ℕ → FileLine → List ℕ

@@ -12,7 +12,9 @@ use Rattle.dsr_events.specs.declared.fault.FileFault.TheVariants as faults
 use Rattle.dsr_statement.specs.declared.line.LineKind.{LineKind}
 use Rattle.dsr_ledger.specs.declared.verdict.Standing.{Standing}
 use Rattle.dsr_ledger.specs.declared.verdict.Reason.{Reason}
-use Rattle.dsr_statement.specs.meaning.Names.{kind_name, standing_name, reason_name}
+use Rattle.dsr_statement.specs.declared.verdict.Status.{Status}
+use Rattle.dsr_statement.specs.meaning.Digests.{is_sha256_text}
+use Rattle.dsr_statement.specs.meaning.Names.{kind_name, standing_name, reason_name, status_name}
 
 pub data Cell : Type 0 where
   Name : LineKind → Cell
@@ -40,6 +42,8 @@ pub data Cell : Type 0 where
   Faulty : Cell
   FaultName : FileFault → Cell
   ColumnName : Column → Cell
+  Sha256 : List ℕ → Cell
+  StatusName : Status → Cell
 
 -- the number of days from the first to the last, inclusive
 abbrev pub days_in : CivilDay → CivilDay → ℤ
@@ -71,6 +75,8 @@ cell_text Whole = codes "Whole"
 cell_text Faulty = codes "Fault"
 cell_text (FaultName f) = name_of f
 cell_text (ColumnName c) = column_name c
+cell_text (Sha256 text) = text
+cell_text (StatusName s) = status_name s
 
 -- a text without a TAB
 abbrev pub has_no_tab : List ℕ → Bool
@@ -116,3 +122,5 @@ is_cell Whole = true
 is_cell Faulty = true
 is_cell (FaultName f) = is_printed_fault f
 is_cell (ColumnName c) = true
+is_cell (Sha256 text) = is_sha256_text text
+is_cell (StatusName s) = true

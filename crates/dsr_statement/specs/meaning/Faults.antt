@@ -14,7 +14,7 @@ named name all text = find (λ x. bytes_eq text (name x)) all
 abbrev pub kinds_in_order : List LineKind
 kinds_in_order =
     kinds.Report ∷ kinds.NoReport ∷ kinds.File ∷ kinds.Missing ∷ kinds.Summary ∷ kinds.Ledger ∷ kinds.Party ∷ kinds.Unclaimed
-    ∷ kinds.Reject ∷ []
+    ∷ kinds.Reject ∷ kinds.Layout ∷ kinds.Input ∷ kinds.End ∷ []
 
 unfoldable pub kind_in : List ℕ → Option LineKind
 kind_in text = named kind_name kinds_in_order text
@@ -37,6 +37,9 @@ has_cells kinds.Ledger cells = length cells == 7
 has_cells kinds.Party cells = length cells == 7
 has_cells kinds.Unclaimed cells = length cells == 6
 has_cells kinds.Reject cells = length cells == 5
+has_cells kinds.Layout cells = length cells == 3
+has_cells kinds.Input cells = length cells == 4
+has_cells kinds.End cells = length cells == 3
 
 abbrev pub count_fault : List (List ℕ) → Option LineKind → Option StatementFault
 count_fault cells None = Some faults.UnknownLine

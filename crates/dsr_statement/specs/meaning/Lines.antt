@@ -9,7 +9,8 @@ use Rattle.dsr_statement.specs.declared.line.Line.{Line}
 use Rattle.dsr_statement.specs.declared.line.Line.TheVariants as lines
 use Rattle.dsr_statement.specs.declared.line.LineKind.TheVariants as kinds
 use Rattle.dsr_ledger.specs.meaning.Bookings.{Key}
-use Rattle.dsr_statement.specs.meaning.Cells.{Cell, Name, Number64, Number32, FileNumber, Usages, Amount, OnDay, DaysIn, Identifier, Isrc, Territory, UseType, Currency, PartyName, Stands, Why, Whole, Faulty, FaultName, ColumnName, cell_text, is_cell}
+use Rattle.dsr_statement.specs.meaning.Digests.{Digest}
+use Rattle.dsr_statement.specs.meaning.Cells.{Cell, Name, Number64, Number32, FileNumber, Usages, Amount, OnDay, DaysIn, Identifier, Isrc, Territory, UseType, Currency, PartyName, Stands, Why, Whole, Faulty, FaultName, ColumnName, Sha256, StatusName, cell_text, is_cell}
 
 -- the column, where a fault names one
 abbrev pub column_cells : Option Column → List Cell
@@ -23,6 +24,9 @@ outcome_cells (outcomes.Fault line fault) = Faulty ∷ Number64 line ∷ FaultNa
 -- the cells of a ledger line's key, before others
 abbrev pub key_cells : Key → List Cell → List Cell
 key_cells key more = Isrc key.isrc ∷ Territory key.territory ∷ UseType key.use_type ∷ Currency key.currency ∷ more
+
+abbrev pub digest_cells : Digest → List Cell
+digest_cells digest = Number64 digest.bytes ∷ Sha256 digest.sha256 ∷ []
 
 -- the cells of a line
 abbrev pub line_cells : Line → List Cell
@@ -41,6 +45,9 @@ line_cells (lines.Party key p) = Name kinds.Party ∷ key_cells key (PartyName p
 line_cells (lines.Unclaimed key amount) = Name kinds.Unclaimed ∷ key_cells key (Amount amount ∷ [])
 line_cells (lines.Reject r) =
     Name kinds.Reject ∷ Number64 r.file ∷ Number64 r.position ∷ Identifier 32 r.block_id ∷ Why r.reason ∷ []
+line_cells (lines.Layout digest) = Name kinds.Layout ∷ digest_cells digest
+line_cells (lines.Input place digest) = Name kinds.Input ∷ Number64 place ∷ digest_cells digest
+line_cells (lines.End count status) = Name kinds.End ∷ Number64 count ∷ StatusName status ∷ []
 
 -- what the cells of a line print
 abbrev pub cell_texts : Line → List (List ℕ)

@@ -1,5 +1,5 @@
--- Which lists of lines are statements, and which reports are read again.
-use Rattle.std.specs.Prelude.{◌≡◌, ℕ, ◌<◌, ◌&&◌, ◌||◌, ◌==◌, nat_lt, nat_le, not, Bool, true, List, [], ◌∷◌, length, Some, Ok}
+-- Which lists of lines are statements, and which of these are sealed; and which reports are read again.
+use Rattle.std.specs.Prelude.{◌≡◌, ℕ, ◌<◌, ◌&&◌, ◌||◌, ◌==◌, nat_lt, nat_le, not, Bool, true, List, [], ◌∷◌, length, reverse, Some, Ok}
 use Rattle.std.specs.List.{list_all, AllByRecursion}
 use Rattle.std.specs.Str.{is_utf8}
 use Rattle.dsr_ledger.specs.meaning.Laws.{key_of_line, AddsUp}
@@ -9,7 +9,7 @@ use Rattle.dsr_ledger.specs.declared.report.Reject.{Reject}
 use Rattle.dsr_ledger.specs.declared.report.Report.{Report}
 use Rattle.dsr_statement.specs.declared.line.Line.{Line}
 use Rattle.dsr_statement.specs.meaning.Lines.{line_text, is_line}
-use Rattle.dsr_statement.specs.meaning.Order.{placed, is_complete, is_key_below, is_text_below}
+use Rattle.dsr_statement.specs.meaning.Order.{placed, is_complete, is_sealed, is_key_below, is_text_below}
 use Rattle.dsr_statement.specs.meaning.Readings.{most_bytes}
 use Rattle.dsr_statement.specs.meaning.Statement.{statement_lines}
 
@@ -31,6 +31,11 @@ pub record IsStatement (ls : List Line) : Type 0 where
   pub spelled : list_all is_line ls ≡ true
   pub texts : list_all is_text ls ≡ true
   pub places : AreInPlace [] ls
+
+-- these lines are a statement that is sealed: the last one is END
+pub record IsSealed (ls : List Line) : Type 0 where
+  pub statement : IsStatement ls
+  pub sealed : is_sealed (reverse ls) ≡ true
 
 -- each item and the next one pass
 abbrev pub all_adjacent : {X : Type 0} → (X → X → Bool) → List X → Bool
