@@ -1,0 +1,4 @@
+pub mod Hex
+pub mod Ends
+pub mod SealLines
+pub mod Inside

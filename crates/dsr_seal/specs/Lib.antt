@@ -1,0 +1,2 @@
+-- The definitions that a reader has to trust.
+pub mod meaning
