@@ -3,7 +3,7 @@ ghost use Rattle.std.specs.Prelude.{◌≡◌, ◌<◌, ◌≤◌, false, List, 
 ghost use Rattle.dsr_file.specs.meaning.Runs.{FileText, events_of_text};
 ghost use Rattle.dsr_ledger.specs.inner.BooksWords.{AreClosed};
 ghost use Rattle.dsr_intake.specs.inner.Collecting.{IsDrained, AreBooksOf, AreReady, IsStartError, IsCause, first_error, intake_error_of};
-ghost use Rattle.dsr_intake.specs.meaning.Texts.{GaveEach, file_of, refusal_of, IsLate};
+ghost use Rattle.dsr_intake.specs.meaning.Texts.{GaveEach, HoldEach, file_of, refusal_of, IsLate};
 ghost use Rattle.dsr_intake.specs.meaning.Outcomes.{IsReportOf};
 
 use crate::collector::collect_books;
@@ -84,10 +84,12 @@ fn settle_all<R: Source + Send + Drop + 'static, H: Threads + Wait>(
     requires ended { All IsDrained taps.items }
     requires empty { readers.old.items ≡ [] }
     requires room { vec_len threads ≤ vec_capacity readers.old }
-    ensures { (texts : List FileText)
+    ensures texts { (texts : List FileText)
         × GaveEach R.told options.now (map (λ h. h.promise.reader.value) threads.items)
         readers.new.items texts
         × (map (λ t. t.taken) taps.items ≡ map (events_of_text options.now.layout) texts) }
+    ensures held { HoldEach R.told R.holds (map (λ h. h.promise.reader.value) threads.items)
+        readers.new.items }
 {
     let mut taps = taps.into_iter();
     for thread in threads {
@@ -169,6 +171,8 @@ fn gather<
     requires ready { AreReady R.told options.now readers.old.items }
     ensures books { IfOk result (AreBooksOf R.told options.now readers.old.items
         readers.new.items) }
+    ensures held { OnOk result
+        (HoldEach R.told R.holds readers.old.items readers.new.items) }
     ensures late { IfErr result IsLate }
 {
     let count = readers.len();
@@ -240,6 +244,8 @@ pub(crate) fn read_books<
     requires { All (λ r. (R.told r).failed ≡ false) readers.old.items }
     ensures books { IfOk result (AreBooksOf R.told options.now readers.old.items
         readers.new.items) }
+    ensures held { OnOk result
+        (HoldEach R.told R.holds readers.old.items readers.new.items) }
     ensures refused { MatchOption (refusal_of (vec_len readers.old) options.now)
         (IfErr result IsLate) (λ e. (result ≡ Err e) × (readers.new ≡ readers.old)) }
 {

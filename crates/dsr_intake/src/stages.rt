@@ -6,7 +6,7 @@ ghost use Rattle.dsr_ledger.specs.inner.BooksWords.{AreClosed};
 ghost use Rattle.dsr_ledger.specs.meaning.Files.{File};
 ghost use Rattle.dsr_ledger.specs.inner.View.{IsReady, IsViewOf};
 ghost use Rattle.dsr_ledger.specs.meaning.Reports.{report_of};
-ghost use Rattle.dsr_intake.specs.meaning.Texts.{refusal_of};
+ghost use Rattle.dsr_intake.specs.meaning.Texts.{HoldEach, refusal_of};
 ghost use Rattle.dsr_intake.specs.meaning.Outcomes.{IsReported, IsUnwritten, IsLateRun};
 ghost use Rattle.dsr_statement.specs.meaning.Statement.{statement_of};
 ghost use Rattle.dsr_statement.specs.meaning.Status.{status_of};
@@ -55,6 +55,7 @@ pub fn run<
     ensures refused { MatchOption (refusal_of (vec_len readers.old) options)
         (IfErr result IsLateRun)
         (λ e. (result ≡ Err (RunError.Intake e)) × (readers.new ≡ readers.old)) }
+    ensures held { OnOk result (HoldEach R.told R.holds readers.old.items readers.new.items) }
 {
     let books = read_books(rt, alloc, readers, &options);
     drop(options);

@@ -4,6 +4,7 @@ ghost use Rattle.dsr_events.specs.declared.event.EventPart.TheVariants as part;
 ghost use Rattle.dsr_events.specs.declared.fault.FileFault.TheVariants as fault;
 ghost use Rattle.dsr_events.specs.declared.fault.Outcome.TheVariants as outcome;
 ghost use Rattle.dsr_events.specs.meaning.Orderly.{Placed, IsOrderly, has_ended};
+ghost use Rattle.dsr_io.specs.meaning.Told.{HoldsGiven};
 ghost use Rattle.dsr_intake.specs.inner.Collecting.{ends_clean, was_refused_memory, IsGiven};
 
 use crate::errors::IntakeError;
@@ -35,7 +36,8 @@ pub(crate) struct Reading<R> {
 
 impl<R: Source> Promise<Finished<R>> for Reading<R> {
     ghost kept_by = { λ p r. (r.feed.name ≡ p.feed.value.name)
-        × IsGiven p.options.value (R.told p.reader.value) (R.told r.reader) r.feed.sent };
+        × IsGiven p.options.value (R.told p.reader.value) (R.told r.reader) r.feed.sent
+        × HoldsGiven R.told R.holds p.reader.value r.reader };
 }
 
 /// A thread that reads a file.
@@ -88,6 +90,7 @@ fn read_and_send<R: Source, H: Wait>(
     ensures given { IsGiven options (R.told reader) (R.told result.reader) result.feed.sent }
     ensures memory { has_ended result.feed.sent ≡ true
         → result.memory ≡ not (ends_clean result.feed.sent) }
+    ensures held { HoldsGiven R.told R.holds reader result.reader }
 {
     let mut reader = reader;
     let mut sink = FeedSink::new(rt, feed);

@@ -11,7 +11,7 @@ use Rattle.dsr_events.specs.declared.fault.Outcome.{Outcome}
 use Rattle.dsr_events.specs.meaning.Openings.{OpeningParts}
 use Rattle.dsr_events.specs.meaning.Orderly.{Placed}
 use Rattle.dsr_file.specs.meaning.Runs.{FileText, events_of_text}
-use Rattle.dsr_io.specs.meaning.Told.{Told}
+use Rattle.dsr_io.specs.meaning.Told.{Told, HoldsGiven}
 use Rattle.dsr_file.specs.meaning.Sources.{GaveText}
 use Rattle.dsr_ledger.specs.declared.report.Report.{Report}
 use Rattle.dsr_ledger.specs.meaning.Files.{File}
@@ -47,6 +47,12 @@ GaveEach told options [] [] [] = Unit {0}
 GaveEach told options (r ∷ rs) (s ∷ ss) (t ∷ ts) =
     GaveText options.layout options.max_reads (told r) (told s) t × GaveEach told options rs ss ts
 GaveEach told options _ _ _ = ⊥
+
+-- what each source keeps of the bytes that it gave before, it keeps of these and of those that it gave since
+abbrev pub HoldEach : {R : Type 0} → (R → Told) → (R → List ℕ → Type 0) → List R → List R → Type 0
+HoldEach told holds [] [] = Unit {0}
+HoldEach told holds (r ∷ rs) (s ∷ ss) = HoldsGiven told holds r s × HoldEach told holds rs ss
+HoldEach told holds _ _ = ⊥
 
 abbrev pub opening_in : Placed → Option OpeningParts
 opening_in e = elim e.part [ part.Opened o ↦ Some o | part.Block b ↦ None | part.Ended o ↦ None ]
