@@ -157,6 +157,61 @@ def closing_pipe(o):
         yield 'the bytes read are not the first of the output'
 
 
+def links(o, wants):
+    """--output by a link. One to an ordinary file is followed: what it leads to is replaced, and the link stays. Any other is refused,
+    and nothing is changed. `wants` checks an answer: its name, the answer, its status, its lines of error, and what files hold."""
+    os.mkdir(o.path('links'))
+    os.mkdir(o.path('links/aside'))
+    os.mkfifo(o.path('links/fifo'))
+    texts = {'plain': 'held', 'absolute': o.path('links/held'), 'down': 'aside/other', 'aside/up': '../held', 'first': 'aside/second',
+             'aside/second': '../plain', 'folder': 'aside', 'nothing': 'none', 'further': 'nothing', 'round': 'round', 'device': '/dev/null', 'to_fifo': 'fifo',
+             'descriptor': '/proc/self/fd/1', 'to_descriptor': 'aside/descriptor', 'aside/descriptor': '../descriptor', 'read': '../small.tsv'}
+    for name, text in texts.items():
+        os.symlink(text, o.path('links/' + name))
+
+    def answers(name, status, error, files):
+        before, at = there(o.path('links')), f'links/{name}'
+        with open(o.path('said'), 'wb') as out:
+            answer = o.run('--output', at, 'small.tsv', out=out)
+        wants(f'--output is a link: {name}', answer, status, error and o.line(error.replace('NAME', at)), {'said': b'', **files})
+        changed = before ^ there(o.path('links'))
+        o.count.check(f'links stay: {name}', [sorted(changed)] if changed else [])
+    for name, file in (('plain', 'held'), ('absolute', 'held'), ('down', 'aside/other'), ('aside/up', 'held'), ('folder/up', 'held'),
+                       ('folder/../plain', 'held'), ('first', 'held')):
+        o.write('links/' + file, b'what was there before\n')
+        answers(name, 0, b'', {'links/' + file: o.printed})
+    for name in ('nothing', 'further', 'round', 'folder', 'device', 'to_fifo', 'descriptor', 'to_descriptor', 'plain/', 'folder/', 'nothing/'):
+        answers(name, 2, 'cannot create NAME', {'links/held': o.printed, 'links/none': None})
+    answers('read', 2, 'cannot write to NAME, which is read', {'small.tsv': o.content})
+    links_and_permission(o, wants)
+
+
+def there(folder):
+    """The names below a folder, each with what it names if it is a link."""
+    paths = [os.path.join(at, name) for at, folders, files in os.walk(folder) for name in (*folders, *files)]
+    return {(path, os.readlink(path) if os.path.islink(path) else '') for path in paths}
+
+
+def links_and_permission(o, wants):
+    """The new file is made in the folder of what the link leads to: the link's own may be closed."""
+    os.mkdir(o.path('links/ours'), 0o777)
+    os.chmod(o.path('links/ours'), 0o777)
+    os.mkdir(o.path('links/theirs'))
+    for folder, other in ('ours', 'theirs'), ('theirs', 'ours'):
+        o.write(f'links/{folder}/held', b'what was there before\n')
+        os.symlink(f'../{other}/held', o.path(f'links/{folder}/link'))
+    os.chmod(o.path('links/theirs'), 0o555)
+    prepare = drop_privileges if os.geteuid() == 0 else None
+    if o.run('small.tsv', prepare=prepare).status != 0:
+        o.count.skip('links and permission', 'as root, and no other user can run the program here')
+        return
+    answer = o.run('--output', 'links/ours/link', 'small.tsv', prepare=prepare)
+    wants('a link to a file in a closed folder', answer, 2, o.line('cannot create links/ours/link'), {'links/theirs/held': b'what was there before\n'})
+    wants('a link in a closed folder', o.run('--output', 'links/theirs/link', 'small.tsv', prepare=prepare), 0, b'', {'links/ours/held': o.printed})
+    stay = all(os.path.islink(o.path(f'links/{folder}/link')) for folder in ('ours', 'theirs'))
+    o.count.check('the links stay', [] if stay else ['one is gone'])
+
+
 def closed(o):
     """Standard input, output and error closed at the start: an opened file may then get their numbers."""
     o.prints('standard input closed, a file named', o.run('small.tsv', prepare=lambda: os.close(0)))

@@ -16,10 +16,12 @@ use Rattle.dsr_command.specs.declared.world.OpenFault.TheVariants as opening
 use Rattle.dsr_command.specs.declared.world.WordsFault.{WordsFault}
 use Rattle.dsr_command.specs.declared.world.WordsFault.TheVariants as unread
 
--- the words, if each is UTF-8; the bytes behind each name, if it can be opened, and which file it is then; those of standard
--- input; what a name is as a place for an output; how many new files wait beside others; whether a call for one has failed
+-- the words, if each is UTF-8; the name that each name stands for, which is itself or where its links lead; the bytes behind each
+-- name, if it can be opened, and which file it is then; those of standard input; what a name is as a place for an output; how many
+-- new files wait beside others; whether a call for one has failed
 pub record Disk : Type 0 where
   pub words : Option (List (List ℕ))
+  pub stands_for : List ℕ → List ℕ
   pub files : List ℕ → Option (List ℕ)
   pub file : List ℕ → Option FileIdentity
   pub input : List ℕ
@@ -80,10 +82,12 @@ Creates written before after (Ok new) = (after ≡ option_map made before) × Wh
 Creates written before after (Err create.Failed) = after ≡ option_map failing before
 Creates written before after (Err create.Memory) = after ≡ before
 
--- these are the bytes behind the name, those behind each other name are as they were, and this many new files wait
+-- these are the bytes behind the name, and behind each that stands for the same one; those behind each other name are as they
+-- were, each name stands for what it stood for, and this many new files wait
 pub record IsReplaced (contents : Option (List ℕ)) (name : List ℕ) (parts : ℕ) (before after : Disk) : Type 0 where
-  pub there : after.files name ≡ contents
-  pub others : (other : List ℕ) → other ≢ name → after.files other ≡ before.files other
+  pub there : (same : List ℕ) → before.stands_for same ≡ before.stands_for name → after.files same ≡ contents
+  pub others : (other : List ℕ) → before.stands_for other ≢ before.stands_for name → after.files other ≡ before.files other
+  pub links : after.stands_for ≡ before.stands_for
   pub parts_are : after.parts ≡ parts
 
 abbrev pub IsReplacedIn : Option (List ℕ) → List ℕ → ℕ → Disk → Option Disk → Type 0

@@ -1,111 +1,39 @@
 //! The words and the files of the system, of which std tells nothing. Nothing is decided here.
 ghost use Rattle.std.specs.Prelude.{None};
 
+mod links;
+mod new;
+mod source;
+
 use crate::command::Asked;
-use crate::file_source::FileSource;
 use crate::identity::{FileIdentity, Place};
-use crate::new_outlet::NewOutlet;
 use crate::report_world::ReportWorld;
 use crate::statement_world::StatementWorld;
 use crate::world::{CreateFault, OpenFault, WordsFault, World};
 use dsr_cells::NoMemory;
-use dsr_file::{Failed, FromRead, Source};
-use dsr_intake::{Outlet, ToWrite};
-use std::env::Env;
-use std::fs::{File, Files, Metadata, OpenFile};
-use std::io::{Eprint, ErrorKind, Read, StdinLock};
+use dsr_file::Failed;
+use links::end_of_links;
+use new::HostNew;
+use source::HostSource;
+use std::fs::{Files, Metadata};
+use std::io::ErrorKind;
 use std::os::unix::fs::MetadataExt;
-use std::random::RandomSource;
-use std::time::Clock;
-use std::{env, fs, io};
+use std::{env, fs};
 
 /// The words and the files of the system.
 #[derive(Drop)]
-pub struct Host<H> {
+pub struct Host {
     /// The handle of the system.
-    pub rt: H,
+    pub rt: HostRuntime,
 }
 
-/// The leave to open files.
+/// The leave to open files, and when they are open.
 #[derive(Drop)]
-pub struct HostPermit;
-
-/// A file, or standard input.
-#[derive(Drop)]
-enum HostReader {
-    /// A file that was opened by its name.
-    File(File),
-    /// Standard input. It is boxed since it contains a buffer of 8 KiB, and a source is moved to its thread and back by value.
-    Standard(Box<StdinLock<'static>>),
-}
-
-impl Read for HostReader {
-    fn read(&mut self, piece: &mut [u8]) -> io::Result<usize> {
-        match self {
-            HostReader::File(file) => file.read(piece),
-            HostReader::Standard(input) => input.read(piece),
-        }
-    }
-}
-
-/// The source of a file or of standard input.
-#[derive(Drop)]
-pub struct HostSource {
-    source: FromRead<HostReader>,
-    size: Option<u64>,
-    identity: Option<FileIdentity>,
-}
-
-impl Source for HostSource {
-    ghost told = { λ s. ⟦<FromRead<HostReader> as Source>⟧.told s.source };
-
-    fn read(&mut self, piece: &mut [u8]) -> Result<usize, Failed> {
-        self.source.read(piece)
-    }
-
-    fn failed(&self) -> bool {
-        self.source.failed()
-    }
-}
-
-impl FileSource for HostSource {
-    ghost file = { λ s. s.identity };
-
-    fn identity(&self) -> Option<FileIdentity> {
-        self.identity
-    }
-
-    fn size(&self) -> Option<u64> {
-        self.size
-    }
-}
-
-/// A new file, opened once more to be synced, and its name.
-#[derive(Drop)]
-pub struct HostNew {
-    out: ToWrite<File>,
-    file: File,
-    part: String,
-}
-
-impl Outlet for HostNew {
-    ghost told = { λ n. ⟦<ToWrite<File> as Outlet>⟧.told n.out };
-
-    fn write(&mut self, piece: &[u8]) -> Result<usize, Failed> {
-        self.out.write(piece)
-    }
-
-    fn flush(&mut self) -> Result<(), Failed> {
-        self.out.flush()
-    }
-
-    fn failed(&self) -> bool {
-        self.out.failed()
-    }
-}
-
-impl NewOutlet for HostNew {
-    ghost synced = { λ n. (⟦<ToWrite<File> as Outlet>⟧.told n.out).contents };
+pub enum HostPermit {
+    /// All from when they are named.
+    AtOnce,
+    /// An ordinary file from its first read to its end, and anything else from when it is named, since it can be read only once.
+    InTurn,
 }
 
 /// Which file has this metadata.
@@ -116,14 +44,7 @@ fn identity_of(metadata: &Metadata) -> FileIdentity {
     }
 }
 
-impl<
-    H: Env
-        + AllocGlobal
-        + Files<File = File>
-        + io::Input<Reader = StdinLock<'static>>
-        + RandomSource
-        + Drop,
-> World for Host<H> {
+impl World for Host {
     type Reader = HostSource;
 
     type New = HostNew;
@@ -145,69 +66,27 @@ impl<
         }
     }
 
-    fn open(&self, _permit: &HostPermit, name: &str) -> Result<HostSource, OpenFault> {
-        let Ok(file) = fs::open(&self.rt, name) else {
-            return Err(OpenFault::Missing);
-        };
-        let metadata = file.metadata().ok();
-        Ok(HostSource {
-            source: FromRead::new(HostReader::File(file)),
-            size: match &metadata {
-                Some(metadata) if metadata.is_file() => Some(metadata.len()),
-                _ => None,
-            },
-            identity: match &metadata {
-                Some(metadata) => Some(identity_of(metadata)),
-                None => None,
-            },
-        })
+    fn open(&self, permit: &HostPermit, name: &str) -> Result<HostSource, OpenFault> {
+        HostSource::open(self.rt, permit, name)
     }
 
     fn standard_input(&self, _permit: &HostPermit) -> Result<HostSource, NoMemory> {
-        match Box::new(self.rt.alloc(), self.rt.reader()) {
-            Ok(reader) => Ok(HostSource {
-                source: FromRead::new(HostReader::Standard(reader)),
-                size: None,
-                identity: match self.rt.metadata("/dev/stdin") {
-                    Ok(metadata) => Some(identity_of(&metadata)),
-                    Err(_) => None,
-                },
-            }),
-            Err(_) => Err(NoMemory),
-        }
+        HostSource::standard(self.rt)
     }
 
     fn place(&self, name: &str) -> Place {
         match self.rt.metadata(name) {
             Ok(metadata) if metadata.is_file() => Place::Ordinary(identity_of(&metadata)),
-            Err(error) if error.kind() == ErrorKind::NotFound && !name.is_empty() => Place::Free,
+            Err(error) if error.kind() == ErrorKind::NotFound && self.is_free(name) => Place::Free,
             _ => Place::Other,
         }
     }
 
     fn create_beside(&mut self, name: &str) -> Result<HostNew, CreateFault> {
-        let mut digits = [0u8; 8];
-        if self.rt.fill_bytes(&mut digits).is_err() {
-            return Err(CreateFault::Failed);
-        }
-        let digits = u64::from_le_bytes(digits);
-        let Ok(part) = format!(in self.rt.alloc(); "{}.{}.part", name, digits) else {
-            return Err(CreateFault::Memory);
-        };
-        let Ok(out) = File::create_new(&self.rt, part.as_str()) else {
-            return Err(CreateFault::Failed);
-        };
-        match out.try_clone() {
-            Ok(file) => Ok(HostNew {
-                out: ToWrite::new(out),
-                file,
-                part,
-            }),
-            Err(_) => {
-                drop(out);
-                let _ = fs::remove_file(&self.rt, part.as_str());
-                Err(CreateFault::Failed)
-            }
+        match end_of_links(self.rt, name) {
+            Ok(end) => HostNew::create(self.rt, end.into_string()),
+            Err(error) if error.kind() == ErrorKind::OutOfMemory => Err(CreateFault::Memory),
+            Err(_) => Err(CreateFault::Failed),
         }
     }
 
@@ -215,8 +94,8 @@ impl<
         new.file.sync_all().map_err(|_| Failed)
     }
 
-    fn put(&mut self, new: &HostNew, name: &str) -> Result<(), Failed> {
-        fs::rename(&self.rt, new.part.as_str(), name).map_err(|_| Failed)
+    fn put(&mut self, new: &HostNew, _name: &str) -> Result<(), Failed> {
+        fs::rename(&self.rt, new.part.as_str(), new.place.as_str()).map_err(|_| Failed)
     }
 
     fn remove(&mut self, new: HostNew) {
@@ -224,47 +103,35 @@ impl<
     }
 }
 
-impl<
-    H: Env
-        + AllocGlobal
-        + Files<File = File>
-        + io::Input<Reader = StdinLock<'static>>
-        + RandomSource
-        + Clock
-        + Eprint
-        + Copy
-        + Drop
-        + Send
-        + 'static,
-> ReportWorld for Host<H> {
-    type Teller = H;
+impl Host {
+    /// Whether a name that leads to no file is a name that nothing has, not even a link.
+    fn is_free(&self, name: &str) -> bool {
+        !name.is_empty() && self.rt.symlink_metadata(name).is_err()
+    }
+}
+
+impl ReportWorld for Host {
+    type Teller = HostRuntime;
 
     fn open_layout(&self, name: &str) -> Result<HostSource, OpenFault> {
-        self.open(&HostPermit, name)
+        self.open(&HostPermit::AtOnce, name)
     }
 
     fn permit_after(&self, _layout: HostSource) -> HostPermit {
-        HostPermit
+        HostPermit::AtOnce
     }
 
     fn permit_without(&self, _asked: &Asked) -> HostPermit {
-        HostPermit
+        HostPermit::AtOnce
     }
 
-    fn teller(&self, _asked: &Asked) -> H {
+    fn teller(&self, _asked: &Asked) -> HostRuntime {
         self.rt
     }
 }
 
-impl<
-    H: Env
-        + AllocGlobal
-        + Files<File = File>
-        + io::Input<Reader = StdinLock<'static>>
-        + RandomSource
-        + Drop,
-> StatementWorld for Host<H> {
+impl StatementWorld for Host {
     fn permit(&self) -> HostPermit {
-        HostPermit
+        HostPermit::InTurn
     }
 }

@@ -12,10 +12,10 @@ pub struct FileIdentity {
 /// What a name is as a place for an output.
 #[derive(Clone, Copy, PartialEq, Eq)]
 pub enum Place {
-    /// No file has it.
+    /// Nothing has it.
     Free,
-    /// An ordinary file, which this is, has it.
+    /// An ordinary file, which this is, has it, or a link to one.
     Ordinary(FileIdentity),
-    /// Something else has it, or it is no name.
+    /// Something else has it, such as a link that leads to nothing, or it is no name.
     Other,
 }

@@ -3,7 +3,8 @@
 //! 1. [`World`] (`world`): what a program asks of its surroundings, that is its words, names and files. [`FileSource`]
 //!    (`file_source`) is a file that is read, [`NewOutlet`] (`new_outlet`) a new one that is written. [`ReportWorld`]
 //!    (`report_world`) has a layout's file and progress, and [`StatementWorld`] (`statement_world`) neither. [`Host`] (`host`)
-//!    is the world of the system; no other code touches its files. `identity` says which file a name is.
+//!    is the world of the system; no other code touches its files: `host/source.rt` reads them, `host/new.rt` makes new ones,
+//!    and `host/links.rt` follows the links of an output's name. `identity` says which file a name is.
 //! 2. [`asked`] (`arguments`): what the command line asks for ([`Asked`], in `command`), or why there is no run. The texts of
 //!    the help and the version are here. [`no_words`] and [`turn_down`] (`answers`) are all that is done where there is no run,
 //!    and [`print_text`] (`print`) prints a text.
