@@ -13,10 +13,11 @@ use Rattle.dsr_intake.specs.declared.errors.IntakeError.TheVariants as intake
 use Rattle.dsr_intake.specs.declared.errors.RunError.{RunError}
 use Rattle.dsr_intake.specs.declared.errors.RunError.TheVariants as error
 use Rattle.dsr_intake.specs.declared.options.Options.{Options}
-use Rattle.dsr_intake.specs.meaning.Outcomes.{IsLateRun, IsReported, IsUnwritten}
+use Rattle.dsr_intake.specs.meaning.Outcomes.{IsLateRun, IsReported, IsUntouched, IsUnwritten}
 use Rattle.dsr_intake.specs.meaning.Texts.{GaveEach, refusal_of}
 use Rattle.dsr_statement.specs.declared.verdict.Status.{Status}
-use Rattle.dsr.specs.Serving.{IsAnswer, IsRefusedFor}
+use Rattle.dsr_command.specs.declared.sealing.Sealing.{Sealing}
+use Rattle.dsr.specs.Serving.{GaveBytes, IsAnswer, IsAnswerFor, IsRefusedFor, IsSealed, IsStated}
 
 -- what holds of each source holds of its watched source
 pub of_each : {X Y : Type 0} (P : X → Type 0) (f : Y → X) (ys : List Y) → All P (map f ys) → All (λ y. P (f y)) ys
@@ -53,12 +54,51 @@ answer_inside told f o ys zs before after answer h =
       refused = subst (λ n. MatchOption (refusal_of n o) (IfErr answer IsLateRun) (IsRefusedFor answer)) (sym (length-map ys f)) h.refused;
     }
 
+-- what the sources inside gave is what the watched sources gave
+bytes_outside : {X Y : Type 0} (told : X → Told) (f : Y → X) (ys zs : List Y) (bs : List (List ℕ))
+    → GaveBytes told (map f ys) (map f zs) bs → GaveBytes (λ y. told (f y)) ys zs bs
+bytes_outside told f [] [] [] h = h
+bytes_outside told f [] [] (b ∷ bs) h = h
+bytes_outside told f [] (z ∷ zs) bs h = h
+bytes_outside told f (y ∷ ys) [] bs h = h
+bytes_outside told f (y ∷ ys) (z ∷ zs) [] h = h
+bytes_outside told f (y ∷ ys) (z ∷ zs) (b ∷ bs) h = (h.0, bytes_outside told f ys zs bs h.1)
+
+stated_inside : {X Y : Type 0} (told : X → Told) (f : Y → X) (o : Options) (seal : Sealing) (ys zs : List Y) (before : Written) (s : Status)
+    (Ends : List ℕ → List ℕ → Written → Type 0) → IsStated (λ y. told (f y)) o seal ys zs before s Ends
+    → IsStated told o seal (map f ys) (map f zs) before s Ends
+stated_inside told f o seal ys zs before s Ends h =
+    record {
+      texts = h.texts;
+      stated = h.stated;
+      reported = reported_inside told f o ys zs before h.stated h.texts s h.reported;
+      sealed = λ held given is gave. h.sealed held given is (bytes_outside told f ys zs given gave);
+    }
+
+sealed_inside : {X Y : Type 0} (told : X → Told) (f : Y → X) (o : Options) (seal : Sealing) (ys zs : List Y) (before after : Written)
+    (answer : Result Status RunError) → IsSealed (λ y. told (f y)) o seal ys zs before after answer
+    → IsSealed told o seal (map f ys) (map f zs) before after answer
+sealed_inside told f o seal ys zs before after (Ok s) h = stated_inside told f o seal ys zs before s _ h
+sealed_inside told f o seal ys zs before after (Err e) (inl h) = inl (unwritten_inside told f o ys zs before after e h)
+sealed_inside told f o seal ys zs before after (Err e) (inr h) = inr (h.0, h.1, h.2, stated_inside told f o seal ys zs before h.0 _ h.3)
+
+answer_for_inside : {X Y : Type 0} (told : X → Told) (f : Y → X) (o : Options) (seal : Option Sealing) (ys zs : List Y) (before after : Written)
+    (answer : Result Status RunError) → IsAnswerFor (λ y. told (f y)) o seal ys zs before after answer
+    → IsAnswerFor told o seal (map f ys) (map f zs) before after answer
+answer_for_inside told f o None ys zs before after answer h = answer_inside told f o ys zs before after answer h
+answer_for_inside told f o (Some seal) ys zs before after answer h =
+    record {
+      sealed = sealed_inside told f o seal ys zs before after answer h.sealed;
+      refused = subst (λ n. MatchOption (refusal_of n o) (IfErr answer IsLateRun) (IsRefusedFor answer)) (sym (length-map ys f)) h.refused;
+    }
+
 -- the answer of a run over watched sources is one over the sources inside
-pub answer_within : {X Y : Type 0} (told : X → Told) (f : Y → X) (o : Options) (sources : List X) (ys : List Y) (before after : Written)
-    (answer : Result Status RunError) → map f ys ≡ sources → (left : List Y) × IsAnswer (λ y. told (f y)) o ys left before after answer
-    → (left : List X) × IsAnswer told o sources left before after answer
-answer_within told f o sources ys before after answer same h =
-    (map f h.0, subst (λ xs. IsAnswer told o xs (map f h.0) before after answer) same (answer_inside told f o ys h.0 before after answer h.1))
+pub answer_within : {X Y : Type 0} (told : X → Told) (f : Y → X) (o : Options) (seal : Option Sealing) (sources : List X) (ys : List Y)
+    (before after : Written) (answer : Result Status RunError) → map f ys ≡ sources
+    → (left : List Y) × IsAnswerFor (λ y. told (f y)) o seal ys left before after answer
+    → (left : List X) × IsAnswerFor told o seal sources left before after answer
+answer_within told f o seal sources ys before after answer same h =
+    (map f h.0, subst (λ xs. IsAnswerFor told o seal xs (map f h.0) before after answer) same (answer_for_inside told f o seal ys h.0 before after answer h.1))
 
 -- a refusal by the rules of a run
 pub refused_by : (n : Option IntakeError) (answer : Result Status RunError) (Q : IntakeError → Type 0)
@@ -75,12 +115,13 @@ kept : (o : Option (List ℕ)) → Keeps o o
 kept None = tt
 kept (Some xs) = refl
 
+untouched : (w : Written) → IsUntouched w w
+untouched w = record { kept = kept w.contents; taken = refl; failed = refl; flushes = refl; unflushed = refl }
+
 -- memory was refused before a run began
-pub without_memory : {X : Type 0} (told : X → Told) (o : Options) (sources : List X) (out : Written)
-    → IsAnswer told o sources sources out out (Err (error.Intake intake.Memory))
-without_memory told o sources out =
-    record {
-      reported = tt;
-      unwritten = record { kept = kept out.contents; taken = refl; failed = refl; flushes = refl; unflushed = refl };
-      refused = no_memory_refused (refusal_of (length sources) o);
-    }
+pub without_memory : {X : Type 0} (told : X → Told) (o : Options) (seal : Option Sealing) (sources : List X) (out : Written)
+    → IsAnswerFor told o seal sources sources out out (Err (error.Intake intake.Memory))
+without_memory told o None sources out =
+    record { reported = tt; unwritten = untouched out; refused = no_memory_refused (refusal_of (length sources) o) }
+without_memory told o (Some seal) sources out =
+    record { sealed = inl (untouched out); refused = no_memory_refused (refusal_of (length sources) o) }

@@ -1,3 +1,2 @@
-pub mod Answering
-pub mod Ending
-pub mod Serving
+mod Digests
+mod Sealing

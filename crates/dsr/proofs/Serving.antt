@@ -8,7 +8,8 @@ use Rattle.dsr_command.specs.declared.inputs.OpenError.TheVariants.{CannotOpen, 
 use Rattle.dsr_command.specs.declared.new_file.NewFileError.{NewFileError}
 use Rattle.dsr_command.specs.Faults.{IsTold, dsr, unopened_line, unopened_status}
 use Rattle.dsr_command.specs.Inputs.{IsRefusal}
-use Rattle.dsr_command.specs.LayoutFile.{layout_file}
+use Rattle.dsr_command.specs.declared.sealing.Sealing.{Sealing}
+use Rattle.dsr_command.specs.LayoutFile.{layout_file, sealing_for}
 use Rattle.dsr_command.specs.NewFiles.{IsCreated, new_file_line, new_file_status}
 use Rattle.dsr_command.specs.Outputs.{IsOnlyTold, Outputs, outputs}
 use Rattle.dsr_command.specs.World.{AreSources, Disk, files_for, made, texts_for}
@@ -32,17 +33,28 @@ read_are : {R N : Type 0} (g : Ghosts R N) (file : R → Option FileIdentity) (d
     → layout ∷ map file sources ≡ files_read d asked
 read_are g file d asked layout sources is are = ap₂ (λ x xs. x ∷ xs) is are.files_are
 
+-- the run over the sources wrote to standard output
+pub printed : {R N : Type 0} (g : Ghosts R N) (file : R → Option FileIdentity) (d : Disk) (left : Option Disk) (asked : Asked) (options : Options)
+    (seal : Option Sealing) (sources : List R) (before after : Outputs) (s : ℕ) → seal ≡ sealing_for d asked
+    → AreSources g.told file (texts_for d asked.files) (files_for d asked.files) sources → asked.output ≡ None
+    → HadRun g.told options seal sources before after s → left ≡ Some d → IsRead g d left asked options before after s
+printed g file d left asked options seal sources before after s sealed are is had same =
+    had_texts g d left asked options before after s are.bytes None are.texts_are is
+    (sources, are.fresh, subst (λ x. HadRun g.told options x sources before after s) sealed had, same)
+
 -- the run over the sources wrote to a new file
 pub stored : {R N : Type 0} (g : Ghosts R N) (file : R → Option FileIdentity) (d : Disk) (between left : Option Disk) (asked : Asked) (options : Options)
-    (layout : Option FileIdentity) (sources : List R) (name : List ℕ) (new : N) (out f h : Written) (s : ℕ)
-    → layout ≡ layout_file d asked.layout → AreSources g.told file (texts_for d asked.files) (files_for d asked.files) sources
+    (layout : Option FileIdentity) (seal : Option Sealing) (sources : List R) (name : List ℕ) (new : N) (out f h : Written) (s : ℕ)
+    → layout ≡ layout_file d asked.layout → seal ≡ sealing_for d asked
+    → AreSources g.told file (texts_for d asked.files) (files_for d asked.files) sources
     → asked.output ≡ Some name → IsCreated g.written d between (layout ∷ map file sources) name (Ok new)
-    → HadRunInto g options sources new name (made d) left f h s
+    → HadRunInto g options seal sources new name (made d) left f h s
     → IsRead g d left asked options (outputs out f) (outputs out h) s
-stored g file d between left asked options layout sources name new out f h s at are is created had =
+stored g file d between left asked options layout seal sources name new out f h s at sealed are is created had =
     let beside = subst (λ read. IsCreated g.written d between read name (Ok new)) (read_are g file d asked layout sources at are) created in
+    let ran = subst (λ x. HadRunInto g options x sources new name (made d) left f h s) sealed had in
     had_texts g d left asked options (outputs out f) (outputs out h) s are.bytes (Some name) are.texts_are is
-    (inl (sources, are.fresh, beside.0, new, beside.2, had, refl))
+    (inl (sources, are.fresh, beside.0, new, beside.2, ran, refl))
 
 -- there is no new file
 pub unstored : {R N : Type 0} (g : Ghosts R N) (file : R → Option FileIdentity) (d : Disk) (left : Option Disk) (asked : Asked) (options : Options)

@@ -1,29 +1,34 @@
 -- What the program does: what it writes to standard output and standard error or to a file, and its exit status, by its words
 -- and the bytes behind names.
-use Rattle.std.specs.Prelude.{◌≡◌, ◌⊎◌, ◌-◌, ◌∷◌, ℕ, List, [], length, Option, None, Some, Result, Ok, Err, IfOk, IfErr, MatchOption, unwrap_or}
+use Rattle.std.specs.Prelude.{◌≡◌, ◌≤◌, ◌⊎◌, ◌-◌, ◌∷◌, ◌++◌, ℕ, List, [], length, map, take, Option, None, Some, Result, Ok, Err, IfOk, IfErr, MatchOption, unwrap_or}
 use Rattle.dsr_command.specs.CommandLine.{IsAskedFor, IsFaultFor}
 use Rattle.dsr_command.specs.declared.command.Asked.{Asked}
 use Rattle.dsr_command.specs.declared.command.CommandFault.{CommandFault}
 use Rattle.dsr_command.specs.declared.identity.FileIdentity.{FileIdentity}
 use Rattle.dsr_command.specs.declared.layout_file.LayoutReadError.{LayoutReadError}
 use Rattle.dsr_command.specs.declared.new_file.NewFileError.{NewFileError}
+use Rattle.dsr_command.specs.declared.sealing.Sealing.{Sealing}
 use Rattle.dsr_command.specs.declared.world.WordsFault.{WordsFault}
 use Rattle.dsr_command.specs.Faults.{cannot_open_line, dsr, fault_line, layout_refused_line, layout_refused_status, status_number, IsTold}
-use Rattle.dsr_command.specs.LayoutFile.{AreAsked, IsLayoutRefused, layout_file}
+use Rattle.dsr_command.specs.LayoutFile.{AreAsked, IsLayoutRefused, layout_file, sealing_for}
 use Rattle.dsr_command.specs.NewFiles.{IsNotCreated, cannot_replace_line, new_file_line, new_file_status}
 use Rattle.dsr_command.specs.Outputs.{IsOnlyTold, IsTurnedDown, IsWithoutMemory, Outputs, no_words_line, no_words_status}
 use Rattle.dsr_command.specs.World.{AreFresh, Disk, IsApart, IsReplacedIn, LacksWords, failing, files_for, made, removed, texts_for}
 use Rattle.dsr_file.specs.meaning.Runs.{FileText}
 use Rattle.dsr_io.specs.meaning.Told.{Told}
-use Rattle.dsr_io.specs.meaning.Written.{Written}
+use Rattle.dsr_io.specs.meaning.Written.{Written, IsFlushed, IsCut}
 use Rattle.dsr_intake.specs.declared.errors.IntakeError.{IntakeError}
 use Rattle.dsr_intake.specs.declared.errors.IntakeError.TheVariants as intake
 use Rattle.dsr_intake.specs.declared.errors.RunError.{RunError}
 use Rattle.dsr_intake.specs.declared.errors.RunError.TheVariants as run
 use Rattle.dsr_intake.specs.declared.options.Options.{Options}
 use Rattle.dsr_intake.specs.meaning.Outcomes.{IsLateRun, IsReported, IsUnwritten}
-use Rattle.dsr_intake.specs.meaning.Texts.{refusal_of}
+use Rattle.dsr_intake.specs.meaning.Texts.{refusal_of, report_of_texts}
+use Rattle.dsr_seal.specs.meaning.Counts.{line_feeds}
+use Rattle.dsr_seal.specs.meaning.Digests.{digest_of}
 use Rattle.dsr_statement.specs.declared.verdict.Status.{Status}
+use Rattle.dsr_statement.specs.meaning.Seals.{seal_lines}
+use Rattle.dsr_statement.specs.meaning.Statement.{statement_of, text_of}
 
 -- what the sources and the new files of a world tell
 pub record Ghosts (R N : Type 0) : Type 0 where
@@ -45,15 +50,61 @@ pub record IsAnswer {R : Type 0} (told : R → Told) (options : Options) (source
   pub unwritten : IfErr answer (IsUnwritten told options sources left before after)
   pub refused : MatchOption (refusal_of (length sources) options) (IfErr answer IsLateRun) (IsRefusedFor answer)
 
+-- each source gave the bytes at its place: those that it has not left any more
+abbrev pub GaveBytes : {R : Type 0} → (R → Told) → List R → List R → List (List ℕ) → Type 0
+GaveBytes told [] [] [] = Unit {0}
+GaveBytes told (r ∷ rs) (s ∷ ss) (bytes ∷ more) =
+    ((rest : List ℕ) × ((told r).remaining ≡ Some (bytes ++ rest)) × ((told s).remaining ≡ Some rest)) × GaveBytes told rs ss more
+GaveBytes told _ _ _ = ⊥
+
+-- the seal of a statement: of the layout, of the bytes that the sources gave, of its number of lines and of its status
+abbrev pub seal_of : Sealing → List (List ℕ) → List ℕ → Status → List ℕ
+seal_of seal given statement status = text_of (seal_lines seal.layout (map digest_of given) (line_feeds statement) status)
+
+-- the statement of what the sources gave was written and flushed; and where it is known what the outlet held and what the
+-- sources gave, the rest is what `Ends` says, of the statement and its seal
+pub record IsStated {R : Type 0} (told : R → Told) (options : Options) (seal : Sealing) (sources left : List R) (before : Written) (status : Status)
+    (Ends : List ℕ → List ℕ → Written → Type 0) : Type 0 where
+  pub texts : List FileText
+  pub stated : Written
+  pub reported : IsReported told options sources left before stated texts status
+  pub sealed : (held : List ℕ) (given : List (List ℕ)) → before.contents ≡ Some held → GaveBytes told sources left given
+      → let statement = statement_of (report_of_texts options.layout texts) in Ends statement (seal_of seal given statement status) stated
+
+-- of the statement and its seal this many first bytes were written, which end in the seal, and the outlet failed
+abbrev pub IsSealCut : ℕ → Written → List ℕ → List ℕ → Written → Type 0
+IsSealCut written after statement seal stated =
+    (length statement ≤ written) × (written ≤ length (statement ++ seal)) × IsCut (take (written - length statement) seal) stated after
+
+-- a run with a seal had this answer: the statement was written and flushed, and then its seal, which was flushed too; or what
+-- there is of them where a run fails
+abbrev pub IsSealed : {R : Type 0} → (R → Told) → Options → Sealing → List R → List R → Written → Written → Result Status RunError → Type 0
+IsSealed told options seal sources left before after (Ok status) =
+    IsStated told options seal sources left before status (λ statement sealed stated. IsFlushed sealed stated after)
+IsSealed told options seal sources left before after (Err error) = IsUnwritten told options sources left before after error
+    ⊎ ((status : Status) × (written : ℕ) × (error ≡ run.Write written)
+    × IsStated told options seal sources left before status (IsSealCut written after))
+
+-- it is refused before it reads as a run without one is
+pub record IsSealedAnswer {R : Type 0} (told : R → Told) (options : Options) (seal : Sealing) (sources left : List R) (before after : Written)
+    (answer : Result Status RunError) : Type 0 where
+  pub sealed : IsSealed told options seal sources left before after answer
+  pub refused : MatchOption (refusal_of (length sources) options) (IfErr answer IsLateRun) (IsRefusedFor answer)
+
+-- the same, with a seal if one is asked for
+abbrev pub IsAnswerFor : {R : Type 0} → (R → Told) → Options → Option Sealing → List R → List R → Written → Written → Result Status RunError → Type 0
+IsAnswerFor told options None = IsAnswer told options
+IsAnswerFor told options (Some seal) = IsSealedAnswer told options seal
+
 -- standard error has the line of an error, and nothing more if there is none
 abbrev pub IsAnswerTold : Written → Written → Result Status RunError → Type 0
 IsAnswerTold before after (Ok status) = after ≡ before
 IsAnswerTold before after (Err error) = IsTold before after (fault_line error)
 
 -- there was a run over these sources, which wrote to standard output
-abbrev pub HadRun : {R : Type 0} → (R → Told) → Options → List R → Outputs → Outputs → ℕ → Type 0
-HadRun {R} told options sources before after status = (answer : Result Status RunError) × (left : List R)
-    × IsAnswer told options sources left before.out after.out answer × IsAnswerTold before.fault after.fault answer
+abbrev pub HadRun : {R : Type 0} → (R → Told) → Options → Option Sealing → List R → Outputs → Outputs → ℕ → Type 0
+HadRun {R} told options seal sources before after status = (answer : Result Status RunError) × (left : List R)
+    × IsAnswerFor told options seal sources left before.out after.out answer × IsAnswerTold before.fault after.fault answer
     × (status ≡ status_number answer)
 
 -- where the new file of a run with this answer is: only after a report it is in the place of the file of this name, and else
@@ -66,10 +117,11 @@ IsEnded contents name disk left before after status (Err error) =
     (left ≡ Some (removed disk)) × IsTold before after (fault_line error) × (status ≡ 3)
 
 -- there was a run over these sources, which wrote to this new file, and this is where the file is
-abbrev pub HadRunInto : {R N : Type 0} → Ghosts R N → Options → List R → N → List ℕ → Disk → Option Disk → Written → Written → ℕ → Type 0
-HadRunInto {R} {N} g options sources new name disk left before after status =
+abbrev pub HadRunInto : {R N : Type 0} → Ghosts R N → Options → Option Sealing → List R → N → List ℕ → Disk → Option Disk → Written → Written → ℕ
+    → Type 0
+HadRunInto {R} {N} g options seal sources new name disk left before after status =
     (answer : Result Status RunError) × (rest : List R) × (whole : N)
-    × IsAnswer g.told options sources rest (g.written new) (g.written whole) answer
+    × IsAnswerFor g.told options seal sources rest (g.written new) (g.written whole) answer
     × IsEnded (g.written whole).contents name disk left before after status answer
 
 -- the files that are read: the layout's, if one is named, and those of the report
@@ -81,11 +133,11 @@ files_read disk asked = layout_file disk asked.layout ∷ files_for disk asked.f
 abbrev pub HadOutput : {R N : Type 0} → Ghosts R N → Disk → Option Disk → Asked → Options → List (List ℕ) → Outputs → Outputs → ℕ
     → Option (List ℕ) → Type 0
 HadOutput {R} {N} g disk left asked options texts before after status None =
-    (sources : List R) × AreFresh g.told sources texts × HadRun g.told options sources before after status × (left ≡ Some disk)
+    (sources : List R) × AreFresh g.told sources texts × HadRun g.told options (sealing_for disk asked) sources before after status × (left ≡ Some disk)
 HadOutput {R} {N} g disk left asked options texts before after status (Some name) =
     ((sources : List R) × AreFresh g.told sources texts × IsApart (disk.place name) (files_read disk asked)
     × (new : N) × ((g.written new).contents ≡ Some [])
-    × HadRunInto g options sources new name (made disk) left before.fault after.fault status × (after.out ≡ before.out))
+    × HadRunInto g options (sealing_for disk asked) sources new name (made disk) left before.fault after.fault status × (after.out ≡ before.out))
     ⊎ ((error : NewFileError) × IsNotCreated disk left (files_read disk asked) name error
     × IsOnlyTold (new_file_line dsr name error) before after × (status ≡ new_file_status error))
 

@@ -3,7 +3,8 @@
 //! 1. `program` runs its stages: it reads the command line, reads the layout, opens the files and creates the output
 //!    (dsr_command).
 //! 2. `running` passes the sources to `run` of dsr_intake, which writes the statement to standard output or to the new file,
-//!    puts this in its place, and writes the line of an error.
+//!    puts this in its place, and writes the line of an error. `sealing` does the same over sources that make digests of what
+//!    they give (dsr_seal), and writes the seal behind the statement.
 //! 3. `main` gives `serve` the words and files of the system (`Host` of dsr_command) and its outputs, and ends with the exit
 //!    status that it returns.
 //!
@@ -13,6 +14,7 @@
 
 mod program;
 mod running;
+mod sealing;
 
 use dsr_command::Host;
 use dsr_intake::ToWrite;
@@ -20,7 +22,8 @@ use std::process::ExitCode;
 
 fn main(rt: HostRuntime) -> ExitCode {
     let mut host = Host { rt };
-    let mut out = ToWrite::new(rt.stdout());
+    let out = ToWrite::new(rt.stdout());
     let mut fault = ToWrite::new(rt.stderr());
-    ExitCode::from(program::serve(&rt, rt.alloc(), &mut host, &mut out, &mut fault))
+    let (_out, status) = program::serve(&rt, rt.alloc(), &mut host, out, &mut fault);
+    ExitCode::from(status)
 }

@@ -1,7 +1,7 @@
 //! From the program's words to its exit status.
 ghost use Rattle.std.specs.Prelude.{◌≡◌, false, map, [], Some, unwrap_or};
 ghost use Rattle.std.specs.String.{string_bytes};
-ghost use Rattle.dsr_command.specs.LayoutFile.{layout_file};
+ghost use Rattle.dsr_command.specs.LayoutFile.{AreHad};
 ghost use Rattle.dsr_command.specs.Outputs.{outputs};
 ghost use Rattle.dsr_command.specs.World.{Asks, WhereTold};
 ghost use Rattle.dsr.specs.Serving.{IsDone, IsRead, IsServed, IsServedFor, ghosts};
@@ -18,60 +18,67 @@ use std::sync::Wait;
 use std::thread::Threads;
 use std::time::Clock;
 
-/// Does what the program's words ask for, and returns the exit status. Errors are written to `fault`.
+/// Does what the program's words ask for, and returns the output and the exit status. Errors are written to `fault`.
 pub fn serve<
     H: Threads + Wait + RandomSource + Clock + Copy + Send + 'static,
     W: ReportWorld,
     O: Outlet,
     F: Outlet,
->(rt: &H, alloc: Global, world: &mut W, out: &mut O, fault: &mut F) -> u8
-    requires { (O.told out.old).failed ≡ false }
+>(rt: &H, alloc: Global, world: &mut W, out: O, fault: &mut F) -> (O, u8)
+    requires outlet { (O.told out).failed ≡ false }
+    requires empty { (O.told out).taken ≡ 0 }
     ensures { WhereTold (W.disk world.old) (λ d. IsServed (ghosts (W.Reader.told) (W.New.told)) d
-        (W.disk world.new) (outputs (O.told out.old) (F.told fault.old))
-        (outputs (O.told out.new) (F.told fault.new)) result) }
+        (W.disk world.new) (outputs (O.told out) (F.told fault.old))
+        (outputs (O.told result.0) (F.told fault.new)) result.1) }
 {
     match world.words() {
         Ok(words) => answer(rt, alloc, world, &words, out, fault),
-        Err(error) => no_words(DSR, error, fault),
+        Err(error) => (out, no_words(DSR, error, fault)),
     }
 }
 
-/// Does what these words ask for, and returns the exit status.
+/// Does what these words ask for, and returns the output and the exit status.
 fn answer<
     H: Threads + Wait + RandomSource + Clock + Copy + Send + 'static,
     W: ReportWorld,
     O: Outlet,
     F: Outlet,
->(rt: &H, alloc: Global, world: &mut W, words: &[String], out: &mut O, fault: &mut F) -> u8
-    requires outlet { (O.told out.old).failed ≡ false }
+>(rt: &H, alloc: Global, world: &mut W, words: &[String], out: O, fault: &mut F) -> (O, u8)
+    requires outlet { (O.told out).failed ≡ false }
+    requires empty { (O.told out).taken ≡ 0 }
     requires words { WhereTold (W.disk world.old) (λ d. d.words ≡ Some (map string_bytes words.now)) }
     ensures { WhereTold (W.disk world.old) (λ d. IsDone (ghosts (W.Reader.told) (W.New.told)) d
         (W.disk world.new) (map string_bytes words.now)
-        (outputs (O.told out.old) (F.told fault.old)) (outputs (O.told out.new) (F.told fault.new))
-        result) }
+        (outputs (O.told out) (F.told fault.old)) (outputs (O.told result.0) (F.told fault.new))
+        result.1) }
 {
     match asked(alloc, words) {
         Ok(asked) => read_and_print(rt, alloc, world, &asked, out, fault),
-        Err(error) => turn_down(DSR, &error, out, fault),
+        Err(error) => {
+            let mut out = out;
+            let status = turn_down(DSR, &error, &mut out, fault);
+            (out, status)
+        }
     }
 }
 
-/// Reads the layout, and then the files of the report, and writes their statement. Returns the exit status.
+/// Reads the layout, and then the files of the report, and writes their statement. Returns the output and the exit status.
 fn read_and_print<
     H: Threads + Wait + RandomSource + Clock + Copy + Send + 'static,
     W: ReportWorld,
     O: Outlet,
     F: Outlet,
->(rt: &H, alloc: Global, world: &mut W, asked: &Asked, out: &mut O, fault: &mut F) -> u8
-    requires outlet { (O.told out.old).failed ≡ false }
+>(rt: &H, alloc: Global, world: &mut W, asked: &Asked, out: O, fault: &mut F) -> (O, u8)
+    requires outlet { (O.told out).failed ≡ false }
+    requires empty { (O.told out).taken ≡ 0 }
     requires asked { Asks (W.disk world.old) asked.now }
     ensures { WhereTold (W.disk world.old) (λ d. IsServedFor (ghosts (W.Reader.told) (W.New.told))
-        d (W.disk world.new) asked.now (outputs (O.told out.old) (F.told fault.old))
-        (outputs (O.told out.new) (F.told fault.new)) result) }
+        d (W.disk world.new) asked.now (outputs (O.told out) (F.told fault.old))
+        (outputs (O.told result.0) (F.told fault.new)) result.1) }
 {
     match read_options(alloc, world, asked) {
         Ok(options) => read_files(rt, alloc, world, asked, options, out, fault),
-        Err(error) => layout_refused(layout_name(asked), error, fault),
+        Err(error) => (out, layout_refused(layout_name(asked), error, fault)),
     }
 }
 
@@ -85,7 +92,8 @@ fn layout_name(asked: &Asked) -> &str
     }
 }
 
-/// Reads the files of the report and writes their statement, but not to a file that is read. Returns the exit status.
+/// Reads the files of the report and writes their statement, but not to a file that is read. Returns the output and the exit
+/// status.
 fn read_files<
     H: Threads + Wait + RandomSource + Clock + Copy + Send + 'static,
     W: ReportWorld,
@@ -97,20 +105,22 @@ fn read_files<
     world: &mut W,
     asked: &Asked,
     options: RunOptions<W::Permit>,
-    out: &mut O,
+    out: O,
     fault: &mut F,
-) -> u8
-    requires outlet { (O.told out.old).failed ≡ false }
+) -> (O, u8)
+    requires outlet { (O.told out).failed ≡ false }
+    requires empty { (O.told out).taken ≡ 0 }
     requires asked { Asks (W.disk world.old) asked.now }
-    ensures { WhereTold (W.disk world.old) (λ d. options.layout ≡ layout_file d asked.now.layout
+    ensures { WhereTold (W.disk world.old) (λ d. AreHad d asked.now options
         → IsRead (ghosts (W.Reader.told) (W.New.told)) d (W.disk world.new) asked.now
-        options.options.value (outputs (O.told out.old) (F.told fault.old))
-        (outputs (O.told out.new) (F.told fault.new)) result) }
+        options.options.value (outputs (O.told out) (F.told fault.old))
+        (outputs (O.told result.0) (F.told fault.new)) result.1) }
 {
     let RunOptions {
         options,
         permit,
         layout,
+        seal,
     } = options;
     let opened = open_inputs(alloc, world, &permit, &asked.files);
     drop(permit);
@@ -118,7 +128,8 @@ fn read_files<
         Ok(inputs) => inputs,
         Err(error) => {
             drop(options);
-            return not_opened(DSR, &error, fault);
+            drop(seal);
+            return (out, not_opened(DSR, &error, fault));
         }
     };
     let teller = teller_of(world, asked);
@@ -127,6 +138,7 @@ fn read_files<
             teller,
             inputs,
             options,
+            seal,
         };
         return run_printed(rt, alloc, reading, out, fault);
     };
@@ -136,12 +148,14 @@ fn read_files<
                 teller,
                 inputs,
                 options,
+                seal,
             };
-            run_into(rt, alloc, world, reading, name, new, fault)
+            (out, run_into(rt, alloc, world, reading, name, new, fault))
         }
         Err(error) => {
             drop(options);
-            no_new_file(DSR, name, error, fault)
+            drop(seal);
+            (out, no_new_file(DSR, name, error, fault))
         }
     }
 }

@@ -3,11 +3,12 @@ ghost use Rattle.std.specs.Prelude.{◌≡◌, false, List, All};
 ghost use Rattle.dsr_command.specs.Faults.{status_number};
 ghost use Rattle.dsr_command.specs.Outputs.{outputs};
 ghost use Rattle.dsr_command.specs.World.{WhereTold};
-ghost use Rattle.dsr.specs.Serving.{IsAnswer, IsAnswerTold, HadRun, HadRunInto, ghosts};
+ghost use Rattle.dsr.specs.Serving.{IsAnswer, IsAnswerFor, IsAnswerTold, HadRun, HadRunInto, ghosts};
 
+use crate::sealing::run_sealed;
 use dsr_cells::{NoMemory, Text};
 use dsr_command::{
-    DSR, FileSource, ReportWorld, cannot_replace, exit_status, settle, watch, write_fault,
+    DSR, FileSource, ReportWorld, Sealing, cannot_replace, exit_status, settle, watch, write_fault,
 };
 use dsr_file::{Failed, Source};
 use dsr_intake::{IntakeError, Options, Outlet, RunError, Status, run};
@@ -25,23 +26,28 @@ pub(crate) struct Reading<R, T> {
     pub(crate) teller: Option<T>,
     pub(crate) inputs: Vec<R>,
     pub(crate) options: Box<Options>,
+    /// The seal of its statement, if one is asked for.
+    pub(crate) seal: Option<Sealing>,
 }
 
-/// Reads the files and prints their statement. Returns the exit status.
+/// Reads the files and prints their statement. Returns the output and the exit status.
 pub(crate) fn run_printed<
     R: FileSource + Send + Drop + 'static,
     T: Clock + Eprint + Copy + Drop + Send + 'static,
     H: Threads + Wait + RandomSource + Clock + Copy + Send + 'static,
     O: Outlet,
     F: Outlet,
->(rt: &H, alloc: Global, reading: Reading<R, T>, out: &mut O, fault: &mut F) -> u8
+>(rt: &H, alloc: Global, reading: Reading<R, T>, out: O, fault: &mut F) -> (O, u8)
     requires sources { All (λ r. (R.told r).failed ≡ false) reading.inputs.items }
-    requires outlet { (O.told out.old).failed ≡ false }
-    ensures { HadRun R.told reading.options.value reading.inputs.items
-        (outputs (O.told out.old) (F.told fault.old)) (outputs (O.told out.new) (F.told fault.new))
-        result }
+    requires outlet { (O.told out).failed ≡ false }
+    requires empty { (O.told out).taken ≡ 0 }
+    ensures { HadRun R.told reading.options.value reading.seal reading.inputs.items
+        (outputs (O.told out) (F.told fault.old)) (outputs (O.told result.0) (F.told fault.new))
+        result.1 }
 {
-    status_of(&run_inputs(rt, alloc, reading, out), fault)
+    let (out, answer) = run_inputs(rt, alloc, reading, out);
+    let status = status_of(&answer, fault);
+    (out, status)
 }
 
 /// Reads the files and writes their statement to a new file, which is put in the place of the file of this name only if
@@ -61,12 +67,12 @@ pub(crate) fn run_into<
 ) -> u8
     requires sources { All (λ r. (W.Reader.told r).failed ≡ false) reading.inputs.items }
     requires outlet { (W.New.told new).failed ≡ false }
+    requires empty { (W.New.told new).taken ≡ 0 }
     ensures { WhereTold (W.disk world.old) (λ d. HadRunInto (ghosts (W.Reader.told) (W.New.told))
-        reading.options.value reading.inputs.items new name.now d (W.disk world.new)
+        reading.options.value reading.seal reading.inputs.items new name.now d (W.disk world.new)
         (F.told fault.old) (F.told fault.new) result) }
 {
-    let mut new = new;
-    let answer = run_inputs(rt, alloc, reading, &mut new);
+    let (new, answer) = run_inputs(rt, alloc, reading, new);
     match settle(world, new, name, &answer) {
         Ok(()) => status_of(&answer, fault),
         Err(Failed) => cannot_replace(DSR, name, fault),
@@ -84,33 +90,35 @@ fn status_of<F: Outlet>(answer: &Result<Status, RunError>, fault: &mut F) -> u8
     exit_status(answer)
 }
 
-/// Reads the files, with progress if something tells it, and writes their statement.
+/// Reads the files, with progress if something tells it, and writes their statement. Returns the output too.
 fn run_inputs<
     R: FileSource + Send + Drop + 'static,
     T: Clock + Eprint + Copy + Drop + Send + 'static,
     H: Threads + Wait + RandomSource + Clock + Copy + Send + 'static,
     O: Outlet,
->(rt: &H, alloc: Global, reading: Reading<R, T>, out: &mut O) -> Result<Status, RunError>
+>(rt: &H, alloc: Global, reading: Reading<R, T>, out: O) -> (O, Result<Status, RunError>)
     requires sources { All (λ r. (R.told r).failed ≡ false) reading.inputs.items }
-    requires outlet { (O.told out.old).failed ≡ false }
-    ensures { (left : List R) × IsAnswer R.told reading.options.value reading.inputs.items left
-        (O.told out.old) (O.told out.new) result }
+    requires outlet { (O.told out).failed ≡ false }
+    requires empty { (O.told out).taken ≡ 0 }
+    ensures { (left : List R) × IsAnswerFor R.told reading.options.value reading.seal
+        reading.inputs.items left (O.told out) (O.told result.0) result.1 }
 {
     let Reading {
         teller,
         inputs,
         options,
+        seal,
     } = reading;
     let Some(teller) = teller else {
-        return run_sources(rt, alloc, inputs, options, out);
+        return run_sources(rt, alloc, inputs, options, seal, out);
     };
     match watch(teller, alloc, inputs) {
-        Ok(watched) => run_sources(rt, alloc, watched, options, out),
-        Err(NoMemory) => Err(RunError::Intake(IntakeError::Memory)),
+        Ok(watched) => run_sources(rt, alloc, watched, options, seal, out),
+        Err(NoMemory) => (out, Err(RunError::Intake(IntakeError::Memory))),
     }
 }
 
-/// Reads these sources and writes their statement.
+/// Reads these sources and writes their statement, with its seal if one is asked for. Returns the output too.
 fn run_sources<
     R: Source + Send + Drop + 'static,
     H: Threads + Wait + RandomSource + Clock + Copy + Send + 'static,
@@ -120,13 +128,40 @@ fn run_sources<
     alloc: Global,
     sources: Vec<R>,
     options: Box<Options>,
-    out: &mut O,
-) -> Result<Status, RunError>
+    seal: Option<Sealing>,
+    out: O,
+) -> (O, Result<Status, RunError>)
     requires sources { All (λ r. (R.told r).failed ≡ false) sources.items }
-    requires outlet { (O.told out.old).failed ≡ false }
+    requires outlet { (O.told out).failed ≡ false }
+    requires empty { (O.told out).taken ≡ 0 }
+    ensures { (left : List R) × IsAnswerFor R.told options.value seal sources.items left
+        (O.told out) (O.told result.0) result.1 }
+{
+    match seal {
+        Some(seal) => run_sealed(rt, alloc, sources, options, seal, out),
+        None => run_plain(rt, alloc, sources, options, out),
+    }
+}
+
+/// Reads these sources and writes their statement, without a seal. Returns the output too.
+fn run_plain<
+    R: Source + Send + Drop + 'static,
+    H: Threads + Wait + RandomSource + Clock + Copy + Send + 'static,
+    O: Outlet,
+>(
+    rt: &H,
+    alloc: Global,
+    sources: Vec<R>,
+    options: Box<Options>,
+    out: O,
+) -> (O, Result<Status, RunError>)
+    requires sources { All (λ r. (R.told r).failed ≡ false) sources.items }
+    requires outlet { (O.told out).failed ≡ false }
     ensures { (left : List R) × IsAnswer R.told options.value sources.items left
-        (O.told out.old) (O.told out.new) result }
+        (O.told out) (O.told result.0) result.1 }
 {
     let mut sources = sources;
-    run(rt, alloc, &mut sources, Box::into_inner(options), out)
+    let mut out = out;
+    let answer = run(rt, alloc, &mut sources, Box::into_inner(options), &mut out);
+    (out, answer)
 }

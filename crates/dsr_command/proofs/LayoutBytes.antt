@@ -34,10 +34,18 @@ same_layout bytes more (inr most) =
     let many : 65536 < length bytes = omega (arith, most) in
     large bytes many ∙ sym (large (bytes ++ more) (long bytes more most))
 
+all_read : (all : List ℕ) (after : Option (List ℕ)) (bytes : List ℕ) → Consumes (Some all) after bytes → IsAtEnd after → bytes ≡ all
+all_read all None bytes consumed at = absurd consumed
+all_read all (Some left) bytes consumed at = sym (consumed ∙ (ap (λ l. bytes ++ l) at ∙ append-nil bytes))
+
 layout_taken : (all : List ℕ) (after : Option (List ℕ)) (bytes : List ℕ) → Consumes (Some all) after bytes
     → IsAtEnd after ⊎ (length bytes ≡ 65537) → layout_of bytes ≡ layout_of all
 layout_taken all None bytes consumed whole = absurd consumed
 layout_taken all (Some left) bytes consumed whole = same_layout bytes left whole ∙ ap layout_of (sym consumed)
+
+-- all these bytes were read
+pub taken_all : (before after : Option (List ℕ)) (all bytes : List ℕ) → before ≡ Some all → Consumes before after bytes → IsAtEnd after → bytes ≡ all
+taken_all before after all bytes is consumed at = all_read all after bytes (subst (λ b. Consumes b after bytes) is consumed) at
 
 -- the layout of what was read of these bytes is theirs
 pub layout_all : (before after : Option (List ℕ)) (all bytes : List ℕ) → before ≡ Some all → IsTaken before after bytes

@@ -36,11 +36,11 @@ names_rule = record (new_rule (codes "FILE")) {
 unfoldable pub bare_command : App
 bare_command = on_top (λ s. record s { no_binary_name = true; has_version = true }) (new_app (codes "dsr"))
 
--- the program's command, with its five options and the file names
+-- the program's command, with its six options and the file names
 unfoldable pub command_line : App
-command_line = with_rule (with_rule (with_rule (with_rule (with_rule (with_rule bare_command
+command_line = with_rule (with_rule (with_rule (with_rule (with_rule (with_rule (with_rule bare_command
     (number_rule (codes "capacity") 1024)) (number_rule (codes "max-reads") 16777216))
-    (option_rule (codes "layout"))) (option_rule (codes "output"))) (flag_rule (codes "progress"))) names_rule
+    (option_rule (codes "layout"))) (option_rule (codes "output"))) (flag_rule (codes "progress"))) (flag_rule (codes "seal"))) names_rule
 
 -- the number is the one given, or the default if none is given
 abbrev pub IsNumberAsked : ℕ → ℕ → Option Text → ℕ → Type 0
@@ -63,6 +63,7 @@ pub record IsAskedBy (rows : List Row) (asked : Asked) : Type 0 where
   pub layout : asked.layout ≡ first_of (codes "layout") rows
   pub output : asked.output ≡ first_of (codes "output") rows
   pub progress : IsFlagAsked (one_of (codes "progress") rows) asked.progress
+  pub seal : IsFlagAsked (one_of (codes "seal") rows) asked.seal
 
 -- the kind of error that stands for a text that was asked for: the help or the version
 abbrev pub is_request : ErrorKind → Bool

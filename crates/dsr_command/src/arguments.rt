@@ -124,6 +124,20 @@ most twice a second",
         )
 }
 
+/// `--seal`.
+fn seal_option<'a>(alloc: Global) -> Arg<'a>
+    ensures rule { rule_of result ≡ flag_rule (codes "seal") }
+    ensures local { result.global ≡ false }
+{
+    Arg::new(alloc, "seal")
+        .long("seal")
+        .action(ArgAction::SetTrue)
+        .help(
+            "Ends the statement with the number and the SHA-256 of the
+bytes of each file, and the number of its lines",
+        )
+}
+
 /// The names of the files.
 fn names_argument<'a>(alloc: Global) -> Arg<'a>
     ensures rule { rule_of result ≡ names_rule }
@@ -162,6 +176,7 @@ fn command<'a>(alloc: Global) -> Result<Command<'a>, AllocError>
         .arg(layout_option(alloc))?
         .arg(output_option(alloc))?
         .arg(progress_option(alloc))?
+        .arg(seal_option(alloc))?
         .arg(names_argument(alloc))
 }
 
@@ -203,6 +218,7 @@ fn read_matches(alloc: Global, matches: &ArgMatches<'_>) -> Result<Asked, NoMemo
         layout: read_file_name(alloc, matches, "layout")?,
         output: read_file_name(alloc, matches, "output")?,
         progress: is_set(matches, "progress"),
+        seal: is_set(matches, "seal"),
     })
 }
 

@@ -20,6 +20,8 @@ pub struct Asked {
     pub output: Option<Text>,
     /// Whether progress is to be written to standard error.
     pub progress: bool,
+    /// Whether the statement is to end with its seal.
+    pub seal: bool,
 }
 
 /// Why a command line asks for no run.

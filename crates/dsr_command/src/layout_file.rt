@@ -1,12 +1,13 @@
 //! Reading a layout's file, for the options of a run.
-ghost use Rattle.std.specs.Prelude.{◌≡◌, IfOk, IfErr, MatchResult};
+ghost use Rattle.std.specs.Prelude.{◌≡◌, IfOk, IfErr, MatchResult, None};
 ghost use Rattle.dsr_command.specs.World.{Asks, WhereTold};
-ghost use Rattle.dsr_command.specs.LayoutFile.{AreAsked, IsLayoutAnswer, IsLayoutRefused, IsReadError, IsTaken, layout_file};
+ghost use Rattle.dsr_command.specs.LayoutFile.{AreHad, IsLayoutAnswer, IsLayoutRefused, IsReadError, IsTaken, sealing_of};
 
 use crate::command::Asked;
 use crate::file_source::FileSource;
 use crate::identity::FileIdentity;
 use crate::report_world::ReportWorld;
+use crate::sealing::{Sealing, sealing_over, sealing_without};
 use crate::world::OpenFault;
 use dsr_file::{Failed, Source};
 use dsr_intake::Options;
@@ -35,9 +36,12 @@ pub struct RunOptions<P> {
     pub permit: P,
     /// Which file the layout was read from, if there is one and it is known.
     pub layout: Option<FileIdentity>,
+    /// The seal that is asked for, if one is.
+    pub seal: Option<Sealing>,
 }
 
-/// The options that the words ask for, with the layout that its file gives, or the standard one if none is named.
+/// The options that the words ask for, with the layout that its file gives, or the standard one if none is named. If a seal is
+/// asked for, it is of the bytes of that file.
 ///
 /// # Errors
 ///
@@ -50,8 +54,7 @@ pub fn read_options<W: ReportWorld>(
 ) -> Result<RunOptions<W::Permit>, LayoutReadError>
     requires { Asks (W.disk world.now) asked.now }
     ensures { WhereTold (W.disk world.now) (λ d. MatchResult result
-        (λ o. AreAsked d asked.now o.options.value × (o.layout ≡ layout_file d asked.now.layout))
-        (IsLayoutRefused W.Reader.told d asked.now.layout)) }
+        (AreHad d asked.now) (IsLayoutRefused W.Reader.told d asked.now.layout)) }
 {
     match &asked.layout {
         Some(name) => {
@@ -62,11 +65,12 @@ pub fn read_options<W: ReportWorld>(
             };
             let mut reader = reader;
             let file = reader.identity();
-            let layout = match read_layout(alloc, &mut reader) {
-                Ok(layout) => layout,
+            let (layout, seal) = match read_layout(alloc, &mut reader, asked.seal) {
+                Ok(had) => had,
                 Err(error) => return Err(error),
             };
-            with_options(alloc, asked, layout, world.permit_after(reader), file)
+            let permit = world.permit_after(reader);
+            with_options(alloc, asked, layout, permit, file, seal)
         }
         None => with_options(
             alloc,
@@ -74,6 +78,7 @@ pub fn read_options<W: ReportWorld>(
             Layout::standard(),
             world.permit_without(asked),
             None,
+            sealing_without(asked.seal),
         ),
     }
 }
@@ -85,13 +90,14 @@ fn with_options<P: Drop>(
     layout: Layout,
     permit: P,
     file: Option<FileIdentity>,
+    seal: Option<Sealing>,
 ) -> Result<RunOptions<P>, LayoutReadError>
     ensures options { IfOk result (λ o. o.options.value ≡ record {
       capacity = asked.now.capacity;
       max_reads = asked.now.max_reads;
       layout = layout;
     }) }
-    ensures layout { IfOk result (λ o. o.layout ≡ file) }
+    ensures had { IfOk result (λ o. (o.layout ≡ file) × (o.seal ≡ seal)) }
     ensures memory { IfErr result (λ e. e ≡ LayoutReadError.Memory) }
 {
     let options = Options {
@@ -104,6 +110,7 @@ fn with_options<P: Drop>(
             options,
             permit,
             layout: file,
+            seal,
         }),
         Err(_) => Err(LayoutReadError::Memory),
     }
@@ -112,18 +119,22 @@ fn with_options<P: Drop>(
 /// The most bytes that are read: one more than a layout may have.
 const MOST_BYTES: usize = 65_537;
 
-/// The layout that the reader's bytes spell. At most 65,537 bytes are read, in reads of which every one but the last gives
-/// at least one byte.
+/// The layout that the reader's bytes spell, and the seal over them that is asked for. At most 65,537 bytes are read, in reads
+/// of which every one but the last gives at least one byte.
 ///
 /// # Errors
 ///
 /// `Read`: a read failed. `Bad`: the bytes are no layout, by their first fault. `Memory`: out of memory.
-fn read_layout<R: Source>(alloc: Global, reader: &mut R) -> Result<Layout, LayoutReadError>
-    ensures { IsLayoutAnswer (R.told reader.old) (R.told reader.new) result }
+fn read_layout<R: Source>(
+    alloc: Global,
+    reader: &mut R,
+    seal: bool,
+) -> Result<(Layout, Option<Sealing>), LayoutReadError>
+    ensures { IsLayoutAnswer seal (R.told reader.old) (R.told reader.new) result }
 {
     let bytes = read_bytes(alloc, reader)?;
     match Layout::read(&bytes) {
-        Ok(layout) => Ok(layout),
+        Ok(layout) => Ok((layout, sealing_over(seal, &bytes))),
         Err(error) => Err(LayoutReadError::Bad(error)),
     }
 }

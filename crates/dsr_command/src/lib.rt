@@ -8,8 +8,8 @@
 //! 2. [`asked`] (`arguments`): what the command line asks for ([`Asked`], in `command`), or why there is no run. The texts of
 //!    the help and the version are here. [`no_words`] and [`turn_down`] (`answers`) are all that is done where there is no run,
 //!    and [`print_text`] (`print`) prints a text.
-//! 3. [`read_options`] (`layout_file`): the options of the run, with the layout that its file gives, and the leave to open the
-//!    report's files.
+//! 3. [`read_options`] (`layout_file`): the options of the run, with the layout that its file gives, the leave to open the
+//!    report's files, and, if a seal is asked for, the digest of the layout ([`Sealing`], in `sealing`).
 //! 4. [`open_inputs`] (`inputs`): a source for each file, or standard input alone. Where progress was asked for [`teller_of`]
 //!    has what tells it, and [`watch`] (`watched`) counts with it what the sources give; `progress` writes the counts.
 //! 5. [`create_beside`] (`new_file`): a new file for `--output`, in a file's folder. [`settle`] (`replacement`) puts it in the
@@ -51,6 +51,7 @@ mod progress;
 mod refusals;
 mod replacement;
 mod report_world;
+mod sealing;
 mod statement_world;
 mod watched;
 mod world;
@@ -70,6 +71,7 @@ pub use print::{print_text, write_parts};
 pub use refusals::{cannot_replace, layout_refused, no_memory, no_new_file, not_opened, refuse};
 pub use replacement::settle;
 pub use report_world::ReportWorld;
+pub use sealing::Sealing;
 pub use statement_world::StatementWorld;
 pub use watched::{Watched, teller_of, watch};
 pub use world::{CreateFault, OpenFault, WordsFault, World};

@@ -32,6 +32,7 @@ pub fn create_beside<W: World>(
     besides: Option<FileIdentity>,
 ) -> Result<W::New, NewFileError>
     ensures sound { IfOk result (λ n. (W.New.told n).failed ≡ false) }
+    ensures empty { IfOk result (λ n. (W.New.told n).taken ≡ 0) }
     ensures created { WhereTold (W.disk world.old) (λ d. IsCreated W.New.told d (W.disk world.new)
         (besides ∷ map W.Reader.file sources.now) name.now result) }
 {

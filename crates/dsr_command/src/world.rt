@@ -91,6 +91,7 @@ pub trait World {
     /// `Failed`: it cannot be created. `Memory`: out of memory.
     fn create_beside(&mut self, name: &str) -> Result<Self::New, CreateFault>
         ensures sound { IfOk result (λ n. (Self.New.told n).failed ≡ false) }
+        ensures empty { IfOk result (λ n. (Self.New.told n).taken ≡ 0) }
         ensures created { Creates (Self.New.told) (disk self.old) (disk self.new) result };
 
     /// Syncs a new file to the disk.

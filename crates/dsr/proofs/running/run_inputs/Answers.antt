@@ -9,9 +9,10 @@ run_sources-requires-in-Ok-clause-sources g c κs within =
 pub returns-in-Ok : goal.returns-in-Ok
 returns-in-Ok g c =
     let run = c.run_sources-in-Ok in
-    answer_within g.R.Source.told (λ w. w.source) c.args.reading.options.value c.args.reading.inputs.items c.in-Ok.watched.items
-    (g.O.Outlet.told c.args.out.now) (g.O.Outlet.told run.new.out) run.result c.in-Ok.ensures run.ensures
+    answer_within g.R.Source.told (λ w. w.source) c.args.reading.options.value c.args.reading.seal c.args.reading.inputs.items c.in-Ok.watched.items
+    (g.O.Outlet.told c.args.out) (g.O.Outlet.told run.result.0) run.result.1 c.in-Ok.ensures run.ensures
 
 pub returns-in-Err : goal.returns-in-Err
 returns-in-Err g c =
-    (c.args.reading.inputs.items, without_memory g.R.Source.told c.args.reading.options.value c.args.reading.inputs.items (g.O.Outlet.told c.args.out.now))
+    let reading = c.args.reading in
+    (reading.inputs.items, without_memory g.R.Source.told reading.options.value reading.seal reading.inputs.items (g.O.Outlet.told c.args.out))

@@ -16,4 +16,5 @@ returns-clause-asked c =
       layout = c.in_ok-read_file_name.ensures;
       output = c.in_ok-read_file_name-2.ensures;
       progress = subst (λ t. IsFlagAsked t c.is_set.result) (one_text-rows f (codes "progress")) c.is_set.ensures;
+      seal = subst (λ t. IsFlagAsked t c.is_set-2.result) (one_text-rows f (codes "seal")) c.is_set-2.ensures;
     }

@@ -2,7 +2,7 @@ use Rattle.dsr_command.proofs.Common.{◌≡◌, ◌∙◌, Some, ap, subst, sym
 use Rattle.std.specs.Prelude.{Ok, Err}
 use Rattle.dsr_command.specs.LayoutFile.{layout_file}
 use Rattle.dsr_command.specs.World.{Opens}
-use Rattle.dsr_command.proofs.Options.{layout_fault, layout_given, options_had}
+use Rattle.dsr_command.proofs.Options.{layout_fault, layout_given, options_had, seal_given}
 use Rattle.dsr_command.proofs.Worlds.{at_disk, where_told}
 use Rattle.dsr_command.proofs.layout_file.read_options.Goals as goal
 
@@ -11,7 +11,7 @@ returns-in-Err g c =
     let told = g.W.Reader.Source.told in
     let file = g.W.Reader.FileSource.file in
     where_told (g.W.World.disk c.args.world.now) _ (λ d is.
-    layout_fault told file d c.args.asked.now.layout c.in-Some.name c.in-Ok.reader c.read_layout.new.reader c.in-Err.error c.in-Some.is
+    layout_fault told file d c.args.asked.now.layout c.in-Some.name c.args.asked.now.seal c.in-Ok.reader c.read_layout.new.reader c.in-Err.error c.in-Some.is
     (subst (λ n. Opens told file d n (Ok c.in-Ok.reader)) c.as_str.ensures (at_disk _ _ d is c.in-Ok.ensures.opened))
     (rw c.in-Err.is at c.read_layout.ensures))
 
@@ -19,11 +19,14 @@ pub returns-in-Ok-read_layout : goal.returns-in-Ok-read_layout
 returns-in-Ok-read_layout g c =
     let told = g.W.Reader.Source.told in
     let file = g.W.Reader.FileSource.file in
-    let layout = c.in-Ok-read_layout.layout in
+    let had = c.in-Ok-read_layout.had in
+    let named = c.args.asked.now.layout in
+    let seal = c.args.asked.now.seal in
     where_told (g.W.World.disk c.args.world.now) _ (λ d is.
     let opened = subst (λ n. Opens told file d n (Ok c.in-Ok.reader)) c.as_str.ensures (at_disk _ _ d is c.in-Ok.ensures.opened) in
-    options_had told d c.args.asked.now layout c.identity-file.result c.with_options.result
-    (layout_given told file d c.args.asked.now.layout c.in-Some.name c.in-Ok.reader c.read_layout.new.reader layout c.in-Some.is opened
-    (rw c.in-Ok-read_layout.is at c.read_layout.ensures))
+    let gave = rw c.in-Ok-read_layout.is at c.read_layout.ensures in
+    options_had told d c.args.asked.now had.0 c.identity-file.result had.1 c.with_options.result
+    (layout_given told file d named c.in-Some.name seal c.in-Ok.reader c.read_layout.new.reader had c.in-Some.is opened gave)
     (c.identity-file.ensures ∙ (opened.2.file_is ∙ ap (layout_file d) (sym c.in-Some.is)))
-    c.with_options.ensures.options c.with_options.ensures.layout c.with_options.ensures.memory)
+    (seal_given told file d named c.in-Some.name seal c.in-Ok.reader c.read_layout.new.reader had c.in-Some.is opened gave)
+    c.with_options.ensures.options c.with_options.ensures.had c.with_options.ensures.memory)

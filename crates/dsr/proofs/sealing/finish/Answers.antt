@@ -1,0 +1,2 @@
+use Rattle.std.proofs.Common.{arith, refl}
+use Rattle.dsr.proofs.sealing.finish.Goals as goal
