@@ -158,7 +158,8 @@ fn bare<'a>(alloc: Global) -> Command<'a>
 #[tactic(auto, unfolding(crate::specs::CommandLine::command_line))]
 fn command_with<'a>(alloc: Global, paid: Arg<'a>) -> Result<Command<'a>, AllocError>
     requires { paid.global ≡ false }
-    ensures { rule_of paid ≡ list_rule (codes "paid") → IfOk result (λ c. app_of c ≡ command_line) }
+    ensures { rule_of paid.entry ≡ list_rule (codes "paid") → IfOk result (λ c. app_of c
+        ≡ command_line) }
 {
     bare(alloc)
         .arg(paid)?

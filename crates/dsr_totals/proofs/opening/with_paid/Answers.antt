@@ -1,6 +1,6 @@
 use Rattle.std.proofs.Common.{◌≡◌, ◌≢◌, ◌++◌, length, rules}
 use Rattle.dsr_command.proofs.Worlds.{at_disk, where_told}
-use Rattle.dsr_totals.proofs.Opening.{none_paid, paid_refused, some_paid}
+use Rattle.dsr_totals.proofs.Opened.{none_paid, paid_refused, some_paid}
 use Rattle.dsr_totals.proofs.opening.with_paid.Goals as goal
 
 pub returns-then-len-eq-0-clause-opened : goal.returns-then-len-eq-0-clause-opened
