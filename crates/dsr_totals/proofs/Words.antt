@@ -1,5 +1,6 @@
 -- The words before a `--`, one after another.
-use Rattle.std.proofs.Common.{◌≡◌, ◌∙◌, ◌<◌, ◌≤◌, ◌+◌, ◌||◌, ℕ, zero, suc, List, [], ◌∷◌, Bool, true, false, not, cond, refl, ap, sym, codes, length, drop, drop-cons, map, slice_index_or, list_any, take_while, bytes_eq, arith}
+use Rattle.std.proofs.Common.{◌≡◌, ◌∙◌, ◌<◌, ◌≤◌, ◌+◌, ◌||◌, ℕ, zero, suc, List, [], ◌∷◌, Bool, true, false, not, cond, refl, ap, sym, codes, length, drop, drop-cons, map, slice_index_or, take_while, bytes_eq, arith}
+use Rattle.std.specs.List.{list_any}
 use Rattle.std.proofs.lemmas.List.{drop_all, length-map}
 use Rattle.std.proofs.lemmas.List.Sums.{take_while-cons}
 use Rattle.dsr_totals.specs.CommandLine.{lacks_equals}
