@@ -16,15 +16,15 @@
 //! 5. [`create_beside`] (`new_file`): a new file for `--output`, in a file's folder. [`settle`] (`replacement`) puts it in the
 //!    place of that file after an Ok, and else removes it.
 //! 6. [`write_fault`] and [`exit_status`] (`faults`): the line that says why a run failed, and the exit status.
-//! 7. [`refuse`], [`not_opened`], [`layout_refused`], [`cannot_read`], [`no_new_file`] and [`no_memory`] (`refusals`): what ends the program
-//!    before a file of the report is read.
+//! 7. [`refuse`], [`not_opened`], [`layout_refused`], [`cannot_read`], [`no_new_file`] and [`no_memory`] (`refusals`): what ends
+//!    the program before a file of the report is read.
 //!
 //! **Example**: how the program calls them, in `crates/dsr/src/program.rt`.
 //!
 //! ```
 //!     match read_options(alloc, world, asked) {
 //!         Ok(options) => read_files(rt, alloc, world, asked, options, out, fault),
-//!         Err(error) => layout_refused(layout_name(asked), error, fault),
+//!         Err(error) => (out, layout_refused(layout_name(asked), error, fault)),
 //!     }
 //! ```
 //!
