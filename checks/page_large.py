@@ -66,7 +66,7 @@ def follow_large(count, viewer, lines):
     answers(count, viewer, 'a search', searched - ready)
     same(count, 'a search among them', int(re.search(r'; ([\d\u202f]+) of', told)[1].replace('\u202f', '')) >= seen.found > 0, True)
     owned = [f'{currency} {written(units)}' for currency, units in sorted(seen.owned.items())]
-    same(count, 'what a party gets', told.split('; ')[:1 + len(owned)], [f'Part of {PARTY}, in {seen.found} lines:', *owned])
+    same(count, 'what a party gets', told.split('; ')[:1 + len(owned)], [f'Part of {PARTY}, in {seen.found} line{"s" if seen.found != 1 else ""}:', *owned])
     follow_rows(count, viewer, seen, lines)
     count.check('nothing is asked of a network by many lines', viewer.problems())
 
