@@ -3,6 +3,7 @@ import concurrent.futures
 import glob
 import os
 import re
+import subprocess
 import tempfile
 
 import case_files
@@ -351,6 +352,29 @@ def follow_alike(count):
               ['Al', 'AI', 'A1']]
     found = names.alike([*sum(groups, []), 'Ben Cole', 'Bob', 'Zoe', 'B0b'])
     count.check('names that look alike', [] if found == [*groups, ['Bob', 'B0b']] else [ascii(found)])
+
+
+def follow_program(count, tools, program):
+    """From the files of a report to its page and its letters by the programs alone; and nothing of files that have changed since."""
+    for title, layout in (('with the standard layout', []), ('with a layout', ['--layout', os.path.join(HERE, 'examples/layout.tsv')])):
+        with tempfile.TemporaryDirectory() as room:
+            names = [f'{at}.tsv' for at in (1, 2, 3)]
+            for name in names:
+                written(os.path.join(room, name), content_of(os.path.join(HERE, 'examples/report', name))[0])
+            run = subprocess.run([program, '--seal', '--output', 'statement.tsv', *layout, *names], cwd=room, capture_output=True)
+            wanted = sealed([content_of(os.path.join(room, name)) for name in names], content_of(layout[1])[0] if layout else None)
+            found = content_of(os.path.join(room, 'statement.tsv'))[0].decode()
+            count.check(f'a sealed statement {title}', [] if run.returncode == 1 and found == wanted else [run.stderr, found])
+            status, page, error = tools.run('dsr_page', [*layout, 'statement.tsv', *names], room)
+            count.check(f'its page {title}', [] if status == 0 and 'Without a seal' not in page and page.endswith('</html>\n') else [error])
+            status, letters, error = tools.run('dsr_explain', ['--letters', *layout, 'statement.tsv', *names], room)
+            count.check(f'its letters {title}', [] if status == 0 and 'Line 6, column Isrc' in letters else [error, letters])
+            written(os.path.join(room, '2.tsv'), content_of(os.path.join(room, '2.tsv'))[0].replace(b'Band', b'Bond', 1) + b'#\n')
+            for tool in ('dsr_page', 'dsr_explain'):
+                status, told, error = tools.run(tool, [*layout, 'statement.tsv', *names], room)
+                count.check(f'{tool}: a file that has changed {title}', [] if status == 1 and not told and '2.tsv: these are not the bytes of' in error else [error])
+    status, told, error = tools.run('dsr_page', ['--layout', layout[1], '-'], given=b'')
+    count.check('nothing at all', [] if status == 1 and not told else [error])
 
 
 def follow_texts(count, tools):

@@ -30,7 +30,7 @@ def parser_of(name, text):
     parser = Parser(prog=name, description=purpose, epilog=more, formatter_class=argparse.RawDescriptionHelpFormatter)
     parser.add_argument('--layout', metavar='FILE', help='the layout that dsr was given')
     parser.add_argument('--version', action='version', version=f'{name} {VERSION}', help='print the version and exit')
-    parser.add_argument('--unsealed', action='store_true', help='take a statement without a seal, too; dsr writes none yet')
+    parser.add_argument('--unsealed', action='store_true', help='take a statement without a seal, too: nothing shows then of which files it is, nor that it is whole')
     parser.add_argument('statement', metavar='STATEMENT', help='a statement of dsr; - is standard input')
     parser.add_argument('files', metavar='FILE', nargs='*', help='the files that dsr was given, in their order')
     return parser

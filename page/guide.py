@@ -31,7 +31,7 @@ def plain(markdown):
 
 def entry_of(text):
     """The entry below a heading: its first paragraph and its points."""
-    meaning = plain(text.strip().split('\n\n')[0])
+    meaning = plain(re.sub(r' Example: `cases/\w+`\.', '', text.strip().split('\n\n')[0]))
     points = re.findall(r'^- \*\*([^*]+):\*\* (.*)$', text, re.M)
     return Entry(meaning, [(label, plain(point)) for label, point in points])
 

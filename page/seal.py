@@ -9,7 +9,7 @@ NUMBER = '(0|[1-9][0-9]*)'
 LAYOUT = re.compile(f'LAYOUT\t{NUMBER}\t{SHA}\n'.encode())
 INPUT = re.compile(f'INPUT\t{NUMBER}\t{NUMBER}\t{SHA}\n'.encode())
 END = re.compile(f'END\t{NUMBER}\t(Clean|Remarks)\n'.encode())
-UNSEALED = 'it has no seal, so nothing shows of which files it is, nor that it is whole: --unsealed takes it all the same'
+UNSEALED = 'it has no seal, so nothing shows of which files it is, nor that it is whole: make it by dsr --seal, or give --unsealed'
 
 
 def is_seal(raw):

@@ -5,7 +5,6 @@ import subprocess
 import sys
 
 from refused import Refused
-from seal import is_seal
 from units import units_of
 
 HERE = os.path.dirname(os.path.realpath(__file__))
@@ -43,13 +42,9 @@ class Adder:
     """A run of dsr_totals, which is given a statement line by line."""
 
     def __init__(self, name):
-        path = program()
-        help_text = subprocess.run([path, '--help'], capture_output=True, check=False).stdout
-        self.takes_seals = b'--unsealed' in help_text
-        words = [path, '--with-remarks', *(['--unsealed'] if self.takes_seals else [])]
         self.name = name
         self.is_refused = False
-        self.process = subprocess.Popen(words, stdin=subprocess.PIPE, stdout=subprocess.PIPE, stderr=subprocess.PIPE)
+        self.process = subprocess.Popen([program(), '--with-remarks', '--unsealed'], stdin=subprocess.PIPE, stdout=subprocess.PIPE, stderr=subprocess.PIPE)
 
     def __enter__(self):
         return self
@@ -60,12 +55,10 @@ class Adder:
             self.process.communicate()
 
     def take(self, raw):
-        """A line. One that does not read seals is not given theirs, which are checked here."""
-        if self.takes_seals or not is_seal(raw):
-            try:
-                self.process.stdin.write(raw)
-            except BrokenPipeError:
-                self.is_refused = True
+        try:
+            self.process.stdin.write(raw)
+        except BrokenPipeError:
+            self.is_refused = True
 
     def end(self):
         """The totals, or a refusal in the words of dsr_totals."""

@@ -137,7 +137,7 @@ def make(table, asked):
     for _ in range(ROUNDS):
         if names := list(again):
             run, tasks = tempfile.mkdtemp(prefix=b'run.', dir=making), asked.prepare or (min(len(names), int(most[1])) if most else 1)
-            plan = dict(reports=os.fsdecode(table.reports), names=list(map(os.fsdecode, names)), dsr=programs.dsr, seals=programs.seals, layout=layout,
+            plan = dict(reports=os.fsdecode(table.reports), names=list(map(os.fsdecode, names)), dsr=programs.dsr, layout=layout,
                         timeout=asked.timeout, tasks=max(1, tasks), slurm=asked.slurm)
             with open(os.path.join(run, b'plan.json'), 'w', encoding='ascii') as file:
                 json.dump(plan, file)

@@ -2,7 +2,6 @@
 import datetime
 import os
 import shutil
-import subprocess
 import sys
 
 TOP = os.path.dirname(os.path.dirname(os.path.realpath(__file__)))
@@ -36,13 +35,10 @@ def note(line):
 
 
 class Programs:
-    """`dsr` and `dsr_totals`: those that DSR and DSR_TOTALS name, or in PATH, or of this clone. Statements are sealed if both know seals."""
+    """`dsr` and `dsr_totals`: those that DSR and DSR_TOTALS name, or in PATH, or of this clone."""
 
     def __init__(self):
         self.dsr, self.totals = self.found('DSR', 'dsr'), self.found('DSR_TOTALS', 'dsr_totals')
-        helps = [subprocess.run([path, '--help'], stdin=subprocess.DEVNULL, capture_output=True).stdout for path in (self.dsr, self.totals)]
-        self.wants_seals = b'--unsealed' in helps[1]
-        self.seals = b'--seal' in helps[0] and self.wants_seals
 
     def found(self, variable, name):
         asked = os.environ.get(variable)

@@ -3,7 +3,6 @@ import collections
 import contextlib
 import getpass
 import os
-import resource
 import shutil
 import subprocess
 import sys
@@ -49,16 +48,15 @@ def wrong(table, found, given, left_out):
 
 def add_up(table, given, out):
     """Runs dsr_totals over the statements of these reports, less those that were paid. What it refuses."""
-    programs, rows = Programs(), [row for one in given for row in rows_of(one)]
-    # It has all of them open at once, as far as the system allows.
-    resource.setrlimit(resource.RLIMIT_NOFILE, [resource.getrlimit(resource.RLIMIT_NOFILE)[1]] * 2)
-    words = [programs.totals, *['--unsealed'][:programs.wants_seals and not all(row['sealed'] for row in rows)],
+    rows = [row for one in given for row in rows_of(one)]
+    # Statements of an earlier dsr have no seal.
+    words = [Programs().totals, *['--unsealed'][:not all(row['sealed'] for row in rows)],
              *['--with-remarks'][:any(one.newest['remarks'] for one in given)], '--output', out,
              *(b'--paid=' + os.path.basename(table.place_of(one.paid)) for one in given if one.paid), '--',
              *(os.path.basename(table.place_of(one.newest)) for one in given)]
     ended = subprocess.run(words, cwd=table.statements, stdin=subprocess.DEVNULL, stdout=subprocess.DEVNULL, stderr=subprocess.PIPE)
     if ended.returncode not in (0, 1):
-        raise Refused(3, f'{one_line(ended.stderr)} ({len(rows)} statements; `ulimit -n` says how many files may be open)')
+        raise Refused(3, one_line(ended.stderr))
     refused = [one.name for one in given if any(os.path.basename(table.place_of(row)) in ended.stderr for row in rows_of(one))]
     return [(name, one_line(ended.stderr)) for name in refused or [b'-']] if ended.returncode else []
 

@@ -63,7 +63,7 @@ class Making:
     def run(self):
         """Runs dsr. Whether the statement has remarks."""
         descriptors, layout = [given.fileno() for *_, given in self.given], self.plan['layout']
-        words = [self.plan['dsr'], '--output', 'statement', *['--seal'][:self.plan['seals']], *(['--layout', f'../../../{layout}'] if layout else []),
+        words = [self.plan['dsr'], '--seal', '--output', 'statement', *(['--layout', f'../../../{layout}'] if layout else []),
                  '--', *(f'/dev/fd/{number}' for number in descriptors)]
         try:
             ended = subprocess.run(words, cwd=self.room, stdin=subprocess.DEVNULL, stdout=subprocess.DEVNULL, stderr=subprocess.PIPE,
@@ -75,7 +75,7 @@ class Making:
         return ended.returncode == 1
 
     def told(self, remarks):
-        """What the statement says of itself, and for each file the number and the digest of the bytes that were read, if it is sealed."""
+        """What the statement says of itself, and for each file the number and the digest of the bytes that were read."""
         with open(os.path.join(self.room, b'statement'), 'rb') as file:
             first, size = [line.decode().split('\t') for line in file.readlines(4096)], os.fstat(file.fileno()).st_size
             if first[0][0] != 'REPORT':
@@ -87,13 +87,13 @@ class Making:
 
     def result(self):
         """The result, and what it is of. It may pass another time if dsr read other bytes than were hashed, or the folder looks otherwise."""
-        result, changed = dict(status=0, sealed=self.plan['seals'], layout=self.plan['layout']), False
+        result, changed = dict(status=0, sealed=True, layout=self.plan['layout']), False
         with self.files:
             try:
                 self.take_all()
                 cells, read = self.told(self.run())
                 for place, (entry, file, given) in enumerate(self.given):
-                    size, digest = read[place] if self.plan['seals'] and given is file else (entry.size, digest_of(file))
+                    size, digest = read[place] if given is file else (entry.size, digest_of(file))
                     changed |= digest != (self.digests[entry.name] if size == entry.size else digest_of(file, size))
                 result.update(cells)
             except (Refused, PermissionError) as failed:

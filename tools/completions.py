@@ -34,7 +34,7 @@ def zsh_options(interface):
         value, words = entry.value(), choices(entry)
         action = '' if value is None else f':value:({" ".join(words)})' if words else f':{value}:' + ('_files' if value in PATHS else ' ')
         for word in entry.names():
-            yield f"'*{word}[{zsh_text(first_clause(entry))}]{action}'"
+            yield f"'*{word}{'=-' if entry.wants_equals() else ''}[{zsh_text(first_clause(entry))}]{action}'"
 
 
 def zsh(name, interface):

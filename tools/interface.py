@@ -31,8 +31,12 @@ class Entry:
 
     def value(self):
         """The name of an option's value, or its choices in braces; None if it has none."""
-        found = re.search(r' <?(\{[^}]*\}|[A-Z][A-Z_]*)>?', self.written)
+        found = re.search(r'[ =]<?(\{[^}]*\}|[A-Z][A-Z_]*)>?', self.written)
         return found[1] if found else None
+
+    def wants_equals(self):
+        """Whether the value stands behind an equals sign, and not in a word of its own."""
+        return '=' in self.written
 
 
 class Interface:

@@ -4,9 +4,9 @@
   statement.py [--seal] [--layout LAYOUT] [--output FILE] [FILE]...
 
 It is written from docs/PROFILE.md alone, section by section, and shares nothing with the program that it is
-compared with. Texts are bytes throughout. --seal, which only the second programs have so far, puts lines behind the
-statement that say of which bytes it is, and that it is whole. With no FILE standard input is the one. The exit status is 0
-for Clean, 1 for Remarks, 2 for the command line, a bad layout or a file that cannot be opened, and 3 if a write fails.
+compared with. Texts are bytes throughout. --seal puts lines behind the statement that say of which bytes it is, and that it
+is whole. With no FILE standard input is the one. The exit status is 0 for Clean, 1 for Remarks, 2 for the command line, a bad
+layout or a file that cannot be opened, and 3 if a write fails.
 """
 import argparse
 import hashlib

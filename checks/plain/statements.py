@@ -1,7 +1,8 @@
 """A seeded generator of statements to be added up: given and paid ones, good and spoilt in every way.
 
 Most good statements are those of reports.py's reports, by statement.py; the others are drawn line by line, with greatest
-and odd cells. The first cases each apply one spoiling of the list to one statement, so that a short run meets all of them.
+and odd cells. Most are sealed. The first cases each apply one spoiling of the list to one statement, so that a short run meets
+all of them; half of the lines that were spoilt have an end that is theirs.
 """
 import random
 
@@ -31,7 +32,8 @@ def of_report(rng):
         text = rng.choice(texts)
         if spoil not in reports.HEAVY and text.records:
             spoil(rng, text)
-    written = statement.statement([(text.bytes(rng, layout), text.ending) for text in texts])[1]
+    layouts = statement.STANDARD if rng.random() < 0.3 else None
+    written = statement.statement([(text.bytes(rng, layout), text.ending) for text in texts], layouts, True)[1]
     return [line.split(b'\t') for line in written.split(b'\n')[:-1]]
 
 
@@ -52,7 +54,26 @@ def drawn(rng):
         blocks = sorted((file, rng.choice((0, 1, 2, 9, 10, 2 ** 64 - 1))) for file in places(rng))
         lines += [[b'REJECT', b'%d' % file, b'%d' % at, rng.choice((b'1', b'x' * 32, b' ')), rng.choice(totals.NAMED['reason']).encode()]
                   for file, at in dict.fromkeys(blocks)]
-    return lines
+    return lines + drawn_seal(rng, lines, files)
+
+
+def drawn_seal(rng, lines, files):
+    """The seal of these lines, of any bytes."""
+    def digest():
+        return rng.choice((b'0', b'1', b'4096', b'18446744073709551615')), b'%064x' % rng.getrandbits(256)
+    before = [[b'LAYOUT', *digest()]] if rng.random() < 0.3 else []
+    before += [[b'INPUT', b'%d' % file, *digest()] for file in range(1, files + 1)]
+    return [*before, end_of(lines + before)]
+
+
+def end_of(lines):
+    """The END that stands behind these lines."""
+    remarks = any(cells[0].decode() in totals.REMARKS or cells[0] == b'FILE' and cells[3:4] + cells[5:] != [b'Ours', b'Whole'] for cells in lines)
+    return [b'END', b'%d' % len(lines), b'Remarks' if remarks else b'Clean']
+
+
+def is_seal(cells):
+    return cells[0] in (b'LAYOUT', b'INPUT', b'END')
 
 
 def places(rng):
@@ -99,6 +120,7 @@ AMOUNT_CELLS = (b'', b'0', b'0.0', b'-0.0000000000', b'00.0000000000', b'.000000
 USAGE_CELLS = (b'', b'-0', b'01', b'-01', b'+1', b'1.0', b'--1', b'-', b'170141183460469231731687303715884105728', b'-170141183460469231731687303715884105729')
 TEXTS = (b'', b'\x1f', b'\x7f', b'x' * 65, b'x' * 33, 'caf\u00e9'.encode(), b'a b', b'gb', b'ours', b'Ours ', b'Memory', b'Whole', b'Fault', b'Amount')
 DAY_CELLS = (b'2024-02-30', b'2023-02-29', b'2024-1-01', b'10000-01-01', b'', b'2024-13-01', b'2025-12-31', b'-001-01-01')
+DIGESTS = (b'', b'0' * 63, b'0' * 65, b'F' * 64, b'g' * 64, b'0' * 63 + b' ', b'0' * 63 + b'\r', b'sha256:' + b'0' * 57, b'0' * 64)
 CELLS = {
     'REPORT': (TEXTS[:6], NUMBERS, DAY_CELLS, DAY_CELLS, (*NUMBERS, b'32', b'30')),
     'FILE': (NUMBERS, NUMBERS, TEXTS, NUMBERS, TEXTS, NUMBERS, TEXTS, TEXTS),
@@ -108,6 +130,9 @@ CELLS = {
     'PARTY': ((b'', *map(str.encode, reports.BAD_ISRCS)), TEXTS[:7], TEXTS[:7], TEXTS[:8], PARTIES, AMOUNT_CELLS),
     'UNCLAIMED': ((b'', *map(str.encode, reports.BAD_ISRCS)), TEXTS[:7], TEXTS[:7], TEXTS[:8], AMOUNT_CELLS),
     'REJECT': (NUMBERS, NUMBERS, TEXTS[:6], TEXTS),
+    'LAYOUT': (NUMBERS, DIGESTS),
+    'INPUT': (NUMBERS, NUMBERS, DIGESTS),
+    'END': ((*NUMBERS, b'0', b'3'), (b'', b'clean', b'Clean', b'Remarks', b'Clean ', b'Whole')),
 }
 
 
@@ -181,7 +206,7 @@ def other_sum(kind):
 def wrapped_sum(rng, lines):
     """Amounts that add up only where a sum of 128 bits wraps."""
     key = [b'AAAAA0000000', b'GB', b'1', b'GBP']
-    at = next((at for at, cells in enumerate(lines) if cells[0] in (b'LEDGER', b'REJECT')), len(lines))
+    at = next((at for at, cells in enumerate(lines) if cells[0] in (b'LEDGER', b'REJECT') or is_seal(cells)), len(lines))
     times = rng.choice((64, 63))
     lines[at:at] = [[b'LEDGER', *key, b'0', b'0.0000000000'],
                     *([b'PARTY', *key, b'p%02d' % party, statement.written(2 ** 122)] for party in range(times)),
@@ -217,6 +242,45 @@ def ledger_again(rng, lines):
     if at is not None:
         end = next((other for other in range(at + 1, len(lines)) if lines[other][0] == b'UNCLAIMED'), at) + 1
         lines[end:end] = [list(cells) for cells in lines[at:end]]
+
+
+def other_end(change):
+    """An end with another number, or with the other status."""
+    def spoil(rng, lines):
+        if lines and lines[-1][0] == b'END' and len(lines[-1]) == 3 and lines[-1][1].isdigit():
+            number, status = int(lines[-1][1]), lines[-1][2]
+            lines[-1][1:] = [b'%d' % max(number + change, 0), {b'Clean': b'Remarks'}.get(status, b'Clean') if change == 0 else status]
+    return spoil
+
+
+def behind_the_end(rng, lines):
+    lines.append(list(rng.choice(lines)))
+
+
+def early_end(rng, lines):
+    """An end in front of the last lines, with the number that is right there."""
+    at = rng.randrange(1, len(lines) + 1)
+    lines.insert(at, end_of(lines[:at]))
+
+
+def seal_line_elsewhere(rng, lines):
+    """A line of the seal at another place."""
+    found = [at for at, cells in enumerate(lines) if is_seal(cells)]
+    if found:
+        lines.insert(rng.randrange(len(lines)), lines.pop(rng.choice(found)))
+
+
+def file_of_no_line(rng, lines):
+    """An INPUT of a file that has no line, or no INPUT of the last file."""
+    at = max((at for at, cells in enumerate(lines) if cells[0] == b'INPUT'), default=None)
+    if at is not None and rng.random() < 0.5:
+        lines.insert(at + 1, [b'INPUT', b'%d' % (int(lines[at][1]) + 1), *lines[at][2:]])
+    elif at is not None:
+        del lines[at]
+
+
+def no_seal(rng, lines):
+    lines[:] = [cells for cells in lines if not is_seal(cells)]
 
 
 def no_report(rng, lines):
@@ -258,6 +322,7 @@ LINE_SPOILS = [
     unknown_line, line_end, swap, swap, wrapped_sum, no_report,
     no_report_with_a_cell, no_report_below, other_outcome, other_outcome, other_period, other_key, other_key,
     ledger_again, first_lines, header_alone, no_lines, long_party, long_party,
+    *(other_end(change) for change in (0, 1, -1)), behind_the_end, early_end, seal_line_elsewhere, file_of_no_line, no_seal,
 ]
 
 
@@ -281,23 +346,27 @@ def long_end(rng, content):
 BYTE_SPOILS = [reports.cut_bytes, reports.other_byte, reports.swapped_bytes, not_utf8, no_last_feed, long_end,
                lambda rng, content: b'\xef\xbb\xbf' + content, lambda rng, content: content + b'\n', lambda rng, content: content + content]
 SPOILS = LINE_SPOILS + BYTE_SPOILS
+# what spoils an end is left as it is
+ENDS = [spoil for spoil in LINE_SPOILS if spoil.__qualname__.startswith(('other_end', 'behind_the_end'))]
 
 
 # ------------------------------------------------------------ cases
 
 class Case:
-    """Given and paid statements, each its bytes and how it ends (Whole, or Read), and whether remarks are let through."""
+    """Given and paid statements, each its bytes and how it ends (Whole, or Read), and what is let through."""
 
-    def __init__(self, given, paid, with_remarks, words):
+    def __init__(self, given, paid, rules, words):
         self.given = given
         self.paid = paid
-        self.with_remarks = with_remarks
+        self.rules = rules
         self.words = words
 
 
 def good(rng, name):
-    """A good statement, of a report with this MessageId."""
+    """A good statement, of a report with this MessageId; a few have no seal."""
     lines = of_report(rng) if rng.random() < 0.6 else drawn(rng)
+    if rng.random() < 0.1:
+        no_seal(rng, lines)
     if lines[0][0] == b'REPORT' and rng.random() < 0.95:
         lines[0][1] = name
     return lines
@@ -312,19 +381,21 @@ def spoilt(rng, lines, spoil):
     if spoil in LINE_SPOILS:
         lines = [list(cells) for cells in lines]
         spoil(rng, lines)
+        if lines and lines[-1][0] == b'END' and spoil not in ENDS and rng.random() < 0.5:
+            lines[-1] = end_of(lines[:-1])
         return text_of(lines)
     return spoil(rng, text_of(lines))
 
 
 def earlier(rng, given):
-    """A paid statement: one of the given as it is, another of its report, or one of another report."""
+    """A paid statement: one of the given as it is, another of its report, one of its message alone, or one of another report."""
     kind = rng.random()
     lines = rng.choice(given)
     if kind < 0.5:
         return lines
     other = good(rng, b'other')
     if kind < 0.95 and lines and lines[0][0] == other[0][0] == b'REPORT':
-        other[0] = lines[0]
+        other[0] = lines[0] if kind < 0.85 else [*lines[0][:2], *other[0][2:]]
     return other
 
 
@@ -335,6 +406,8 @@ def case(seed, number):
     given = [good(rng, b'R%d' % at) for at in range(rng.choice((1, 1, 1, 2, 3, 5)))]
     if rng.random() < 0.05:
         given.append(rng.choice(given))
+    if rng.random() < 0.1:
+        given.append(good(rng, b'R0'))
     paid = [earlier(rng, given) for _ in range(rng.choice((0, 0, 0, 1, 1, 2)))]
     texts = [text_of(lines) for lines in given + paid]
     if directed:
@@ -348,7 +421,8 @@ def case(seed, number):
             texts[at] = spoilt(rng, lines, rng.choice(SPOILS))
     endings = ['Read' if rng.random() < 0.02 else 'Whole' for _ in texts]
     pairs = list(zip(texts, endings))
-    return Case(pairs[:len(given)], pairs[len(given):], rng.random() < 0.7 or directed, rng.random())
+    rules = totals.Rules(rng.random() < 0.7 or directed, rng.random() < 0.4, rng.random() < 0.4)
+    return Case(pairs[:len(given)], pairs[len(given):], rules, rng.random())
 
 
 def good_for(rng, spoil, lines):

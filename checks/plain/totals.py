@@ -16,7 +16,7 @@ import re
 import sys
 from dataclasses import dataclass
 
-from files import Answered, ending_with, open_file, opened, print_to
+from files import Answered, ending_with, open_file, print_to
 from statement import COLUMNS, Bad, day, is_isrc, pattern, written
 
 MOST_LINE = 16_384
@@ -24,7 +24,6 @@ UNITS_BOUND = 2 ** 123
 RANGE = range(-2 ** 127, 2 ** 127)
 REMARKS = ('MISSING', 'SUMMARY', 'REJECT')
 WHOLE = ('FILE', 'MISSING', 'SUMMARY', 'UNCLAIMED', 'REJECT')  # the lines with which an unsealed statement may end
-SEAL = ('LAYOUT', 'INPUT', 'END')
 NAMED = {
     'status': ('Clean', 'Remarks'),
     'standing': ('Ours', 'Foreign', 'Doubled', 'Headless'),
@@ -116,11 +115,10 @@ SPELLINGS = {
 
 @dataclass
 class Rules:
-    """What is let through. Without seals no statement is sealed, and their lines are unknown."""
+    """What is let through."""
     with_remarks: bool = False
     unsealed: bool = False
     same_message: bool = False
-    seals: bool = True
 
 
 def has_cells(kind, cells):
@@ -184,7 +182,7 @@ class Reader:
             raise Refused(self.lines, 'NotUtf8') from None
         first, *cells = line[:-1].split(b'\t')
         kind = first.decode()
-        if kind not in SPELLINGS or kind in SEAL and not self.rules.seals:
+        if kind not in SPELLINGS:
             raise Refused(self.lines, 'UnknownLine')
         if not has_cells(kind, cells):
             raise Refused(self.lines, 'Cells')
@@ -251,7 +249,7 @@ class Reader:
     def end(self):
         if self.kind in (None, 'REPORT', 'LEDGER', 'PARTY', 'LAYOUT', 'INPUT'):
             raise Refused(self.lines + 1, 'Cut')
-        if self.kind != 'END' and self.rules.seals and not self.rules.unsealed:
+        if self.kind != 'END' and not self.rules.unsealed:
             raise Refused(self.lines + 1, 'Unsealed')
 
 
@@ -315,18 +313,18 @@ class Statement:
     remarks: bool
 
 
-def of_earlier(fault, found, report, rules):
+def of_earlier(fault, found, report):
     """A fault that names an earlier statement."""
-    return f'{fault} of {os.fsdecode(found[report].name)}' if rules.seals else fault
+    return f'{fault} of {os.fsdecode(found[report].name)}'
 
 
 def test(reader, found, paid, known, rules):
     """The tests of a statement that was read whole, against those that were read before it."""
     if reader.report in found:
-        raise Refused(1, of_earlier('Twice', found, reader.report, rules))
+        raise Refused(1, of_earlier('Twice', found, reader.report))
     other = next((report for report in found if report[0] == reader.report[0]), None)
-    if other and not paid and rules.seals and not rules.same_message:
-        raise Refused(1, of_earlier('SameMessage', found, other, rules))
+    if other and not paid and not rules.same_message:
+        raise Refused(1, of_earlier('SameMessage', found, other))
     if paid and reader.report not in known:
         raise Refused(1, 'NotGiven')
     if not paid and reader.remark and not rules.with_remarks:
@@ -362,23 +360,37 @@ def totals_of(given, paid, rules):
 
 # ------------------------------------------------------------ the command line
 
-def names_of(lists):
-    """The names in files that have one on each line, or each ended by a zero byte if they have one."""
-    names = []
-    for name, file in lists:
-        content, ending = ending_with(file)
-        if ending != 'Whole':
-            raise Answered(2, b'cannot read ' + name)
-        pieces = content.split(b'\0' if b'\0' in content else b'\n')
-        names += pieces if pieces[-1] else pieces[:-1]
-    return names
+def is_utf8(content):
+    try:
+        content.decode()
+    except UnicodeDecodeError:
+        return False
+    return True
+
+
+def names_of(name):
+    """The names in a file that has one on each line, or each ended by a zero byte if it has one."""
+    content, ending = ending_with(open_file(name))
+    if ending != 'Whole' or not is_utf8(content):
+        raise Answered(2, b'cannot read ' + name)
+    pieces = content.split(b'\0' if b'\0' in content else b'\n')
+    return pieces if pieces[-1] else pieces[:-1]
 
 
 def at_its_turn(name):
-    """A statement that is there, and is opened when it is its turn: there may be more than can be open at a time."""
-    if not os.path.exists(name):
-        raise Answered(2, b'cannot open ' + name)
-    return name, lambda: open_file(name)
+    """A statement that can be opened. An ordinary file is opened again when it is its turn, since there may be more than can be open
+    at a time; where it is gone then, a read fails."""
+    file = open_file(name)
+    if not os.path.isfile(name):
+        return name, file
+    file.close()
+
+    def turn():
+        try:
+            return open_file(name)
+        except Answered:
+            raise Refused(1, 'Read') from None
+    return name, turn
 
 
 def arguments():
@@ -401,7 +413,8 @@ def main():
     rules = Rules(asked.with_remarks, asked.unsealed, asked.same_message)
     try:
         given = [at_its_turn(name) for name in asked.statements]
-        paid = [at_its_turn(name) for name in asked.paid + names_of(opened(asked.paid_from))]
+        listed = [name for path in asked.paid_from for name in names_of(path)]
+        paid = [at_its_turn(name) for name in asked.paid + listed]
         print_to(asked.output, totals_of(given or [(b'-', sys.stdin.buffer)], paid, rules))
     except Answered as answered:
         sys.stderr.buffer.write(b'dsr_totals: ' + answered.line + b'\n')

@@ -1,10 +1,11 @@
 #!/usr/bin/env python3
 """frame.py STATEMENT..: what parties are owed in each currency, with pandas and exact decimals.
 
-The statements, which may be pipes, are first given to dsr_totals (or what DSR_TOTALS names), which refuses what is not a whole
-one. pandas adds in floating point by itself: amounts are `Decimal` here, and each sum is exact below 10^90.
+The statements, which may be pipes, are first given to dsr_totals (or what DSR_TOTALS names), which refuses what is not a whole,
+sealed one. pandas adds in floating point by itself: amounts are `Decimal` here, and each sum is exact below 10^90.
 """
 import os
+import re
 import subprocess
 import sys
 import tempfile
@@ -21,8 +22,7 @@ def checked(names, room):
             file.write(given.read())
     told = subprocess.run([os.environ.get('DSR_TOTALS', 'dsr_totals'), '--with-remarks', *copies], stdout=subprocess.DEVNULL, stderr=subprocess.PIPE)
     if told.returncode:
-        line = told.stderr.decode().strip()
-        raise ValueError(next((line.replace(copy, name) for name, copy in zip(names, copies) if f'{copy}:' in line), line))
+        raise ValueError(re.sub(f'{re.escape(room)}/([0-9]+)', lambda copy: names[int(copy[1])], told.stderr.decode().strip()))
     for copy in copies:
         with open(copy, encoding='utf-8', newline='\n') as file:
             yield from (line.rstrip('\n').split('\t') for line in file)

@@ -1,6 +1,6 @@
 -- The digests of what sources gave.
-use Rattle.std.proofs.Common.{◌≡◌, ◌∙◌, ◌+◌, ◌*◌, ◌<◌, ◌≤◌, ◌^◌, ◌⊎◌, ℕ, List, [], ◌∷◌, ◌++◌, All, ap, arith, inl, inr, length, length-append, map, refl, subst, sym}
-use Rattle.std.specs.Prelude.{Bool, Option, None, Some, Result, Ok, Err, IfErr, MatchOption, if◌then◌else◌, true, false}
+use Rattle.std.proofs.Common.{◌≡◌, ◌∙◌, ◌+◌, ◌*◌, ◌<◌, ◌≤◌, ◌^◌, ◌⊎◌, ℕ, List, [], ◌∷◌, ◌++◌, All, ap, arith, suc, inl, inr, length, length-append, map, refl, subst, sym}
+use Rattle.std.specs.Prelude.{Bool, Option, None, Some, Ok, Err, IfErr, MatchOption, ◌==◌, ◌||◌, if◌then◌else◌, nat_lt, true, false}
 use Rattle.std.specs.Io.KnownBytes.{Consumes}
 use Rattle.std.proofs.lemmas.Bool.{ltb-false, or_parts}
 use Rattle.std.proofs.lemmas.List.{append-nil, append_assoc, map-append}
@@ -12,10 +12,9 @@ use Rattle.dsr_file.specs.meaning.Runs.{FileText}
 use Rattle.dsr_file.specs.meaning.Sources.{EndsAs, Gave, GaveText, Stopped}
 use Rattle.dsr_io.specs.meaning.Told.{HoldsGiven, Told}
 use Rattle.dsr_intake.specs.declared.errors.IntakeError.{IntakeError}
-use Rattle.dsr_intake.specs.declared.errors.RunError.{RunError}
+use Rattle.dsr_intake.specs.declared.errors.IntakeError.TheVariants as intake
 use Rattle.dsr_intake.specs.declared.errors.RunError.TheVariants as run
 use Rattle.dsr_intake.specs.declared.options.Options.{Options}
-use Rattle.dsr_intake.specs.declared.options.TheConstants.{MOST_READS}
 use Rattle.dsr_intake.specs.meaning.Outcomes.{IsLateRun}
 use Rattle.dsr_intake.specs.meaning.Texts.{GaveEach, HoldEach, refusal_of}
 use Rattle.dsr_seal.specs.declared.digesting.Digesting.{Digesting}
@@ -81,11 +80,14 @@ last_test false false true d w x y z is = absurd cc
 last_test false false false true w x y z is = absurd cc
 last_test false false false false w x y z is = refl
 
-few_reads : (n : ℕ) (o : Options) → refusal_of n o ≡ None → o.max_reads ≤ MOST_READS
-few_reads n o is = ltb-false MOST_READS o.max_reads (or_parts _ _ (last_test _ _ _ _ _ _ _ _ is)).1
+few_reads : (n : ℕ) (o : Options) → refusal_of n o ≡ None → o.max_reads ≤ 16777216
+few_reads n o is =
+    let tests = last_test (n == 0) (nat_lt 64 n) ((o.capacity == 0) || nat_lt 1024 o.capacity) ((o.max_reads == 0) || nat_lt 16777216 o.max_reads)
+    intake.NoFiles intake.TooManyFiles intake.Capacity intake.Reads is in
+    ltb-false 16777216 o.max_reads (or_parts (o.max_reads == 0) (nat_lt 16777216 o.max_reads) tests).1
 
 unrefused : (n : Option IntakeError) (status : Status) (Q : IntakeError → Type 0)
-    → MatchOption n (IfErr {T = Status} (Ok status) IsLateRun) (λ e. ({T = Result Status RunError} Ok status ≡ Err (run.Intake e)) × Q e) → n ≡ None
+    → MatchOption n (IfErr {T = Status} (Ok status) IsLateRun) (λ e. (Ok status ≡ Err (run.Intake e)) × Q e) → n ≡ None
 unrefused None status Q h = refl
 unrefused (Some e) status Q h = absurd cc
 
@@ -118,9 +120,16 @@ few_bytes layout limit before after text bytes rest (inr h) was is =
     let limited = gave.limited in
     omega (arith, same, all, most, limited)
 
+-- as many sources were handed back
+pub same_count : {S : Type 0} (told : S → Told) (holds : S → List ℕ → Type 0) (ss ls : List S) → HoldEach told holds ss ls → length ss ≡ length ls
+same_count told holds [] [] h = refl
+same_count told holds [] (l ∷ ls) h = absurd h
+same_count told holds (s ∷ ss) [] h = absurd h
+same_count told holds (s ∷ ss) (l ∷ ls) h = ap suc (same_count told holds ss ls h.1)
+
 -- sources that kept nothing keep the digests of the bytes that they gave
 hold_texts : {S : Type 0} (told : S → Told) (holds : S → List ℕ → Type 0) (o : Options) (ss ls : List S) (texts : List FileText) (given : List (List ℕ))
-    → o.max_reads ≤ MOST_READS → All (λ s. holds s []) ss → HoldEach told holds ss ls → GaveEach told o ss ls texts → GaveBytes told ss ls given
+    → o.max_reads ≤ 16777216 → All (λ s. holds s []) ss → HoldEach told holds ss ls → GaveEach told o ss ls texts → GaveBytes told ss ls given
     → HoldTexts holds ls given
 hold_texts told holds o [] [] texts [] few none held gave bytes = tt
 hold_texts told holds o [] [] texts (b ∷ bs) few none held gave bytes = absurd bytes
@@ -138,7 +147,7 @@ hold_texts told holds o (s ∷ ss) (l ∷ ls) (t ∷ ts) (b ∷ bs) few none hel
 -- the same after a run
 pub held_texts : {S : Type 0} (told : S → Told) (holds : S → List ℕ → Type 0) (o : Options) (n : ℕ) (ss ls : List S) (texts : List FileText)
     (given : List (List ℕ)) (status : Status) (Q : IntakeError → Type 0)
-    → MatchOption (refusal_of n o) (IfErr {T = Status} (Ok status) IsLateRun) (λ e. ({T = Result Status RunError} Ok status ≡ Err (run.Intake e)) × Q e)
+    → MatchOption (refusal_of n o) (IfErr {T = Status} (Ok status) IsLateRun) (λ e. (Ok status ≡ Err (run.Intake e)) × Q e)
     → All (λ s. holds s []) ss → HoldEach told holds ss ls → GaveEach told o ss ls texts → GaveBytes told ss ls given → HoldTexts holds ls given
 held_texts told holds o n ss ls texts given status Q refused =
     hold_texts told holds o ss ls texts given (few_reads n o (unrefused (refusal_of n o) status Q refused))

@@ -1,2 +1,5 @@
-mod Digests
-mod Sealing
+pub mod Answering
+pub mod Digests
+pub mod Ending
+pub mod Seals
+pub mod Serving

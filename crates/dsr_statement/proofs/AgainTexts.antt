@@ -28,7 +28,7 @@ lacks_feed l t i less e =
     cc
 
 -- a text has a first piece
-first_piece : (c : ℕ) (text : List ℕ) → (p : List ℕ) × (ps : List (List ℕ)) × (pieces c text ≡ p ∷ ps)
+pub first_piece : (c : ℕ) (text : List ℕ) → (p : List ℕ) × (ps : List (List ℕ)) × (pieces c text ≡ p ∷ ps)
 first_piece c [] = ([], [], refl)
 first_piece c (b ∷ bs) = elim (cases_Bool (eqb b c)) [
   | inl same ↦ ([], pieces c bs, slice_split-cons_yes (λ x. eqb x c) b bs same)

@@ -21,3 +21,4 @@ pub mod OneLedger
 pub mod Sealed
 pub mod SealTexts
 pub mod SealedAgain
+pub mod SealedTexts

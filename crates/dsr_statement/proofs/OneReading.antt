@@ -36,7 +36,7 @@ refused f = Err f
 not_both : {A : Type 0} (l : Line) (f : StatementFault) → line_read l ≡ refused f → A
 not_both l f e = cc
 
-own_line : (l m : Line) → line_read l ≡ line_read m → l ≡ m
+pub own_line : (l m : Line) → line_read l ≡ line_read m → l ≡ m
 own_line l m e = cc
 
 own_fault : (f g : StatementFault) → refused f ≡ refused g → f ≡ g

@@ -68,7 +68,7 @@ next_is before bytes l (Ok x, is, e) =
 next_is before bytes l (Err f, is, e) = cc
 
 -- a text that ends without a fault has nothing behind its last line
-ended_ok : (before : List Line) (rest : List ℕ) (failed : Bool) (ls : List Line) → Ok ls ≡ ended before (end_fault before rest failed)
+pub ended_ok : (before : List Line) (rest : List ℕ) (failed : Bool) (ls : List Line) → Ok ls ≡ ended before (end_fault before rest failed)
     → (rest ≡ []) × (is_complete before ≡ true) × (ls ≡ [])
 ended_ok before rest failed ls e = elim (cases_Bool (nat_lt most_bytes (length rest))) [
   | inl t ↦ let none : end_fault before rest failed ≡ Some faults.LongLine = rw t refl in refused faults.LongLine none

@@ -40,7 +40,7 @@ after_end : (files n : ℕ) (s : Status) (l : Line) → follows files l (lines.E
 after_end files n s (lines.Report key) = refl
 after_end files n s _ = refl
 
-nothing_behind : (before : List Line) (l : Line) → placed before l ≡ Ok l → is_sealed before ≡ false
+pub nothing_behind : (before : List Line) (l : Line) → placed before l ≡ Ok l → is_sealed before ≡ false
 nothing_behind [] l h = refl
 nothing_behind (lines.End n s ∷ before) l h =
     not_both (follows (files_in before) l (lines.End n s)) (is_in_place (lines.End n s ∷ before) l h).0 (after_end (files_in before) n s l)

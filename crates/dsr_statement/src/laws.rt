@@ -1,5 +1,5 @@
 //! Laws of lines and of statements: functions that do nothing, whose contracts are the laws.
-ghost use Rattle.std.specs.Prelude.{◌≡◌, ℕ, [], ◌∷◌, ◌++◌, length, Bool, List, Option, None, Result, Ok, Err};
+ghost use Rattle.std.specs.Prelude.{◌≡◌, ℕ, [], ◌∷◌, ◌++◌, length, reverse, Bool, true, List, Option, None, Result, Ok, Err};
 ghost use Rattle.dsr_ledger.specs.declared.report.Report.{Report};
 ghost use Rattle.dsr_ledger.specs.declared.report.ReportKey.{ReportKey};
 ghost use Rattle.dsr_statement.specs.declared.line.Line.{Line};
@@ -8,6 +8,7 @@ ghost use Rattle.dsr_statement.specs.meaning.Readings.{IsReading, IsReadingOf, R
 ghost use Rattle.dsr_statement.specs.meaning.Statement.{statement_lines, statement_of, text_of};
 ghost use Rattle.dsr_statement.specs.meaning.Statements.{AreInPlace, IsReadable, IsSealed, IsStatement};
 ghost use Rattle.dsr_statement.specs.meaning.Digests.{Digest};
+ghost use Rattle.dsr_statement.specs.meaning.Order.{is_sealed};
 ghost use Rattle.dsr_statement.specs.meaning.Seals.{AreDigestsOf, sealed_lines};
 ghost use Rattle.dsr_statement.specs.meaning.Status.{status_of, status_of_lines};
 ghost use Rattle.dsr_statement.specs.declared.verdict.Status.{Status};
@@ -98,4 +99,11 @@ pub fn no_prefix_is_sealed()
 pub fn no_line_less_or_more_is_sealed()
     ensures { (before more after : List Line) → IsSealed (before ++ after)
         → IsSealed (before ++ (more ++ after)) → more ≡ [] }
+{}
+
+/// Nothing may follow the text of a sealed statement: of a text that is read, no proper prefix is read as a sealed statement.
+#[tactic(auto, using(crate::proofs::SealedTexts::nothing_follows))]
+pub fn no_prefix_of_a_text_is_sealed()
+    ensures { (text more : List ℕ) (lines all : List Line) → IsReading text (Ok lines)
+        → is_sealed (reverse lines) ≡ true → IsReading (text ++ more) (Ok all) → more ≡ [] }
 {}

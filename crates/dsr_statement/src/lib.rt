@@ -1,15 +1,16 @@
-//! The statement of a report: its lines, their bytes, how they are written and read, and whether it has remarks.
+//! The statement of a report: its lines and those of its seal, their bytes, how they are written and read, and whether it has
+//! remarks.
 //!
 //! 1. `line`: the lines, which borrow their texts. `specs/meaning/Cells.antt` and `Lines.antt` have the table of their cells.
 //! 2. [`put`] puts the text of a line into a [`Sink`] (`sink`), cell by cell (`cells`, `names`): into bytes to be written, or
 //!    against a text that has to be the same.
-//! 3. [`read`] reads the line whose text it is given: leniently (`number` and `cut`, `lenient`, `file`, `seal`), then it tests that the
-//!    line is one that a statement may have (`check`), and that this is its text.
+//! 3. [`read`] reads the line whose text it is given: leniently (`number` and `cut`, `lenient`, `file`, `seal`), then it tests
+//!    that the line is one that a statement may have (`check`), and that this is its text.
 //! 4. `reader` reads the lines of a statement one after another: it keeps of them what the next one depends on (`last`,
 //!    `left`), tests that it may stand there and that the amounts of a ledger line add up, and says why not (`fault`).
 //! 5. `write` puts the statement of a report, by `lines` and `key`, into `pieces`, which are written to an [`Outlet`] of dsr_io
 //!    in up to 64 KiB, and flushed at the end. What waits is in a `slice_buffer`, of the memory that `room` has.
-//! 6. `remarks`: the status of a report, whose statement has remarks or not (`verdict`).
+//! 6. `remarks`: the status of a report, whose statement has remarks or not (`verdict`), and which lines are remarks.
 //! 7. [`laws`] has the laws of lines and of statements.
 //!
 //! **Examples**, compiled and proved in `crates/dsr_tests/src/collecting.rt` and `statements.rt`:
@@ -42,12 +43,13 @@
 //! Memory for writing is refused by [`Room::new`] alone, which has nothing to write to. `statement` returns the same bytes. The
 //! status is that of the same report. A text is read as the line whose text it is, and any other text is refused with the fault
 //! that the definition gives it; so are lines that may not stand where they do, and the end of a text. Nothing is repaired, and
-//! the reader keeps the memory of one line.
+//! the reader keeps the memory of one line. Of lines that are sealed, none less or more makes sealed lines, and nothing may
+//! follow the text of a sealed statement.
 //!
 //! **Where to begin.** `specs/meaning/Cells.antt` and `Lines.antt` have the lines, `Statement.antt` those of a report,
-//! `Order.antt` which may stand after which, `Readings.antt` what a text is read as, and `Status.antt` the status; `Written.antt`
-//! of dsr_io what an outlet tells. `src/putting.rt` puts each line, `src/reading.rt` reads one, `src/write.rt` and `src/reader.rt` have
-//! the whole.
+//! `Seals.antt` those of its seal, `Order.antt` which may stand after which, `Readings.antt` what a text is read as, and
+//! `Status.antt` the status; `Written.antt` of dsr_io what an outlet tells. `src/putting.rt` puts each line, `src/reading.rt`
+//! reads one, `src/write.rt` and `src/reader.rt` have the whole.
 #![tactic(auto)]
 
 mod cells;

@@ -5,13 +5,13 @@ use Rattle.dsr.proofs.Serving.{printed, stored, unstored}
 use Rattle.dsr.specs.Serving.{ghosts}
 use Rattle.dsr.proofs.program.read_files.Goals as goal
 
-pub returns-in-None : goal.returns-in-None
-returns-in-None g c =
+pub returns-in_default : goal.returns-in_default
+returns-in_default g c =
     where_told (g.W.World.disk c.args.world.now) _ (λ d is at.
     printed (ghosts g.W.Reader.Source.told g.W.New.Outlet.told) g.W.Reader.FileSource.file d (g.W.World.disk c.args.world.now) c.args.asked.now
     c.args.options.options.value c.args.options.seal c.in-Ok.inputs.items (outputs (g.O.Outlet.told c.args.out) (g.F.Outlet.told c.args.fault.now))
     (outputs (g.O.Outlet.told c.run_printed.result.0) (g.F.Outlet.told c.run_printed.new.fault)) c.run_printed.result.1 at.seal
-    (at_disk _ _ d is c.in-Ok.ensures.opened) c.in-None.is c.run_printed.ensures is)
+    (at_disk _ _ d is c.in-Ok.ensures.opened) c.in_default.is c.run_printed.ensures is)
 
 pub returns-in-Ok-create_beside : goal.returns-in-Ok-create_beside
 returns-in-Ok-create_beside g c =

@@ -4,7 +4,7 @@ use Rattle.dsr.proofs.running.run_into.Goals as goal
 
 pub returns-in-Ok : goal.returns-in-Ok
 returns-in-Ok g c =
-    let run = c.run_inputs in
+    let run = c.run_inputs-new in
     let ended = c.status_of in
     where_told (g.W.World.disk c.args.world.now) _ (λ d is. (
       run.result.1,
@@ -18,7 +18,7 @@ returns-in-Ok g c =
 
 pub returns-in-Err : goal.returns-in-Err
 returns-in-Err g c =
-    let run = c.run_inputs in
+    let run = c.run_inputs-new in
     let told = c.cannot_replace in
     where_told (g.W.World.disk c.args.world.now) _ (λ d is. (
       run.result.1,

@@ -11,8 +11,8 @@ loop-source-preserved g c =
     let was = rw c.in-Some.ensures.steps.0 at c.loop-source.invariant.inside in
     let made = c.loop-source.made.items in
     record {
-      inside = rw c.in-Ok.ensures.items (wrapped_more (λ d. d.source) made c.new.result c.in-Some.source _ _ was c.new.ensures.source);
-      nothing = rw c.in-Ok.ensures.items (All-push (λ d. keeps_digest d []) made c.new.result c.loop-source.invariant.nothing c.new.ensures.nothing);
+      inside = rw c.in-Ok-push.ensures.items (wrapped_more (λ d. d.source) made c.new.result c.in-Some.source _ _ was c.new.ensures.source);
+      nothing = rw c.in-Ok-push.ensures.items (All-push (λ d. keeps_digest d []) made c.new.result c.loop-source.invariant.nothing c.new.ensures.nothing);
     }
 
 pub returns-clause-sources : goal.returns-clause-sources

@@ -40,7 +40,8 @@ lines_are : (lines : ℕ) (before stated : Written) (statement held : List ℕ) 
     → IsFlushed statement before stated → IsCounted lines stated → lines ≡ line_feeds statement
 lines_are lines before stated statement held none is flushed counted =
     let known = known_after stated.contents held statement (subst (λ b. Appends b stated.contents statement) is flushed.added) in
-    let taken : stated.taken ≡ length statement = flushed.counted.0 ∙ ap (λ n. n + length statement) none in
+    let grown = flushed.counted.0 in
+    let taken : stated.taken ≡ length statement = omega (arith, grown, none) in
     counted.exact (held ++ statement) known
     ∙ (ap (λ n. line_feeds (last n (held ++ statement))) taken ∙ ap line_feeds (last_appended held statement))
 
@@ -48,7 +49,7 @@ lines_are lines before stated statement held none is flushed counted =
 pub sealed_by : {R : Type 0} (told : R → Told) (holds : R → List ℕ → Type 0) (o : Options) (seal : Sealing) (n : ℕ) (ss ls : List R)
     (digests : List Digest) (before stated after : Written) (texts : List FileText) (status : Status) (lines : ℕ) (answer : Result Status RunError)
     (Q : IntakeError → Type 0) → before.taken ≡ 0 → IsReported told o ss ls before stated texts status
-    → MatchOption (refusal_of n o) (IfErr {T = Status} (Ok status) IsLateRun) (λ e. ({T = Result Status RunError} Ok status ≡ Err (run.Intake e)) × Q e)
+    → MatchOption (refusal_of n o) (IfErr {T = Status} (Ok status) IsLateRun) (λ e. (Ok status ≡ Err (run.Intake e)) × Q e)
     → All (λ s. holds s []) ss → HoldEach told holds ss ls
     → ((given : List (List ℕ)) → HoldTexts holds ls given → digests ≡ map digest_of given)
     → IsCounted lines stated → IsEnded seal.layout digests lines status stated after answer → IsSealed told o seal ss ls before after answer
@@ -68,7 +69,8 @@ sealed_by told holds o seal n ss ls digests before stated after texts status lin
 sealed_by told holds o seal n ss ls digests before stated after texts status lines (Err e) Q none reported refused nothing held are counted ended =
     let statement = statement_of (report_of_texts o.layout texts) in
     let k = ended.0 in
-    let taken : stated.taken ≡ length statement = reported.written.counted.0 ∙ ap (λ n. n + length statement) none in
+    let grown = reported.written.counted.0 in
+    let taken : stated.taken ≡ length statement = omega (arith, grown, none) in
     inr (
       status,
       stated.taken + k,
@@ -96,7 +98,7 @@ sealed_by told holds o seal n ss ls digests before stated after texts status lin
 
 -- it is not refused, since the run was not
 pub unrefused_by : (n : Option IntakeError) (status : Status) (answer : Result Status RunError) (Q P : IntakeError → Type 0) → IfErr answer IsLateRun
-    → MatchOption n (IfErr {T = Status} (Ok status) IsLateRun) (λ e. ({T = Result Status RunError} Ok status ≡ Err (run.Intake e)) × Q e)
+    → MatchOption n (IfErr {T = Status} (Ok status) IsLateRun) (λ e. (Ok status ≡ Err (run.Intake e)) × Q e)
     → MatchOption n (IfErr answer IsLateRun) P
 unrefused_by None status answer Q P late h = late
 unrefused_by (Some e) status answer Q P late h = absurd cc
@@ -107,20 +109,20 @@ late_end layout digests lines status before after (Ok a) h = tt
 late_end layout digests lines status before after (Err e) h = subst IsLateRun (sym h.1) tt
 
 -- the whole answer
-pub answered : {R : Type 0} (told : R → Told) (holds : R → List ℕ → Type 0) (o : Options) (seal : Sealing) (ss ls : List R)
+pub answered : {R : Type 0} (told : R → Told) (holds : R → List ℕ → Type 0) (o : Options) (seal : Sealing) (n : ℕ) (ss ls : List R)
     (digests : List Digest) (before stated after : Written) (texts : List FileText) (status : Status) (lines : ℕ) (answer : Result Status RunError)
-    (Q : IntakeError → Type 0) → before.taken ≡ 0 → IsReported told o ss ls before stated texts status
-    → MatchOption (refusal_of (length ss) o) (IfErr {T = Status} (Ok status) IsLateRun)
-    (λ e. ({T = Result Status RunError} Ok status ≡ Err (run.Intake e)) × Q e)
+    (Q : IntakeError → Type 0) → n ≡ length ss → before.taken ≡ 0 → IsReported told o ss ls before stated texts status
+    → MatchOption (refusal_of n o) (IfErr {T = Status} (Ok status) IsLateRun)
+    (λ e. (Ok status ≡ Err (run.Intake e)) × Q e)
     → All (λ s. holds s []) ss → HoldEach told holds ss ls
     → ((given : List (List ℕ)) → HoldTexts holds ls given → digests ≡ map digest_of given)
     → IsCounted lines stated → IsEnded seal.layout digests lines status stated after answer → IsSealedAnswer told o seal ss ls before after answer
-answered told holds o seal ss ls digests before stated after texts status lines answer Q none reported refused nothing held are counted ended =
+answered told holds o seal n ss ls digests before stated after texts status lines answer Q len none reported refused nothing held are counted ended =
     record {
-      sealed = sealed_by told holds o seal (length ss) ss ls digests before stated after texts status lines answer Q none reported refused nothing held are
+      sealed = sealed_by told holds o seal n ss ls digests before stated after texts status lines answer Q none reported refused nothing held are
           counted ended;
-      refused = unrefused_by (refusal_of (length ss) o) status answer Q (IsRefusedFor answer)
-          (late_end seal.layout digests lines status stated after answer ended) refused;
+      refused = subst (λ k. MatchOption (refusal_of k o) (IfErr answer IsLateRun) (IsRefusedFor answer)) len
+          (unrefused_by (refusal_of n o) status answer Q (IsRefusedFor answer) (late_end seal.layout digests lines status stated after answer ended) refused);
     }
 
 -- from the counting outlet to the one inside
