@@ -12,6 +12,8 @@
 //! `crates/example_reader` does.
 #![tactic(auto)]
 
+#[cfg(test)]
+mod in_memory;
 mod program;
 mod running;
 mod sealing;

@@ -13,6 +13,8 @@
 mod arguments;
 mod command;
 mod faults;
+#[cfg(test)]
+mod in_memory;
 mod lists;
 mod opening;
 mod program;
