@@ -1,3 +1,4 @@
 pub mod Listing
-pub mod Opening
+pub mod Opened
 pub mod Serving
+pub mod Words

@@ -19,7 +19,7 @@ use Rattle.dsr_totals.specs.declared.lists.InputError.{InputError}
 use Rattle.dsr_totals.specs.declared.lists.InputError.TheVariants.{Open, Read}
 use Rattle.dsr_totals.specs.declared.lists.ListFault.{ListFault}
 use Rattle.dsr_totals.specs.declared.lists.ListFault.TheVariants as faults
-use Rattle.dsr_totals.specs.Lists.{AreListed, AreUnlisted, GaveAll, HasBadName, IsListFault, IsListRead, IsUnreadable, names_ended, names_in, names_listed, without_empty_last}
+use Rattle.dsr_totals.specs.Lists.{AreListed, AreUnlisted, GaveAll, HasBadName, IsListFault, IsListRead, IsUnreadable, name_end, names_ended, names_in, names_listed, without_empty_last}
 use Rattle.dsr_totals.specs.Steps.{IsCutAt, IsUnopened, IsUnread}
 
 -- bytes are cut at their first end
@@ -100,10 +100,11 @@ one_pushed end bytes rest name more old now new w some c is = record {
   pushed = is ∙ ap (λ l. l ++ name ∷ []) w.pushed ∙ append_assoc old w.front (name ∷ []);
 }
 
-pub all_pushed : (end : ℕ) (bytes rest : List ℕ) (old new : List (List ℕ)) → HavePushed end bytes rest old new → length rest ≡ 0
-    → new ≡ old ++ names_ended end bytes
-all_pushed end bytes [] old new w none = w.pushed ∙ ap (λ l. old ++ l) (sym (w.all ∙ append-nil w.front))
-all_pushed end bytes (b ∷ bs) old new w none = absurd (omega arith)
+pub all_pushed : (end : ℕ) (bytes rest : List ℕ) (old new : List (List ℕ)) → end ≡ name_end bytes → HavePushed end bytes rest old new
+    → length rest ≡ 0 → new ≡ old ++ names_in bytes
+all_pushed end bytes [] old new is w none =
+    w.pushed ∙ ap (λ l. old ++ l) (sym (w.all ∙ append-nil w.front)) ∙ ap (λ e. old ++ names_ended e bytes) is
+all_pushed end bytes (b ∷ bs) old new is w none = absurd (omega arith)
 
 index_mid : {X : Type 0} (xs ys : List X) (x d : X) → slice_index_or (xs ++ x ∷ ys) (length xs) d ≡ x
 index_mid [] ys x d = refl
@@ -112,11 +113,12 @@ index_mid (z ∷ xs) ys x d = index_mid xs ys x d
 any_mid : {X : Type 0} (P : X → Type 0) (xs ys : List X) (x : X) → P x → Any P (xs ++ x ∷ ys)
 any_mid P xs ys x h = (length xs, x, omega (arith, length-append xs (x ∷ ys)), index_mid xs ys x x, h)
 
-pub bad_name : (end : ℕ) (bytes rest name more : List ℕ) (old now : List (List ℕ)) → HavePushed end bytes rest old now → 0 < length rest
-    → IsCutAt end rest name more → ¬ (IsUtf8 name) → Any (λ n. ¬ (IsUtf8 n)) (names_ended end bytes)
-bad_name end bytes rest name more old now w some c bad =
-    subst (Any (λ n. ¬ (IsUtf8 n))) (sym (w.all ∙ ap (λ l. w.front ++ l) (names_cut end rest name more some c)))
-    (any_mid (λ n. ¬ (IsUtf8 n)) w.front (names_ended end more) name bad)
+pub bad_name : (end : ℕ) (bytes rest name more : List ℕ) (old now : List (List ℕ)) → end ≡ name_end bytes → HavePushed end bytes rest old now
+    → 0 < length rest → IsCutAt end rest name more → ¬ (IsUtf8 name) → HasBadName bytes
+bad_name end bytes rest name more old now is w some c bad =
+    subst (λ e. Any (λ n. ¬ (IsUtf8 n)) (names_ended e bytes)) is
+    (subst (Any (λ n. ¬ (IsUtf8 n))) (sym (w.all ∙ ap (λ l. w.front ++ l) (names_cut end rest name more some c)))
+    (any_mid (λ n. ¬ (IsUtf8 n)) w.front (names_ended end more) name bad))
 
 -- a cut leaves fewer bytes
 pub cut_shorter : (end : ℕ) (bytes name rest : List ℕ) → 0 < length bytes → IsCutAt end bytes name rest → length rest < length bytes
@@ -156,7 +158,7 @@ one_unread told file d list source after fault (Open (CannotOpen name)) opened h
 one_unread told file d list source after fault (Open Memory) opened h error = tt
 one_unread told file d list source after faults.Memory (Read name) opened h error = absurd (cc error.0)
 one_unread {R} told file d list source after faults.Read (Read name) (bytes, there, is) h error =
-    subst (λ n. Contains (list ∷ []) n × IsUnreadable told d n) (sym error.1) ((0, omega arith, refl), bytes, there, by h)
+    subst (λ n. Contains (list ∷ []) n × IsUnreadable told d n) (sym error.1) ((0, omega arith, refl), (bytes, there, by h))
   where
     by : ((told after).failed ≡ true) ⊎ ((given : List ℕ) × GaveAll (told source) (told after) given × HasBadName given)
         → ((reader : R) × ((told reader).failed ≡ true)) ⊎ HasBadName bytes

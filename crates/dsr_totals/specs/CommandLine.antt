@@ -44,7 +44,7 @@ pub record IsAskedBy (rows : List Row) (asked : Asked) : Type 0 where
 
 -- a word before a `--` is `--paid`, without its equals sign and the name of a statement: what follows might be a given statement
 abbrev pub lacks_equals : List Text → Bool
-lacks_equals words = list_any (bytes_eq (codes "--paid")) (take_while (λ w. not (bytes_eq w (codes "--"))) words)
+lacks_equals words = list_any (λ w. bytes_eq w (codes "--paid")) (take_while (λ w. not (bytes_eq w (codes "--"))) words)
 
 -- these words ask for these totals: they have no fault, and it is what their rows ask for
 abbrev pub IsAskedFor : List Text → Asked → Type 0

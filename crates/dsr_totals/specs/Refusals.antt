@@ -37,17 +37,16 @@ of_other (fault.SameMessage place) = codes " of "
 of_other (fault.Twice place) = codes " of "
 of_other _ = []
 
--- the line for a statement that is refused: its name, the number of the line, from 1, the name of the fault, and that of the
--- earlier statement that it names, if it names one
-abbrev pub refusal_line : List ℕ → ℕ → StatementFault → List ℕ → List ℕ
-refusal_line name line why other =
-    codes "dsr_totals: "
-    ++ (name ++ (codes ": line " ++ (decimal line ++ (codes ": " ++ (fault_text why ++ (of_other why ++ (other ++ 10 ∷ [])))))))
+-- the line for a statement that is refused: its name, the number of the line, from 1, the name of the fault, and what stands
+-- behind that, which ends with the name of another statement
+abbrev pub refusal_line : List ℕ → ℕ → List ℕ → List ℕ → List ℕ → List ℕ
+refusal_line name line why of other =
+    codes "dsr_totals: " ++ (name ++ (codes ": line " ++ (decimal line ++ (codes ": " ++ (why ++ (of ++ (other ++ 10 ∷ [])))))))
 
 -- the line for totals that cannot be had; the names are those of the statement that is refused, if one is, and of the earlier one
 -- that its fault names
 abbrev pub no_totals_line : List ℕ → List ℕ → TotalsError → List ℕ
-no_totals_line name other (Refused place line why) = refusal_line name line why other
+no_totals_line name other (Refused place line why) = refusal_line name line (fault_text why) (of_other why) other
 no_totals_line name other OutOfRange = line_of dsr_totals (codes "total out of range")
 no_totals_line name other Memory = line_of dsr_totals (codes "out of memory")
 

@@ -1,5 +1,6 @@
 //! Reading the command line.
 ghost use Rattle.std.specs.Prelude.{◌≡◌, IfOk, IfErr, false, codes, map};
+ghost use Rattle.std.specs.Str.{bytes_eq};
 ghost use Rattle.std.specs.String.{string_bytes};
 ghost use Rattle.clap.specs.Values.{kind_of};
 ghost use Rattle.clap.specs.Words.{app_of, found_of, rows_of, rule_of};
@@ -158,7 +159,8 @@ fn bare<'a>(alloc: Global) -> Command<'a>
 #[tactic(auto, unfolding(crate::specs::CommandLine::command_line))]
 fn command_with<'a>(alloc: Global, paid: Arg<'a>) -> Result<Command<'a>, AllocError>
     requires { paid.global ≡ false }
-    ensures { rule_of paid ≡ list_rule (codes "paid") → IfOk result (λ c. app_of c ≡ command_line) }
+    ensures { rule_of paid.entry ≡ list_rule (codes "paid") → IfOk result (λ c. app_of c
+        ≡ command_line) }
 {
     bare(alloc)
         .arg(paid)?
@@ -210,15 +212,29 @@ fn answer_to(alloc: Global, error: Error) -> CommandFault
     }
 }
 
+/// Whether no word after this one is an option.
+fn ends_options(word: &String) -> bool
+    ensures { result ≡ bytes_eq (string_bytes word.now) (codes "--") }
+{
+    word.as_str() == "--"
+}
+
+/// Whether a word is `--paid` without its equals sign.
+fn is_paid_alone(word: &String) -> bool
+    ensures { result ≡ bytes_eq (string_bytes word.now) (codes "--paid") }
+{
+    word.as_str() == "--paid"
+}
+
 /// Whether `--paid` is given without its equals sign, before a `--`.
 fn lacks_equals(words: &[String]) -> bool
     ensures { result ≡ lacks_equals (map string_bytes words.now) }
 {
     for word in words {
-        if word.as_str() == "--" {
+        if ends_options(word) {
             return false;
         }
-        if word.as_str() == "--paid" {
+        if is_paid_alone(word) {
             return true;
         }
     }

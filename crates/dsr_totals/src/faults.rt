@@ -50,22 +50,21 @@ fn of_other(fault: StatementFault) -> &'static str
     }
 }
 
-/// Writes why a statement of this name is refused, and returns whether the outlet took all of it. `other` is the name of the
-/// earlier statement that the fault names, if it names one.
-fn write_refusal<F: Outlet>(
-    name: &str,
+/// Writes why a statement of this name is refused, by the name of its fault, what stands behind that, and the name of another
+/// statement, and returns whether the outlet took all of it.
+fn write_refusal<'t, F: Outlet>(
+    name: &'t str,
     line: u64,
-    why: StatementFault,
-    other: &str,
+    why: &'t str,
+    of: &'t str,
+    other: &'t str,
     out: &mut F,
 ) -> bool
     ensures { IsWritten result (F.told out.old) (F.told out.new)
-        (refusal_line name.now line why other.now) }
+        (refusal_line name.now line why.now of.now other.now) }
 {
     let mut digits = Buffer::new();
     let line = digits.format(line);
-    let of = of_other(why);
-    let why = fault_name(why);
     write_parts(
         &[
             "dsr_totals: ",
@@ -91,7 +90,7 @@ pub(crate) fn no_totals<F: Outlet>(error: TotalsError, name: &str, other: &str, 
 {
     match error {
         TotalsError::Refused(_, line, why) => {
-            write_refusal(name, line, why, other, fault);
+            write_refusal(name, line, fault_name(why), of_other(why), other, fault);
             REFUSED_STATEMENT
         }
         TotalsError::OutOfRange => {

@@ -94,6 +94,7 @@ fn push_name(alloc: Global, name: &[u8], names: &mut Names) -> Result<(), ListFa
 }
 
 /// Appends the names that bytes spell.
+#[tactic(auto, using(crate::proofs::Listing::none_pushed, crate::proofs::Listing::one_pushed, crate::proofs::Listing::all_pushed, crate::proofs::Listing::bad_name, crate::proofs::Listing::cut_shorter))]
 fn push_names(alloc: Global, bytes: &[u8], names: &mut Names) -> Result<(), ListFault>
     ensures { MatchResult result (λ _. names.new ≡ names.old ++ names_in bytes.now)
         (λ fault. fault ≡ ListFault.Read → HasBadName bytes.now) }

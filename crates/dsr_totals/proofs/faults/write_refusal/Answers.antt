@@ -1,4 +1,4 @@
 use Rattle.dsr_totals.proofs.faults.write_refusal.Goals as goal
 
 pub returns : goal.returns
-returns g c = rw (c.format-line.ensures.text, c.of_other-of.ensures, c.fault_name-why.ensures) at c.write_parts.ensures
+returns g c = rw c.format-line.ensures.text at c.write_parts.ensures

@@ -1,10 +1,10 @@
 use Rattle.std.proofs.Common.{◌≡◌, ◌≢◌, ◌++◌, length, rules}
 use Rattle.dsr_command.proofs.Worlds.{at_disk, where_told}
-use Rattle.dsr_totals.proofs.Opening.{none_paid, paid_refused, some_paid}
+use Rattle.dsr_totals.proofs.Opened.{none_paid, paid_refused, some_paid}
 use Rattle.dsr_totals.proofs.opening.with_paid.Goals as goal
 
-pub returns-then-len-eq-0-clause-opened : goal.returns-then-len-eq-0-clause-opened
-returns-then-len-eq-0-clause-opened g c =
+pub returns-then-len-eq0-clause-opened : goal.returns-then-len-eq0-clause-opened
+returns-then-len-eq0-clause-opened g c =
     let none : length c.args.asked.now.paid ≡ 0 = search rules in
     where_told (g.W.World.disk c.args.world.now) _ (λ d is are.
     none_paid g.W.Reader.Source.told g.W.Reader.FileSource.file d c.args.asked.now c.args.given.items none are)
