@@ -176,9 +176,7 @@ fn is_refused(ended: &Ended, status: u8, first: &[u8], last: &[u8]) -> bool {
 /// Whether the totals were written, and the rest is as it was.
 fn is_written(ended: &Ended, task: &Task) -> bool {
     if task.output.len() == 0 {
-        return ended.out.bytes() == task.totals
-            && ended.out.is_flushed()
-            && is_kept(&ended.world);
+        return ended.out.bytes() == task.totals && ended.out.is_flushed() && is_kept(&ended.world);
     }
     ended.out.bytes().len() == 0
         && has(&ended.world, task.output, task.totals)
@@ -202,7 +200,10 @@ fn is_unread(ended: &Ended, task: &Task, opening: u64) -> bool {
 /// Whether the run ended as it has to if a write or a flush of its output fails.
 fn is_cut(ended: &Ended, task: &Task) -> bool {
     ended.status == 3
-        && ended.told.bytes().starts_with(b"dsr_totals: write failed after ")
+        && ended
+            .told
+            .bytes()
+            .starts_with(b"dsr_totals: write failed after ")
         && ended.told.bytes().ends_with(b" bytes\n")
         && task.totals.starts_with(ended.out.bytes())
         && is_kept(&ended.world)
