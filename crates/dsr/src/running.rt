@@ -8,7 +8,8 @@ ghost use Rattle.dsr.specs.Serving.{IsAnswer, IsAnswerFor, IsAnswerTold, HadRun,
 use crate::sealing::run_sealed;
 use dsr_cells::{NoMemory, Text};
 use dsr_command::{
-    DSR, FileSource, ReportWorld, Sealing, cannot_replace, exit_status, settle, watch, write_fault,
+    DSR, FileSource, ReportWorld, Sealing, Telling, cannot_replace, exit_status, settle, watch,
+    write_fault,
 };
 use dsr_file::{Failed, Source};
 use dsr_intake::{IntakeError, Options, Outlet, RunError, Status, run};
@@ -23,7 +24,7 @@ use std::time::Clock;
 #[derive(Drop)]
 pub(crate) struct Reading<R, T> {
     /// What tells its progress, if the words ask for that.
-    pub(crate) teller: Option<T>,
+    pub(crate) teller: Option<Telling<T>>,
     pub(crate) inputs: Vec<R>,
     pub(crate) options: Box<Options>,
     /// The seal of its statement, if one is asked for.
@@ -113,7 +114,11 @@ fn run_inputs<
         return run_sources(rt, alloc, inputs, options, seal, out);
     };
     match watch(teller, alloc, inputs) {
-        Ok(watched) => run_sources(rt, alloc, watched, options, seal, out),
+        Ok((watched, progress)) => {
+            let answer = run_sources(rt, alloc, watched, options, seal, out);
+            progress.end();
+            answer
+        }
         Err(NoMemory) => (out, Err(RunError::Intake(IntakeError::Memory))),
     }
 }

@@ -17,9 +17,17 @@ use Rattle.dsr_command.specs.declared.command.CommandFault.TheVariants.{Help, Re
 abbrev pub option_rule : Text → Rule
 option_rule name = record (new_rule name) { long = Some name; action = Some Set; value_names = 1 }
 
+-- the same, which has a letter too
+abbrev pub letter_rule : ℕ → Text → Rule
+letter_rule letter name = record (option_rule name) { short = Some letter }
+
 -- an option with one value, a whole number from 1 to `most`, inclusive
 abbrev pub number_rule : Text → ℕ → Rule
 number_rule name most = record (option_rule name) { parser = Some (vp.Signed (pos 1) (pos most)) }
+
+-- `--output FILE`, or `-o FILE`
+abbrev pub output_rule : Rule
+output_rule = letter_rule 111 (codes "output")
 
 -- an option without a value
 abbrev pub flag_rule : Text → Rule
@@ -40,7 +48,7 @@ bare_command = on_top (λ s. record s { no_binary_name = true; has_version = tru
 unfoldable pub command_line : App
 command_line = with_rule (with_rule (with_rule (with_rule (with_rule (with_rule (with_rule bare_command
     (number_rule (codes "capacity") 1024)) (number_rule (codes "max-reads") 16777216))
-    (option_rule (codes "layout"))) (option_rule (codes "output"))) (flag_rule (codes "progress"))) (flag_rule (codes "seal"))) names_rule
+    (option_rule (codes "layout"))) output_rule) (flag_rule (codes "progress"))) (flag_rule (codes "seal"))) names_rule
 
 -- the number is the one given, or the default if none is given
 abbrev pub IsNumberAsked : ℕ → ℕ → Option Text → ℕ → Type 0

@@ -1,5 +1,5 @@
 -- The exit status of a run, the line for its error, and how a line is told.
-use Rattle.std.specs.Prelude.{ℕ, List, [], ◌∷◌, ◌++◌, codes, decimal, Result, Ok, Err, ◌≤◌, length, Bool, true, false, map, take}
+use Rattle.std.specs.Prelude.{ℕ, List, [], ◌∷◌, ◌++◌, codes, decimal, Result, Ok, Err, ◌≤◌, length, Bool, true, false, map, take, ◌==◌, if◌then◌else◌}
 use Rattle.std.specs.List.{concat}
 use Rattle.std.specs.Borrow.{Bor}
 use Rattle.dsr_io.specs.meaning.Written.{Written, IsFlushed, IsCut}
@@ -65,13 +65,17 @@ layout_fault_text layout.BadPosition = codes "BadPosition"
 layout_fault_text layout.ManySkips = codes "ManySkips"
 layout_fault_text layout.MissingRole = codes "MissingRole"
 
+-- a name as a line shows it: the empty one as two quotes
+abbrev pub shown : List ℕ → List ℕ
+shown name = if length name == 0 then codes "''" else name
+
 -- the line for a file that cannot be opened
 abbrev pub cannot_open_line : List ℕ → List ℕ → List ℕ
-cannot_open_line program name = program ++ (codes ": cannot open " ++ (name ++ 10 ∷ []))
+cannot_open_line program name = program ++ (codes ": cannot open " ++ (shown name ++ 10 ∷ []))
 
--- the line for a layout file that cannot be read
-abbrev pub cannot_read_line : List ℕ → List ℕ
-cannot_read_line name = codes "dsr: cannot read " ++ (name ++ 10 ∷ [])
+-- the line for a file that is opened and cannot be read
+abbrev pub cannot_read_line : List ℕ → List ℕ → List ℕ
+cannot_read_line program name = program ++ (codes ": cannot read " ++ (shown name ++ 10 ∷ []))
 
 -- the line for the first fault of a layout
 abbrev pub bad_layout_line : LayoutError → List ℕ
@@ -81,7 +85,7 @@ bad_layout_line error = codes "dsr: bad layout at line "
 -- the line for a layout that cannot be had
 abbrev pub layout_refused_line : List ℕ → LayoutReadError → List ℕ
 layout_refused_line name CannotOpen = cannot_open_line dsr name
-layout_refused_line name Read = cannot_read_line name
+layout_refused_line name Read = cannot_read_line dsr name
 layout_refused_line name (Bad error) = bad_layout_line error
 layout_refused_line name Memory = line_of dsr (codes "out of memory")
 

@@ -8,7 +8,7 @@ use Rattle.dsr_command.specs.declared.identity.Place.TheVariants.{Other}
 use Rattle.dsr_command.specs.declared.new_file.NewFileError.{NewFileError}
 use Rattle.dsr_command.specs.declared.new_file.NewFileError.TheVariants.{IsRead, CannotCreate, Memory}
 use Rattle.dsr_command.specs.World.{Disk, IsApart, IsOneRead, IsReplacedIn, failing, made, removed}
-use Rattle.dsr_command.specs.Faults.{line_of}
+use Rattle.dsr_command.specs.Faults.{line_of, shown}
 
 -- why there can be no new file for this place, if there can be none
 abbrev pub IsPlaceFault : Place → List (Option FileIdentity) → Option NewFileError → Type 0
@@ -45,12 +45,12 @@ IsSettled contents name before after (Err error) (Err failed) = ⊥
 
 -- the line for a file that cannot be put in its place
 abbrev pub cannot_replace_line : List ℕ → List ℕ → List ℕ
-cannot_replace_line program name = program ++ (codes ": cannot replace " ++ (name ++ 10 ∷ []))
+cannot_replace_line program name = program ++ (codes ": cannot replace " ++ (shown name ++ 10 ∷ []))
 
 -- the line for a new file that cannot be had
 abbrev pub new_file_line : List ℕ → List ℕ → NewFileError → List ℕ
-new_file_line program name IsRead = program ++ (codes ": cannot write to " ++ (name ++ (codes ", which is read" ++ 10 ∷ [])))
-new_file_line program name CannotCreate = program ++ (codes ": cannot create " ++ (name ++ 10 ∷ []))
+new_file_line program name IsRead = program ++ (codes ": cannot write to " ++ (shown name ++ (codes ", which is read" ++ 10 ∷ [])))
+new_file_line program name CannotCreate = program ++ (codes ": cannot create " ++ (shown name ++ 10 ∷ []))
 new_file_line program name Memory = line_of program (codes "out of memory")
 
 -- the exit status for a new file that cannot be had

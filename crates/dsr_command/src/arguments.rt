@@ -3,7 +3,7 @@ ghost use Rattle.std.specs.Prelude.{◌≡◌, ◌≤◌, IfOk, IfErr, OnOk, fal
 ghost use Rattle.std.specs.String.{string_bytes};
 ghost use Rattle.clap.specs.Values.{kind_of};
 ghost use Rattle.clap.specs.Words.{all_of, app_of, fault_of, first_of, found_of, matches_of, one_text, rows_of, rule_of};
-ghost use Rattle.dsr_command.specs.CommandLine.{Answers, IsAskedBy, IsFaultOf, IsNumberAsked, IsFlagAsked, bare_command, command_line, names_rule, number_rule, option_rule, flag_rule};
+ghost use Rattle.dsr_command.specs.CommandLine.{Answers, IsAskedBy, IsFaultOf, IsNumberAsked, IsFlagAsked, bare_command, command_line, names_rule, number_rule, option_rule, output_rule, flag_rule};
 
 use crate::command::{Asked, CommandFault, Names};
 use clap::error::ErrorKind;
@@ -46,6 +46,28 @@ Exit status:
   2  an error in the command line, a file that cannot be opened or created, or
      a bad layout
   3  the run failed; standard error says why";
+
+/// How clap's text on a capacity out of range ends, and the same in words.
+const CAPACITY_RANGE: &str = " is not in 1..=1024
+
+For more information, try '--help'.
+";
+
+const CAPACITY_WORDS: &str = " is not in the range 1 to 1024
+
+For more information, try '--help'.
+";
+
+/// The same of a maximum number of reads.
+const READS_RANGE: &str = " is not in 1..=16777216
+
+For more information, try '--help'.
+";
+
+const READS_WORDS: &str = " is not in the range 1 to 16777216
+
+For more information, try '--help'.
+";
 
 /// `--capacity N`.
 fn capacity_option<'a>(alloc: Global) -> Arg<'a>
@@ -95,12 +117,13 @@ examples/layout.tsv is one to copy",
         )
 }
 
-/// `--output FILE`.
+/// `--output FILE`, or `-o FILE`.
 fn output_option<'a>(alloc: Global) -> Arg<'a>
-    ensures rule { rule_of result ≡ option_rule (codes "output") }
+    ensures rule { rule_of result ≡ output_rule }
     ensures local { result.global ≡ false }
 {
     Arg::new(alloc, "output")
+        .short('o')
         .long("output")
         .value_name("FILE")
         .action(ArgAction::Set)
@@ -288,6 +311,21 @@ pub fn read_file_name(
     }
 }
 
+/// Clap's text on an error, with a range of numbers in words.
+fn in_words(alloc: Global, text: &str) -> Result<Text, NoMemory> {
+    let (start, end) = if let Some(start) = text.strip_suffix(CAPACITY_RANGE) {
+        (start, CAPACITY_WORDS)
+    } else if let Some(start) = text.strip_suffix(READS_RANGE) {
+        (start, READS_WORDS)
+    } else {
+        (text, "")
+    };
+    match format!(in alloc; "{start}{end}") {
+        Ok(string) => Text::of_string(alloc, string),
+        Err(_) => Err(NoMemory),
+    }
+}
+
 /// Why the command line was refused, or the text that it asks for.
 pub fn fault_of_error(alloc: Global, error: Error) -> CommandFault
     ensures { Answers (kind_of error) result }
@@ -298,7 +336,7 @@ pub fn fault_of_error(alloc: Global, error: Error) -> CommandFault
     let Ok(string) = string else {
         return CommandFault::Memory;
     };
-    let text = Text::copy_of(alloc, &string);
+    let text = in_words(alloc, &string);
     drop(string);
     let Ok(text) = text else {
         return CommandFault::Memory;

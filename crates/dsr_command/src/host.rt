@@ -16,7 +16,7 @@ use links::end_of_links;
 use new::HostNew;
 use source::HostSource;
 use std::fs::{Files, Metadata};
-use std::io::ErrorKind;
+use std::io::{ErrorKind, IsTerminal};
 use std::os::unix::fs::MetadataExt;
 use std::{env, fs};
 
@@ -123,6 +123,10 @@ impl ReportWorld for Host {
 
     fn permit_without(&self, _asked: &Asked) -> HostPermit {
         HostPermit::AtOnce
+    }
+
+    fn is_terminal(&self) -> bool {
+        self.rt.stderr().is_terminal()
     }
 
     fn teller(&self, _asked: &Asked) -> HostRuntime {

@@ -11,19 +11,20 @@
 //! 3. [`read_options`] (`layout_file`): the options of the run, with the layout that its file gives, the leave to open the
 //!    report's files, and, if a seal is asked for, the digest of the layout ([`Sealing`], in `sealing`).
 //! 4. [`open_inputs`] (`inputs`): a source for each file, or standard input alone. Where progress was asked for [`teller_of`]
-//!    has what tells it, and [`watch`] (`watched`) counts with it what the sources give; `progress` writes the counts.
+//!    has what tells it, and [`watch`] (`watched`) counts with it what the sources give; [`Progress`] (`progress`) writes the
+//!    counts, and at the end how fast the files were read.
 //! 5. [`create_beside`] (`new_file`): a new file for `--output`, in a file's folder. [`settle`] (`replacement`) puts it in the
 //!    place of that file after an Ok, and else removes it.
 //! 6. [`write_fault`] and [`exit_status`] (`faults`): the line that says why a run failed, and the exit status.
-//! 7. [`refuse`], [`not_opened`], [`layout_refused`], [`no_new_file`] and [`no_memory`] (`refusals`): what ends the program
-//!    before a file of the report is read.
+//! 7. [`refuse`], [`not_opened`], [`layout_refused`], [`cannot_read`], [`no_new_file`] and [`no_memory`] (`refusals`): what ends
+//!    the program before a file of the report is read.
 //!
 //! **Example**: how the program calls them, in `crates/dsr/src/program.rt`.
 //!
 //! ```
 //!     match read_options(alloc, world, asked) {
 //!         Ok(options) => read_files(rt, alloc, world, asked, options, out, fault),
-//!         Err(error) => layout_refused(layout_name(asked), error, fault),
+//!         Err(error) => (out, layout_refused(layout_name(asked), error, fault)),
 //!     }
 //! ```
 //!
@@ -68,10 +69,13 @@ pub use layout_file::{LayoutReadError, RunOptions, read_options};
 pub use new_file::{NewFileError, create_beside};
 pub use new_outlet::NewOutlet;
 pub use print::{print_text, write_parts};
-pub use refusals::{cannot_replace, layout_refused, no_memory, no_new_file, not_opened, refuse};
+pub use progress::Progress;
+pub use refusals::{
+    cannot_read, cannot_replace, layout_refused, no_memory, no_new_file, not_opened, refuse,
+};
 pub use replacement::settle;
 pub use report_world::ReportWorld;
 pub use sealing::Sealing;
 pub use statement_world::StatementWorld;
-pub use watched::{Watched, teller_of, watch};
+pub use watched::{Telling, Watched, teller_of, watch};
 pub use world::{CreateFault, OpenFault, WordsFault, World};

@@ -24,6 +24,8 @@ pub(crate) struct ProgressLine {
     pub(crate) size: Option<u64>,
     /// The time since the run began, in tenths of a second.
     pub(crate) tenths: u64,
+    /// The time that the rest will take, in seconds, where a terminal shows it.
+    pub(crate) left: Option<u64>,
 }
 
 impl fmt::Display for ProgressLine {
@@ -41,8 +43,49 @@ impl fmt::Display for ProgressLine {
             " bytes, {}.{} seconds",
             self.tenths / 10,
             self.tenths % 10
+        )?;
+        match self.left {
+            Some(left) => write!(f, ", about {left} seconds left"),
+            None => Ok(()),
+        }
+    }
+}
+
+/// The last line of progress.
+#[derive(Clone, Copy)]
+struct LastLine {
+    /// The number of all files.
+    files: usize,
+    /// The number of bytes read.
+    read: u64,
+    /// The time since the run began, in milliseconds.
+    millis: u64,
+}
+
+impl fmt::Display for LastLine {
+    fn fmt<W: fmt::Write>(&self, f: &mut fmt::Formatter<W>) -> fmt::Result {
+        write!(
+            f,
+            "dsr: all {} files, {} bytes, {}.{} seconds, {} bytes a second",
+            self.files,
+            self.read,
+            self.millis / 1_000,
+            self.millis / 100 % 10,
+            rate(self.read, self.millis)
         )
     }
+}
+
+/// The bytes of a second, of this many in this many milliseconds.
+fn rate(read: u64, millis: u64) -> u64 {
+    let thousand = read.saturating_mul(1_000);
+    thousand.checked_div(millis).unwrap_or(thousand)
+}
+
+/// How many seconds the rest takes, if it takes as long for each byte as what was read in this many milliseconds.
+fn seconds_left(read: u64, size: u64, millis: u64) -> Option<u64> {
+    let rest = size.checked_sub(read)?;
+    Some(rest.saturating_mul(millis).checked_div(read)? / 1_000)
 }
 
 /// What was read of all files so far. Any thread may add to it at any time.
@@ -58,8 +101,10 @@ struct Counts {
 
 /// Counts what is read, and writes lines of progress. All sources of a report share one count.
 #[derive(Drop)]
-pub(crate) struct Progress<H> {
+pub struct Progress<H> {
     rt: H,
+    /// Whether a terminal shows the lines.
+    terminal: bool,
     /// When the run began; None if the clock failed, and then no line is written.
     began: Option<Instant>,
     files: usize,
@@ -72,6 +117,7 @@ impl<H: Clock + Eprint + Copy> Progress<H> {
     /// known.
     pub(crate) fn begin(
         rt: &H,
+        terminal: bool,
         alloc: Global,
         files: usize,
         size: Option<u64>,
@@ -86,6 +132,7 @@ impl<H: Clock + Eprint + Copy> Progress<H> {
         };
         Ok(Progress {
             rt: *rt,
+            terminal,
             began: Instant::now(rt).ok(),
             files,
             size,
@@ -98,6 +145,7 @@ impl<H: Clock + Eprint + Copy> Progress<H> {
         match Arc::try_clone(&self.counts) {
             Ok(counts) => Ok(Progress {
                 rt: self.rt,
+                terminal: self.terminal,
                 began: self.began,
                 files: self.files,
                 size: self.size,
@@ -141,12 +189,31 @@ impl<H: Clock + Eprint + Copy> Progress<H> {
 
     /// The line at this time, in milliseconds since the run began.
     fn line(&self, now: u64) -> ProgressLine {
+        let read = self.counts.read.load(Ordering::SeqCst);
+        let left = match self.size {
+            Some(size) if self.terminal => seconds_left(read, size, now),
+            _ => None,
+        };
         ProgressLine {
             done: self.counts.done.load(Ordering::SeqCst),
             files: self.files,
-            read: self.counts.read.load(Ordering::SeqCst),
+            read,
             size: self.size,
             tenths: now / 100,
+            left,
         }
+    }
+
+    /// Writes the last line, once the reading is over.
+    pub fn end(self) {
+        let Some(millis) = self.millis() else {
+            return;
+        };
+        let line = LastLine {
+            files: self.files,
+            read: self.counts.read.load(Ordering::SeqCst),
+            millis,
+        };
+        let _ = self.rt.eprintln(line);
     }
 }

@@ -1,6 +1,6 @@
 //! What ends the program before a file of the report is read.
 ghost use Rattle.std.specs.Prelude.{◌≡◌, codes};
-ghost use Rattle.dsr_command.specs.Faults.{layout_refused_line, layout_refused_status, line_of, unopened_line, unopened_status, IsTold};
+ghost use Rattle.dsr_command.specs.Faults.{cannot_open_line, cannot_read_line, layout_refused_line, layout_refused_status, line_of, shown, unopened_line, unopened_status, IsTold};
 ghost use Rattle.dsr_command.specs.NewFiles.{cannot_replace_line, new_file_line, new_file_status};
 
 use crate::faults::{DSR, REFUSED, UNFINISHED, write_bad_layout, write_line};
@@ -11,6 +11,33 @@ use crate::print::write_parts;
 use dsr_cells::Text;
 use dsr_intake::Outlet;
 
+/// A name as a line shows it: the empty one as two quotes.
+fn shown(name: &str) -> &str
+    ensures { result.now ≡ shown name.now }
+{
+    if name.is_empty() { "''" } else { name }
+}
+
+/// Writes that the file of this name cannot be opened, and returns the exit status.
+fn cannot_open<F: Outlet>(program: &str, name: &str, fault: &mut F) -> u8
+    ensures status { result ≡ 2 }
+    ensures told { IsTold (F.told fault.old) (F.told fault.new)
+        (cannot_open_line program.now name.now) }
+{
+    write_parts(&[program, ": cannot open ", shown(name), "\n"], fault);
+    REFUSED
+}
+
+/// Writes that the file of this name, which was opened, cannot be read, and returns the exit status.
+pub fn cannot_read<F: Outlet>(program: &str, name: &str, fault: &mut F) -> u8
+    ensures status { result ≡ 2 }
+    ensures told { IsTold (F.told fault.old) (F.told fault.new)
+        (cannot_read_line program.now name.now) }
+{
+    write_parts(&[program, ": cannot read ", shown(name), "\n"], fault);
+    REFUSED
+}
+
 /// Writes why there is no layout, of the file of this name if one is named, and returns the exit status.
 pub fn layout_refused<F: Outlet>(name: &str, error: LayoutReadError, fault: &mut F) -> u8
     ensures status { result ≡ layout_refused_status error }
@@ -18,14 +45,8 @@ pub fn layout_refused<F: Outlet>(name: &str, error: LayoutReadError, fault: &mut
         (layout_refused_line name.now error) }
 {
     match error {
-        LayoutReadError::CannotOpen => {
-            write_parts(&["dsr: cannot open ", name, "\n"], fault);
-            REFUSED
-        }
-        LayoutReadError::Read => {
-            write_parts(&["dsr: cannot read ", name, "\n"], fault);
-            REFUSED
-        }
+        LayoutReadError::CannotOpen => cannot_open(DSR, name, fault),
+        LayoutReadError::Read => cannot_read(DSR, name, fault),
         LayoutReadError::Bad(error) => {
             write_bad_layout(error, fault);
             REFUSED
@@ -41,10 +62,7 @@ pub fn not_opened<F: Outlet>(program: &str, error: &OpenError, fault: &mut F) ->
         (unopened_line program.now error.now) }
 {
     match error {
-        OpenError::CannotOpen(name) => {
-            write_parts(&[program, ": cannot open ", name.as_str(), "\n"], fault);
-            REFUSED
-        }
+        OpenError::CannotOpen(name) => cannot_open(program, name.as_str(), fault),
         OpenError::Memory => no_memory(program, fault),
     }
 }
@@ -74,7 +92,7 @@ pub fn no_new_file<F: Outlet>(program: &str, name: &Text, error: NewFileError, f
     ensures told { IsTold (F.told fault.old) (F.told fault.new)
         (new_file_line program.now name.now error) }
 {
-    let name = name.as_str();
+    let name = shown(name.as_str());
     match error {
         NewFileError::IsRead => {
             write_parts(
@@ -97,6 +115,7 @@ pub fn cannot_replace<F: Outlet>(program: &str, name: &Text, fault: &mut F) -> u
     ensures told { IsTold (F.told fault.old) (F.told fault.new)
         (cannot_replace_line program.now name.now) }
 {
-    write_parts(&[program, ": cannot replace ", name.as_str(), "\n"], fault);
+    let name = shown(name.as_str());
+    write_parts(&[program, ": cannot replace ", name, "\n"], fault);
     UNFINISHED
 }

@@ -32,6 +32,9 @@ pub trait ReportWorld: World {
         requires asked { Asks (Self.disk self.now) asked.now }
         requires unnamed { asked.now.layout ≡ None };
 
+    /// Whether what tells the progress writes to a terminal.
+    fn is_terminal(&self) -> bool;
+
     /// What tells the progress, which the words ask for.
     fn teller(&self, asked: &Asked) -> Self::Teller
         requires asked { Asks (Self.disk self.now) asked.now }

@@ -12,13 +12,25 @@ use std::alloc::Global;
 use std::io::Eprint;
 use std::time::Clock;
 
+/// What tells the progress of a run.
+#[derive(Drop)]
+pub struct Telling<T> {
+    /// What writes the lines, and the time.
+    pub teller: T,
+    /// Whether a terminal shows them.
+    pub terminal: bool,
+}
+
 /// What tells the progress of a run, if the words ask for it.
-pub fn teller_of<W: ReportWorld>(world: &W, asked: &Asked) -> Option<W::Teller>
+pub fn teller_of<W: ReportWorld>(world: &W, asked: &Asked) -> Option<Telling<W::Teller>>
     requires { Asks (W.disk world.now) asked.now }
     ensures { MatchOption result (asked.now.progress ≡ false) (λ _. asked.now.progress ≡ true) }
 {
     if asked.progress {
-        Some(world.teller(asked))
+        Some(Telling {
+            teller: world.teller(asked),
+            terminal: world.is_terminal(),
+        })
     } else {
         None
     }
@@ -57,19 +69,21 @@ fn whole_size<R: FileSource>(sources: &Vec<R>) -> Option<u64> {
     Some(size)
 }
 
-/// Wraps the sources, so that their reads are counted and their progress is told.
+/// Wraps the sources, so that their reads are counted and their progress is told. Returns what tells the end, too.
 ///
 /// # Errors
 ///
 /// `NoMemory`: out of memory.
 pub fn watch<R: FileSource + Drop, T: Clock + Eprint + Copy + Drop>(
-    teller: T,
+    telling: Telling<T>,
     alloc: Global,
     sources: Vec<R>,
-) -> Result<Vec<Watched<R, T>>, NoMemory>
-    ensures { IfOk result (λ v. map (λ w. w.source) v.items ≡ sources.items) }
+) -> Result<(Vec<Watched<R, T>>, Progress<T>), NoMemory>
+    ensures { IfOk result (λ v. map (λ w. w.source) v.0.items ≡ sources.items) }
 {
-    let progress = Progress::begin(&teller, alloc, sources.len(), whole_size(&sources))?;
+    let size = whole_size(&sources);
+    let Telling { teller, terminal } = telling;
+    let progress = Progress::begin(&teller, terminal, alloc, sources.len(), size)?;
     let mut watched = Vec::new(alloc);
     for source in sources {
         let progress = progress.share()?;
@@ -77,5 +91,5 @@ pub fn watch<R: FileSource + Drop, T: Clock + Eprint + Copy + Drop>(
             return Err(NoMemory);
         };
     }
-    Ok(watched)
+    Ok((watched, progress))
 }

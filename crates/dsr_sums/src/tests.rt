@@ -18,13 +18,6 @@ INPUT\t1\t0\te3b0c44298fc1c149afbf4c8996fb92427ae41e4649b934ca495991b7852b855
 END\t9\tClean
 ";
 
-/// Sealed statements without remarks.
-const RULES: Rules = Rules {
-    with_remarks: false,
-    unsealed: false,
-    same_message: false,
-};
-
 /// What the statement adds up to.
 const TOTALS: &str = "STATEMENT\t1\tR1\t1\t2024-01-01\t2024-01-31\tClean\t-
 CURRENCY\tGBP\t30\t1.5000000000\t0.3750000000\t1.1250000000
@@ -32,6 +25,13 @@ MARKET\tGB\tOnDemandStream\tGBP\t30\t1.5000000000
 PARTY\tP1\tGBP\t0.2500000000
 PARTY\tP2\tGBP\t0.1250000000
 ";
+
+/// Sealed statements without remarks.
+const RULES: Rules = Rules {
+    with_remarks: false,
+    unsealed: false,
+    same_message: false,
+};
 
 /// The text of the totals of a given statement, or why there is none.
 fn totals_of(alloc: Global, statement: &str) -> Result<Vec<u8>, TotalsError> {

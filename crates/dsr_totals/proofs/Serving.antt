@@ -6,7 +6,7 @@ use Rattle.dsr_command.specs.declared.identity.FileIdentity.{FileIdentity}
 use Rattle.dsr_command.specs.declared.inputs.OpenError.{OpenError}
 use Rattle.dsr_command.specs.declared.inputs.OpenError.TheVariants.{CannotOpen, Memory}
 use Rattle.dsr_command.specs.declared.new_file.NewFileError.{NewFileError}
-use Rattle.dsr_command.specs.Faults.{IsTold, cannot_open_line, line_of}
+use Rattle.dsr_command.specs.Faults.{IsTold, cannot_open_line, cannot_read_line, line_of}
 use Rattle.dsr_command.specs.Inputs.{IsRefusal}
 use Rattle.dsr_command.specs.NewFiles.{IsCreated, new_file_line, new_file_status}
 use Rattle.dsr_command.specs.Outputs.{IsOnlyTold, Outputs, outputs}
@@ -17,7 +17,7 @@ use Rattle.dsr_io.specs.meaning.Written.{Written}
 use Rattle.dsr_totals.specs.declared.totaling.WriteError.{WriteError}
 use Rattle.dsr_totals.specs.declared.lists.InputError.{InputError}
 use Rattle.dsr_totals.specs.declared.lists.InputError.TheVariants.{Open, Read}
-use Rattle.dsr_totals.specs.Refusals.{cannot_read_line, dsr_totals, unread_line, unread_status}
+use Rattle.dsr_totals.specs.Refusals.{dsr_totals, unread_line, unread_status}
 use Rattle.dsr_totals.specs.Steps.{AreOpened, AreUnopened}
 use Rattle.dsr_totals.specs.Totaling.{IsAnswerTold, status_after}
 use Rattle.dsr_totals.specs.Serving.{Ghosts, HadLists, HadOutput, HadStatements, HadTexts, HadTotals, HadTotalsInto, IsEnded, IsServedFor, files_asked, texts_asked, with_listed}
@@ -94,4 +94,4 @@ module _ {R N : Type 0} (g : Ghosts R N) (file : R → Option FileIdentity) (d :
       (only_told out f h (cannot_open_line dsr_totals name) told, is, same))))
   unserved (Open Memory) out f h s e told is same = inr (inr ((only_told out f h (line_of dsr_totals (codes "out of memory")) told, is), same))
   unserved (Read list) out f h s (named, unreadable) told is same =
-      inr (inl (list, named, unreadable, only_told out f h (cannot_read_line list) told, is, same))
+      inr (inl (list, named, unreadable, only_told out f h (cannot_read_line dsr_totals list) told, is, same))

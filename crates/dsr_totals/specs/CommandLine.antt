@@ -6,7 +6,7 @@ use Rattle.clap.specs.Lexer.{usize_max}
 use Rattle.clap.specs.Words.{App, Row, Rule, Text, all_of, fault_of, first_of, matches_of, new_app, new_rule, one_of, with_rule}
 use Rattle.clap.specs.Simple.{on_top}
 use Rattle.clap.specs.declared.builder.action.ArgAction.TheVariants.{Append}
-use Rattle.dsr_command.specs.CommandLine.{IsFaultOf, IsFlagAsked, flag_rule, option_rule}
+use Rattle.dsr_command.specs.CommandLine.{IsFaultOf, IsFlagAsked, flag_rule, output_rule}
 use Rattle.dsr_command.specs.declared.command.CommandFault.{CommandFault}
 use Rattle.dsr_command.specs.declared.command.CommandFault.TheVariants.{Help, Refused, Memory}
 use Rattle.dsr_totals.specs.declared.command.Asked.{Asked}
@@ -30,7 +30,7 @@ bare_command = on_top (λ s. record s { no_binary_name = true; has_version = tru
 unfoldable pub command_line : App
 command_line = with_rule (with_rule (with_rule (with_rule (with_rule (with_rule (with_rule bare_command
     (list_rule (codes "paid"))) (list_rule (codes "paid-from"))) (flag_rule (codes "with-remarks")))
-    (flag_rule (codes "unsealed"))) (flag_rule (codes "same-message"))) (option_rule (codes "output"))) names_rule
+    (flag_rule (codes "unsealed"))) (flag_rule (codes "same-message"))) output_rule) names_rule
 
 -- what the parsed rows of a command line ask for
 pub record IsAskedBy (rows : List Row) (asked : Asked) : Type 0 where

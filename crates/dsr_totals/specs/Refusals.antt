@@ -1,6 +1,6 @@
 -- The line for totals that cannot be had, and the exit status.
 use Rattle.std.specs.Prelude.{ℕ, List, [], ◌∷◌, ◌++◌, codes, decimal}
-use Rattle.dsr_command.specs.Faults.{line_of, unopened_line, unopened_status}
+use Rattle.dsr_command.specs.Faults.{cannot_read_line, line_of, unopened_line, unopened_status}
 use Rattle.dsr_statement.specs.declared.fault.StatementFault.{StatementFault}
 use Rattle.dsr_statement.specs.declared.fault.StatementFault.TheVariants as fault
 use Rattle.dsr_totals.specs.declared.lists.InputError.{InputError}
@@ -56,14 +56,10 @@ no_totals_status (Refused place line why) = 1
 no_totals_status OutOfRange = 3
 no_totals_status Memory = 3
 
--- the line for a list that cannot be read
-abbrev pub cannot_read_line : List ℕ → List ℕ
-cannot_read_line name = codes "dsr_totals: cannot read " ++ (name ++ 10 ∷ [])
-
 -- the line for statements or lists that are not opened, or a list that is not read
 abbrev pub unread_line : InputError → List ℕ
 unread_line (Open error) = unopened_line dsr_totals error
-unread_line (Read list) = cannot_read_line list
+unread_line (Read list) = cannot_read_line dsr_totals list
 
 -- the exit status: 2 unless memory was refused
 abbrev pub unread_status : InputError → ℕ

@@ -6,7 +6,7 @@ use Rattle.dsr_command.specs.declared.command.CommandFault.{CommandFault}
 use Rattle.dsr_command.specs.declared.identity.FileIdentity.{FileIdentity}
 use Rattle.dsr_command.specs.declared.new_file.NewFileError.{NewFileError}
 use Rattle.dsr_command.specs.declared.world.WordsFault.{WordsFault}
-use Rattle.dsr_command.specs.Faults.{cannot_open_line, IsTold}
+use Rattle.dsr_command.specs.Faults.{cannot_open_line, cannot_read_line, IsTold}
 use Rattle.dsr_command.specs.NewFiles.{IsNotCreated, cannot_replace_line, new_file_line, new_file_status}
 use Rattle.dsr_command.specs.Outputs.{IsOnlyTold, IsTurnedDown, IsWithoutMemory, Outputs, no_words_line, no_words_status}
 use Rattle.dsr_command.specs.World.{AreFresh, Disk, IsApart, IsReplacedIn, LacksWords, failing, files_for, made, removed, texts_for, texts_of}
@@ -16,7 +16,7 @@ use Rattle.dsr_totals.specs.CommandLine.{IsAskedFor, IsFaultFor}
 use Rattle.dsr_totals.specs.declared.command.Asked.{Asked}
 use Rattle.dsr_totals.specs.declared.totaling.WriteError.{WriteError}
 use Rattle.dsr_totals.specs.Lists.{IsUnreadable, names_listed}
-use Rattle.dsr_totals.specs.Refusals.{cannot_read_line, dsr_totals}
+use Rattle.dsr_totals.specs.Refusals.{dsr_totals}
 use Rattle.dsr_totals.specs.Totaling.{IsAnswerTold, WroteTotals, status_after}
 
 -- what the sources and the new files of a world tell
@@ -109,7 +109,7 @@ HadLists g disk left asked before after status (Err name) =
 abbrev pub LackedList : {R : Type 0} → (R → Told) → Disk → Option Disk → Asked → Outputs → Outputs → ℕ → Type 0
 LackedList told disk left asked before after status =
     (list : List ℕ) × Contains asked.lists list × IsUnreadable told disk list
-    × IsOnlyTold (cannot_read_line list) before after × (status ≡ 2) × (left ≡ Some disk)
+    × IsOnlyTold (cannot_read_line dsr_totals list) before after × (status ≡ 2) × (left ≡ Some disk)
 
 -- what the program does for what is asked for
 abbrev pub IsServedFor : {R N : Type 0} → Ghosts R N → Disk → Option Disk → Asked → Outputs → Outputs → ℕ → Type 0

@@ -4,7 +4,7 @@ ghost use Rattle.std.specs.Str.{bytes_eq};
 ghost use Rattle.std.specs.String.{string_bytes};
 ghost use Rattle.clap.specs.Values.{kind_of};
 ghost use Rattle.clap.specs.Words.{app_of, found_of, rows_of, rule_of};
-ghost use Rattle.dsr_command.specs.CommandLine.{Answers, flag_rule, option_rule};
+ghost use Rattle.dsr_command.specs.CommandLine.{Answers, flag_rule, output_rule};
 ghost use Rattle.dsr_totals.specs.CommandLine.{IsAskedBy, IsAskedFor, IsFaultFor, IsUnequal, bare_command, command_line, lacks_equals, list_rule, names_rule};
 
 use crate::command::Asked;
@@ -117,12 +117,13 @@ number of files or another period, too",
         )
 }
 
-/// `--output FILE`.
+/// `--output FILE`, or `-o FILE`.
 fn output_option<'a>(alloc: Global) -> Arg<'a>
-    ensures rule { rule_of result ≡ option_rule (codes "output") }
+    ensures rule { rule_of result ≡ output_rule }
     ensures local { result.global ≡ false }
 {
     Arg::new(alloc, "output")
+        .short('o')
         .long("output")
         .value_name("FILE")
         .action(ArgAction::Set)

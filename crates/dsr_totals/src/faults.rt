@@ -1,10 +1,10 @@
 //! The lines for totals that cannot be had.
 ghost use Rattle.std.specs.Prelude.{◌≡◌};
 ghost use Rattle.dsr_command.specs.Faults.{IsTold, IsWritten};
-ghost use Rattle.dsr_totals.specs.Refusals.{cannot_read_line, fault_text, no_totals_line, no_totals_status, of_other, refusal_line, unread_line, unread_status};
+ghost use Rattle.dsr_totals.specs.Refusals.{fault_text, no_totals_line, no_totals_status, of_other, refusal_line, unread_line, unread_status};
 
 use crate::lists::InputError;
-use dsr_command::{REFUSED, UNFINISHED, no_memory, not_opened, write_line, write_parts};
+use dsr_command::{UNFINISHED, cannot_read, no_memory, not_opened, write_line, write_parts};
 use dsr_io::Outlet;
 use dsr_statement::StatementFault;
 use dsr_sums::TotalsError;
@@ -108,9 +108,6 @@ pub(crate) fn not_read<F: Outlet>(error: &InputError, fault: &mut F) -> u8
 {
     match error {
         InputError::Open(error) => not_opened(DSR_TOTALS, error, fault),
-        InputError::Read(list) => {
-            write_parts(&["dsr_totals: cannot read ", list.as_str(), "\n"], fault);
-            REFUSED
-        }
+        InputError::Read(list) => cannot_read(DSR_TOTALS, list.as_str(), fault),
     }
 }
