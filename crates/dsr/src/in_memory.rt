@@ -381,7 +381,7 @@ fn each_task_is_done(rt: HostRuntime) -> Result<(), Fail> {
     Ok(())
 }
 
-/// 61 runs, of which 54 have a read that fails.
+/// 54 runs, of which 44 have a read that fails.
 #[test]
 fn each_read_fails_in_turn(rt: HostRuntime) -> Result<(), Fail> {
     for task in TASKS {
@@ -396,16 +396,18 @@ fn each_read_fails_in_turn(rt: HostRuntime) -> Result<(), Fail> {
     Ok(())
 }
 
+/// 71 runs, of which 57 have a write and 7 a flush that fails.
 #[test]
 fn each_write_fails_in_turn(rt: HostRuntime) -> Result<(), Fail> {
     for task in TASKS {
         let writes = failing_writes(&rt, rt.alloc(), &task)?;
-        assert!(rt; writes == Some(7) || writes == Some(9) || writes == Some(10));
+        assert!(rt; writes == Some(7 + task.seal.len().div_ceil(64) as u64));
         assert!(rt; ends_unflushed(&rt, rt.alloc(), &task)?);
     }
     Ok(())
 }
 
+/// 20 runs.
 #[test]
 fn memory_is_refused_at_each_call(rt: HostRuntime) -> Result<(), Fail> {
     for task in TASKS {
@@ -421,6 +423,7 @@ fn memory_is_refused_at_each_call(rt: HostRuntime) -> Result<(), Fail> {
     Ok(())
 }
 
+/// 9 runs.
 #[test]
 fn each_call_for_a_new_file_fails_in_turn(rt: HostRuntime) -> Result<(), Fail> {
     for task in TASKS {

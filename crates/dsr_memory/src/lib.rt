@@ -7,15 +7,25 @@
 //!    output: it keeps what it takes. [`Quiet`] (`quiet`) tells no progress.
 //! 3. [`Fault`] (`fault`) is the call that fails.
 //!
-//! **Example**, from `crates/dsr/src/in_memory.rt`:
+//! **Example**, compiled and proved in `crates/dsr/src/in_memory.rt`:
 //!
 //! ```
+//!     let mut world = MemoryWorld::new(alloc, fault);
+//!     for word in words {
+//!         world.add_word(word)?;
+//!     }
+//!     world.set_input(REPORT)?;
+//!     world.add_file("report.tsv", REPORT)?;
+//!     world.add_file("layout.tsv", LAYOUT)?;
+//!     world.add_file("old.tsv", OLD)?;
+//!     Ok(world)
 //! ```
 //!
-//! **The promise.** It is a world that tells what it has: what it says of its words, its files and its new files is true, and each
-//! call does what the contract of its trait says. So there is a world in which the contracts of the programs say what they write.
+//! **The promise.** It tells what it has, its words and the bytes behind its names, and each of its calls does what the contracts of
+//! the traits say of a world that tells. So these contracts can be met, and what the programs' contracts say of such a world says
+//! something. No call waits.
 //!
-//! **Where to begin.** `specs/Disks.antt` says what the world has.
+//! **Where to begin.** `specs/Disks.antt` says what it has, and `src/world.rt` has its calls.
 #![tactic(auto)]
 
 mod fault;

@@ -321,6 +321,10 @@ impl ReportWorld for MemoryWorld {
     fn teller(&self, _asked: &Asked) -> Quiet {
         Quiet
     }
+
+    fn is_terminal(&self) -> bool {
+        false
+    }
 }
 
 impl StatementWorld for MemoryWorld {

@@ -279,6 +279,7 @@ fn each_task_is_done(rt: HostRuntime) -> Result<(), Fail> {
     Ok(())
 }
 
+/// 96 runs, of which 85 have a read that fails.
 #[test]
 fn each_read_fails_in_turn(rt: HostRuntime) -> Result<(), Fail> {
     for task in TASKS {
@@ -290,6 +291,7 @@ fn each_read_fails_in_turn(rt: HostRuntime) -> Result<(), Fail> {
     Ok(())
 }
 
+/// 36 runs, of which 24 have a write and 6 a flush that fails.
 #[test]
 fn each_write_fails_in_turn(rt: HostRuntime) -> Result<(), Fail> {
     for task in TASKS {
@@ -299,6 +301,7 @@ fn each_write_fails_in_turn(rt: HostRuntime) -> Result<(), Fail> {
     Ok(())
 }
 
+/// 19 runs.
 #[test]
 fn memory_is_refused_at_each_call(rt: HostRuntime) -> Result<(), Fail> {
     let text = b"dsr_totals: out of memory\n";
@@ -315,6 +318,7 @@ fn memory_is_refused_at_each_call(rt: HostRuntime) -> Result<(), Fail> {
     Ok(())
 }
 
+/// 6 runs.
 #[test]
 fn each_call_for_a_new_file_fails_in_turn(rt: HostRuntime) -> Result<(), Fail> {
     for task in TASKS {
