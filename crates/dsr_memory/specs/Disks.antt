@@ -1,5 +1,5 @@
 -- What a world in memory has, by its files.
-use Rattle.std.specs.Prelude.{ℕ, List, Bool, Option, None, Some, if◌then◌else◌}
+use Rattle.std.specs.Prelude.{ℕ, List, Option, None, Some, if◌then◌else◌}
 use Rattle.std.specs.List.{find}
 use Rattle.std.specs.Str.{bytes_eq}
 use Rattle.dsr_command.specs.declared.identity.FileIdentity.{FileIdentity}
