@@ -7,11 +7,14 @@
 //!    they give (dsr_seal), and writes the seal behind the statement.
 //! 3. `main` gives `serve` the words and files of the system (`Host` of dsr_command) and its outputs, and ends with the exit
 //!    status that it returns.
+//! 4. `in_memory` has the tests: whole runs over words and files in memory (dsr_memory), with each of their calls failing in turn.
 //!
 //! No crate depends on this one: another program calls `run` of dsr_intake, or reads a file by `FileReader` as
 //! `crates/example_reader` does.
 #![tactic(auto)]
 
+#[cfg(test)]
+mod in_memory;
 mod program;
 mod running;
 mod sealing;

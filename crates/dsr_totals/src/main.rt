@@ -6,6 +6,7 @@
 //!    in its place. `faults` has the line for a statement that is refused, and for totals that are out of range.
 //! 3. `main` gives `serve` the words and files of the system (`Host` of dsr_command) and its outputs, and ends with the exit
 //!    status that it returns.
+//! 4. `in_memory` has the tests: whole runs over words and files in memory (dsr_memory), with each of their calls failing in turn.
 //!
 //! What both programs do stands in dsr_command. No crate depends on this one: another program calls `add_up` of dsr_sums.
 #![tactic(auto)]
@@ -13,6 +14,8 @@
 mod arguments;
 mod command;
 mod faults;
+#[cfg(test)]
+mod in_memory;
 mod lists;
 mod opening;
 mod program;

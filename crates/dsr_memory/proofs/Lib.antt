@@ -1,0 +1,2 @@
+-- What the reads of a source give.
+pub mod Pieces

@@ -1,0 +1,2 @@
+-- What the world in memory has.
+pub mod Disks

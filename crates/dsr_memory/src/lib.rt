@@ -1,0 +1,43 @@
+//! The words and the files of a program in memory, for tests: a [`World`](dsr_command::World) that tells its bytes, and in which
+//! a chosen call fails.
+//!
+//! 1. [`MemoryWorld`] (`world`): words, standard input and [`MemoryFile`]s (`file`). It is a `World`, a `ReportWorld` and a
+//!    `StatementWorld` of dsr_command.
+//! 2. [`MemorySource`] (`source`) gives the bytes of a file, a few a read. [`MemoryOutlet`] (`outlet`) is a new file, or an
+//!    output: it keeps what it takes. [`Quiet`] (`quiet`) tells no progress.
+//! 3. [`Fault`] (`fault`) is the call that fails.
+//!
+//! **Example**, compiled and proved in `crates/dsr/src/in_memory.rt`:
+//!
+//! ```
+//!     let mut world = MemoryWorld::new(alloc, fault);
+//!     for word in words {
+//!         world.add_word(word)?;
+//!     }
+//!     world.set_input(REPORT)?;
+//!     world.add_file("report.tsv", REPORT)?;
+//!     world.add_file("layout.tsv", LAYOUT)?;
+//!     world.add_file("old.tsv", OLD)?;
+//!     Ok(world)
+//! ```
+//!
+//! **The promise.** It tells what it has, its words and the bytes behind its names, and each of its calls does what the contracts of
+//! the traits say of a world that tells. So these contracts can be met, and what the programs' contracts say of such a world says
+//! something. No call waits.
+//!
+//! **Where to begin.** `specs/Disks.antt` says what it has, and `src/world.rt` has its calls.
+#![tactic(auto)]
+
+mod fault;
+mod file;
+mod outlet;
+mod quiet;
+mod source;
+mod world;
+
+pub use fault::Fault;
+pub use file::MemoryFile;
+pub use outlet::MemoryOutlet;
+pub use quiet::Quiet;
+pub use source::MemorySource;
+pub use world::{MemoryPermit, MemoryWorld};
