@@ -18,6 +18,7 @@ returns-clause-bytes c =
     take_all (length d - a) (drop a d) (omega (arith, length-drop a d)) ∙ ap (drop a) same in
     let is_count : n ≡ min (min (length (drop a l)) (length piece)) 64 = omega (arith, ap length rest) in
     let is_given : given ≡ take n (drop a l) = c.copy_from_slice.ensures.after ∙ ap (take n) rest in
-    let length_given : length given ≡ n = omega (arith, c.copy_from_slice.ensures.len, length-take n piece) in
-    (consumed l (drop a l) given (drop n piece) c.args.self.now.at a n is_at refl is_given (omega arith),
-    λ none room. at_the_end l (drop a l) given piece a n refl is_count length_given none room)
+    let length_given : length given ≡ n = omega (arith, c.copy_from_slice.ensures.len, length-take n piece) in (
+      consumed l (drop a l) given (drop n piece) c.args.self.now.at a n is_at refl is_given (omega arith),
+      λ none room. at_the_end l (drop a l) given piece a n refl is_count length_given none room,
+    )

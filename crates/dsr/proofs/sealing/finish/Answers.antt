@@ -1,2 +1,0 @@
-use Rattle.std.proofs.Common.{arith, refl}
-use Rattle.dsr.proofs.sealing.finish.Goals as goal
