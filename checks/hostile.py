@@ -86,7 +86,7 @@ class Outside:
 def names(o):
     for name in ('none.tsv', '', 'small.tsv/x', 'n' * 5000):
         for words in ([name], ['small.tsv', name]):
-            o.refuses(f'a name that is not there: {name[:20]!r}, {len(words)} given', o.run(*words), 2, f'cannot open {name}')
+            o.refuses(f'a name that is not there: {name[:20]!r}, {len(words)} given', o.run(*words), 2, 'cannot open ' + (name or "''"))
     for name in NAMES:
         o.prints(f'the name {name!r}', o.run(o.write(name, o.content)))
     o.write('-dash.tsv', o.content)

@@ -30,7 +30,7 @@ def open_file(name):
     try:
         return Folder() if os.path.isdir(name) else open(name, 'rb')
     except OSError:
-        raise Answered(2, b'cannot open ' + name) from None
+        raise Answered(2, b'cannot open ' + (name or b"''")) from None
 
 
 def opened(names):
