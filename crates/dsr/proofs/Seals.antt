@@ -15,7 +15,8 @@ use Rattle.dsr_intake.specs.declared.options.Options.{Options}
 use Rattle.dsr_intake.specs.meaning.Outcomes.{IsLateRun, IsReported, IsUntouched, IsUnwritten}
 use Rattle.dsr_intake.specs.meaning.Texts.{HoldEach, refusal_of, report_of_texts}
 use Rattle.dsr_seal.proofs.Inside.{cut_inside, flushed_inside}
-use Rattle.dsr_seal.specs.meaning.Counts.{IsCounted, IsInside, last, line_feeds}
+use Rattle.dsr_seal.specs.meaning.Counts.{line_feeds}
+use Rattle.dsr_seal.specs.layer.Counts.{IsCounted, IsInside, last}
 use Rattle.dsr_seal.specs.meaning.Digests.{digest_of}
 use Rattle.dsr_statement.specs.declared.verdict.Status.{Status}
 use Rattle.dsr_statement.specs.meaning.Digests.{Digest}

@@ -1,6 +1,6 @@
 //! A run whose statement ends with a seal.
 ghost use Rattle.std.specs.Prelude.{◌≡◌, ◌≤◌, ℕ, false, [], List, All, IfOk, vec_len, vec_capacity, map};
-ghost use Rattle.dsr_seal.specs.meaning.Counts.{IsCounted};
+ghost use Rattle.dsr_seal.specs.layer.Counts.{IsCounted};
 ghost use Rattle.dsr_seal.specs.meaning.Digests.{digest_of};
 ghost use Rattle.dsr.specs.Serving.{IsSealedAnswer};
 ghost use Rattle.dsr.specs.Sealing.{HoldTexts, IsEnded};

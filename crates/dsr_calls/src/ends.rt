@@ -1,6 +1,7 @@
 //! The ends of a relay, as long as they are there.
 ghost use Rattle.std.specs.Prelude.{◌≡◌, ◌∷◌, ◌++◌, [], ℕ, true, false};
-ghost use Rattle.dsr_events.specs.meaning.Orderly.{IsOrderly, MayStandAt, has_ended};
+ghost use Rattle.dsr_events.specs.meaning.Orderly.{has_ended};
+ghost use Rattle.dsr_events.specs.layer.Orderly.{IsOrderly, MayStandAt};
 
 use dsr_events::{Event, EventPart};
 use dsr_relay::{Closed, Feed, Tap};

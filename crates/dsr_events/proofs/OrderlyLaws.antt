@@ -1,7 +1,8 @@
 -- Laws of orderly lists.
 use Rattle.std.proofs.Common.{◌≡◌, ℕ, zero, suc, Bool, true, false, true≢false, ◌||◌, ◌⊎◌, inl, inr, ⊎_elim, append_assoc, List, [], ◌∷◌, ◌++◌, length, Some, slice_get, refl, sym, ap, ◌∙◌, subst, arith, length-append}
 use Rattle.std.proofs.lemmas.Option.{slice_get_within}
-use Rattle.dsr_events.specs.meaning.Orderly.{Placed, is_ended, has_ended, MayStandAt, IsOrderly}
+use Rattle.dsr_events.specs.meaning.Orderly.{Placed, is_ended, has_ended}
+use Rattle.dsr_events.specs.layer.Orderly.{MayStandAt, IsOrderly}
 
 pub slice_get_front : (xs ys : List Placed) (k : ℕ) (e : Placed) → slice_get xs k ≡ Some e → slice_get (xs ++ ys) k ≡ Some e
 slice_get_front [] ys k e h = absurd (cc)

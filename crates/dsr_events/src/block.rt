@@ -1,6 +1,6 @@
 //! A block: one resource, its works and its usages.
 ghost use Rattle.std.specs.Prelude.{◌≡◌, ◌≤◌, ◌+◌, length};
-ghost use Rattle.dsr_events.specs.meaning.Blocks.{empty_block};
+ghost use Rattle.dsr_events.specs.layer.Blocks.{empty_block};
 
 use crate::record::{Resource, Usage, Work};
 use dsr_cells::Text;

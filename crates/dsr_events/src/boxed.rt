@@ -1,6 +1,6 @@
 //! A block on the heap.
 ghost use Rattle.std.specs.Prelude.{◌≡◌, IfOk};
-ghost use Rattle.dsr_events.specs.meaning.Blocks.{empty_block};
+ghost use Rattle.dsr_events.specs.layer.Blocks.{empty_block};
 
 use crate::block::Block;
 use dsr_cells::NoMemory;

@@ -1,6 +1,7 @@
 //! The endings, outcomes and faults of a file.
 ghost use Rattle.std.specs.Prelude.{◌≡◌};
-ghost use Rattle.dsr_events.specs.meaning.Names.{name_of, column_named, is_memory};
+ghost use Rattle.dsr_events.specs.meaning.Names.{name_of, column_named};
+ghost use Rattle.dsr_events.specs.layer.Names.{is_memory};
 
 use crate::kinds::Column;
 

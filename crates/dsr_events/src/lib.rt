@@ -33,11 +33,11 @@
 //!
 //! **The promise.** A block has at most 64 records and keeps their order, on the heap too. A work has one share for
 //! each party. An opening has no two summaries with the same identifier, and an event's place is below 2^37. What
-//! an orderly list of events is stands in `specs/meaning/Orderly.antt`: event i has place i, Opened may only be the first, a
+//! an orderly list of events is stands in `specs/layer/Orderly.antt`: event i has place i, Opened may only be the first, a
 //! block may not be the first, and only the last may be Ended.
 //!
 //! **Where to begin.** `specs/meaning/Blocks.antt` has what contracts see of a block, `specs/meaning/Works.antt` what they see
-//! of a work, and `src/block.rt` the block; then `specs/meaning/Orderly.antt` and `src/event.rt`.
+//! of a work, and `src/block.rt` the block; then `specs/layer/Orderly.antt` and `src/event.rt`.
 #![tactic(auto)]
 
 mod block;

@@ -57,7 +57,7 @@ pub struct Resource {
 
 /// An empty resource, to be overwritten.
 impl MadeWith<Global> for Resource {
-    ghost use Rattle.dsr_events.specs.meaning.Blocks.{empty_resource};
+    ghost use Rattle.dsr_events.specs.layer.Blocks.{empty_resource};
 
     ghost is_made_with = { λ r. r ≡ empty_resource };
 

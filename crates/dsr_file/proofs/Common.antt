@@ -21,13 +21,17 @@ pub use Rattle.dsr_events.specs.declared.fault.Outcome.{Outcome}
 pub use Rattle.dsr_events.specs.declared.kinds.Kind.{Kind}
 pub use Rattle.dsr_events.specs.declared.record.Record.{Record}
 pub use Rattle.dsr_events.specs.declared.record.Record.TheVariants.{Foot, Head, Resource, Skipped, Summary, Usage, Work}
-pub use Rattle.dsr_events.specs.meaning.Blocks.{BlockParts, OpensBlock}
+pub use Rattle.dsr_events.specs.meaning.Blocks.{BlockParts}
+pub use Rattle.dsr_events.specs.layer.Blocks.{OpensBlock}
 pub use Rattle.dsr_events.specs.meaning.Openings.{HasDistinctIds, OpeningParts, distinct}
-pub use Rattle.dsr_events.specs.meaning.Orderly.{IsOrderly, has_ended, is_ended, Placed}
-pub use Rattle.dsr_io.specs.meaning.Told.{AddsRead, Answered}
+pub use Rattle.dsr_events.specs.meaning.Orderly.{has_ended, is_ended, Placed}
+pub use Rattle.dsr_events.specs.layer.Orderly.{IsOrderly}
+pub use Rattle.dsr_io.specs.meaning.Told.{Answered}
+pub use Rattle.dsr_io.specs.layer.Told.{AddsRead}
 pub use Rattle.dsr_records.specs.inner.Rows.{found_by, record_seen}
 pub use Rattle.dsr_records.specs.meaning.Layouts.{is_left_out}
-pub use Rattle.dsr_records.specs.meaning.Values.{id_of_record, kind_of_record, record_of}
+pub use Rattle.dsr_records.specs.meaning.Values.{id_of_record, record_of}
+pub use Rattle.dsr_records.specs.layer.Values.{kind_of_record}
 pub use Rattle.dsr_records.specs.meaning.Records.{LayoutTable, or_else}
 pub use mathlib.Core.List.{IsPrefix}
 pub use Rattle.dsr_file.specs.declared.grammar.Grammar.{Grammar}
@@ -47,5 +51,6 @@ unfoldable pub use Rattle.dsr_file.specs.meaning.Faults.{fault_of}
 pub use Rattle.dsr_file.specs.meaning.Texts.{lines_among, AllGood, At, First, counts_fault, end_of, ended_so_far, first_from, first_if, outcome, outcome_at, placed, readings, so_far, taken, text_events}
 pub use Rattle.dsr_file.specs.meaning.Readings.{block_limit, block_of, but_last, closed, has_id, is_usage, last_of, opened, opening_of, opens, parts, summaries, usages, works, works_then_usages, Holds, Reading, SkippedLine, file_fault, is_skipped_line, is_skipped_record, kept, of_record, records}
 unfoldable pub use Rattle.dsr_file.specs.meaning.Readings.{events_of, of_text, of_utf8, reading}
-pub use Rattle.dsr_file.specs.meaning.Runs.{BeginsEvents, EndsByMemory, EndsWith, FileText, HasEvents, IsCutOff, IsRun, IsSomeRun, ended, known_events, known_lines}
+pub use Rattle.dsr_file.specs.meaning.Runs.{FileText}
+pub use Rattle.dsr_file.specs.layer.Runs.{BeginsEvents, EndsByMemory, EndsWith, HasEvents, IsCutOff, IsRun, IsSomeRun, ended, known_events, known_lines}
 unfoldable pub use Rattle.dsr_file.specs.meaning.Texts.{events, events_so_far}

@@ -7,9 +7,10 @@ use Rattle.dsr_events.specs.declared.fault.FileFault.TheVariants as faults
 use Rattle.dsr_events.specs.declared.fault.Outcome.TheVariants as outcomes
 use Rattle.dsr_io.specs.declared.read_count.ReadCount.{ReadCount}
 use Rattle.dsr_file.specs.declared.phase.Phase.TheVariants as phases
-use Rattle.dsr_events.specs.meaning.Names.{is_memory}
+use Rattle.dsr_events.specs.layer.Names.{is_memory}
 use Rattle.dsr_io.specs.meaning.Told.{Told}
-use Rattle.dsr_file.specs.meaning.Sources.{Gave, before_last, HasEarlier, Stopped, IsRead, IsRefused}
+use Rattle.dsr_file.specs.meaning.Sources.{Gave, before_last, Stopped}
+use Rattle.dsr_file.specs.layer.Sources.{HasEarlier, IsRead, IsRefused}
 use Rattle.dsr_file.proofs.LawLemmas.{fault_is_final_lem}
 use Rattle.dsr_file.proofs.RunLemmas.{cut_off_is, cut_off_later}
 use Rattle.dsr_file.proofs.StandLemmas.{ended_last, ends_has_ended, done_ended}

@@ -2,7 +2,7 @@
 use Rattle.dsr_file.proofs.Common.{Result, Ok, Err, IfOk, IfErr, Placed}
 use Rattle.dsr_file.specs.declared.reading.ReadFileError.{ReadFileError}
 use Rattle.dsr_file.specs.declared.reading.ReadFileError.TheVariants.{Refused}
-use Rattle.dsr_file.specs.meaning.Sources.{refused_event}
+use Rattle.dsr_file.specs.layer.Sources.{refused_event}
 
 module _ {O : Type 0} where
   pub if_refused : (r : Result O Placed) (Q : Placed → Type 0) (P : ReadFileError → Type 0)

@@ -2,10 +2,10 @@
 ghost use Rattle.std.specs.Prelude.{◌≡◌, ◌++◌, ◌∷◌, ◌<◌, ◌^◌, [], true, false, IfOk, IfErr, OnOk, OnErr, IfSome, Some, None, is_some};
 ghost use Rattle.std.specs.Option.{option_to_list};
 ghost use Rattle.dsr_events.specs.declared.kinds.Kind.TheVariants as kinds;
-ghost use Rattle.dsr_events.specs.meaning.Blocks.{OpensBlock};
+ghost use Rattle.dsr_events.specs.layer.Blocks.{OpensBlock};
 ghost use Rattle.dsr_records.specs.inner.Rows.{record_seen};
-ghost use Rattle.dsr_records.specs.meaning.Values.{has_texts, kind_of_record};
-ghost use Rattle.dsr_file.specs.meaning.Runs.{IsSomeRun};
+ghost use Rattle.dsr_records.specs.layer.Values.{has_texts, kind_of_record};
+ghost use Rattle.dsr_file.specs.layer.Runs.{IsSomeRun};
 ghost use Rattle.dsr_file.specs.inner.Stages.{block_count, event_at};
 
 use crate::sink::Sink;

@@ -2,8 +2,10 @@
 ghost use Rattle.std.specs.Prelude.{◌≡◌, ◌++◌, List, ℕ, true};
 ghost use mathlib.Core.List.{IsPrefix};
 ghost use Rattle.dsr_records.specs.meaning.Records.{LayoutTable};
-ghost use Rattle.dsr_events.specs.meaning.Orderly.{has_ended, IsOrderly, Placed};
-ghost use Rattle.dsr_file.specs.meaning.Runs.{FileText, IsRun};
+ghost use Rattle.dsr_events.specs.meaning.Orderly.{has_ended, Placed};
+ghost use Rattle.dsr_events.specs.layer.Orderly.{IsOrderly};
+ghost use Rattle.dsr_file.specs.meaning.Runs.{FileText};
+ghost use Rattle.dsr_file.specs.layer.Runs.{IsRun};
 ghost use Rattle.dsr_file.specs.meaning.Texts.{so_far, text_events};
 ghost use Rattle.dsr_events.specs.declared.fault.Ending.{Ending};
 

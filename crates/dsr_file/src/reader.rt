@@ -5,7 +5,7 @@ ghost use Rattle.dsr_records.specs.meaning.Records.{LayoutTable};
 ghost use Rattle.dsr_events.specs.meaning.Orderly.{Placed, has_ended};
 ghost use Rattle.dsr_file.specs.inner.Allowance.{allowance, left};
 ghost use Rattle.dsr_file.specs.inner.Stages.{event_at};
-ghost use Rattle.dsr_file.specs.meaning.Runs.{ended};
+ghost use Rattle.dsr_file.specs.layer.Runs.{ended};
 
 use crate::closed::Closed;
 use crate::cutter::{Cut, Cutter};

@@ -2,8 +2,8 @@
 ghost use Rattle.std.specs.Prelude.{◌≡◌, [], ◌<◌, ◌≤◌, ◌^◌, false, None, IfOk, OnOk, IfErr};
 ghost use Rattle.dsr_io.specs.meaning.Told.{HoldsGiven};
 ghost use Rattle.dsr_records.specs.meaning.Records.{LayoutTable};
-ghost use Rattle.dsr_file.specs.meaning.Runs.{EndsWith};
-ghost use Rattle.dsr_file.specs.meaning.Sources.{IsRead, IsRefused, IsRefusal, refused_event};
+ghost use Rattle.dsr_file.specs.layer.Runs.{EndsWith};
+ghost use Rattle.dsr_file.specs.layer.Sources.{IsRead, IsRefused, IsRefusal, refused_event};
 ghost use Rattle.dsr_file.specs.inner.Standing.{Stands, bytes_used, ending_told};
 
 use crate::closed::Closed;

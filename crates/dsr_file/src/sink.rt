@@ -1,7 +1,8 @@
 //! The destination of a file's events.
 ghost use Rattle.std.specs.Prelude.{◌≡◌, ◌<◌, ◌^◌, List, [], ◌∷◌, ◌++◌, true, false, OnOk, IfErr};
-ghost use Rattle.dsr_events.specs.meaning.Orderly.{Placed, block_event};
-ghost use Rattle.dsr_file.specs.meaning.Runs.{IsSomeRun};
+ghost use Rattle.dsr_events.specs.meaning.Orderly.{Placed};
+ghost use Rattle.dsr_events.specs.layer.Orderly.{block_event};
+ghost use Rattle.dsr_file.specs.layer.Runs.{IsSomeRun};
 
 use dsr_events::{Event, EventList};
 use dsr_records::Block;

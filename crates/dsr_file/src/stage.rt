@@ -6,7 +6,7 @@ ghost use Rattle.std.specs.Option.{option_map};
 ghost use Rattle.dsr_events.specs.declared.kinds.Kind.TheVariants as kinds;
 ghost use Rattle.dsr_events.specs.declared.record.Record.TheVariants as Record;
 ghost use Rattle.dsr_records.specs.inner.Rows.{record_seen};
-ghost use Rattle.dsr_records.specs.meaning.Values.{has_texts, kind_of_record};
+ghost use Rattle.dsr_records.specs.layer.Values.{has_texts, kind_of_record};
 ghost use Rattle.dsr_file.specs.meaning.Faults.{place, member_fault, summary_fault};
 ghost use Rattle.dsr_file.specs.inner.Stages.{column_at, stage_fault, stage_after, given_by, part_given, kept_fault, block_length, IsFree, IsMember, IsNew};
 

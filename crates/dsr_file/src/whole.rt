@@ -2,7 +2,7 @@
 ghost use Rattle.std.specs.Prelude.{◌≡◌, ◌++◌, ◌+◌, ◌≤◌, ◌^◌, [], length, List, ℕ, Some, None, Ok, IfOk};
 ghost use Rattle.dsr_records.specs.meaning.Records.{LayoutTable};
 ghost use Rattle.dsr_file.specs.meaning.Texts.{text_events};
-ghost use Rattle.dsr_file.specs.meaning.Runs.{HasEvents, EndsWith};
+ghost use Rattle.dsr_file.specs.layer.Runs.{HasEvents, EndsWith};
 ghost use Rattle.dsr_file.specs.inner.Standing.{Stands, bytes_used, ending_told};
 ghost use Rattle.dsr_file.specs.inner.ReaderSteps.{IsKnown};
 

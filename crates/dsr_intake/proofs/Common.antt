@@ -11,14 +11,16 @@ pub use Rattle.std.specs.Vec.Iter.{into_iter_items, into_iter_len}
 pub use Rattle.dsr_events.specs.declared.event.EventPart.{EventPart}
 pub use Rattle.dsr_events.specs.declared.fault.Outcome.{Outcome}
 pub use Rattle.dsr_events.proofs.OrderlyLaws.{orderly_front, orderly_next, slice_get_front}
-pub use Rattle.dsr_events.specs.meaning.Orderly.{IsOrderly, MayStandAt, has_ended, is_ended, Placed}
+pub use Rattle.dsr_events.specs.meaning.Orderly.{has_ended, is_ended, Placed}
+pub use Rattle.dsr_events.specs.layer.Orderly.{IsOrderly, MayStandAt}
 pub use Rattle.dsr_file.proofs.RunLemmas.{run_orderly}
 pub use Rattle.dsr_file.specs.meaning.Runs.{FileText, events_of_text}
 pub use Rattle.dsr_io.specs.meaning.Told.{Told}
 pub use Rattle.dsr_ledger.specs.declared.books.Books.{Books}
 pub use Rattle.dsr_ledger.specs.inner.BooksWords.{AllEnded, CanBook, CanEnd, Stands, files_count, opened_count}
-pub use Rattle.dsr_ledger.specs.meaning.Files.{File, add_block, end_with, opened, with_block, with_outcome}
-pub use Rattle.dsr_relay.specs.meaning.Views.{TapView}
+pub use Rattle.dsr_ledger.specs.meaning.Files.{File}
+pub use Rattle.dsr_ledger.specs.layer.Files.{add_block, end_with, opened, with_block, with_outcome}
+pub use Rattle.dsr_relay.specs.layer.Views.{TapView}
 pub use Rattle.dsr_intake.specs.declared.options.Options.{Options}
 pub use Rattle.dsr_intake.specs.inner.Collecting.{Changes, IsDrained, IsFileAt, IsFollowed, IsGoing, IsNext, IsStoppedAt, IsTapped, Knows, Opens, TakesAll, first_file, is_opening, with_part, ends_clean, is_clean_end, IsGiven, HasMore, taken_count}
 pub use Rattle.dsr_intake.specs.meaning.Texts.{GaveEach, block_in, file_of, first, opening_in, outcome_in}

@@ -2,10 +2,10 @@
 use Rattle.dsr_intake.proofs.Common.{◌≡◌, ◌∙◌, Bool, true, false, sym, has_ended, List, [], ◌∷◌, ◌++◌, inl, inr, ap, refl, Result, Ok, Err, IfErr, IfOk, OnOk, Outcome, Placed, Told, run_orderly, Options, ends_clean, IsGiven}
 use Rattle.dsr_file.specs.declared.reading.ReadFileError.{ReadFileError}
 use Rattle.dsr_file.specs.declared.reading.ReadFileError.TheVariants.{Memory, Refused}
-use Rattle.dsr_file.specs.meaning.Sources.{IsRead, IsRefused, IsRefusal}
+use Rattle.dsr_file.specs.layer.Sources.{IsRead, IsRefused, IsRefusal}
 use Rattle.dsr_file.proofs.FeedLemmas.{known_run}
-use Rattle.dsr_file.specs.meaning.Runs.{EndsWith}
-use Rattle.dsr_events.specs.meaning.Names.{is_memory}
+use Rattle.dsr_file.specs.layer.Runs.{EndsWith}
+use Rattle.dsr_events.specs.layer.Names.{is_memory}
 use Rattle.std.specs.Prelude.{not}
 use Rattle.dsr_intake.specs.inner.Collecting.{was_refused_memory}
 use Rattle.dsr_intake.proofs.EndLemmas.{clean_is_whole, ends_clean_push, memory_is_unclean}

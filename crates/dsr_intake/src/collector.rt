@@ -1,6 +1,7 @@
 //! The collector: it takes the events of all files, books them, and closes the books or makes their report.
 ghost use Rattle.std.specs.Prelude.{◌≡◌, ◌+◌, ◌<◌, ◌≤◌, ◌↔◌, ◌||◌, ◌++◌, true, false, List, [], length, map, All, OnOk, OnErr, IfOk, IfErr, IfSome, MatchOption, vec_len};
-ghost use Rattle.dsr_events.specs.meaning.Orderly.{Placed, IsOrderly, is_ended, has_ended, MayStandAt};
+ghost use Rattle.dsr_events.specs.meaning.Orderly.{Placed, is_ended, has_ended};
+ghost use Rattle.dsr_events.specs.layer.Orderly.{IsOrderly, MayStandAt};
 ghost use Rattle.dsr_ledger.specs.inner.BooksWords.{Stands, files_count, AreClosed};
 ghost use Rattle.dsr_ledger.specs.meaning.Reports.{report_of};
 ghost use Rattle.dsr_ledger.specs.meaning.Files.{File};

@@ -29,7 +29,7 @@ pub struct FeedSink<'a, H> {
 }
 
 impl<'a, H> Model for FeedSink<'a, H> {
-    ghost use Rattle.dsr_relay.specs.meaning.Views.{FeedView};
+    ghost use Rattle.dsr_relay.specs.layer.Views.{FeedView};
 
     ghost Value = { FeedView };
 

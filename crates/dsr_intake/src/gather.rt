@@ -4,7 +4,7 @@ ghost use Rattle.dsr_file.specs.meaning.Runs.{FileText, events_of_text};
 ghost use Rattle.dsr_ledger.specs.inner.BooksWords.{AreClosed};
 ghost use Rattle.dsr_intake.specs.inner.Collecting.{IsDrained, AreBooksOf, AreReady, IsStartError, IsCause, first_error, intake_error_of};
 ghost use Rattle.dsr_intake.specs.meaning.Texts.{GaveEach, HoldEach, file_of, refusal_of, IsLate};
-ghost use Rattle.dsr_intake.specs.meaning.Outcomes.{IsReportOf};
+ghost use Rattle.dsr_intake.specs.layer.Outcomes.{IsReportOf};
 
 use crate::collector::collect_books;
 use crate::errors::{CollectError, IntakeError};

@@ -1,6 +1,7 @@
 //! The options of a run, and what is refused before anything is read.
 ghost use Rattle.std.specs.Prelude.{◌≡◌};
-ghost use Rattle.dsr_intake.specs.meaning.Texts.{standard_options, refusal_of};
+ghost use Rattle.dsr_intake.specs.meaning.Texts.{refusal_of};
+ghost use Rattle.dsr_intake.specs.layer.Texts.{standard_options};
 
 use crate::errors::IntakeError;
 use dsr_records::Layout;

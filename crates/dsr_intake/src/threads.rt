@@ -3,7 +3,8 @@ ghost use Rattle.std.specs.Prelude.{◌≡◌, ◌≢◌, ◌<◌, ◌≤◌, �
 ghost use Rattle.dsr_events.specs.declared.event.EventPart.TheVariants as part;
 ghost use Rattle.dsr_events.specs.declared.fault.FileFault.TheVariants as fault;
 ghost use Rattle.dsr_events.specs.declared.fault.Outcome.TheVariants as outcome;
-ghost use Rattle.dsr_events.specs.meaning.Orderly.{Placed, IsOrderly, has_ended};
+ghost use Rattle.dsr_events.specs.meaning.Orderly.{Placed, has_ended};
+ghost use Rattle.dsr_events.specs.layer.Orderly.{IsOrderly};
 ghost use Rattle.dsr_io.specs.meaning.Told.{HoldsGiven};
 ghost use Rattle.dsr_intake.specs.inner.Collecting.{ends_clean, was_refused_memory, IsGiven};
 

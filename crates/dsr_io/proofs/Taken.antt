@@ -2,7 +2,8 @@
 use Rattle.std.proofs.Common.{◌≡◌, ◌∙◌, ◌+◌, ℕ, List, [], ◌++◌, length, false, true, ap, arith, refl, length-append}
 use Rattle.std.specs.Io.KnownBytes.{Keeps}
 use Rattle.std.proofs.KnownBytes.{Appends-kept, Appends-nil, Appends-trans}
-use Rattle.dsr_io.specs.meaning.Written.{Written, Counts, IsTaken, IsFlushed, IsCut}
+use Rattle.dsr_io.specs.meaning.Written.{Written, Counts, IsFlushed, IsCut}
+use Rattle.dsr_io.specs.layer.Written.{IsTaken}
 
 counts_more : (a b c : Written) (xs ys : List ℕ) → Counts (length xs) a b → Counts (length ys) b c → Counts (length (xs ++ ys)) a c
 counts_more a b c xs ys first second = rw (length-append xs ys) (omega (arith, first, second), omega (arith, first, second))

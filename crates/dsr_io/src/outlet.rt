@@ -1,7 +1,8 @@
 //! Outlets: destinations of bytes.
 ghost use Rattle.std.specs.Prelude.{◌≡◌, ◌<◌, ◌≤◌, ◌+◌, true, false, length, take, MatchResult};
 ghost use Rattle.std.specs.Io.KnownBytes.{WriteAppends, Keeps};
-ghost use Rattle.dsr_io.specs.meaning.Written.{Written, Counts, IsTaken, IsCut};
+ghost use Rattle.dsr_io.specs.meaning.Written.{Written, Counts, IsCut};
+ghost use Rattle.dsr_io.specs.layer.Written.{IsTaken};
 
 use crate::source::Failed;
 

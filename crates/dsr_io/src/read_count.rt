@@ -1,6 +1,7 @@
 //! Counting the reads of a source.
 ghost use Rattle.std.specs.Prelude.{◌≡◌};
-ghost use Rattle.dsr_io.specs.meaning.Told.{AddsRead, no_reads};
+ghost use Rattle.dsr_io.specs.meaning.Told.{no_reads};
+ghost use Rattle.dsr_io.specs.layer.Told.{AddsRead};
 
 /// The number of reads that a source has answered, the number of those that gave bytes, and the bytes of the last one. No
 /// code asks for them: contracts say with them how many reads were made.

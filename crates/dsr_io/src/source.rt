@@ -2,7 +2,8 @@
 ghost use Rattle.std.specs.Prelude.{◌≡◌, ◌<◌, ⊤, true, false, length, List, ℕ, MatchResult};
 ghost use Rattle.std.specs.Io.{ReadsAtMost};
 ghost use Rattle.std.specs.Io.KnownBytes.{ReadConsumes};
-ghost use Rattle.dsr_io.specs.meaning.Told.{AddsRead, HoldsRead, no_reads, Told};
+ghost use Rattle.dsr_io.specs.meaning.Told.{no_reads, Told};
+ghost use Rattle.dsr_io.specs.layer.Told.{AddsRead, HoldsRead};
 
 use crate::read_count::ReadCount;
 use std::io::Read;

@@ -92,7 +92,8 @@ pub use Rattle.dsr_ledger.specs.inner.View.{AreDistinctBelow, AreListed, key_in,
 pub use Rattle.dsr_ledger.specs.inner.Tallies.{AreWithin, IsWide, LinesGrow, Tally, TallyFits, key_tally, line_in, line_keys, line_tally, lines_tally, no_tally, tally_of, tally_plus, tally_with}
 pub use Rattle.dsr_ledger.specs.meaning.Bookings.{Booking, booked_under, bookings, filed_bookings, key_under, summary_key_named, summary_key_of, usage_bookings, verdict_bookings, Key, in_order, key_cmp, key_eq, text_cmp}
 unfoldable pub use Rattle.dsr_ledger.specs.meaning.Bookings.{block_bookings}
-pub use Rattle.dsr_ledger.specs.meaning.Files.{File, Filed, filed, filed_after, first_head, has_same_number, is_of_report, is_same_report, opened, standing, summaries_of, with_block, with_file, with_one, with_outcome}
+pub use Rattle.dsr_ledger.specs.meaning.Files.{File, Filed, filed, filed_after, first_head, has_same_number, is_of_report, is_same_report, standing, summaries_of}
+pub use Rattle.dsr_ledger.specs.layer.Files.{opened, with_block, with_file, with_one, with_outcome}
 pub use Rattle.dsr_ledger.specs.meaning.Findings.{difference, differences_in, differs, ended_whole, has_number, is_ours, is_there, missing_for, naming, rejects_from, rejects_in, usages_in}
 unfoldable pub use Rattle.dsr_ledger.specs.meaning.Findings.{differences, rejects}
 pub use Rattle.dsr_ledger.specs.meaning.Ledger.{amount_sum, at_key, is_at_key, Part, all_parts, is_for, part_of, parts_of, party_amount, rounded, unclaimed, work_parts}
@@ -100,5 +101,6 @@ unfoldable pub use Rattle.dsr_ledger.specs.meaning.Ledger.{ledger, line_of, part
 pub use Rattle.dsr_ledger.specs.meaning.Reports.{file_line, key_of, outcome_of, report_head}
 unfoldable pub use Rattle.dsr_ledger.specs.meaning.Reports.{missing, report_of}
 pub use Rattle.dsr_ledger.specs.meaning.Limits.{int_sum_by}
-pub use Rattle.dsr_ledger.specs.meaning.Verdicts.{first_reason, has_id, is_summary, judged, judged_in, names_unknown, reasons, share_total, verdict, verdict_after, verdict_in, verdict_of}
+pub use Rattle.dsr_ledger.specs.meaning.Verdicts.{first_reason, has_id, is_summary, judged, judged_in, names_unknown, reasons, share_total, verdict}
+pub use Rattle.dsr_ledger.specs.layer.Verdicts.{verdict_after, verdict_in, verdict_of}
 unfoldable pub use Rattle.dsr_ledger.specs.meaning.Verdicts.{verdict_by}

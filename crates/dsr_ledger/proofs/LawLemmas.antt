@@ -6,7 +6,7 @@ use Rattle.dsr_ledger.proofs.OrderLemmas.{mapped_in_order, keys_among}
 use Rattle.dsr_ledger.proofs.KeyLemmas.{key_total, key_exact}
 use Rattle.dsr_ledger.proofs.SmallLemmas.{IsWhole, bookings_whole}
 use Rattle.dsr_ledger.proofs.PartyLemmas.{lines_are, names_of, shares_conserved, some_for}
-use Rattle.dsr_ledger.specs.meaning.Laws.{line_bookings, line_parts, exact_sum, AddsUp, IsNear, IsRoundedDown, NoneIsNegative, IsWithin, SharesAddUp, SharesAreNear, SharesAreWithin}
+use Rattle.dsr_ledger.specs.layer.Laws.{line_bookings, line_parts, exact_sum, AddsUp, IsNear, IsRoundedDown, NoneIsNegative, IsWithin, SharesAddUp, SharesAreNear, SharesAreWithin}
 
 -- rounding moves a part by less than one unit, and so m parts, together, by less than m units
 sum_near : (ps : List Part) → unsigned_abs ((pos 1000000 *ℤ int_sum_by rounded ps) -ℤ exact_sum ps) ≤ length ps * 999999

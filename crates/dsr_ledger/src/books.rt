@@ -1,6 +1,6 @@
 //! The books of a report.
 ghost use Rattle.std.specs.Prelude.{◌≡◌, ◌≤◌, length, option_map, slice_get};
-ghost use Rattle.dsr_ledger.specs.meaning.Limits.{most_files};
+ghost use Rattle.dsr_ledger.specs.layer.Limits.{most_files};
 ghost use Rattle.dsr_ledger.specs.inner.Books.{IsReached};
 
 use crate::booking::Plan;
@@ -62,8 +62,9 @@ impl Drop for Books {
 
 impl Books {
     ghost use Rattle.std.specs.Prelude.{◌<◌, List, [], ◌∷◌, ◌++◌, Option, map, IfOk, IsOk, MatchResult};
-    ghost use Rattle.dsr_ledger.specs.meaning.Files.{File, standing, opened, with_block, with_outcome};
-    ghost use Rattle.dsr_ledger.specs.meaning.Verdicts.{verdict_in};
+    ghost use Rattle.dsr_ledger.specs.meaning.Files.{File, standing};
+    ghost use Rattle.dsr_ledger.specs.layer.Files.{opened, with_block, with_outcome};
+    ghost use Rattle.dsr_ledger.specs.layer.Verdicts.{verdict_in};
     ghost use Rattle.dsr_ledger.specs.inner.Books.{has_opening_in, ended_in, blocks_in};
     ghost use Rattle.dsr_ledger.specs.inner.BooksWords.{AreClosed, Stands, files_count, opened_count, has_opening_at, ended_at, blocks_at, CanBook, CanEnd, AllEnded};
     ghost use Rattle.dsr_ledger.specs.meaning.Reports.{report_of};

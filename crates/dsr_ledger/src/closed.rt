@@ -3,7 +3,7 @@ ghost use Rattle.std.specs.Prelude.{◌≡◌, ◌≤◌, ℕ, IfOk, length, map
 ghost use Rattle.std.specs.List.{flat_map, list_any};
 ghost use Rattle.std.specs.BTreeSet.{contains};
 ghost use Rattle.std.specs.Ordering.{nat_cmp};
-ghost use Rattle.dsr_ledger.specs.meaning.Limits.{most_files};
+ghost use Rattle.dsr_ledger.specs.layer.Limits.{most_files};
 ghost use Rattle.dsr_ledger.specs.inner.Stands.{AreOfSmall};
 ghost use Rattle.dsr_ledger.specs.inner.Assembly.{line_kept, is_number_kept, differences_kept};
 ghost use Rattle.dsr_ledger.specs.inner.Books.{IsReached, Stands};

@@ -1,7 +1,8 @@
 //! The books' state of a file.
 ghost use Rattle.std.specs.Prelude.{◌≡◌, ◌+◌, ◌<◌, ◌^◌, ◌≤◌, ℕ, List, OnOk, OnErr, IfOk, Some, map};
 ghost use Rattle.std.specs.Option.{ForSome};
-ghost use Rattle.dsr_ledger.specs.meaning.Limits.{most_usages, whole_share};
+ghost use Rattle.dsr_ledger.specs.meaning.Limits.{whole_share};
+ghost use Rattle.dsr_ledger.specs.layer.Limits.{most_usages};
 ghost use Rattle.dsr_ledger.specs.meaning.Verdicts.{share_total, verdict_by};
 ghost use Rattle.dsr_ledger.specs.meaning.Files.{Filed};
 ghost use Rattle.dsr_ledger.specs.inner.Summaries.{state_at, index_at, is_known, StateFits};

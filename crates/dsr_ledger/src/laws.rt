@@ -1,7 +1,7 @@
 //! Laws of the shares of a report: functions that do nothing, whose contracts are the laws.
 ghost use Rattle.std.specs.Prelude.{List};
 ghost use Rattle.dsr_ledger.specs.meaning.Files.{File};
-ghost use Rattle.dsr_ledger.specs.meaning.Laws.{SharesAddUp, SharesAreNear, SharesAreWithin};
+ghost use Rattle.dsr_ledger.specs.layer.Laws.{SharesAddUp, SharesAreNear, SharesAreWithin};
 
 /// The amounts of a ledger line's parties and the unclaimed amount add up exactly to its amount.
 #[tactic(auto, using(crate::proofs::LawLemmas::add_up))]

@@ -2,7 +2,7 @@
 ghost use Rattle.std.specs.Prelude.{◌≡◌, ℕ, List, Some, length};
 ghost use Rattle.std.specs.Str.{bytes_eq};
 ghost use Rattle.indexmap.specs.IndexMap.{get};
-ghost use Rattle.dsr_ledger.specs.meaning.Limits.{amount_bound};
+ghost use Rattle.dsr_ledger.specs.layer.Limits.{amount_bound};
 ghost use Rattle.dsr_ledger.specs.inner.Numbered.{AreBelow};
 ghost use Rattle.dsr_ledger.specs.inner.Seated.{seat_numbers};
 ghost use Rattle.dsr_ledger.specs.inner.Tallies.{line_keys};

@@ -2,12 +2,13 @@
 ghost use Rattle.std.specs.Prelude.{◌≡◌, ◌+◌, ◌<◌, true, length, Ok, Err, IfOk, IfSome, OnOk, OnErr, nat_lt, take};
 ghost use Rattle.std.specs.Option.{option_map};
 ghost use Rattle.dsr_cells.specs.meaning.Cells.{cells};
-ghost use Rattle.dsr_events.specs.meaning.Blocks.{OpensBlock, with_member};
+ghost use Rattle.dsr_events.specs.layer.Blocks.{OpensBlock, with_member};
 ghost use Rattle.dsr_events.specs.declared.kinds.Kind.TheVariants as kinds;
 ghost use Rattle.dsr_records.specs.inner.Rows.{found_by, record_seen};
 ghost use Rattle.dsr_records.specs.inner.Usual.{BeginsWithLine};
 ghost use Rattle.dsr_records.specs.meaning.Layouts.{standard_layout};
-ghost use Rattle.dsr_records.specs.meaning.Values.{AnswersRecord, kind_of_record, id_of_record, has_texts, id_of, kind_of, record_by_row, record_of};
+ghost use Rattle.dsr_records.specs.meaning.Values.{id_of_record, record_by_row, record_of};
+ghost use Rattle.dsr_records.specs.layer.Values.{AnswersRecord, kind_of_record, has_texts, id_of, kind_of};
 
 use crate::check::{
     HeadLine, ResourceLine, SummaryLine, UsageLine, WorkLine, check_foot, check_head,

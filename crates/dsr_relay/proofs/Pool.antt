@@ -1,6 +1,7 @@
 -- What the steps of a relay's memory preserve.
 use Rattle.dsr_relay.proofs.Common.{◌≡◌, ℕ, ◌+◌, ◌-◌, ◌<◌, ◌≤◌, List, [], ◌∷◌, refl, sym, subst, zero, suc, arith}
-use Rattle.dsr_relay.specs.meaning.Pool.{Pool, Turn, reuse, begin, send, take, keep, give, Turns, Passes, IsUntouched, NeverLacksMemory}
+use Rattle.dsr_relay.specs.layer.Pool.{reuse, begin, send, take, keep, give}
+use Rattle.dsr_relay.specs.layer.Pool.{Pool, Turn, Turns, Passes, IsUntouched, NeverLacksMemory}
 
 -- what holds after each step: fewer are kept than are given back together, at most one is emptied, and there are more than
 -- are given back together

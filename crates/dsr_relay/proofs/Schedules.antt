@@ -2,7 +2,7 @@
 use Rattle.dsr_relay.proofs.Common.{◌≡◌, ℕ, ◌+◌, ◌*◌, ◌≤◌, Bool, true, false, true≢false, List, [], ◌∷◌, ◌++◌, length, map, set, Some, slice_get, refl, sym, ap, ◌∙◌, subst, arith, append_assoc, length-append, AllByRecursion, sum_by, Placed, IsOrderly, has_ended, ended_whole, IsMessage, events_of, Lane, Step, put, get, IsPrefix, Puts, Gets, Moves, file_of, Happens, Leads, IsFresh}
 use Rattle.std.specs.Prelude.{sum}
 use Rattle.std.proofs.lemmas.List.Sums.{sum-map, sum_by-cons}
-use Rattle.dsr_relay.specs.meaning.Laws.{IsInOrder, InEverySchedule, LeavesOthers, IsNeverStuck, IsBounded, IsDelivered}
+use Rattle.dsr_relay.specs.layer.Laws.{IsInOrder, InEverySchedule, LeavesOthers, IsNeverStuck, IsBounded, IsDelivered}
 use Rattle.dsr_relay.proofs.Messages.{append_nil}
 use Rattle.dsr_relay.proofs.Lanes.{all_get, all_set, all_from, all_map, set_else, map_kept, map_same, total, total_set, total_below}
 

@@ -6,7 +6,8 @@ use Rattle.atomic_table.proofs.Lists.{at_set}
 use Rattle.arrayvec.specs.ArrayVec.{array_vec_len}
 use Rattle.dsr_relay.specs.declared.way.Count.{Count}
 use Rattle.dsr_relay.specs.declared.way.Count.TheVariants.{Fresh, Gave, Got}
-use Rattle.dsr_relay.specs.meaning.Way.{Batches, batches_in, IsTrueCount, AreCounted, given_of, got_of, Gives, Gets}
+use Rattle.dsr_relay.specs.layer.Way.{IsTrueCount}
+use Rattle.dsr_relay.specs.layer.Way.{Batches, batches_in, AreCounted, given_of, got_of, Gives, Gets}
 
 batches_in-push : (queue : List Batches) (x : Batches) → batches_in (queue ++ x ∷ []) ≡ batches_in queue + array_vec_len x
 batches_in-push [] x = omega arith

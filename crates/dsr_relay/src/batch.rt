@@ -6,7 +6,8 @@
 //! the event of an empty block before a batch is filled for the first time.
 ghost use Rattle.std.specs.Prelude.{◌≡◌, ◌<◌, ◌^◌, ◌∷◌, ◌++◌, [], ℕ, List, true, false, MatchOption, MatchResult, IfOk};
 ghost use Rattle.dsr_events.specs.meaning.Blocks.{BlockParts};
-ghost use Rattle.dsr_events.specs.meaning.Orderly.{Placed, block_event};
+ghost use Rattle.dsr_events.specs.meaning.Orderly.{Placed};
+ghost use Rattle.dsr_events.specs.layer.Orderly.{block_event};
 
 use crate::slots::Slots;
 use dsr_cells::NoMemory;

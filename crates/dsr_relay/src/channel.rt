@@ -2,8 +2,8 @@
 ghost use Rattle.std.specs.Prelude.{◌≡◌, [], ◌∷◌, ◌++◌, OnOk, OnErr, IfSome, IfNone, OnSome};
 ghost use Rattle.crossbeam_channel.specs.Ends.{sends_on, receives_on, ruled_capacity};
 ghost use Rattle.crossbeam_channel.specs.Claims.{view, IsSeatAt};
-ghost use Rattle.dsr_events.specs.meaning.Orderly.{IsOrderly};
-ghost use Rattle.dsr_relay.specs.meaning.Rule.{events_of, IsMessage, AreMessages, out_of, received_of};
+ghost use Rattle.dsr_events.specs.layer.Orderly.{IsOrderly};
+ghost use Rattle.dsr_relay.specs.layer.Rule.{events_of, IsMessage, AreMessages, out_of, received_of};
 ghost use Rattle.dsr_relay.specs.declared.rule.Log.TheVariants.{Sends, Takes};
 
 use crate::batch::Batch;

@@ -32,8 +32,8 @@
 //! [`laws`] has the laws of the relays of all files together, and that of the memory of one relay. Inside, no call drops
 //! memory that comes back: the ends count it.
 //!
-//! **Where to begin.** `specs/meaning/Views.antt` has the ends as contracts see them, and
-//! `specs/meaning/Rule.antt` the rule; then read `feed`, `tap` and `open`.
+//! **Where to begin.** `specs/layer/Views.antt` has the ends as contracts see them, and
+//! `specs/layer/Rule.antt` the rule; then read `feed`, `tap` and `open`.
 #![tactic(auto)]
 
 mod batch;

@@ -7,7 +7,7 @@
 //! there are as many as the channel has room for, so the feed waits for memory alone, and never for room in the channel.
 ghost use Rattle.std.specs.Prelude.{◌≡◌, [], ◌+◌, ◌<◌, ◌≤◌, false, length, vec_len, vec_capacity, IfOk, IfSome, IfNone, OnOk, OnSome};
 ghost use Rattle.arrayvec.specs.ArrayVec.{array_vec_len};
-ghost use Rattle.dsr_relay.specs.meaning.Pool.{batches_of};
+ghost use Rattle.dsr_relay.specs.layer.Pool.{batches_of};
 
 use crate::batch::Batch;
 use crate::way::{Getter, Giver, Group, MOST_TOGETHER, Refusal, way};

@@ -3,7 +3,7 @@ ghost use Rattle.std.specs.Prelude.{ℕ};
 ghost use Rattle.atomic_table.specs.Seated.{TableId, table_id_coded};
 ghost use Rattle.atomic_table.specs.declared.badge.Badge.{Badge};
 ghost use Rattle.crossbeam_channel.specs.declared.flavors.array.Key.{Key};
-ghost use Rattle.dsr_relay.specs.meaning.Rule.{Message};
+ghost use Rattle.dsr_relay.specs.layer.Rule.{Message};
 ghost use base.Fml.{ftrue};
 
 use std::marker::{Model, PhantomData};

@@ -35,7 +35,7 @@ pub struct InOrder;
 
 impl Protocol<Batch, Log> for InOrder {
     ghost use Rattle.dsr_relay.specs.declared.rule.Log.TheVariants.{Fresh};
-    ghost use Rattle.dsr_relay.specs.meaning.Rule.{Relayed};
+    ghost use Rattle.dsr_relay.specs.layer.Rule.{Relayed};
 
     ghost holds = { Relayed };
 
@@ -61,7 +61,7 @@ pub struct Meet;
 
 impl Join<Log> for Meet {
     ghost use Rattle.dsr_relay.specs.declared.rule.Log.TheVariants.{Spent};
-    ghost use Rattle.dsr_relay.specs.meaning.Rule.{both_of};
+    ghost use Rattle.dsr_relay.specs.layer.Rule.{both_of};
 
     ghost both = { both_of };
 
@@ -72,7 +72,7 @@ impl Join<Log> for Meet {
 pub struct Sent;
 
 impl Outcome<Batch, Log> for Sent {
-    ghost use Rattle.dsr_relay.specs.meaning.Rule.{Goes};
+    ghost use Rattle.dsr_relay.specs.layer.Rule.{Goes};
 
     ghost then = { Goes };
 }
@@ -88,7 +88,7 @@ impl Lesson<Batch, Log> for Sent {
 pub struct Received;
 
 impl Outcome<Batch, Log> for Received {
-    ghost use Rattle.dsr_relay.specs.meaning.Rule.{Comes};
+    ghost use Rattle.dsr_relay.specs.layer.Rule.{Comes};
 
     ghost then = { Comes };
 }
@@ -104,7 +104,7 @@ impl Lesson<Batch, Log> for Received {
 pub struct Rest;
 
 impl Lesson<Batch, Log> for Rest {
-    ghost use Rattle.dsr_relay.specs.meaning.Rule.{IsLeft};
+    ghost use Rattle.dsr_relay.specs.layer.Rule.{IsLeft};
 
     ghost fact = { IsLeft };
 }

@@ -17,7 +17,7 @@ pub struct Settled {
 }
 
 impl Model for Settled {
-    ghost use Rattle.dsr_relay.specs.meaning.Views.{SettledView};
+    ghost use Rattle.dsr_relay.specs.layer.Views.{SettledView};
     ghost use Rattle.dsr_relay.specs.inner.Settles.{settled_view, IsSettled};
 
     ghost Value = { SettledView };

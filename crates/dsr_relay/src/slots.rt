@@ -3,7 +3,8 @@
 //! It takes 26 kB, so it is not made on the stack and moved: its memory is reserved as a vector with room for one array, and
 //! the array is made in there when the batch is filled for the first time. Until then the memory is not resident.
 ghost use Rattle.std.specs.Prelude.{◌≡◌, ◌<◌, ◌^◌, [], length, true, false, slice_set, slice_index_or, IfOk};
-ghost use Rattle.dsr_events.specs.meaning.Orderly.{Placed, block_event};
+ghost use Rattle.dsr_events.specs.meaning.Orderly.{Placed};
+ghost use Rattle.dsr_events.specs.layer.Orderly.{block_event};
 
 use arrayvec::ArrayVec;
 use dsr_cells::NoMemory;

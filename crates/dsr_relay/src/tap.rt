@@ -1,6 +1,7 @@
 //! The receiving end of a relay.
 ghost use Rattle.std.specs.Prelude.{◌≡◌, ◌+◌, ◌*◌, ◌<◌, ◌≤◌, true, false, [], ◌∷◌, ◌++◌, length, IfSome, IfNone, IfOk, OnErr};
-ghost use Rattle.dsr_events.specs.meaning.Orderly.{IsOrderly, has_ended};
+ghost use Rattle.dsr_events.specs.meaning.Orderly.{has_ended};
+ghost use Rattle.dsr_events.specs.layer.Orderly.{IsOrderly};
 
 use crate::batch::Batch;
 use crate::channel::{Closed, take_next};
@@ -40,7 +41,7 @@ impl Drop for Tap {
 }
 
 impl Model for Tap {
-    ghost use Rattle.dsr_relay.specs.meaning.Views.{TapView};
+    ghost use Rattle.dsr_relay.specs.layer.Views.{TapView};
     ghost use Rattle.dsr_relay.specs.inner.Taps.{tap_view, IsTap};
 
     ghost Value = { TapView };

@@ -33,7 +33,7 @@ pub struct Counted;
 
 impl Protocol<Group, Count> for Counted {
     ghost use Rattle.dsr_relay.specs.declared.way.Count.TheVariants.{Fresh};
-    ghost use Rattle.dsr_relay.specs.meaning.Way.{AreCounted};
+    ghost use Rattle.dsr_relay.specs.layer.Way.{AreCounted};
 
     ghost holds = { AreCounted };
 
@@ -55,7 +55,7 @@ impl Split<Count> for Part {
 pub struct Given;
 
 impl Outcome<Group, Count> for Given {
-    ghost use Rattle.dsr_relay.specs.meaning.Way.{Gives};
+    ghost use Rattle.dsr_relay.specs.layer.Way.{Gives};
 
     ghost then = { Gives };
 }
@@ -70,7 +70,7 @@ impl Lesson<Group, Count> for Given {
 pub struct Gotten;
 
 impl Outcome<Group, Count> for Gotten {
-    ghost use Rattle.dsr_relay.specs.meaning.Way.{Gets};
+    ghost use Rattle.dsr_relay.specs.layer.Way.{Gets};
 
     ghost then = { Gets };
 }

@@ -1,6 +1,6 @@
 //! The events that go through a relay, and how a test recognises them.
 ghost use Rattle.std.specs.Prelude.{◌≡◌, ℕ};
-ghost use Rattle.dsr_events.specs.meaning.Orderly.{MayStandAt};
+ghost use Rattle.dsr_events.specs.layer.Orderly.{MayStandAt};
 
 use dsr_cells::{Day, NoMemory, Text};
 use dsr_events::{Block, Event, EventPart, Head, Opening, Outcome, Summaries};

@@ -1,6 +1,7 @@
 //! What a test sends: the opening of a file, its blocks and its end.
 ghost use Rattle.std.specs.Prelude.{◌≡◌, ◌+◌, ◌<◌, ◌≤◌, true, false, [], length, IfOk};
-ghost use Rattle.dsr_events.specs.meaning.Orderly.{has_ended, is_ended, MayStandAt};
+ghost use Rattle.dsr_events.specs.meaning.Orderly.{has_ended, is_ended};
+ghost use Rattle.dsr_events.specs.layer.Orderly.{MayStandAt};
 
 use crate::events::{LONG_TITLE, block, ended, is_end, opening};
 use dsr_events::{Event, EventPart};

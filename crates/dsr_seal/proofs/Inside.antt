@@ -1,8 +1,9 @@
 -- From what a counting outlet took to what the outlet inside took, by way of `Counted::new` and `Counted::into_outlet`.
 use Rattle.std.proofs.Common.{◌≡◌, ℕ, List, ◌∙◌}
 use Rattle.std.proofs.KnownBytes.{Appends-kept}
-use Rattle.dsr_io.specs.meaning.Written.{Written, IsTaken, IsFlushed, IsCut}
-use Rattle.dsr_seal.specs.meaning.Counts.{IsInside}
+use Rattle.dsr_io.specs.meaning.Written.{Written, IsFlushed, IsCut}
+use Rattle.dsr_io.specs.layer.Written.{IsTaken}
+use Rattle.dsr_seal.specs.layer.Counts.{IsInside}
 
 module _ (bytes : List ℕ) (before counted out : Written) (inside : IsInside counted out) where
   pub taken_inside : IsTaken bytes before counted → IsTaken bytes before out

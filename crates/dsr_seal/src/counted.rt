@@ -1,6 +1,7 @@
 //! An outlet that counts the lines that it takes.
 ghost use Rattle.std.specs.Prelude.{◌≡◌, ◌≤◌};
-ghost use Rattle.dsr_seal.specs.meaning.Counts.{IsCounted, IsInside, line_feeds, told_counted};
+ghost use Rattle.dsr_seal.specs.meaning.Counts.{line_feeds};
+ghost use Rattle.dsr_seal.specs.layer.Counts.{IsCounted, IsInside, told_counted};
 
 use dsr_io::{Failed, Outlet};
 

@@ -14,9 +14,10 @@ use Rattle.dsr_statement.specs.declared.line.Line.{Line}
 use Rattle.dsr_statement.specs.declared.line.Line.TheVariants as lines
 use Rattle.dsr_statement.specs.declared.fault.StatementFault.TheVariants as faults
 use Rattle.dsr_statement.specs.meaning.Lines.{line_bytes, line_text, is_line}
-use Rattle.dsr_statement.specs.meaning.Readings.{IsLineOf, IsReading, IsReadingAfter, Refusal, bytes_fault, most_bytes, refused_after}
+use Rattle.dsr_statement.specs.meaning.Readings.{IsLineOf, IsReadingAfter, Refusal, bytes_fault, most_bytes, refused_after}
+use Rattle.dsr_statement.specs.layer.Readings.{IsReading}
 use Rattle.dsr_statement.specs.meaning.Statement.{text_of}
-use Rattle.dsr_statement.specs.meaning.Statements.{AreInPlace, IsStatement, has_no_feed, is_text}
+use Rattle.dsr_statement.specs.layer.Statements.{AreInPlace, IsStatement, has_no_feed, is_text}
 
 lacks_feed : (l : Line) → is_text l ≡ true → Lacks 10 (line_text l)
 lacks_feed l t i less e =

@@ -7,6 +7,7 @@ pub use Rattle.std.specs.Int.{w128}
 pub use Rattle.std.specs.List.{flat_map}
 pub use Rattle.std.specs.Prelude.{slice_set, ℤ}
 pub use Rattle.dsr_ledger.specs.declared.report.LedgerLine.{LedgerLine}
-pub use Rattle.dsr_io.specs.meaning.Written.{IsCut, IsTaken, Written}
+pub use Rattle.dsr_io.specs.meaning.Written.{IsCut, Written}
+pub use Rattle.dsr_io.specs.layer.Written.{IsTaken}
 pub use Rattle.dsr_statement.specs.declared.pieces.Pieces.{Pieces}
 pub use Rattle.dsr_statement.specs.inner.Pieces.{Holds, IsBroken, IsSent, Puts}

@@ -15,8 +15,8 @@ use Rattle.dsr_ledger.specs.declared.report.Report.{Report}
 use Rattle.dsr_statement.specs.declared.line.Line.{Line}
 use Rattle.dsr_statement.specs.declared.line.Line.TheVariants as lines
 use Rattle.dsr_statement.specs.meaning.Statement.{head_of, files_from, lines_of_ledger, statement_lines, statement_of}
-use Rattle.dsr_statement.specs.meaning.Readings.{IsReading}
-use Rattle.dsr_statement.specs.meaning.Statements.{IsReadable}
+use Rattle.dsr_statement.specs.layer.Readings.{IsReading}
+use Rattle.dsr_statement.specs.layer.Statements.{IsReadable}
 use Rattle.dsr_statement.proofs.OneReading.{one_reading}
 use Rattle.dsr_statement.proofs.ReportAgain.{report_again}
 

@@ -17,7 +17,7 @@ use Rattle.dsr_statement.specs.meaning.Lines.{line_bytes}
 use Rattle.dsr_statement.specs.meaning.Order.{placed, is_placed, adds_up, seals, is_no_report, is_complete}
 use Rattle.dsr_statement.specs.meaning.Readings.{IsLineOf, IsNextLine, IsReadingAfter, IsReadingOf, Refusal, Spells, end_fault, ended, fault_of, most_bytes, refused_after}
 use Rattle.dsr_statement.specs.meaning.Statement.{text_of}
-use Rattle.dsr_statement.specs.meaning.Statements.{AreInPlace}
+use Rattle.dsr_statement.specs.layer.Statements.{AreInPlace}
 
 -- the bytes of a line that is UTF-8 are read as their text is
 pub line_of_read : (bytes text : List ℕ) (r : Result Line StatementFault) → nat_lt most_bytes (length bytes) ≡ false → (text ≡ bytes) × IsUtf8 bytes

@@ -5,9 +5,10 @@ use Rattle.dsr_ledger.specs.declared.report.ReportKey.{ReportKey}
 use Rattle.dsr_ledger.specs.declared.report.Report.{Report}
 use Rattle.dsr_statement.specs.declared.line.Line.TheVariants as lines
 use Rattle.dsr_statement.specs.declared.fault.StatementFault.TheVariants as faults
-use Rattle.dsr_statement.specs.meaning.Readings.{IsReading, refused_after}
+use Rattle.dsr_statement.specs.meaning.Readings.{refused_after}
+use Rattle.dsr_statement.specs.layer.Readings.{IsReading}
 use Rattle.dsr_statement.specs.meaning.Statement.{text_of, head_of, files_from, lines_of_ledger, statement_lines, statement_of}
-use Rattle.dsr_statement.specs.meaning.Statements.{IsReadable}
+use Rattle.dsr_statement.specs.layer.Statements.{IsReadable}
 use Rattle.dsr_statement.proofs.AgainTexts.{is_read_again, no_report}
 use Rattle.dsr_statement.proofs.ReportPlaces.{is_statement}
 

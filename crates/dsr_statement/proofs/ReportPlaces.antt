@@ -9,7 +9,8 @@ use Rattle.std.proofs.lemmas.Slice.Eq.{bytes_eq-Decides}
 use Rattle.std.proofs.lemmas.List.Concat.{flat_map-cons}
 use Rattle.std.proofs.lemmas.List.{append-nil}
 use Rattle.dsr_ledger.specs.meaning.Bookings.{Key, key_eq}
-use Rattle.dsr_ledger.specs.meaning.Laws.{key_of_line, AddsUp}
+use Rattle.dsr_ledger.specs.meaning.Laws.{key_of_line}
+use Rattle.dsr_ledger.specs.layer.Laws.{AddsUp}
 use Rattle.dsr_ledger.specs.meaning.Limits.{int_sum_by}
 use Rattle.dsr_ledger.specs.declared.report.ReportKey.{ReportKey}
 use Rattle.dsr_ledger.specs.declared.report.FileLine.{FileLine}
@@ -22,7 +23,7 @@ use Rattle.dsr_statement.specs.declared.line.Line.{Line}
 use Rattle.dsr_statement.specs.declared.line.Line.TheVariants as lines
 use Rattle.dsr_statement.specs.meaning.Statement.{head_of, files_from, lines_of_ledger, statement_lines}
 use Rattle.dsr_statement.specs.meaning.Order.{placed, is_placed, adds_up, seals, is_no_report, of_latest, left_of, may_end, is_key_below, is_text_below, follows_file, follows_missing, follows_summary, follows_ledger, unclaimed_follows}
-use Rattle.dsr_statement.specs.meaning.Statements.{AreInPlace, IsStatement, all_adjacent, are_parties_in_order, is_before, IsReadable}
+use Rattle.dsr_statement.specs.layer.Statements.{AreInPlace, IsStatement, all_adjacent, are_parties_in_order, is_before, IsReadable}
 
 -- a line that passes the tests stands where it may
 pub placed_ok : (before : List Line) (l : Line) → is_placed before l ≡ true → adds_up before l ≡ true → seals before l ≡ true → is_no_report l ≡ false

@@ -21,7 +21,7 @@ use Rattle.dsr_statement.specs.meaning.Lines.{digest_cells, is_line, line_text}
 use Rattle.dsr_statement.specs.meaning.Names.{status_name}
 use Rattle.dsr_statement.specs.meaning.Readings.{most_bytes}
 use Rattle.dsr_statement.specs.meaning.Seals.{inputs_from, layout_lines, origin_lines, seal_lines}
-use Rattle.dsr_statement.specs.meaning.Statements.{has_no_feed, is_text}
+use Rattle.dsr_statement.specs.layer.Statements.{has_no_feed, is_text}
 use Rattle.dsr_statement.proofs.Plain.{all_weaker}
 
 -- a byte of ASCII, and no line feed

@@ -12,7 +12,7 @@ use Rattle.dsr_statement.specs.declared.verdict.Status.{Status}
 use Rattle.dsr_statement.specs.declared.verdict.Status.TheVariants as statuses
 use Rattle.dsr_statement.specs.meaning.Order.{adds_up, files_in, follows, is_end, is_placed, is_sealed, placed, seals}
 use Rattle.dsr_statement.specs.meaning.Status.{is_remark, status_eq, status_of_lines}
-use Rattle.dsr_statement.specs.meaning.Statements.{AreInPlace, IsSealed}
+use Rattle.dsr_statement.specs.layer.Statements.{AreInPlace, IsSealed}
 use Rattle.dsr_statement.proofs.Again.{not_both}
 
 -- the lines after others are in their places

@@ -21,10 +21,11 @@ use Rattle.dsr_statement.specs.declared.verdict.Status.TheVariants as statuses
 use Rattle.dsr_statement.specs.meaning.Digests.{Digest}
 use Rattle.dsr_statement.specs.meaning.Lines.{is_line}
 use Rattle.dsr_statement.specs.meaning.Order.{files_in, follows_layout, follows_reject, input_follows, is_complete, is_end, is_sealed, of_latest}
-use Rattle.dsr_statement.specs.meaning.Readings.{IsReading}
-use Rattle.dsr_statement.specs.meaning.Seals.{AreDigestsOf, inputs_from, origin_lines, seal_lines, seal_of, sealed_lines}
+use Rattle.dsr_statement.specs.layer.Readings.{IsReading}
+use Rattle.dsr_statement.specs.meaning.Seals.{inputs_from, origin_lines, seal_lines}
+use Rattle.dsr_statement.specs.layer.Seals.{AreDigestsOf, seal_of, sealed_lines}
 use Rattle.dsr_statement.specs.meaning.Statement.{files_from, head_of, lines_of_ledger, statement_lines, text_of}
-use Rattle.dsr_statement.specs.meaning.Statements.{AreInPlace, IsReadable, IsSealed, is_text}
+use Rattle.dsr_statement.specs.layer.Statements.{AreInPlace, IsReadable, IsSealed, is_text}
 use Rattle.dsr_statement.specs.meaning.Status.{is_remark, status_eq, status_of, status_of_lines}
 use Rattle.dsr_statement.proofs.AgainTexts.{is_read_again}
 use Rattle.dsr_statement.proofs.RemarkLines.{report_status}

@@ -8,7 +8,8 @@ use Rattle.std.proofs.lemmas.List.Splits.{join_with_byte-slice_split, slice_spli
 use Rattle.dsr_cells.proofs.Splits.{pieces}
 use Rattle.dsr_statement.specs.declared.line.Line.{Line}
 use Rattle.dsr_statement.specs.meaning.Order.{is_sealed}
-use Rattle.dsr_statement.specs.meaning.Readings.{IsReading, IsReadingAfter, Refusal}
+use Rattle.dsr_statement.specs.meaning.Readings.{IsReadingAfter, Refusal}
+use Rattle.dsr_statement.specs.layer.Readings.{IsReading}
 use Rattle.dsr_statement.proofs.Again.{not_both}
 use Rattle.dsr_statement.proofs.AgainTexts.{first_piece}
 use Rattle.dsr_statement.proofs.OneReading.{next_one, own_line}

@@ -8,6 +8,5 @@ pub mod Faults
 pub mod Order
 pub mod Readings
 pub mod Statement
-pub mod Statements
 pub mod Seals
 pub mod Status

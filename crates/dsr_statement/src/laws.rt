@@ -4,12 +4,13 @@ ghost use Rattle.dsr_ledger.specs.declared.report.Report.{Report};
 ghost use Rattle.dsr_ledger.specs.declared.report.ReportKey.{ReportKey};
 ghost use Rattle.dsr_statement.specs.declared.line.Line.{Line};
 ghost use Rattle.dsr_statement.specs.declared.fault.StatementFault.TheVariants as faults;
-ghost use Rattle.dsr_statement.specs.meaning.Readings.{IsReading, IsReadingOf, Refusal, Spells, refused_after};
+ghost use Rattle.dsr_statement.specs.meaning.Readings.{IsReadingOf, Refusal, Spells, refused_after};
+ghost use Rattle.dsr_statement.specs.layer.Readings.{IsReading};
 ghost use Rattle.dsr_statement.specs.meaning.Statement.{statement_lines, statement_of, text_of};
-ghost use Rattle.dsr_statement.specs.meaning.Statements.{AreInPlace, IsReadable, IsSealed, IsStatement};
+ghost use Rattle.dsr_statement.specs.layer.Statements.{AreInPlace, IsReadable, IsSealed, IsStatement};
 ghost use Rattle.dsr_statement.specs.meaning.Digests.{Digest};
 ghost use Rattle.dsr_statement.specs.meaning.Order.{is_sealed};
-ghost use Rattle.dsr_statement.specs.meaning.Seals.{AreDigestsOf, sealed_lines};
+ghost use Rattle.dsr_statement.specs.layer.Seals.{AreDigestsOf, sealed_lines};
 ghost use Rattle.dsr_statement.specs.meaning.Status.{status_of, status_of_lines};
 ghost use Rattle.dsr_statement.specs.declared.verdict.Status.{Status};
 

@@ -18,7 +18,7 @@ use Rattle.dsr_statement.specs.declared.line.Line.{Line}
 use Rattle.dsr_statement.specs.declared.line.Line.TheVariants as lines
 use Rattle.dsr_statement.specs.meaning.Order.{adds_up, files_in, follows, is_placed, is_sealed, left_of, may_end, of_latest, party_follows, placed, seals, unclaimed_follows}
 use Rattle.dsr_statement.specs.meaning.Readings.{Refusal, IsReadingOf}
-use Rattle.dsr_statement.specs.meaning.Statements.{AreInPlace}
+use Rattle.dsr_statement.specs.layer.Statements.{AreInPlace}
 use Rattle.dsr_statement.specs.meaning.Status.{first_remark}
 use Rattle.dsr_sums.specs.declared.account.Account.{Account}
 use Rattle.dsr_sums.specs.declared.answer.TotalsError.{TotalsError}
@@ -28,7 +28,7 @@ use Rattle.dsr_sums.specs.declared.rules.Rules.{Rules}
 use Rattle.dsr_sums.specs.declared.sums.Sums.{Sums}
 use Rattle.dsr_sums.specs.meaning.Accounts.{account_eq, currency_account}
 use Rattle.dsr_sums.specs.meaning.Answers.{StatementText, accepted, and_then, joined, statement_of, statement_with, statements_after, unless}
-use Rattle.dsr_sums.specs.meaning.Laws.{AddUp, currency_sums}
+use Rattle.dsr_sums.specs.layer.Laws.{AddUp, currency_sums}
 use Rattle.dsr_sums.specs.meaning.Postings.{Posting, balance, posted_to, posting, signed, signed_sums, sums_of}
 use Rattle.dsr_sums.specs.meaning.Statements.{Statement, booked_lines, fault_after, key_of_lines, reports_of}
 use Rattle.dsr_sums.specs.meaning.Totals.{booked, claimed, numbers, to_currency, unclaimed}

@@ -22,7 +22,8 @@ use Rattle.dsr_sums.specs.declared.reading.ReadingError.TheVariants as errors
 use Rattle.dsr_sums.specs.inner.Totaling.{sorted_text, error_of, HaveRead, HoldsStatements, IsNoTextOf, ReadsNext}
 use Rattle.dsr_sums.specs.meaning.Answers.{StatementText, accepted, and_then, joined, statement_in, statements_after, totals_of, unless}
 use Rattle.dsr_sums.specs.meaning.Sources.{Gave, GaveEach, HasNoTotals, HasTotals, role_of}
-use Rattle.dsr_sums.specs.meaning.Statements.{Statement, booked_lines, fault_after, line_and_fault, reports_of, statement_lines, totals_text}
+use Rattle.dsr_sums.specs.meaning.Statements.{Statement, booked_lines, fault_after, reports_of, statement_lines, totals_text}
+use Rattle.dsr_sums.specs.layer.Statements.{line_and_fault}
 use Rattle.dsr_sums.specs.meaning.Totals.{booked, currency_line, market_line, party_line, sums_text}
 
 pub booked-push : (ss : List Statement) (s : Statement) → booked_lines (ss ++ s ∷ []) ≡ booked_lines ss ++ map (booked s.report.role) s.lines

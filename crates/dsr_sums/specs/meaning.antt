@@ -5,4 +5,3 @@ pub mod Totals
 pub mod Statements
 pub mod Answers
 pub mod Sources
-pub mod Laws

@@ -3,7 +3,7 @@ ghost use Rattle.std.specs.Prelude.{◌≡◌, [], List, Ok};
 ghost use Rattle.dsr_sums.specs.declared.account.Account.{Account};
 ghost use Rattle.dsr_sums.specs.declared.rules.Rules.{Rules};
 ghost use Rattle.dsr_sums.specs.meaning.Answers.{StatementText, statements_after};
-ghost use Rattle.dsr_sums.specs.meaning.Laws.{AddUp, currency_sums};
+ghost use Rattle.dsr_sums.specs.layer.Laws.{AddUp, currency_sums};
 ghost use Rattle.dsr_sums.specs.meaning.Statements.{Statement};
 
 /// In each currency, what parties claim and what nobody claims add up to the amount, over all statements that are read, those

@@ -34,7 +34,7 @@
 //! statement, not for each line.
 //!
 //! **Where to begin.** `specs/meaning/Postings.antt` says what accounts add up to, `Totals.antt` what a line adds,
-//! `Statements.antt` and `Answers.antt` which statements are refused, `Sources.antt` what sources gave, and `Laws.antt` the law;
+//! `Statements.antt` and `Answers.antt` which statements are refused, `Sources.antt` what sources gave, and `specs/layer/Laws.antt` the law;
 //! `src/answer.rt` has the public function.
 #![tactic(auto)]
 

@@ -1,7 +1,8 @@
 //! The reports of the statements that were read, and which statements are refused for those before them.
 ghost use Rattle.std.specs.Prelude.{◌≡◌, ◌∷◌, ◌++◌, [], OnOk, option_map};
 ghost use Rattle.std.specs.List.{position};
-ghost use Rattle.dsr_sums.specs.meaning.Statements.{is_of_message, is_of_report, is_same_report, has_report, fault_after, given_fault, line_and_fault, role_eq};
+ghost use Rattle.dsr_sums.specs.meaning.Statements.{is_of_message, is_of_report, is_same_report, has_report, fault_after, given_fault, role_eq};
+ghost use Rattle.dsr_sums.specs.layer.Statements.{line_and_fault};
 
 use crate::rules::Rules;
 use dsr_cells::{NoMemory, Text};

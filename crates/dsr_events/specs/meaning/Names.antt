@@ -1,11 +1,9 @@
 -- The names of the columns and of the faults, as they are printed, and outcomes of which memory is the cause.
-use Rattle.std.specs.Prelude.{ℕ, List, codes, Option, None, Some, Bool, true, false}
+use Rattle.std.specs.Prelude.{ℕ, List, codes, Option, None, Some}
 use Rattle.dsr_events.specs.declared.kinds.Column.{Column}
 use Rattle.dsr_events.specs.declared.kinds.Column.TheVariants.{MessageId, FileNumber, NumberOfFiles, UsageStartDate, UsageEndDate, Sender, Recipient, SummaryRecordId, Territory, UseType, Currency, Usages, Amount, BlockId, Isrc, Titles, Artists, WorkId, Title, Parties, Shares, NumberOfLinesInFile, NumberOfSummaryRecords, NumberOfBlocksInFile}
 use Rattle.dsr_events.specs.declared.fault.FileFault.{FileFault}
 use Rattle.dsr_events.specs.declared.fault.FileFault.TheVariants.{LongLine, NotUtf8, ManyCells, UnknownRecord, MissingCell, BadCell, Uneven, NoHead, SecondHead, LateSummary, NoResource, LateWork, BlockNumber, NoUsage, AfterFoot, NoFoot, SummaryTwice, ManySummaries, LongBlock, FootLines, FootSummaries, FootBlocks, Read, Reads, Memory}
-use Rattle.dsr_events.specs.declared.fault.Outcome.{Outcome}
-use Rattle.dsr_events.specs.declared.fault.Outcome.TheVariants.{Whole, Fault}
 
 -- the name of each column
 abbrev pub column_name : Column → List ℕ
@@ -66,12 +64,3 @@ abbrev pub column_named : FileFault → Option Column
 column_named (MissingCell column) = Some column
 column_named (BadCell column) = Some column
 column_named _ = None
-
-abbrev pub is_memory_fault : FileFault → Bool
-is_memory_fault Memory = true
-is_memory_fault _ = false
-
--- the file ended because memory was refused
-abbrev pub is_memory : Outcome → Bool
-is_memory Whole = false
-is_memory (Fault line fault) = is_memory_fault fault

@@ -1,6 +1,5 @@
 -- Events with their places in the file's list of events, and orderly lists of them.
-use Rattle.std.specs.Prelude.{ℕ, ◌≡◌, ◌+◌, Bool, true, false, List, length, Some, slice_get}
-use Rattle.dsr_events.specs.meaning.Blocks.{BlockParts}
+use Rattle.std.specs.Prelude.{ℕ, Bool, true, false, List}
 use Rattle.dsr_events.specs.declared.event.EventPart.{EventPart}
 use Rattle.std.specs.List.{list_any}
 use Rattle.dsr_events.specs.declared.event.EventPart.TheVariants.{Opened, Block, Ended}
@@ -9,26 +8,10 @@ pub record Placed : Type 0 where
   pub place : ℕ
   pub part : EventPart
 
--- the event of a block with this place
-abbrev pub block_event : ℕ → BlockParts → Placed
-block_event place block = record { place = place; part = Block block }
-
 abbrev pub is_ended : EventPart → Bool
 is_ended (Opened _) = false
 is_ended (Block _) = false
 is_ended (Ended _) = true
-
--- at place 0 there is Opened or Ended, at each later place Block or Ended
-abbrev pub MayStandAt : ℕ → EventPart → Type 0
-MayStandAt place (Opened _) = place ≡ 0
-MayStandAt place (Block _) = ¬ (place ≡ 0)
-MayStandAt place (Ended _) = Unit {0}
-
--- event i has place i and a content that is allowed there, and only the last may be Ended
-pub record IsOrderly (events : List Placed) : Type 0 where
-  pub places : (i : ℕ) (e : Placed) → slice_get events i ≡ Some e → e.place ≡ i
-  pub parts : (i : ℕ) (e : Placed) → slice_get events i ≡ Some e → MayStandAt i e.part
-  pub ended_last : (i : ℕ) (e : Placed) → slice_get events i ≡ Some e → is_ended e.part ≡ true → i + 1 ≡ length events
 
 -- whether an event is Ended
 abbrev pub has_ended : List Placed → Bool

@@ -4,7 +4,7 @@ use Rattle.std.specs.Option.{option_to_list}
 use Rattle.dsr_events.specs.declared.record.Foot as foot
 use Rattle.dsr_events.specs.declared.record.Record.{Record}
 use Rattle.dsr_events.specs.declared.record.Record.TheVariants.{Skipped}
-use Rattle.dsr_records.specs.meaning.Values.{has_texts}
+use Rattle.dsr_records.specs.layer.Values.{has_texts}
 use Rattle.dsr_records.specs.meaning.Records.{or_else}
 use Rattle.dsr_events.specs.declared.fault.FileFault.{FileFault}
 use Rattle.dsr_events.specs.declared.fault.FileFault.TheVariants as faults

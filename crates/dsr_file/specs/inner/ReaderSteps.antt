@@ -4,7 +4,7 @@ use Rattle.dsr_records.specs.meaning.Records.{LayoutTable}
 use Rattle.dsr_events.specs.declared.fault.Ending.{Ending}
 use Rattle.dsr_events.specs.meaning.Orderly.{Placed, has_ended}
 use Rattle.dsr_file.specs.declared.reader.FileReader.{FileReader}
-use Rattle.dsr_file.specs.meaning.Runs.{BeginsEvents, HasEvents, EndsWith}
+use Rattle.dsr_file.specs.layer.Runs.{BeginsEvents, HasEvents, EndsWith}
 use Rattle.dsr_file.specs.inner.Standing.{Stands, AtAnswer, AtCut, AtEnd, IsDone}
 use Rattle.std.specs.Option.{option_to_list}
 use Rattle.dsr_file.specs.declared.cutter.Cut.{Cut}
@@ -15,7 +15,7 @@ use Rattle.std.specs.Io.KnownBytes.{Consumes}
 use mathlib.Core.List.{IsPrefix}
 use Rattle.dsr_events.specs.declared.fault.Outcome.{Outcome}
 use Rattle.dsr_io.specs.meaning.Told.{Answered, Told}
-use Rattle.dsr_file.specs.meaning.Sources.{HasEarlier}
+use Rattle.dsr_file.specs.layer.Sources.{HasEarlier}
 
 -- the new reader represents what the old one did, with these further bytes used and these further events given
 abbrev pub Advances : FileReader → FileReader → List ℕ → List Placed → Type 0

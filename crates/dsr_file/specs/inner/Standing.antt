@@ -10,7 +10,7 @@ use Rattle.dsr_file.specs.declared.reader.FileReader.{FileReader}
 use Rattle.dsr_events.specs.meaning.Orderly.{Placed, has_ended}
 use Rattle.dsr_file.specs.meaning.Readings.{reading, records, events_of}
 use Rattle.dsr_file.specs.meaning.Texts.{AllGood, first_from, placed}
-use Rattle.dsr_file.specs.meaning.Runs.{ended, known_events, HasEvents, EndsWith}
+use Rattle.dsr_file.specs.layer.Runs.{ended, known_events, HasEvents, EndsWith}
 use Rattle.dsr_file.specs.inner.Cutting.{CutsTo, CutSteps}
 use Rattle.dsr_file.specs.declared.cutter.Cut.{Cut}
 use Rattle.dsr_file.specs.inner.Grammars.{Keeps, LineSteps}

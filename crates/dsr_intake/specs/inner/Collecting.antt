@@ -3,8 +3,9 @@ use Rattle.std.specs.Prelude.{Bool, true, false, not, List, [], ◌∷◌, Resul
 use Rattle.std.specs.List.{sum_by}
 use Rattle.dsr_events.specs.declared.event.EventPart.{EventPart}
 use Rattle.dsr_events.specs.declared.fault.Outcome.{Outcome}
-use Rattle.dsr_events.specs.meaning.Orderly.{Placed, has_ended, IsOrderly}
-use Rattle.dsr_events.specs.meaning.Names.{is_memory}
+use Rattle.dsr_events.specs.meaning.Orderly.{Placed, has_ended}
+use Rattle.dsr_events.specs.layer.Orderly.{IsOrderly}
+use Rattle.dsr_events.specs.layer.Names.{is_memory}
 use Rattle.dsr_file.specs.declared.reading.ReadFileError.{ReadFileError}
 use Rattle.dsr_file.specs.meaning.Runs.{FileText, events_of_text}
 use Rattle.dsr_io.specs.meaning.Told.{Told}
@@ -14,7 +15,7 @@ use Rattle.dsr_intake.specs.declared.options.TheConstants.{MOST_READERS, MOST_ME
 use Rattle.dsr_ledger.specs.declared.closed.ClosedBooks.{ClosedBooks}
 use Rattle.dsr_ledger.specs.inner.BooksWords.{AreClosed, Stands, files_count}
 use Rattle.dsr_intake.specs.meaning.Texts.{GaveEach, file_of}
-use Rattle.dsr_relay.specs.meaning.Views.{TapView}
+use Rattle.dsr_relay.specs.layer.Views.{TapView}
 use Rattle.dsr_intake.specs.declared.errors.CollectError.{CollectError}
 use Rattle.dsr_intake.specs.declared.errors.CollectError.TheVariants.{Memory, Closed}
 use Rattle.dsr_intake.specs.declared.errors.IntakeError.{IntakeError}
@@ -24,7 +25,8 @@ use Rattle.dsr_intake.specs.meaning.Outcomes.{IsUntouched}
 use Rattle.dsr_statement.specs.meaning.Statement.{statement_of}
 use Rattle.dsr_io.specs.meaning.Written.{Written, IsCut}
 use Rattle.dsr_ledger.specs.declared.books.Books.{Books}
-use Rattle.dsr_ledger.specs.meaning.Files.{File, opened, add_block, end_with}
+use Rattle.dsr_ledger.specs.meaning.Files.{File}
+use Rattle.dsr_ledger.specs.layer.Files.{opened, add_block, end_with}
 use Rattle.dsr_file.specs.declared.reading.ReadFileError.TheVariants as failed
 use Rattle.dsr_intake.specs.declared.errors.IntakeError.TheVariants as intake
 use Rattle.dsr_intake.specs.declared.errors.RunError.TheVariants as error

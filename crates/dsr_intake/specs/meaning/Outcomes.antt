@@ -3,7 +3,6 @@ use Rattle.std.specs.Prelude.{◌≡◌, ◌≤◌, List, length, take, false}
 use Rattle.std.specs.Io.KnownBytes.{Keeps}
 use Rattle.dsr_file.specs.meaning.Runs.{FileText}
 use Rattle.dsr_io.specs.meaning.Told.{Told}
-use Rattle.dsr_ledger.specs.declared.report.Report.{Report}
 use Rattle.dsr_intake.specs.declared.options.Options.{Options}
 use Rattle.dsr_intake.specs.declared.errors.RunError.{RunError}
 use Rattle.dsr_intake.specs.declared.errors.RunError.TheVariants as error
@@ -12,11 +11,6 @@ use Rattle.dsr_intake.specs.meaning.Texts.{IsLate, GaveEach, report_of_texts}
 use Rattle.dsr_statement.specs.meaning.Statement.{statement_of}
 use Rattle.dsr_statement.specs.meaning.Status.{status_of}
 use Rattle.dsr_io.specs.meaning.Written.{Written, IsFlushed, IsCut}
-
--- the report is the one of the texts that the readers gave
-abbrev pub IsReportOf : {R : Type 0} → (R → Told) → Options → List R → List R → Report → Type 0
-IsReportOf told options readers left report =
-    (texts : List FileText) × GaveEach told options readers left texts × (report ≡ report_of_texts options.layout texts)
 
 -- the main result: the statement of the files' texts was written
 pub record IsReported {R : Type 0} (told : R → Told) (options : Options) (readers left : List R)

@@ -1,6 +1,5 @@
 -- The options of an intake, and what is refused before anything is read; the texts of several files, and their report.
-use Rattle.std.specs.Prelude.{ℕ, Option, Some, None, ◌==◌, ◌||◌, nat_lt, if◌then◌else◌, List, [], ◌∷◌, map}
-use Rattle.dsr_records.specs.meaning.Layouts.{standard_layout}
+use Rattle.std.specs.Prelude.{ℕ, Option, Some, None, ◌==◌, ◌||◌, nat_lt, List, [], ◌∷◌, map}
 use Rattle.dsr_intake.specs.declared.options.Options.{Options}
 use Rattle.dsr_intake.specs.declared.options.TheConstants.{MOST_READERS, MOST_MESSAGES, MOST_READS}
 use Rattle.dsr_intake.specs.declared.errors.IntakeError.{IntakeError}
@@ -18,9 +17,6 @@ use Rattle.dsr_ledger.specs.meaning.Files.{File}
 use Rattle.dsr_ledger.specs.meaning.Reports.{report_of}
 use Rattle.dsr_intake.specs.declared.errors.IntakeError.TheVariants as error
 use Rattle.dsr_events.specs.declared.event.EventPart.TheVariants as part
-
-abbrev pub standard_options : Options
-standard_options = record { capacity = 16; max_reads = 4194304; layout = standard_layout }
 
 -- the error of this number of files under these options, found before anything is read: the first that applies
 abbrev pub refusal_of : ℕ → Options → Option IntakeError

@@ -1,5 +1,5 @@
 -- What a source tells: that a read failed, and the counts of its reads; and what it keeps of the bytes that it gave.
-use Rattle.std.specs.Prelude.{ℕ, Bool, List, Option, Some, Result, ◌≡◌, ◌+◌, ◌++◌, ◌<◌, ◌^◌, min, take, MatchResult}
+use Rattle.std.specs.Prelude.{ℕ, Bool, List, Option, Some, ◌≡◌, ◌+◌, ◌++◌, ◌<◌, ◌^◌}
 use Rattle.dsr_io.specs.declared.read_count.ReadCount.{ReadCount}
 
 -- the bytes that it has left, if they are known, whether a read failed, and the count of its reads
@@ -18,15 +18,6 @@ Grew old new more = old + more < 2 ^ 64 → new ≡ old + more
 -- this many reads were answered, of which `filled` gave bytes
 abbrev pub Answered : ReadCount → ReadCount → ℕ → ℕ → Type 0
 Answered old new reads filled = Grew old.answered new.answered reads × Grew old.filled new.filled filled
-
--- one read was answered, which gave this many bytes
-abbrev pub AddsRead : ReadCount → ReadCount → ℕ → Type 0
-AddsRead old new bytes = Answered old new 1 (min 1 bytes) × (new.last ≡ bytes)
-
--- what it keeps of the bytes given before is kept of them and of those that this read gave
-abbrev pub HoldsRead : {S E : Type 0} → (S → List ℕ → Type 0) → S → S → Result ℕ E → List ℕ → Type 0
-HoldsRead holds before after result piece =
-    (given : List ℕ) → holds before given → MatchResult result (λ n. holds after (given ++ take n piece)) (λ _. holds after given)
 
 -- the same of several reads, where the bytes that it has left are known
 abbrev pub HoldsGiven : {S : Type 0} → (S → Told) → (S → List ℕ → Type 0) → S → S → Type 0

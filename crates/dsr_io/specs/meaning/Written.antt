@@ -15,13 +15,6 @@ pub record Written : Type 0 where
 abbrev pub Counts : ℕ → Written → Written → Type 0
 Counts n before after = (after.taken ≡ before.taken + n) × (n ≤ 2 ^ 64 - 1 - before.taken)
 
--- it took these bytes
-pub record IsTaken (bytes : List ℕ) (before after : Written) : Type 0 where
-  pub added : Appends before.contents after.contents bytes
-  pub counted : Counts (length bytes) before after
-  pub sound : after.failed ≡ before.failed
-  pub flushes : after.flushes ≡ before.flushes
-
 -- it took these bytes, and then was flushed once
 pub record IsFlushed (bytes : List ℕ) (before after : Written) : Type 0 where
   pub added : Appends before.contents after.contents bytes

@@ -2,7 +2,7 @@
 use Rattle.std.specs.Prelude.{ℕ, ◌≤◌, Bool, false, is_some, List, [], length, slice_get}
 use Rattle.std.specs.Option.{option_map_or}
 use Rattle.std.specs.List.{AllByRecursion}
-use Rattle.dsr_ledger.specs.meaning.Limits.{most_blocks}
+use Rattle.dsr_ledger.specs.layer.Limits.{most_blocks}
 use Rattle.dsr_ledger.specs.declared.books.Kept.{Kept}
 use Rattle.dsr_ledger.specs.meaning.Files.{File}
 use Rattle.dsr_ledger.specs.meaning.Bookings.{bookings}

@@ -1,7 +1,7 @@
 -- The books, as a caller sees them, and books whose files have all ended.
 use Rattle.std.specs.Prelude.{◌≡◌, ℕ, ◌<◌, Bool, true, false, is_some, List, length, slice_get, map, option_map}
 use Rattle.std.specs.Option.{option_map_or}
-use Rattle.dsr_ledger.specs.meaning.Limits.{most_blocks}
+use Rattle.dsr_ledger.specs.layer.Limits.{most_blocks}
 use Rattle.dsr_ledger.specs.declared.books.Books.{Books}
 use Rattle.dsr_ledger.specs.meaning.Files.{File, filed}
 use Rattle.dsr_ledger.specs.declared.closed.ClosedBooks.{ClosedBooks}

@@ -12,7 +12,7 @@ use Rattle.dsr_ledger.specs.declared.ledger.summary_key.SummaryKey.{SummaryKey}
 use Rattle.dsr_ledger.specs.inner.Recordings.{IsWideAt, line_at, recording_number, seat_at, tally_at}
 use Rattle.dsr_ledger.specs.inner.Seated.{AreSeated, shares_of}
 use Rattle.dsr_ledger.specs.inner.Summaries.{index_at, IsInRange, state_at, state_with, AreNumbered}
-use Rattle.dsr_ledger.specs.meaning.Limits.{most_usages}
+use Rattle.dsr_ledger.specs.layer.Limits.{most_usages}
 use Rattle.dsr_ledger.specs.declared.file.FileBooks.{FileBooks}
 use Rattle.dsr_ledger.specs.declared.verdict.Verdict.{Verdict}
 use Rattle.dsr_ledger.specs.inner.Ids.{is_in}

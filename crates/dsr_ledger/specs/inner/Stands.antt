@@ -7,8 +7,10 @@ use Rattle.dsr_ledger.specs.meaning.Bookings.{Key, Booking, verdict_bookings}
 use Rattle.dsr_ledger.specs.declared.ledger.Ledger.{Ledger}
 use Rattle.dsr_ledger.specs.declared.file.FileBooks.{FileBooks}
 use Rattle.dsr_ledger.specs.declared.verdict.Verdict.{Verdict}
-use Rattle.dsr_ledger.specs.meaning.Files.{File, Filed, filed_after, summaries_of, with_one}
-use Rattle.dsr_ledger.specs.meaning.Verdicts.{has_id, verdict_of, share_total}
+use Rattle.dsr_ledger.specs.meaning.Files.{File, Filed, filed_after, summaries_of}
+use Rattle.dsr_ledger.specs.layer.Files.{with_one}
+use Rattle.dsr_ledger.specs.meaning.Verdicts.{has_id, share_total}
+use Rattle.dsr_ledger.specs.layer.Verdicts.{verdict_of}
 use Rattle.dsr_ledger.specs.meaning.Findings.{usages_in, rejects_in}
 use Rattle.dsr_ledger.specs.inner.Ids.{is_in}
 use Rattle.dsr_ledger.specs.inner.Summaries.{sums_at, found_in, IsInRange}

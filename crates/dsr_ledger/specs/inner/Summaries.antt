@@ -1,7 +1,8 @@
 -- The state of a file's summaries, and the ranges of the numbers that are added.
 use Rattle.std.specs.Prelude.{ℕ, ◌+◌, ◌*◌, ◌^◌, ◌<◌, ◌≤◌, unsigned_abs, ◌≡◌, pos, ◌+ℤ◌, Bool, is_some, List, Option, None, Some, option_map, find, if◌then◌else◌}
 use Rattle.dsr_events.specs.declared.record.Usage.{Usage}
-use Rattle.dsr_ledger.specs.meaning.Limits.{amount_bound, int_sum_by}
+use Rattle.dsr_ledger.specs.meaning.Limits.{int_sum_by}
+use Rattle.dsr_ledger.specs.layer.Limits.{amount_bound}
 use Rattle.dsr_ledger.specs.declared.sums.Sums.{Sums}
 use Rattle.std.specs.Str.{bytes_eq}
 use Rattle.indexmap.specs.IndexMap.{get, index_of}

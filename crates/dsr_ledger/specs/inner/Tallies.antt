@@ -2,7 +2,7 @@
 use Rattle.std.specs.Prelude.{◌≡◌, ℕ, ◌+◌, ◌*◌, ◌^◌, ◌<◌, ℤ, ◌+ℤ◌, Bool, true, ◌||◌, nat_lt, List, [], length, map, Option, Some, slice_get, unsigned_abs}
 use Rattle.std.specs.Option.{option_and_then}
 use Rattle.dsr_events.specs.declared.record.Usage.{Usage}
-use Rattle.dsr_ledger.specs.meaning.Limits.{amount_bound}
+use Rattle.dsr_ledger.specs.layer.Limits.{amount_bound}
 use Rattle.dsr_ledger.specs.meaning.Bookings.{Key, Booking}
 use Rattle.dsr_ledger.specs.declared.ledger.parts.SeatShare.{SeatShare}
 use Rattle.dsr_ledger.specs.declared.ledger.line.Line.{Line}

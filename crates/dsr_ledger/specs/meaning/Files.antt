@@ -1,5 +1,5 @@
 -- The files of a report in the order given, and their standings.
-use Rattle.std.specs.Prelude.{ℕ, zero, suc, Bool, false, not, ◌==◌, ◌&&◌, Option, None, Some, List, [], ◌∷◌, ◌++◌, if◌then◌else◌}
+use Rattle.std.specs.Prelude.{ℕ, suc, Bool, false, not, ◌==◌, ◌&&◌, Option, None, Some, List, [], ◌∷◌, ◌++◌}
 use Rattle.std.specs.List.{list_any}
 use Rattle.std.specs.Str.{bytes_eq}
 use Rattle.dsr_cells.specs.meaning.Days.{CivilDay}
@@ -72,31 +72,3 @@ filed_after place earlier (f ∷ fs) =
 -- the files of a report with their places, from 1, and their standings
 abbrev pub filed : List File → List Filed
 filed files = filed_after 1 [] files
-
--- a file that is opened, has no blocks yet and has not ended
-abbrev pub opened : Option OpeningParts → File
-opened o = record { opening = o; blocks = []; outcome = None }
-
-abbrev pub add_block : BlockParts → File → File
-add_block b f = record f { blocks = f.blocks ++ b ∷ [] }
-
-abbrev pub end_with : Outcome → File → File
-end_with o f = record f { outcome = Some o }
-
--- the files, with file k, from 0, changed by g
-abbrev pub with_file : (File → File) → List File → ℕ → List File
-with_file g [] k = []
-with_file g (f ∷ fs) zero = g f ∷ fs
-with_file g (f ∷ fs) (suc k) = f ∷ with_file g fs k
-
--- the files, with the block added to file k
-abbrev pub with_block : List File → ℕ → BlockParts → List File
-with_block files k b = with_file (add_block b) files k
-
--- the files, with file k ended by this outcome
-abbrev pub with_outcome : List File → ℕ → Outcome → List File
-with_outcome files k o = with_file (end_with o) files k
-
--- the file with one more block
-abbrev pub with_one : Filed → BlockParts → Filed
-with_one d b = record d { file = add_block b d.file }

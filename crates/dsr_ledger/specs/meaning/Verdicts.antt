@@ -1,5 +1,5 @@
 -- The verdict of a block.
-use Rattle.std.specs.Prelude.{is_some, find, ℕ, Bool, true, false, not, nat_lt, ◌==◌, List, [], ◌∷◌, ◌++◌, length, sum_by, sum, Option, None, Some, slice_get}
+use Rattle.std.specs.Prelude.{is_some, find, ℕ, Bool, true, false, not, nat_lt, ◌==◌, List, [], ◌∷◌, ◌++◌, length, sum_by, sum}
 use Rattle.std.specs.List.{list_any}
 use Rattle.std.specs.Str.{bytes_eq}
 use Rattle.dsr_cells.specs.meaning.Texts.{is_isrc_text}
@@ -8,7 +8,7 @@ use Rattle.dsr_events.specs.declared.record.Usage.{Usage}
 use Rattle.dsr_events.specs.meaning.Blocks.{BlockParts}
 use Rattle.dsr_events.specs.meaning.Works.{WorkParts}
 use Rattle.dsr_ledger.specs.meaning.Limits.{whole_share}
-use Rattle.dsr_ledger.specs.meaning.Files.{File, Filed, filed, summaries_of}
+use Rattle.dsr_ledger.specs.meaning.Files.{Filed, summaries_of}
 use Rattle.dsr_ledger.specs.declared.verdict.Standing.{Standing}
 use Rattle.dsr_ledger.specs.declared.verdict.Standing.TheVariants.{Ours, Foreign, Doubled, Headless}
 use Rattle.dsr_ledger.specs.declared.verdict.Reason.{Reason}
@@ -80,16 +80,3 @@ judged stands summaries earlier (b ∷ bs) =
 -- the blocks of a file with their verdicts
 abbrev pub judged_in : Filed → List (BlockParts × Verdict)
 judged_in d = judged d.standing (summaries_of d.file.opening) [] d.file.blocks
-
--- the verdict of the next block of a file
-abbrev pub verdict_of : Filed → BlockParts → Verdict
-verdict_of d b = verdict d.standing (summaries_of d.file.opening) d.file.blocks b
-
--- the verdict of the next block of a file; no block is taken of a file that is not there, so the value for None is never used
-abbrev pub verdict_after : Option Filed → BlockParts → Verdict
-verdict_after None b = Booked
-verdict_after (Some d) b = verdict_of d b
-
--- the verdict of the next block of file k, from 0
-abbrev pub verdict_in : List File → ℕ → BlockParts → Verdict
-verdict_in files k b = verdict_after (slice_get (filed files) k) b

@@ -1,8 +1,9 @@
 //! Opening a file.
 ghost use Rattle.std.specs.Prelude.{◌≡◌, ◌+◌, ◌<◌, List, [], ◌∷◌, ◌++◌, ℕ, Some, IfOk, length};
 ghost use Rattle.std.specs.List.{list_any};
-ghost use Rattle.dsr_ledger.specs.meaning.Limits.{most_files};
-ghost use Rattle.dsr_ledger.specs.meaning.Files.{opened, is_same_report, has_same_number, is_of_report, first_head, standing, summaries_of};
+ghost use Rattle.dsr_ledger.specs.layer.Limits.{most_files};
+ghost use Rattle.dsr_ledger.specs.meaning.Files.{is_same_report, has_same_number, is_of_report, first_head, standing, summaries_of};
+ghost use Rattle.dsr_ledger.specs.layer.Files.{opened};
 ghost use Rattle.dsr_ledger.specs.meaning.Bookings.{summary_key_named, summary_key_of};
 ghost use Rattle.dsr_ledger.specs.inner.FileSteps.{IsNumberedFile};
 ghost use Rattle.dsr_ledger.specs.inner.Recordings.{KeepsKeys, key_number};

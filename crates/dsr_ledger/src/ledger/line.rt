@@ -1,6 +1,6 @@
 //! A line of a recording: the sums of the bookings of one summary key, and the parties' parts.
 ghost use Rattle.std.specs.Prelude.{◌≡◌, ◌+◌, ◌≤◌, ℕ, List, Option, [], map, length};
-ghost use Rattle.dsr_ledger.specs.meaning.Limits.{amount_bound};
+ghost use Rattle.dsr_ledger.specs.layer.Limits.{amount_bound};
 ghost use Rattle.dsr_ledger.specs.inner.Seated.{part_seats, parts_size, HaveSeats, HaveParts};
 ghost use Rattle.dsr_ledger.specs.meaning.Ledger.{part_of};
 ghost use Rattle.dsr_ledger.specs.inner.Summaries.{IsInRange};

@@ -4,7 +4,7 @@ ghost use Rattle.std.specs.Int.{w128};
 ghost use Rattle.std.specs.Int.RustNames.{FitsSigned, int_div};
 ghost use Rattle.std.specs.Str.{bytes_eq};
 ghost use Rattle.std.proofs.Props.{props};
-ghost use Rattle.dsr_ledger.specs.meaning.Limits.{amount_bound};
+ghost use Rattle.dsr_ledger.specs.layer.Limits.{amount_bound};
 ghost use Rattle.dsr_ledger.specs.inner.Numbered.{AreIndexed, IsNumbered, AreApart, AreBelow};
 ghost use Rattle.dsr_ledger.specs.inner.Seated.{nothing_owed, owed_with, owed_kept, owed_at_place, owed_in, owed_plus, owed_for, part_seats, part_in, parts_size, PartsGrow, HaveSeats, HasPart, HaveParts, AreSeatsBelow};
 ghost use Rattle.dsr_ledger.specs.meaning.Ledger.{part_of};

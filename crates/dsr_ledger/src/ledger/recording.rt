@@ -2,7 +2,7 @@
 ghost use Rattle.std.specs.Prelude.{◌≡◌, ◌<◌, ◌+◌, true, OnOk, nat_eq, length};
 ghost use Rattle.std.specs.Vec.{vec_len, vec_capacity};
 ghost use Rattle.std.proofs.Props.{props};
-ghost use Rattle.dsr_ledger.specs.meaning.Limits.{amount_bound};
+ghost use Rattle.dsr_ledger.specs.layer.Limits.{amount_bound};
 ghost use Rattle.dsr_ledger.specs.inner.Numbered.{AreIndexed, AreApart, place_in};
 ghost use Rattle.dsr_ledger.specs.inner.Seated.{seat_numbers};
 ghost use Rattle.dsr_ledger.specs.inner.Tallies.{line_in, line_keys, AreWithin};

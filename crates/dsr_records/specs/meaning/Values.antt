@@ -1,10 +1,8 @@
 -- The record that a line spells, by a layout.
-use Rattle.std.specs.Prelude.{◌≡◌, ℕ, List, Option, Some, None, Bool, true, false, Result, Ok, Err, nat_lt, if◌then◌else◌, map, length, ℤ, pos}
+use Rattle.std.specs.Prelude.{ℕ, List, Option, Some, None, Result, Ok, Err, nat_lt, map, length, ℤ, pos}
 use Rattle.dsr_events.specs.declared.kinds.Kind.{Kind}
 use Rattle.dsr_events.specs.declared.kinds.Kind.TheVariants.{Head, Summary, Resource, Work, Usage, Foot, Skipped}
 use Rattle.dsr_records.specs.declared.fault.RecordFault.{RecordFault}
-use Rattle.dsr_records.specs.declared.fault.ReadRecordError.{ReadRecordError}
-use Rattle.dsr_records.specs.declared.fault.ReadRecordError.TheVariants.{Fault, Memory}
 use Rattle.dsr_events.specs.declared.record.Record.{Record}
 use Rattle.std.specs.Option.{unwrap_or}
 use Rattle.dsr_cells.specs.meaning.Cells.{cells, raw_parts, value_of}
@@ -20,31 +18,6 @@ use Rattle.dsr_events.specs.meaning.Works.{WorkParts}
 use Rattle.dsr_records.specs.meaning.Records.{LayoutTable, RoleLine, role_of, is_skipped, type_of, cells_at, fault_of}
 use Rattle.dsr_records.specs.meaning.Tables.{file_number_of, text_of}
 use Rattle.dsr_events.specs.declared.record.Record.TheVariants as of
-
--- whether a record has texts, which may need memory
-abbrev pub has_texts : Record → Bool
-has_texts (of.Foot _) = false
-has_texts of.Skipped = false
-has_texts _ = true
-
--- the result is the line's record or its fault, or out of memory if the record has texts
-abbrev pub AnswersRecord : Result Record RecordFault → Result Record ReadRecordError → Type 0
-AnswersRecord (Ok wanted) (Ok found) = found ≡ wanted
-AnswersRecord (Ok wanted) (Err (Fault fault)) = ⊥
-AnswersRecord (Ok wanted) (Err Memory) = has_texts wanted ≡ true
-AnswersRecord (Err wanted) (Ok found) = ⊥
-AnswersRecord (Err wanted) (Err (Fault fault)) = fault ≡ wanted
-AnswersRecord (Err wanted) (Err Memory) = ⊥
-
--- the kind of a record
-abbrev pub kind_of_record : Record → Kind
-kind_of_record (of.Head _) = Head
-kind_of_record (of.Summary _) = Summary
-kind_of_record (of.Resource _) = Resource
-kind_of_record (of.Work _) = Work
-kind_of_record (of.Usage _) = Usage
-kind_of_record (of.Foot _) = Foot
-kind_of_record of.Skipped = Skipped
 
 -- the identifier of a record: that of a summary, or that of its block
 abbrev pub id_of_record : Record → Option (List ℕ)
@@ -133,19 +106,3 @@ record_by_role layout line None = if is_skipped layout (type_of line) then Ok of
 -- the record of a line by a layout, or its first fault
 abbrev pub record_of : LayoutTable → List ℕ → Result Record RecordFault
 record_of layout line = if nat_lt 64 (length (cells line)) then Err Many else record_by_role layout line (role_of layout (type_of line))
-
-abbrev pub kind_found : Result Record RecordFault → Result Kind RecordFault
-kind_found (Ok found) = Ok (kind_of_record found)
-kind_found (Err fault) = Err fault
-
--- the kind of a line's record, or its first fault
-abbrev pub kind_of : LayoutTable → List ℕ → Result Kind RecordFault
-kind_of layout line = kind_found (record_of layout line)
-
-abbrev pub id_found : Result Record RecordFault → Option (List ℕ)
-id_found (Ok found) = id_of_record found
-id_found (Err fault) = None
-
--- the identifier of a line's record: that of a summary, or that of its block
-abbrev pub id_of : LayoutTable → List ℕ → Option (List ℕ)
-id_of layout line = id_found (record_of layout line)

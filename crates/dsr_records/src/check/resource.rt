@@ -2,7 +2,7 @@
 ghost use Rattle.std.specs.Prelude.{◌≡◌, Ok, Err, MatchResult, IfOk, OnOk};
 ghost use Rattle.dsr_events.specs.declared.kinds.Kind.TheVariants as kinds;
 ghost use Rattle.dsr_events.specs.declared.record.Record.TheVariants as records;
-ghost use Rattle.dsr_events.specs.meaning.Blocks.{OpensBlock};
+ghost use Rattle.dsr_events.specs.layer.Blocks.{OpensBlock};
 ghost use Rattle.dsr_records.specs.meaning.Values.{record_by_row};
 
 use crate::fault::RecordFault;

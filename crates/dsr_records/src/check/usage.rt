@@ -2,7 +2,7 @@
 ghost use Rattle.std.specs.Prelude.{◌≡◌, ◌<◌, ◌+◌, Ok, Err, MatchResult, IfOk, OnOk, OnErr, length};
 ghost use Rattle.dsr_events.specs.declared.kinds.Kind.TheVariants as kinds;
 ghost use Rattle.dsr_events.specs.declared.record.Record.TheVariants as records;
-ghost use Rattle.dsr_events.specs.meaning.Blocks.{with_member};
+ghost use Rattle.dsr_events.specs.layer.Blocks.{with_member};
 ghost use Rattle.dsr_records.specs.meaning.Values.{record_by_row};
 
 use crate::fault::RecordFault;

@@ -2,9 +2,10 @@
 use Rattle.std.specs.Prelude.{◌≡◌, ◌≤◌, List, ◌++◌, length}
 use Rattle.crossbeam_channel.specs.Ends.{sends_on, ruled_capacity}
 use Rattle.crossbeam_channel.specs.Claims.{view, IsSeatAt}
-use Rattle.dsr_events.specs.meaning.Orderly.{Placed, IsOrderly}
-use Rattle.dsr_relay.specs.meaning.Rule.{events_of, out_of}
-use Rattle.dsr_relay.specs.meaning.Views.{FeedView}
+use Rattle.dsr_events.specs.meaning.Orderly.{Placed}
+use Rattle.dsr_events.specs.layer.Orderly.{IsOrderly}
+use Rattle.dsr_relay.specs.layer.Rule.{events_of, out_of}
+use Rattle.dsr_relay.specs.layer.Views.{FeedView}
 use Rattle.dsr_relay.specs.declared.rule.Log.TheVariants.{Sends}
 use Rattle.dsr_relay.specs.declared.feed.Feed.TheInside.{Inside}
 

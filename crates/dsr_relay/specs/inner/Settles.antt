@@ -1,6 +1,6 @@
 -- The model of the result of joining two ends.
 use Rattle.std.specs.Prelude.{◌≡◌, length, drop}
-use Rattle.dsr_relay.specs.meaning.Views.{SettledView}
+use Rattle.dsr_relay.specs.layer.Views.{SettledView}
 use Rattle.dsr_relay.specs.declared.settled.Settled.TheInside.{Inside}
 
 abbrev pub settled_view : Inside → SettledView

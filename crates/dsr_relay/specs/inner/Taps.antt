@@ -2,9 +2,10 @@
 use Rattle.std.specs.Prelude.{◌≡◌, ◌≤◌, List, ◌++◌, length, take}
 use Rattle.crossbeam_channel.specs.Ends.{receives_on, ruled_capacity}
 use Rattle.crossbeam_channel.specs.Claims.{view, IsSeatAt}
-use Rattle.dsr_events.specs.meaning.Orderly.{Placed, IsOrderly, has_ended}
-use Rattle.dsr_relay.specs.meaning.Rule.{events_of, received_of}
-use Rattle.dsr_relay.specs.meaning.Views.{TapView}
+use Rattle.dsr_events.specs.meaning.Orderly.{Placed, has_ended}
+use Rattle.dsr_events.specs.layer.Orderly.{IsOrderly}
+use Rattle.dsr_relay.specs.layer.Rule.{events_of, received_of}
+use Rattle.dsr_relay.specs.layer.Views.{TapView}
 use Rattle.dsr_relay.specs.declared.rule.Log.TheVariants.{Takes}
 use Rattle.dsr_relay.specs.declared.tap.Tap.TheInside.{Inside}
 

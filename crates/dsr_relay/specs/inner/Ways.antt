@@ -2,7 +2,7 @@
 use Rattle.std.specs.Prelude.{◌≡◌, ℕ}
 use Rattle.crossbeam_channel.specs.Ends.{sends_on, receives_on}
 use Rattle.crossbeam_channel.specs.Claims.{view, IsSeatAt}
-use Rattle.dsr_relay.specs.meaning.Way.{given_of, got_of}
+use Rattle.dsr_relay.specs.layer.Way.{given_of, got_of}
 use Rattle.dsr_relay.specs.declared.way.Count.TheVariants.{Gave, Got}
 use Rattle.dsr_relay.specs.declared.way.Giver.TheInside as giver
 use Rattle.dsr_relay.specs.declared.way.Getter.TheInside as getter

@@ -2,7 +2,8 @@
 use Rattle.std.specs.Prelude.{ℕ, List, [], ◌≡◌, ◌≤◌, ◌++◌, Bool, true, false, length, take}
 use Rattle.std.proofs.Common.{refl, append_assoc, ◌∙◌}
 use Rattle.std.proofs.lemmas.List.{append-nil}
-use Rattle.dsr_io.specs.meaning.Written.{Written, IsTaken, IsCut}
+use Rattle.dsr_io.specs.meaning.Written.{Written, IsCut}
+use Rattle.dsr_io.specs.layer.Written.{IsTaken}
 use Rattle.dsr_statement.specs.declared.pieces.Pieces.{Pieces}
 
 -- the outlet took all that was sent

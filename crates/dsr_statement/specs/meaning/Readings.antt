@@ -1,5 +1,5 @@
 -- What the text of a statement is read as: its lines, or its first fault.
-use Rattle.std.specs.Prelude.{◌≡◌, ◌⊎◌, ℕ, suc, ◌&&◌, ◌==◌, nat_lt, Bool, true, false, if◌then◌else◌, List, [], ◌∷◌, length, Option, Some, None, Result, Ok, Err}
+use Rattle.std.specs.Prelude.{◌≡◌, ◌⊎◌, ℕ, suc, ◌&&◌, ◌==◌, nat_lt, Bool, true, List, [], ◌∷◌, length, Option, Some, None, Result, Ok, Err}
 use Rattle.std.specs.List.{slice_split}
 use Rattle.std.specs.Str.{is_utf8}
 use Rattle.dsr_cells.specs.meaning.Cells.{cells}
@@ -88,7 +88,3 @@ IsReadingAfter before (bytes ∷ next ∷ more) failed read =
 -- what is read of a text, at whose end a read failed or not: its lines, or the first fault
 abbrev pub IsReadingOf : List ℕ → Bool → Result (List Line) Refusal → Type 0
 IsReadingOf text failed read = IsReadingAfter [] (slice_split (λ b. b == 10) text) failed read
-
--- what is read of a whole text
-abbrev pub IsReading : List ℕ → Result (List Line) Refusal → Type 0
-IsReading text read = IsReadingOf text false read

@@ -1,5 +1,5 @@
 -- Statements that were read whole: which of them are refused, and the text of the totals of the others.
-use Rattle.std.specs.Prelude.{ℕ, suc, ◌==◌, ◌&&◌, Bool, true, false, not, if◌then◌else◌, List, [], ◌∷◌, ◌++◌, Option, None, Some, option_map, map, codes, decimal, is_some}
+use Rattle.std.specs.Prelude.{ℕ, suc, ◌==◌, ◌&&◌, Bool, true, false, List, [], ◌∷◌, ◌++◌, Option, None, Some, option_map, map, codes, decimal, is_some}
 use Rattle.std.specs.List.{flat_map, list_any, position}
 use Rattle.std.specs.Str.{bytes_eq}
 use Rattle.dsr_cells.specs.meaning.Written.{written_day}
@@ -86,9 +86,6 @@ fault_of_role rules earlier Paid r = if has_report Given r.key earlier then None
 -- the fault of a statement after the earlier ones
 unfoldable pub fault_after : Rules → List StatementReport → StatementReport → Option Refusal
 fault_after rules earlier r = either (twice earlier r) (fault_of_role rules earlier r.role r)
-
-abbrev pub line_and_fault : Refusal → ℕ × StatementFault
-line_and_fault r = (r.line, r.fault)
 
 -- the line of a given statement at this place among them, from 1
 unfoldable pub statement_line : ℕ → Bool → StatementReport → List ℕ

@@ -1,5 +1,5 @@
 use Rattle.std.proofs.Common.{◌≤◌, ◌-◌, length, take}
-use Rattle.dsr_io.specs.meaning.Written.{IsTaken}
+use Rattle.dsr_io.specs.layer.Written.{IsTaken}
 use Rattle.dsr_io.proofs.outlet.write_all.Given as goal
 
 abbrev pub invariant-loop-written : goal.invariant-loop-written

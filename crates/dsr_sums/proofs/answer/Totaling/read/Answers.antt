@@ -1,7 +1,8 @@
 use Rattle.std.proofs.Common.{ap, ◌∙◌}
 use Rattle.std.specs.Prelude.{option_map}
 use Rattle.dsr_sums.specs.declared.answer.Totaling.{Totaling}
-use Rattle.dsr_sums.specs.meaning.Statements.{fault_after, line_and_fault}
+use Rattle.dsr_sums.specs.meaning.Statements.{fault_after}
+use Rattle.dsr_sums.specs.layer.Statements.{line_and_fault}
 use Rattle.dsr_sums.proofs.TotalingLemmas.{next_read, next_refused}
 use Rattle.dsr_sums.proofs.answer.Totaling.read.Goals as goal
 

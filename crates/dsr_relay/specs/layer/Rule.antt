@@ -1,6 +1,7 @@
 -- The rule of a relay: what holds, between any two steps, of the messages in its channel and of what its ends know.
 use Rattle.std.specs.Prelude.{◌<◌, ◌≤◌, List, [], ◌∷◌, ◌++◌, length, ◌≡◌, ℕ}
-use Rattle.dsr_events.specs.meaning.Orderly.{Placed, IsOrderly}
+use Rattle.dsr_events.specs.meaning.Orderly.{Placed}
+use Rattle.dsr_events.specs.layer.Orderly.{IsOrderly}
 use mathlib.Core.Option.{some}
 use lib.ListN.{get_elem?}
 use Rattle.dsr_relay.specs.declared.rule.Log.{Log}

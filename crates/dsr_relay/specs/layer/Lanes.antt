@@ -1,7 +1,8 @@
 -- The relays of all files as one machine: its states, its steps, and its schedules.
 use Rattle.std.specs.Prelude.{◌≡◌, ℕ, ◌<◌, ◌≤◌, true, false, List, [], ◌∷◌, ◌++◌, length, Some, slice_get, slice_set}
-use Rattle.dsr_events.specs.meaning.Orderly.{Placed, IsOrderly, has_ended}
-use Rattle.dsr_relay.specs.meaning.Rule.{IsMessage}
+use Rattle.dsr_events.specs.meaning.Orderly.{Placed, has_ended}
+use Rattle.dsr_events.specs.layer.Orderly.{IsOrderly}
+use Rattle.dsr_relay.specs.layer.Rule.{IsMessage}
 
 -- one file: its events, the capacity of its relay, what was sent, the messages in the queue, and what was taken
 pub record Lane : Type 0 where

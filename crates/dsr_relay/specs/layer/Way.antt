@@ -6,7 +6,7 @@ use mathlib.Core.Option.{some}
 use lib.ListN.{get_elem?}
 use Rattle.dsr_relay.specs.declared.way.Count.{Count}
 use Rattle.dsr_relay.specs.declared.way.Count.TheVariants.{Fresh, Gave, Got}
-use Rattle.dsr_relay.specs.meaning.Rule.{Message}
+use Rattle.dsr_relay.specs.layer.Rule.{Message}
 
 -- the batches that are given back together
 abbrev pub Batches : Type 0

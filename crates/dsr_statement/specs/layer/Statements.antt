@@ -2,7 +2,8 @@
 use Rattle.std.specs.Prelude.{◌≡◌, ℕ, ◌<◌, ◌&&◌, ◌||◌, ◌==◌, nat_lt, nat_le, not, Bool, true, List, [], ◌∷◌, length, reverse, Some, Ok}
 use Rattle.std.specs.List.{list_all, AllByRecursion}
 use Rattle.std.specs.Str.{is_utf8}
-use Rattle.dsr_ledger.specs.meaning.Laws.{key_of_line, AddsUp}
+use Rattle.dsr_ledger.specs.meaning.Laws.{key_of_line}
+use Rattle.dsr_ledger.specs.layer.Laws.{AddsUp}
 use Rattle.dsr_ledger.specs.declared.report.ReportKey.{ReportKey}
 use Rattle.dsr_ledger.specs.declared.report.LedgerLine.{LedgerLine}
 use Rattle.dsr_ledger.specs.declared.report.Reject.{Reject}

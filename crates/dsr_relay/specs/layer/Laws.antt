@@ -2,8 +2,8 @@
 use Rattle.std.specs.Prelude.{◌≡◌, ℕ, ◌*◌, ◌≤◌, false, List, ◌++◌, length, map, sum, Some, slice_get}
 use Rattle.std.specs.List.{AllByRecursion}
 use Rattle.dsr_events.specs.meaning.Orderly.{has_ended}
-use Rattle.dsr_relay.specs.meaning.Rule.{events_of}
-use Rattle.dsr_relay.specs.meaning.Lanes.{Lane, Step, file_of, IsPrefix, Happens, Leads, IsFresh}
+use Rattle.dsr_relay.specs.layer.Rule.{events_of}
+use Rattle.dsr_relay.specs.layer.Lanes.{Lane, Step, file_of, IsPrefix, Happens, Leads, IsFresh}
 
 -- what was taken, followed by the queue, is what was sent, a prefix of the source; and the queue is within its capacity
 pub record IsInOrder (lane : Lane) : Type 0 where

@@ -1,0 +1,3 @@
+-- What the crate's own calls promise, as far as the contracts of a run and of the programs do not reach it.
+pub mod Told
+pub mod Written
