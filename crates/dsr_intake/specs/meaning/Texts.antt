@@ -1,5 +1,5 @@
 -- The options of an intake, and what is refused before anything is read; the texts of several files, and their report.
-use Rattle.std.specs.Prelude.{ℕ, Option, Some, None, ◌==◌, ◌||◌, nat_lt, List, [], ◌∷◌, map}
+use Rattle.std.specs.Prelude.{ℕ, Option, Some, None, ◌==◌, ◌||◌, nat_lt, List, [], ◌∷◌, map, if◌then◌else◌}
 use Rattle.dsr_intake.specs.declared.options.Options.{Options}
 use Rattle.dsr_intake.specs.declared.options.TheConstants.{MOST_READERS, MOST_MESSAGES, MOST_READS}
 use Rattle.dsr_intake.specs.declared.errors.IntakeError.{IntakeError}

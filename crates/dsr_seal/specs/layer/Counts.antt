@@ -1,5 +1,5 @@
 -- What a counted outlet keeps.
-use Rattle.std.specs.Prelude.{ℕ, ◌≡◌, ◌≤◌, ◌-◌, ◌==◌, List, length, drop, Option, None, Some}
+use Rattle.std.specs.Prelude.{ℕ, ◌≡◌, ◌≤◌, ◌-◌, ◌==◌, List, length, drop, Option, None, Some, if◌then◌else◌}
 use Rattle.std.specs.Io.KnownBytes.{Keeps}
 use Rattle.dsr_io.specs.meaning.Written.{Written}
 use Rattle.dsr_seal.specs.meaning.Counts.{line_feeds}

@@ -1,5 +1,5 @@
 -- Statements that were read whole: which of them are refused, and the text of the totals of the others.
-use Rattle.std.specs.Prelude.{ℕ, suc, ◌==◌, ◌&&◌, Bool, true, false, List, [], ◌∷◌, ◌++◌, Option, None, Some, option_map, map, codes, decimal, is_some}
+use Rattle.std.specs.Prelude.{ℕ, suc, ◌==◌, ◌&&◌, Bool, true, false, List, [], ◌∷◌, ◌++◌, Option, None, Some, option_map, map, codes, decimal, is_some, if◌then◌else◌}
 use Rattle.std.specs.List.{flat_map, list_any, position}
 use Rattle.std.specs.Str.{bytes_eq}
 use Rattle.dsr_cells.specs.meaning.Written.{written_day}
