@@ -8,6 +8,10 @@ HERE = os.path.dirname(os.path.realpath(__file__))
 GUIDE = os.path.join(HERE, '..', 'docs', 'GUIDE.md')
 
 
+# What the guide calls the points of an entry, and what they are called where it is shown.
+LABELS = {'Cause': 'Usual cause', 'Ask': 'Ask the sender', 'Kept': 'Kept and paid'}
+
+
 class Entry:
     """The meaning of a name, and its points: pairs of a label, such as `Ask the sender`, and a text."""
 
@@ -30,10 +34,11 @@ def plain(markdown):
 
 
 def entry_of(text):
-    """The entry below a heading: its first paragraph and its points."""
-    meaning = plain(re.sub(r' Example: `cases/\w+`\.', '', text.strip().split('\n\n')[0]))
-    points = re.findall(r'^- \*\*([^*]+):\*\* (.*)$', text, re.M)
-    return Entry(meaning, [(label, plain(point)) for label, point in points])
+    """The entry below a heading: its first paragraph without the case, and its points; two labels may have one point."""
+    label = '|'.join(LABELS)
+    meaning = re.sub(r' \(`cases/\w+`\)', '', re.split(r'\n(?:\n|- )', text.strip())[0])
+    points = re.findall(rf'^- ((?:{label})(?:, (?:{label}))*): (.*)$', text, re.M)
+    return Entry(plain(meaning), [(LABELS[each], plain(point)) for labels, point in points for each in labels.split(', ')])
 
 
 def answered(entries, entry):
