@@ -1,0 +1,102 @@
+-- What a source gave is within what a run reads.
+use Rattle.std.proofs.Common.{arith, ◌≡◌, ◌≤◌, ◌^◌, ℕ, suc, inl, inr, List, [], ◌∷◌, ◌++◌, length, map, refl, ap, subst, append-nil}
+use Rattle.std.specs.Prelude.{Option, Some, None}
+use Rattle.std.specs.List.{AllByRecursion}
+use Rattle.dsr_events.specs.declared.fault.Ending.{Ending}
+use Rattle.dsr_events.specs.declared.fault.Ending.TheVariants as endings
+use Rattle.dsr_io.specs.meaning.Told.{Told}
+use Rattle.dsr_records.specs.meaning.Records.{LayoutTable}
+use Rattle.dsr_file.specs.meaning.Runs.{FileText, events_of_text}
+use Rattle.dsr_file.specs.meaning.Sources.{EndsAs, GaveText}
+use Rattle.dsr_ledger.specs.declared.report.Report.{Report}
+use Rattle.dsr_ledger.specs.declared.report.ReportKey.{ReportKey}
+use Rattle.dsr_ledger.specs.meaning.Files.{File}
+use Rattle.dsr_statement.specs.layer.Readings.{IsReading}
+use Rattle.dsr_statement.specs.layer.Statements.{IsReadable}
+use Rattle.dsr_statement.specs.meaning.Statement.{statement_lines, statement_of}
+use Rattle.dsr_statement.proofs.ReportAgain.{report_again, without_report}
+use Rattle.dsr_intake.specs.declared.options.Options.{Options}
+use Rattle.dsr_intake.specs.meaning.Texts.{GaveEach, file_of, refusal_of}
+unfoldable use Rattle.dsr_intake.specs.meaning.Texts.{report_of_texts}
+use Rattle.dsr_laws.specs.layer.Again.{AreRunTexts, lines_if, reading_of_report}
+use Rattle.dsr_laws.proofs.FilesOfTexts.{file_of_text}
+use Rattle.dsr_laws.proofs.Readable.{IsFile, readable}
+
+-- the file of a text
+abbrev file_by : LayoutTable → FileText → File
+file_by layout text = file_of (events_of_text layout text)
+
+files_of : (layout : LayoutTable) (texts : List FileText) → AllByRecursion (λ text. length text.bytes ≤ 2 ^ 36) texts → AllByRecursion IsFile (map (file_by layout) texts)
+files_of layout [] h = tt
+files_of layout (t ∷ ts) h = (file_of_text layout t h.0, files_of layout ts h.1)
+
+size_of_files : (layout : LayoutTable) (texts : List FileText) → length (map (file_by layout) texts) ≡ length texts
+size_of_files layout [] = refl
+size_of_files layout (t ∷ ts) = ap suc (size_of_files layout ts)
+
+pub texts_readable : (layout : LayoutTable) (texts : List FileText) (key : ReportKey) → AreRunTexts texts → (report_of_texts layout texts).key ≡ Some key
+    → IsReadable key (report_of_texts layout texts)
+unfolding report_of_texts
+texts_readable layout texts key h e =
+    readable (map (file_by layout) texts) key (omega (arith, h.few, size_of_files layout texts)) (files_of layout texts h.short) e
+
+-- the text of a report that is readable if it has a key
+if_key : (r : Report) → ((key : ReportKey) → r.key ≡ Some key → IsReadable key r) → (o : Option ReportKey) → r.key ≡ o
+    → IsReading (statement_of r) (lines_if o (statement_lines r))
+if_key r h None e = without_report r e
+if_key r h (Some key) e = report_again key r (h key e)
+
+again : (r : Report) → ((key : ReportKey) → r.key ≡ Some key → IsReadable key r) → IsReading (statement_of r) (reading_of_report r)
+again r h = if_key r h r.key refl
+
+pub texts_again : (layout : LayoutTable) (texts : List FileText) → AreRunTexts texts
+    → IsReading (statement_of (report_of_texts layout texts)) (reading_of_report (report_of_texts layout texts))
+texts_again layout texts h = again (report_of_texts layout texts) (λ key e. texts_readable layout texts key h e)
+
+-- how the bytes of a source ended: no more reads gave some than were allowed
+filled_few : (limit : ℕ) (after : Told) (reads filled : ℕ) (ending : Ending) → reads ≤ limit → EndsAs limit after reads filled ending → filled ≤ limit
+filled_few limit after reads filled endings.Whole few h = omega (arith, h.0)
+filled_few limit after reads filled endings.Read few h = omega (arith, h.0)
+filled_few limit after reads filled endings.Reads few h = omega (arith, h.1)
+
+given_file : (layout : LayoutTable) (limit : ℕ) (before after : Told) (text : FileText) → limit ≤ 16777216 → GaveText layout limit before after text
+    → IsFile (file_by layout text)
+given_file layout limit before after text low (inl (gave, ends, so_far)) =
+    let few = filled_few limit after gave.reads gave.filled text.ending gave.limited ends in
+    file_of_text layout text (omega (arith, gave.most))
+given_file layout limit before after text low (inr (given, stopped, begins, settled)) =
+    let (gave, all, sound, so_far) = stopped in
+    let same = settled [] text.ending in
+    let bytes : length (given ++ []) ≤ 2 ^ 36 = omega (arith, gave.most, gave.limited, ap length (append-nil given)) in
+    subst (λ es. IsFile (file_of es)) same (file_of_text layout (record { bytes = given ++ []; ending = text.ending }) bytes)
+
+-- the options were not refused
+few_files : (files : ℕ) (options : Options) → refusal_of files options ≡ None → (files ≤ 64) × (options.max_reads ≤ 16777216)
+few_files files o e = grind arith
+
+module _ {R : Type 0} (told : R → Told) (options : Options) (low : options.max_reads ≤ 16777216) where
+  given_files : (readers left : List R) (texts : List FileText) → GaveEach told options readers left texts
+      → AllByRecursion IsFile (map (file_by options.layout) texts) × (length texts ≡ length readers)
+  given_files [] [] [] h = (tt, refl)
+  given_files (r ∷ rs) (s ∷ ss) (t ∷ ts) h =
+      let rest = given_files rs ss ts h.1 in
+      ((given_file options.layout options.max_reads (told r) (told s) t low h.0, rest.0), ap suc rest.1)
+  given_files [] [] (t ∷ ts) h = absurd h
+  given_files [] (s ∷ ss) texts h = absurd h
+  given_files (r ∷ rs) [] texts h = absurd h
+  given_files (r ∷ rs) (s ∷ ss) [] h = absurd h
+
+-- the report of what the readers of a run gave is readable
+pub run_readable : {R : Type 0} (told : R → Told) (options : Options) (readers left : List R) (texts : List FileText) → refusal_of (length readers) options ≡ None
+    → GaveEach told options readers left texts → (key : ReportKey) → (report_of_texts options.layout texts).key ≡ Some key
+    → IsReadable key (report_of_texts options.layout texts)
+unfolding report_of_texts
+run_readable told options readers left texts allowed gave key e =
+    let few = few_files (length readers) options allowed in let files = given_files told options few.1 readers left texts gave in
+    readable (map (file_by options.layout) texts) key (omega (arith, few.0, files.1, size_of_files options.layout texts)) files.0 e
+
+pub run_again : {R : Type 0} (told : R → Told) (options : Options) (readers left : List R) (texts : List FileText) → refusal_of (length readers) options ≡ None
+    → GaveEach told options readers left texts
+    → IsReading (statement_of (report_of_texts options.layout texts)) (reading_of_report (report_of_texts options.layout texts))
+run_again told options readers left texts allowed gave =
+    again (report_of_texts options.layout texts) (run_readable told options readers left texts allowed gave)

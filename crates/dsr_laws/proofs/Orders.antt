@@ -1,0 +1,209 @@
+-- The lists of a report are in order.
+use Rattle.std.proofs.Common.{arith, ◌≡◌, ◌<◌, ◌≤◌, ◌+◌, ℕ, zero, suc, List, [], ◌∷◌, ◌++◌, map, Bool, true, refl, ap, sym, subst, ◌∙◌, nat_lt, nat_le}
+use Rattle.std.specs.Prelude.{filter, Option, Some, None, not}
+use Rattle.std.specs.List.{flat_map, list_all, range_with_len, AllByRecursion}
+use Rattle.std.specs.Map.{keys_of}
+unfoldable use Rattle.std.specs.List.Sorted.{IsStrictlySortedBy}
+use Rattle.std.specs.Ordering.{is_lt}
+use Rattle.std.specs.declared.cmp.Ordering.{Ordering}
+use Rattle.std.specs.declared.cmp.Ordering.TheVariants.{Less}
+use Rattle.std.specs.Cmp.Lexicographic.{nat_list_cmp_total}
+use Rattle.std.proofs.lemmas.Bool.{cond_both, and_from, lt-ltb, le-leb, eq-eqb, or_left, or_right}
+use Rattle.std.proofs.lemmas.List.Elements.{recursion_from_All}
+use Rattle.std.proofs.lemmas.Map.Lookups.{exact_bytes}
+use Rattle.dsr_events.specs.declared.record.Head.{Head}
+use Rattle.dsr_events.specs.meaning.Blocks.{BlockParts}
+use Rattle.dsr_events.specs.meaning.Openings.{OpeningParts}
+use Rattle.dsr_ledger.specs.declared.report.Difference.{Difference}
+use Rattle.dsr_ledger.specs.declared.report.LedgerLine.{LedgerLine}
+use Rattle.dsr_ledger.specs.declared.report.PartyLine.{PartyLine}
+use Rattle.dsr_ledger.specs.declared.report.Reject.{Reject}
+use Rattle.dsr_ledger.specs.declared.verdict.Verdict.{Verdict}
+use Rattle.dsr_ledger.specs.declared.verdict.Verdict.TheVariants.{Booked, Rejected}
+use Rattle.dsr_ledger.specs.layer.Laws.{AddsUp}
+use Rattle.dsr_ledger.specs.meaning.Bookings.{Booking, Key, bookings, in_order, key_cmp, text_cmp}
+use Rattle.dsr_ledger.specs.meaning.Files.{File, Filed, filed, filed_after, standing, summaries_of}
+use Rattle.dsr_ledger.specs.meaning.Findings.{difference, differences_in, is_there, missing_for, rejects_from, rejects_in, usages_in}
+unfoldable use Rattle.dsr_ledger.specs.meaning.Findings.{differences, rejects}
+use Rattle.dsr_ledger.specs.meaning.Laws.{key_of_line}
+use Rattle.dsr_ledger.specs.meaning.Ledger.{all_parts, at_key, party_amount}
+unfoldable use Rattle.dsr_ledger.specs.meaning.Ledger.{ledger, line_of, party_lines}
+use Rattle.dsr_ledger.specs.meaning.Reports.{report_head}
+unfoldable use Rattle.dsr_ledger.specs.meaning.Reports.{missing, report_of}
+use Rattle.dsr_ledger.specs.meaning.Verdicts.{judged_in}
+use Rattle.dsr_ledger.proofs.EachLemmas.{each_append, each_filter, each_weaker}
+use Rattle.dsr_ledger.proofs.KeyLemmas.{key_total, key_exact}
+use Rattle.dsr_ledger.proofs.LawLemmas.{add_up, each_line}
+use Rattle.dsr_ledger.proofs.OrderLemmas.{mapped_in_order, sorted_in_order}
+use Rattle.dsr_ledger.proofs.PartyLemmas.{lines_are, names_of}
+use Rattle.dsr_statement.specs.layer.Statements.{all_adjacent, are_parties_in_order, is_before}
+use Rattle.dsr_statement.specs.meaning.Order.{is_key_below, is_text_below}
+
+-- each item stands in a relation to all later ones
+abbrev Sorted : {X : Type 0} → (X → X → Bool) → List X → Type 0
+Sorted r [] = Unit {0}
+Sorted r (x ∷ xs) = AllByRecursion (λ y. r x y ≡ true) xs × Sorted r xs
+
+module _ {X : Type 0} (r : X → X → Bool) where
+  adjacent : (xs : List X) → Sorted r xs → all_adjacent r xs ≡ true
+  adjacent [] h = refl
+  adjacent (x ∷ []) h = refl
+  adjacent (x ∷ y ∷ more) h = and_from (r x y) (all_adjacent r (y ∷ more)) h.0.0 (adjacent (y ∷ more) h.1)
+
+  sorted_filter : (p : X → Bool) (xs : List X) → Sorted r xs → Sorted r (filter p xs)
+  sorted_filter p [] h = tt
+  sorted_filter p (x ∷ xs) h =
+      let rest = sorted_filter p xs h.1 in
+      cond_both (p x) (x ∷ filter p xs) (filter p xs) (Sorted r) (λ e. (each_filter (λ y. r x y ≡ true) p xs h.0, rest)) (λ e. rest)
+
+  sorted_append : (xs ys : List X) → Sorted r xs → Sorted r ys → AllByRecursion (λ x. AllByRecursion (λ y. r x y ≡ true) ys) xs → Sorted r (xs ++ ys)
+  sorted_append [] ys h k each = k
+  sorted_append (x ∷ xs) ys h k each = (each_append (λ y. r x y ≡ true) xs ys h.0 each.0, sorted_append xs ys h.1 k each.1)
+
+-- the items of files, in the order of the files
+module _ {X : Type 0} (file : X → ℕ) (r : X → X → Bool) (items : Filed → List X) (own : (d : Filed) → AllByRecursion (λ x. file x ≡ d.place) (items d))
+    (inside : (d : Filed) → Sorted r (items d)) (apart : (x y : X) → file x < file y → r x y ≡ true) where
+  later : (place : ℕ) (earlier : List (Option OpeningParts)) (files : List File) → AllByRecursion (λ x. place ≤ file x) (flat_map items (filed_after place earlier files))
+  later place earlier [] = tt
+  later place earlier (f ∷ fs) =
+      let d : Filed = record { place = place; standing = standing earlier f.opening; file = f } in
+      let rest = flat_map items (filed_after (suc place) (earlier ++ (f.opening ∷ [])) fs) in
+      each_append (λ x. place ≤ file x) (items d) rest (each_weaker (λ x. file x ≡ place) (λ x. place ≤ file x) (λ x e. omega arith) (items d) (own d))
+      (each_weaker (λ x. suc place ≤ file x) (λ x. place ≤ file x) (λ x e. omega arith) rest (later (suc place) (earlier ++ (f.opening ∷ [])) fs))
+
+  by_file : (place : ℕ) (earlier : List (Option OpeningParts)) (files : List File) → Sorted r (flat_map items (filed_after place earlier files))
+  by_file place earlier [] = tt
+  by_file place earlier (f ∷ fs) =
+      let d : Filed = record { place = place; standing = standing earlier f.opening; file = f } in
+      let rest = flat_map items (filed_after (suc place) (earlier ++ (f.opening ∷ [])) fs) in
+      let after = later (suc place) (earlier ++ (f.opening ∷ [])) fs in
+      sorted_append r (items d) rest (inside d) (by_file (suc place) (earlier ++ (f.opening ∷ [])) fs)
+      (each_weaker (λ x. file x ≡ place) (λ x. AllByRecursion (λ y. r x y ≡ true) rest) (λ x e.
+      each_weaker (λ y. suc place ≤ file y) (λ y. r x y ≡ true) (λ y k. apart x y (omega arith)) rest after) (items d) (own d))
+
+-- the missing numbers ascend
+range_from : (a n : ℕ) → AllByRecursion (λ m. a ≤ m) (range_with_len a n)
+range_from a zero = tt
+range_from a (suc n) =
+    (omega arith, each_weaker (λ m. a + 1 ≤ m) (λ m. a ≤ m) (λ m h. omega arith) (range_with_len (a + 1) n) (range_from (a + 1) n))
+
+range_sorted : (a n : ℕ) → Sorted nat_lt (range_with_len a n)
+range_sorted a zero = tt
+range_sorted a (suc n) = (
+  each_weaker (λ m. a + 1 ≤ m) (λ m. nat_lt a m ≡ true) (λ m h. lt-ltb a m (omega arith)) (range_with_len (a + 1) n) (range_from (a + 1) n),
+  range_sorted (a + 1) n,
+)
+
+missing_sorted : (o : Option Head) (ds : List Filed) → Sorted nat_lt (missing_for o ds)
+missing_sorted None ds = tt
+missing_sorted (Some head) ds = sorted_filter nat_lt (λ n. not (is_there n ds)) (range_with_len 1 head.number_of_files) (range_sorted 1 head.number_of_files)
+
+pub missing_ascend : (files : List File) → all_adjacent nat_lt (missing files) ≡ true
+unfolding missing
+missing_ascend files = adjacent nat_lt (missing files) (missing_sorted (report_head files) (filed files))
+
+-- the differences stand by file
+abbrev not_after : Difference → Difference → Bool
+not_after a b = nat_le a.file b.file
+
+differences_own : (d : Filed) → AllByRecursion (λ x. x.file ≡ d.place) (differences_in d)
+differences_own d =
+    let us = usages_in d.file.blocks in
+    each_filter (λ (x : Difference). x.file ≡ d.place) _ (map (difference d.place us) (summaries_of d.file.opening)) (own us (summaries_of d.file.opening))
+  where
+    own : (us : List _) (ss : List _) → AllByRecursion (λ (x : Difference). x.file ≡ d.place) (map (difference d.place us) ss)
+    own us [] = tt
+    own us (s ∷ ss) = (refl, own us ss)
+
+same_file : (place : ℕ) (ds : List Difference) → AllByRecursion (λ x. x.file ≡ place) ds → Sorted not_after ds
+same_file place [] h = tt
+same_file place (x ∷ xs) h =
+    (each_weaker (λ (y : Difference). y.file ≡ place) (λ y. not_after x y ≡ true) (λ y e. le-leb x.file y.file (omega (arith, h.0))) xs h.1, same_file place xs h.1)
+
+pub differences_by_file : (files : List File) → all_adjacent (λ a b. nat_le a.file b.file) (differences files) ≡ true
+unfolding differences
+differences_by_file files =
+    adjacent not_after (differences files) (by_file (λ (x : Difference). x.file) not_after differences_in differences_own
+    (λ d. same_file d.place (differences_in d) (differences_own d)) (λ x y less. le-leb x.file y.file (omega arith)) 1 [] files)
+
+-- the rejects stand by file and position
+rejects_own : (place n : ℕ) (js : List (BlockParts × Verdict)) → AllByRecursion (λ x. x.file ≡ place) (rejects_from place n js)
+rejects_own place n [] = tt
+rejects_own place n ((b, Booked) ∷ js) = rejects_own place (n + 1) js
+rejects_own place n ((b, Rejected reason) ∷ js) = (refl, rejects_own place (n + 1) js)
+
+rejects_late : (place n : ℕ) (js : List (BlockParts × Verdict)) → AllByRecursion (λ x. n ≤ x.position) (rejects_from place n js)
+rejects_late place n [] = tt
+rejects_late place n ((b, Booked) ∷ js) =
+    each_weaker (λ (x : Reject). n + 1 ≤ x.position) (λ x. n ≤ x.position) (λ x h. omega arith) (rejects_from place (n + 1) js) (rejects_late place (n + 1) js)
+rejects_late place n ((b, Rejected reason) ∷ js) = (
+  omega arith,
+  each_weaker (λ (x : Reject). n + 1 ≤ x.position) (λ x. n ≤ x.position) (λ x h. omega arith) (rejects_from place (n + 1) js) (rejects_late place (n + 1) js),
+)
+
+both_each : {X : Type 0} (P Q R : X → Type 0) → ((x : X) → P x → Q x → R x) → (xs : List X) → AllByRecursion P xs → AllByRecursion Q xs → AllByRecursion R xs
+both_each P Q R f [] p q = tt
+both_each P Q R f (x ∷ xs) p q = (f x p.0 q.0, both_each P Q R f xs p.1 q.1)
+
+rejects_sorted : (place n : ℕ) (js : List (BlockParts × Verdict)) → Sorted is_before (rejects_from place n js)
+rejects_sorted place n [] = tt
+rejects_sorted place n ((b, Booked) ∷ js) = rejects_sorted place (n + 1) js
+rejects_sorted place n ((b, Rejected reason) ∷ js) =
+    let x : Reject = record { file = place; position = n; block_id = b.id; reason = reason } in let rest = rejects_from place (n + 1) js in (
+      both_each (λ (y : Reject). y.file ≡ place) (λ y. n + 1 ≤ y.position) (λ y. is_before x y ≡ true) (λ y e k.
+          or_right (nat_lt place y.file) _ (and_from _ _ (eq-eqb place y.file (sym e)) (lt-ltb n y.position (omega arith)))) rest (rejects_own place (n + 1) js)
+          (rejects_late place (n + 1) js),
+      rejects_sorted place (n + 1) js,
+    )
+
+pub rejects_in_order : (files : List File) → all_adjacent is_before (rejects files) ≡ true
+unfolding rejects
+rejects_in_order files =
+    adjacent is_before (rejects files) (by_file (λ (x : Reject). x.file) is_before rejects_in (λ d. rejects_own d.place 1 (judged_in d))
+    (λ d. rejects_sorted d.place 1 (judged_in d)) (λ x y less. or_left (nat_lt x.file y.file) _ (lt-ltb x.file y.file less)) 1 [] files)
+
+-- items made from keys in strict order
+module _ {K X : Type 0} (cmp : K → K → Ordering) (name : X → K) (make : K → X) (named : (k : K) → name (make k) ≡ k) where
+  abbrev below : X → X → Bool
+  below a b = is_lt (cmp (name a) (name b))
+
+  made_after : (k : K) (ks : List K) → AllByRecursion (λ q. cmp k q ≡ Less) ks → AllByRecursion (λ y. below (make k) y ≡ true) (map make ks)
+  made_after k [] h = tt
+  made_after k (q ∷ qs) h = ((λ i. is_lt (cmp (named k i) (named q i))) ∙ ap is_lt h.0, made_after k qs h.1)
+
+  made_sorted : (ks : List K) → IsStrictlySortedBy cmp ks → Sorted below (map make ks)
+  unfolding IsStrictlySortedBy
+  made_sorted [] h = tt
+  made_sorted (k ∷ ks) h = (made_after k ks h.0, made_sorted ks h.1)
+
+  made_in_order : (ks : List K) → IsStrictlySortedBy cmp ks → all_adjacent below (map make ks) ≡ true
+  made_in_order ks h = adjacent below (map make ks) (made_sorted ks h)
+
+-- the lines of the ledger stand by key
+pub ledger_by_key : (bs : List Booking) → all_adjacent (λ a b. is_key_below (key_of_line a) (key_of_line b)) (ledger bs) ≡ true
+unfolding ledger line_of
+ledger_by_key bs =
+    let f : Key → LedgerLine = λ key. line_of key (at_key key bs) in let ks = map (λ b. b.key) bs in
+    subst (λ ls. all_adjacent (λ a b. is_key_below (key_of_line a) (key_of_line b)) ls ≡ true) (sym (mapped_in_order key_cmp key_total key_exact f ks (λ e. e.1)))
+    (made_in_order key_cmp key_of_line f (λ k. refl) (keys_of (in_order key_cmp f ks)) (sorted_in_order key_cmp key_total key_exact f ks))
+
+-- and the parties of a line by name
+pub parties_by_name : (bs : List Booking) → all_adjacent (λ p q. is_text_below p.party q.party) (party_lines bs) ≡ true
+parties_by_name bs =
+    let f : List ℕ → PartyLine = λ n. record { party = n; amount = party_amount bs n } in
+    subst (λ ps. all_adjacent (λ (p q : PartyLine). is_text_below p.party q.party) ps ≡ true) (sym (lines_are bs))
+    (made_in_order text_cmp (λ (p : PartyLine). p.party) f (λ k. refl) (names_of bs)
+    (sorted_in_order text_cmp nat_list_cmp_total exact_bytes (party_amount bs) (map (λ q. q.party) (all_parts bs))))
+
+pub all_true : {X : Type 0} (p : X → Bool) (xs : List X) → AllByRecursion (λ x. p x ≡ true) xs → list_all p xs ≡ true
+all_true p [] h = refl
+all_true p (x ∷ xs) h = and_from (p x) (list_all p xs) h.0 (all_true p xs h.1)
+
+pub parties_in_order : (bs : List Booking) → list_all are_parties_in_order (ledger bs) ≡ true
+unfolding line_of
+parties_in_order bs =
+    all_true are_parties_in_order (ledger bs) (each_line (λ l. are_parties_in_order l ≡ true) bs (λ key among. parties_by_name (at_key key bs)))
+
+pub sums_add_up : (files : List File) → AllByRecursion AddsUp (ledger (bookings files))
+unfolding report_of
+sums_add_up files = recursion_from_All AddsUp (ledger (bookings files)) (add_up files)

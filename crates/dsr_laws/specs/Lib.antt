@@ -1,0 +1,2 @@
+-- The definitions of the laws.
+pub mod layer

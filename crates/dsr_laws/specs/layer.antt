@@ -1,0 +1,2 @@
+-- What the laws say of the statement of a run.
+pub mod Again
