@@ -1,42 +1,16 @@
 -- What the file of a text has: its opening, its blocks and its outcome.
-use Rattle.std.proofs.Common.{arith, ◌≡◌, ◌<◌, ◌≤◌, ◌+◌, ◌-◌, ◌^◌, ℕ, zero, suc, List, [], ◌∷◌, ◌++◌, length, map, take, drop, Bool, true, false, refl, eqb, length-append}
-use Rattle.std.specs.Prelude.{count_by, Option, Some, None, Result, Ok, Err, nat_le, not, ◌&&◌, ◌||◌}
-use Rattle.std.specs.List.{list_all, list_any, cons_option, onto_first, filter_map, AllByRecursion}
-use Rattle.std.specs.Option.{option_map, option_to_list}
-use Rattle.std.specs.Str.{is_utf8, bytes_eq}
-use Rattle.std.proofs.lemmas.Bool.{cond_both, and_parts, and_from, ltb-false, leb-true}
-use Rattle.std.proofs.lemmas.List.Splits.{length-slice_split}
-use Rattle.std.proofs.lemmas.List.Sums.{count_by-le-length}
-use Rattle.std.proofs.lemmas.Str.{IsUtf8-from_is_utf8}
-use Rattle.dsr_cells.specs.meaning.Texts.{is_identifier_text}
-use Rattle.dsr_cells.specs.meaning.Lines.{is_line_feed, is_long, pieces, without_mark, without_return}
-use Rattle.dsr_events.specs.declared.event.EventPart.{EventPart}
+use Rattle.dsr_laws.proofs.Common.{AllByRecursion, AllGood, At, BlockParts, Bool, Ending, Err, EventPart, FileFault, First, Holds, IsUtf8-from_is_utf8, Kind, LayoutTable, List, None, Ok, OpeningParts, Option, Outcome, Reading, Record, RecordFault, Result, SkippedLine, Some, Summary, [], and_from, and_parts, arith, block_limit, block_of, but_last, bytes_eq, closed, column, cond_both, cons_option, count_by, count_by-le-length, count_fault, counts_fault, drop, early_fault, end_whole, eqb, events, events_of, false, fault_if, file_fault, filter_map, first_from, first_id, first_if, has_id, in_part, is_identifier_text, is_left_out, is_line_feed, is_long, is_printed_fault, is_skipped_line, is_skipped_record, is_utf8, kept, last_is_line, last_of, last_part, leb-true, length, length-append, length-slice_split, lines, lines_among, list_all, list_any, ltb-false, map, member_fault, not, of_record, of_text, of_utf8, onto_first, opened, opening_of, opens, option_to_list, or_else, outcome, outcome_at, parts, pieces, place, reading, record_of, records, refl, suc, summaries, summary_fault, summary_limit, take, taken, true, usages, without_mark, without_return, works, works_then_usages, zero, ℕ, ◌&&◌, ◌++◌, ◌+◌, ◌-◌, ◌<◌, ◌^◌, ◌||◌, ◌∷◌, ◌≡◌, ◌≤◌}
+use Rattle.std.specs.Prelude.{nat_le}
+use Rattle.std.specs.Option.{option_map}
 use Rattle.dsr_events.specs.declared.event.EventPart.TheVariants as part
-use Rattle.dsr_events.specs.declared.fault.Ending.{Ending}
 use Rattle.dsr_events.specs.declared.fault.Ending.TheVariants as endings
-use Rattle.dsr_events.specs.declared.fault.FileFault.{FileFault}
 use Rattle.dsr_events.specs.declared.fault.FileFault.TheVariants as faults
-use Rattle.dsr_events.specs.declared.fault.Outcome.{Outcome}
 use Rattle.dsr_events.specs.declared.fault.Outcome.TheVariants as outcomes
-use Rattle.dsr_events.specs.declared.kinds.Kind.{Kind}
 use Rattle.dsr_events.specs.declared.kinds.Kind.TheVariants as kinds
-use Rattle.dsr_events.specs.declared.record.Summary.{Summary}
-use Rattle.dsr_events.specs.declared.record.Record.{Record}
 use Rattle.dsr_events.specs.declared.record.Record.TheVariants as of
-use Rattle.dsr_events.specs.meaning.Blocks.{BlockParts}
-use Rattle.dsr_events.specs.meaning.Openings.{OpeningParts}
-use Rattle.dsr_records.specs.declared.fault.RecordFault.{RecordFault}
 use Rattle.dsr_records.specs.declared.fault.RecordFault.TheVariants as record_faults
-use Rattle.dsr_records.specs.meaning.Layouts.{is_left_out}
-use Rattle.dsr_records.specs.meaning.Records.{LayoutTable, or_else}
-use Rattle.dsr_records.specs.meaning.Values.{record_of}
-use Rattle.dsr_file.specs.meaning.Faults.{summary_limit, place, fault_if, last_part, first_id, member_fault, summary_fault, in_part, early_fault, count_fault, column}
 unfoldable use Rattle.dsr_file.specs.meaning.Faults.{fault_of}
-use Rattle.dsr_file.specs.meaning.Readings.{Reading, Faulty, SkippedLine, Holds, file_fault, of_record, kept, records, is_skipped_line, is_skipped_record, opens, parts, but_last, closed, works, usages, summaries, works_then_usages, has_id, block_limit, block_of, opening_of, opened, last_of}
-unfoldable use Rattle.dsr_file.specs.meaning.Readings.{of_utf8, of_text, reading, events_of}
-use Rattle.dsr_file.specs.meaning.Texts.{last_is_line, lines_among, lines, First, AllGood, At, first_if, first_from, counts_fault, taken, end_whole, outcome_at, outcome}
-unfoldable use Rattle.dsr_file.specs.meaning.Texts.{events}
-use Rattle.dsr_statement.specs.meaning.Cells.{is_printed_fault}
+use Rattle.dsr_file.specs.meaning.Readings.{Faulty}
 use Rattle.dsr_laws.proofs.Values.{lacks, IsCellText}
 use Rattle.dsr_laws.proofs.Records.{IsHead, IsSummary, IsUsage, IsRecord, IfRecord, record_spelled}
 

@@ -1,19 +1,6 @@
 -- The file of a text: its opening, its blocks and its outcome.
-use Rattle.std.proofs.Common.{arith, ◌≡◌, ◌≤◌, ◌+◌, ◌^◌, ℕ, suc, List, [], ◌∷◌, length, true, refl, ap, subst}
-use Rattle.std.specs.Prelude.{Option, Some, None}
-use Rattle.std.specs.List.{cons_option, filter_map, AllByRecursion}
-use Rattle.std.proofs.lemmas.List.{length-map}
-use Rattle.dsr_cells.specs.meaning.Lines.{pieces, without_mark}
-use Rattle.dsr_events.specs.declared.event.EventPart.{EventPart}
+use Rattle.dsr_laws.proofs.Common.{AllByRecursion, EventPart, FileText, LayoutTable, List, None, Option, Outcome, Placed, Some, [], ap, arith, block_in, cons_option, events, events_of_text, file_of, filter_map, first, length, length-map, lines, opening_in, outcome_in, outcome_of, pieces, placed, reading, readings, refl, subst, suc, true, without_mark, ℕ, ◌+◌, ◌^◌, ◌∷◌, ◌≡◌, ◌≤◌}
 use Rattle.dsr_events.specs.declared.event.EventPart.TheVariants as part
-use Rattle.dsr_events.specs.declared.fault.Outcome.{Outcome}
-use Rattle.dsr_events.specs.meaning.Orderly.{Placed}
-use Rattle.dsr_records.specs.meaning.Records.{LayoutTable}
-use Rattle.dsr_file.specs.meaning.Readings.{reading}
-use Rattle.dsr_file.specs.meaning.Texts.{events, lines, placed, readings}
-use Rattle.dsr_file.specs.meaning.Runs.{FileText, events_of_text}
-use Rattle.dsr_ledger.specs.meaning.Reports.{outcome_of}
-use Rattle.dsr_intake.specs.meaning.Texts.{opening_in, block_in, outcome_in, first, file_of}
 use Rattle.dsr_laws.proofs.Values.{lacks, pieces_lack}
 use Rattle.dsr_laws.proofs.Readable.{IsFile}
 use Rattle.dsr_laws.proofs.Files.{AreParts, IfSome, IsBlock, IsOpening, IsOutcome, IsPart, among, each_reading, events_parts, lines_few}

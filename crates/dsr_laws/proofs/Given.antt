@@ -1,23 +1,6 @@
 -- What a source gave is within what a run reads.
-use Rattle.std.proofs.Common.{arith, ◌≡◌, ◌≤◌, ◌^◌, ℕ, suc, inl, inr, List, [], ◌∷◌, ◌++◌, length, map, refl, ap, subst, append-nil}
-use Rattle.std.specs.Prelude.{Option, Some, None}
-use Rattle.std.specs.List.{AllByRecursion}
-use Rattle.dsr_events.specs.declared.fault.Ending.{Ending}
+use Rattle.dsr_laws.proofs.Common.{AllByRecursion, Ending, EndsAs, File, FileText, GaveEach, GaveText, IsReadable, IsReading, LayoutTable, List, None, Option, Options, Report, ReportKey, Some, Told, [], ap, append-nil, arith, events_of_text, file_of, inl, inr, length, map, refl, refusal_of, report_again, report_of_texts, statement_lines, statement_of, subst, suc, without_report, ℕ, ◌++◌, ◌^◌, ◌∷◌, ◌≡◌, ◌≤◌}
 use Rattle.dsr_events.specs.declared.fault.Ending.TheVariants as endings
-use Rattle.dsr_io.specs.meaning.Told.{Told}
-use Rattle.dsr_records.specs.meaning.Records.{LayoutTable}
-use Rattle.dsr_file.specs.meaning.Runs.{FileText, events_of_text}
-use Rattle.dsr_file.specs.meaning.Sources.{EndsAs, GaveText}
-use Rattle.dsr_ledger.specs.declared.report.Report.{Report}
-use Rattle.dsr_ledger.specs.declared.report.ReportKey.{ReportKey}
-use Rattle.dsr_ledger.specs.meaning.Files.{File}
-use Rattle.dsr_statement.specs.layer.Readings.{IsReading}
-use Rattle.dsr_statement.specs.layer.Statements.{IsReadable}
-use Rattle.dsr_statement.specs.meaning.Statement.{statement_lines, statement_of}
-use Rattle.dsr_statement.proofs.ReportAgain.{report_again, without_report}
-use Rattle.dsr_intake.specs.declared.options.Options.{Options}
-use Rattle.dsr_intake.specs.meaning.Texts.{GaveEach, file_of, refusal_of}
-unfoldable use Rattle.dsr_intake.specs.meaning.Texts.{report_of_texts}
 use Rattle.dsr_laws.specs.layer.Again.{AreRunTexts, lines_if, reading_of_report}
 use Rattle.dsr_laws.proofs.FilesOfTexts.{file_of_text}
 use Rattle.dsr_laws.proofs.Readable.{IsFile, readable}

@@ -1,48 +1,13 @@
 -- The text of a line is UTF-8, at most 16,384 bytes long and without a line feed.
-use Rattle.std.proofs.Common.{rules, arith, ◌≡◌, ◌<◌, ◌≤◌, ◌+◌, ◌-◌, ◌/◌, ◌%◌, ◌^◌, ℕ, zero, suc, List, [], ◌∷◌, ◌++◌, length, take, drop, map, Bool, true, refl, ap, sym, ◌∙◌, eqb, nat_lt, nat_le, length-append, length-drop}
-use Rattle.std.specs.Prelude.{ℤ, pos, negsuc, not, ◌&&◌, ◌||◌, unsigned_abs, replicate, Option, Some, None}
-use Rattle.std.specs.List.{list_all, join_with_byte, AllByRecursion}
-use Rattle.std.specs.Char.{is_ascii_digit, is_ascii_uppercase, is_ascii_alphanumeric}
-use Rattle.std.specs.Int.{is_in_range}
-use Rattle.std.specs.Fmt.{decimal, signed_decimal}
-use Rattle.std.specs.Str.{IsUtf8, IsAscii}
-use Rattle.std.proofs.lemmas.Bool.{and_parts, and_from, ltb-true, leb-true, le-leb, eqb-true}
-use Rattle.std.proofs.lemmas.Bool.Decides.{nat_tests}
-use Rattle.std.proofs.lemmas.Fmt.{length-decimal-le_wide}
-use Rattle.std.proofs.lemmas.List.{length-replicate}
-use Rattle.std.proofs.lemmas.List.Folds.{list_all-append}
-use Rattle.std.proofs.lemmas.Str.{IsUtf8-append, IsUtf8-from_ascii, is_utf8-from_IsUtf8}
-use Rattle.dsr_cells.specs.meaning.Days.{CivilDay, is_civil_day}
-use Rattle.dsr_cells.specs.meaning.Texts.{is_run_of, is_capital_or_digit, is_isrc_text}
-use Rattle.dsr_cells.specs.meaning.Written.{padded_number, written, written_day}
-use Rattle.dsr_cells.proofs.Days.{civil_bounds, in_range}
-use Rattle.dsr_cells.proofs.Spelled.{all_digits, zeros_digits}
-use Rattle.dsr_events.specs.meaning.Names.{column_name, column_named, name_of}
-use Rattle.dsr_events.specs.declared.fault.FileFault.{FileFault}
-use Rattle.dsr_events.specs.declared.fault.FileFault.TheVariants.{LongLine}
-use Rattle.dsr_events.specs.declared.fault.Outcome.{Outcome}
+use Rattle.dsr_laws.proofs.Common.{AllByRecursion, Amount, Bool, Cell, CivilDay, Column, ColumnName, Currency, DaysIn, FaultName, FileFault, FileNumber, Identifier, IsAscii, IsUtf8, IsUtf8-append, IsUtf8-from_ascii, Isrc, Line, LineKind, List, LongLine, MessageId, Name, None, Number32, Number64, OnDay, Option, Outcome, PartyName, Reason, Sha256, Some, Standing, Stands, Status, StatusName, Territory, Usages, UseType, Whole, Why, [], all_digits, all_weaker, amount_cell, and_from, and_parts, ap, are_days, are_usages, arith, as_written, cell_text, civil_bounds, column_cells, column_name, column_named, days_in, decimal, drop, eqb, eqb-true, in_range, is_ascii_alphanumeric, is_ascii_digit, is_ascii_uppercase, is_capital_or_digit, is_cell, is_civil_day, is_in_range, is_isrc_text, is_line, is_run_of, is_small_hex, is_text, is_utf8-from_IsUtf8, join_with_byte, kind_name, le-leb, leb-true, length, length-append, length-decimal-le_wide, length-drop, length-replicate, line_cells, line_text, list_all, list_all-append, ltb-true, map, name_of, nat_tests, negsuc, not, outcome_cells, padded_number, pos, reason_name, refl, replicate, rules, signed_decimal, signed_text, standing_name, status_name, suc, sym, take, true, units_text, unsigned_abs, written, written_day, zero, zeros_digits, ℕ, ℤ, ◌%◌, ◌&&◌, ◌++◌, ◌+◌, ◌-◌, ◌/◌, ◌<◌, ◌^◌, ◌||◌, ◌∙◌, ◌∷◌, ◌≡◌, ◌≤◌}
+use Rattle.std.proofs.Common.{nat_lt, nat_le}
 use Rattle.dsr_events.specs.declared.fault.Outcome.TheVariants as outcomes
-use Rattle.dsr_events.specs.declared.kinds.Column.{Column}
-use Rattle.dsr_events.specs.declared.kinds.Column.TheVariants.{MessageId}
-use Rattle.dsr_ledger.specs.declared.verdict.Standing.{Standing}
 use Rattle.dsr_ledger.specs.declared.verdict.Standing.TheVariants as standings
-use Rattle.dsr_ledger.specs.declared.verdict.Reason.{Reason}
 use Rattle.dsr_ledger.specs.declared.verdict.Reason.TheVariants as reasons
-use Rattle.dsr_statement.specs.declared.line.Line.{Line}
 use Rattle.dsr_statement.specs.declared.line.Line.TheVariants as lines
-use Rattle.dsr_statement.specs.declared.line.LineKind.{LineKind}
 use Rattle.dsr_statement.specs.declared.line.LineKind.TheVariants as kinds
-use Rattle.dsr_statement.specs.declared.verdict.Status.{Status}
 use Rattle.dsr_statement.specs.declared.verdict.Status.TheVariants as statuses
-unfoldable use Rattle.dsr_statement.specs.meaning.Cells.{amount_cell}
-use Rattle.dsr_statement.specs.meaning.Cells.{Cell, Name, Number64, Number32, FileNumber, Usages, Amount, OnDay, DaysIn, Identifier, Isrc, Territory, UseType, Currency, PartyName, Stands, Why, Whole, Faulty, FaultName, ColumnName, Sha256, StatusName, cell_text, is_cell, are_usages, are_days, days_in}
-use Rattle.dsr_statement.specs.meaning.Digests.{is_small_hex}
-use Rattle.dsr_statement.specs.meaning.Lines.{line_cells, line_text, is_line, outcome_cells, column_cells}
-use Rattle.dsr_statement.specs.meaning.Names.{kind_name}
-unfoldable use Rattle.dsr_statement.specs.meaning.Names.{standing_name, reason_name, status_name}
-use Rattle.dsr_statement.specs.layer.Statements.{is_text}
-use Rattle.dsr_statement.proofs.Numbers.{signed_text, units_text, as_written}
-use Rattle.dsr_statement.proofs.Plain.{all_weaker}
+use Rattle.dsr_statement.specs.meaning.Cells.{Faulty}
 use Rattle.dsr_laws.proofs.Values.{lacks, IsCellText}
 
 -- a printed byte, and a text of so many of them at most

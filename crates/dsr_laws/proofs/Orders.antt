@@ -1,43 +1,6 @@
 -- The lists of a report are in order.
-use Rattle.std.proofs.Common.{arith, ◌≡◌, ◌<◌, ◌≤◌, ◌+◌, ℕ, zero, suc, List, [], ◌∷◌, ◌++◌, map, Bool, true, refl, ap, sym, subst, ◌∙◌, nat_lt, nat_le}
-use Rattle.std.specs.Prelude.{filter, Option, Some, None, not}
-use Rattle.std.specs.List.{flat_map, list_all, range_with_len, AllByRecursion}
-use Rattle.std.specs.Map.{keys_of}
-unfoldable use Rattle.std.specs.List.Sorted.{IsStrictlySortedBy}
-use Rattle.std.specs.Ordering.{is_lt}
-use Rattle.std.specs.declared.cmp.Ordering.{Ordering}
-use Rattle.std.specs.declared.cmp.Ordering.TheVariants.{Less}
-use Rattle.std.specs.Cmp.Lexicographic.{nat_list_cmp_total}
-use Rattle.std.proofs.lemmas.Bool.{cond_both, and_from, lt-ltb, le-leb, eq-eqb, or_left, or_right}
-use Rattle.std.proofs.lemmas.List.Elements.{recursion_from_All}
-use Rattle.std.proofs.lemmas.Map.Lookups.{exact_bytes}
-use Rattle.dsr_events.specs.declared.record.Head.{Head}
-use Rattle.dsr_events.specs.meaning.Blocks.{BlockParts}
-use Rattle.dsr_events.specs.meaning.Openings.{OpeningParts}
-use Rattle.dsr_ledger.specs.declared.report.Difference.{Difference}
-use Rattle.dsr_ledger.specs.declared.report.LedgerLine.{LedgerLine}
-use Rattle.dsr_ledger.specs.declared.report.PartyLine.{PartyLine}
-use Rattle.dsr_ledger.specs.declared.report.Reject.{Reject}
-use Rattle.dsr_ledger.specs.declared.verdict.Verdict.{Verdict}
-use Rattle.dsr_ledger.specs.declared.verdict.Verdict.TheVariants.{Booked, Rejected}
-use Rattle.dsr_ledger.specs.layer.Laws.{AddsUp}
-use Rattle.dsr_ledger.specs.meaning.Bookings.{Booking, Key, bookings, in_order, key_cmp, text_cmp}
-use Rattle.dsr_ledger.specs.meaning.Files.{File, Filed, filed, filed_after, standing, summaries_of}
-use Rattle.dsr_ledger.specs.meaning.Findings.{difference, differences_in, is_there, missing_for, rejects_from, rejects_in, usages_in}
-unfoldable use Rattle.dsr_ledger.specs.meaning.Findings.{differences, rejects}
-use Rattle.dsr_ledger.specs.meaning.Laws.{key_of_line}
-use Rattle.dsr_ledger.specs.meaning.Ledger.{all_parts, at_key, party_amount}
-unfoldable use Rattle.dsr_ledger.specs.meaning.Ledger.{ledger, line_of, party_lines}
-use Rattle.dsr_ledger.specs.meaning.Reports.{report_head}
-unfoldable use Rattle.dsr_ledger.specs.meaning.Reports.{missing, report_of}
-use Rattle.dsr_ledger.specs.meaning.Verdicts.{judged_in}
-use Rattle.dsr_ledger.proofs.EachLemmas.{each_append, each_filter, each_weaker}
-use Rattle.dsr_ledger.proofs.KeyLemmas.{key_total, key_exact}
-use Rattle.dsr_ledger.proofs.LawLemmas.{add_up, each_line}
-use Rattle.dsr_ledger.proofs.OrderLemmas.{mapped_in_order, sorted_in_order}
-use Rattle.dsr_ledger.proofs.PartyLemmas.{lines_are, names_of}
-use Rattle.dsr_statement.specs.layer.Statements.{all_adjacent, are_parties_in_order, is_before}
-use Rattle.dsr_statement.specs.meaning.Order.{is_key_below, is_text_below}
+use Rattle.dsr_laws.proofs.Common.{AddsUp, AllByRecursion, BlockParts, Booked, Booking, Bool, Difference, File, Filed, Head, IsStrictlySortedBy, Key, LedgerLine, Less, List, None, OpeningParts, Option, Ordering, PartyLine, Reject, Rejected, Some, Verdict, [], add_up, all_adjacent, all_parts, and_from, ap, are_parties_in_order, arith, at_key, bookings, cond_both, difference, differences, differences_in, each_append, each_filter, each_line, each_weaker, eq-eqb, exact_bytes, filed, filed_after, filter, flat_map, in_order, is_before, is_key_below, is_lt, is_text_below, is_there, judged_in, key_cmp, key_exact, key_of_line, key_total, keys_of, le-leb, ledger, line_of, lines_are, list_all, lt-ltb, map, mapped_in_order, missing, missing_for, names_of, nat_list_cmp_total, not, or_left, or_right, party_amount, party_lines, range_with_len, recursion_from_All, refl, rejects, rejects_from, rejects_in, report_head, report_of, sorted_in_order, standing, subst, suc, summaries_of, sym, text_cmp, true, usages_in, zero, ℕ, ◌++◌, ◌+◌, ◌<◌, ◌∙◌, ◌∷◌, ◌≡◌, ◌≤◌}
+use Rattle.std.proofs.Common.{nat_lt, nat_le}
 
 -- each item stands in a relation to all later ones
 abbrev Sorted : {X : Type 0} → (X → X → Bool) → List X → Type 0

@@ -1,63 +1,8 @@
 -- The report of files that texts have is readable.
-use Rattle.std.proofs.Common.{arith, ◌≡◌, ◌<◌, ◌≤◌, ◌+◌, ◌*◌, ◌^◌, ℕ, zero, suc, inl, inr, List, [], ◌∷◌, ◌++◌, length, map, Bool, true, false, refl, ap, sym, subst}
-use Rattle.std.specs.Prelude.{ℤ, pos, negsuc, ◌+ℤ◌, ◌-ℤ◌, ◌≤ℤ◌, ◌<ℤ◌, unsigned_abs, Option, Some, None, option_map, filter, find, ◌&&◌, not, int_le}
-use Rattle.std.specs.List.{flat_map, list_all, list_any, range_with_len, zip, AllByRecursion}
-use Rattle.std.specs.Ordering.{eq_by_cmp}
-use Rattle.std.specs.Str.{bytes_eq}
-use Rattle.std.specs.Cmp.{Equal-is}
-use Rattle.std.proofs.lemmas.Int.{ints}
-use Rattle.std.proofs.lemmas.Bool.{cases_Bool, cond_both, and_parts, and_from, lt-ltb, not-false}
-use Rattle.std.specs.Int.{is_in_range}
-use Rattle.jiff_core.specs.Calendar.{days_in_month}
-use Rattle.jiff_core.proofs.CalendarLemmas.{days_from_civil-day_count, day_count_bounds}
-use Rattle.jiff_core.proofs.SignedLemmas.{signed_arith}
-use Rattle.dsr_cells.specs.meaning.Days.{CivilDay, is_civil_day, day_number}
-use Rattle.dsr_cells.specs.meaning.Texts.{is_identifier_text, is_territory_text, is_use_type_text, is_currency_text, is_isrc_text}
-use Rattle.dsr_cells.proofs.Days.{civil_from, in_range}
-use Rattle.dsr_events.specs.declared.fault.Outcome.{Outcome}
+use Rattle.dsr_laws.proofs.Common.{AllByRecursion, Amount, AreFew, BlockParts, Booked, Booking, Bool, Cell, CivilDay, Column, Difference, Equal-is, File, FileNumber, Filed, Head, IsInRange, IsReadable, IsSmall, Key, Line, List, None, OpeningParts, Option, Outcome, Part, PartyLine, PartyName, Reason, Rejected, ReportKey, Some, Standing, Summary, Usage, Usages, Verdict, WorkParts, [], abs-int_sum_by, abs-sum, all_parts, amount_sum, and_from, and_parts, ap, are_days, are_usages, arith, at_key, block_bookings, booked_under, booked_whole, bookings, bytes_eq, cases_Bool, civil_from, column_cells, column_named, cond_both, day_count_bounds, day_number, days_from_civil-day_count, days_in_month, difference, differences, differences_in, each_append, each_filter, each_flat, each_line, each_map, each_party, each_weaker, eq_by_cmp, false, few_flat, fewer, file_line, filed, filed_after, filed_bookings, files_from, filter, find, first_head, first_reason, flat_map, head_of, in_range, inl, inr, int_le, int_sum_by, ints, is_amount, is_at_key, is_cell, is_civil_day, is_currency_text, is_for, is_identifier_text, is_in_range, is_isrc_text, is_line, is_territory_text, is_text, is_there, is_use_type_text, judged, judged_in, key_cells, key_cmp, key_exact, key_of, ledger, length, line_of, lines_of_ledger, list_all, list_any, lt-ltb, map, missing, missing_for, naming, negsuc, not, not-false, outcome_cells, outcome_of, part_of, parts_and_rest, parts_of, party_amount, party_lines, pos, range_with_len, reasons, refl, rejects, rejects_from, rejects_in, report_head, report_of, rounded, same_text, share_total, signed_arith, size_of, small_parts, standing, statement_lines, subst, suc, summaries_of, summary_key_named, summary_key_of, sym, true, unclaimed, unsigned_abs, usage_bookings, usages_in, usages_sum, verdict, verdict_bookings, verdict_by, work_parts, zero, zip, ℕ, ℤ, ◌&&◌, ◌*◌, ◌++◌, ◌+ℤ◌, ◌+◌, ◌-ℤ◌, ◌<ℤ◌, ◌<◌, ◌^◌, ◌∷◌, ◌≡◌, ◌≤ℤ◌, ◌≤◌}
+use Rattle.std.specs.Prelude.{option_map}
 use Rattle.dsr_events.specs.declared.fault.Outcome.TheVariants as outcomes
-use Rattle.dsr_events.specs.declared.kinds.Column.{Column}
-use Rattle.dsr_events.specs.declared.record.Head.{Head}
-use Rattle.dsr_events.specs.declared.record.Summary.{Summary}
-use Rattle.dsr_events.specs.declared.record.Usage.{Usage}
-use Rattle.dsr_events.specs.meaning.Blocks.{BlockParts}
-use Rattle.dsr_events.specs.meaning.Names.{column_named}
-use Rattle.dsr_events.specs.meaning.Openings.{OpeningParts}
-use Rattle.dsr_events.specs.meaning.Works.{WorkParts}
-use Rattle.dsr_ledger.specs.declared.report.Difference.{Difference}
-use Rattle.dsr_ledger.specs.declared.report.PartyLine.{PartyLine}
-use Rattle.dsr_ledger.specs.declared.report.ReportKey.{ReportKey}
-use Rattle.dsr_ledger.specs.declared.verdict.Reason.{Reason}
-use Rattle.dsr_ledger.specs.declared.verdict.Standing.{Standing}
-use Rattle.dsr_ledger.specs.declared.verdict.Verdict.{Verdict}
-use Rattle.dsr_ledger.specs.declared.verdict.Verdict.TheVariants.{Booked, Rejected}
-use Rattle.dsr_ledger.specs.inner.Stands.{IsSmall}
-use Rattle.dsr_ledger.specs.inner.Summaries.{IsInRange}
-use Rattle.dsr_ledger.specs.meaning.Bookings.{Booking, Key, booked_under, bookings, filed_bookings, key_cmp, summary_key_named, summary_key_of, usage_bookings, verdict_bookings}
-unfoldable use Rattle.dsr_ledger.specs.meaning.Bookings.{block_bookings}
-use Rattle.dsr_ledger.specs.meaning.Files.{File, Filed, filed, filed_after, first_head, standing, summaries_of}
-use Rattle.dsr_ledger.specs.meaning.Findings.{difference, differences_in, is_there, missing_for, naming, rejects_from, rejects_in, usages_in}
-unfoldable use Rattle.dsr_ledger.specs.meaning.Findings.{differences, rejects}
-use Rattle.dsr_ledger.specs.meaning.Ledger.{Part, all_parts, amount_sum, at_key, is_at_key, is_for, part_of, parts_of, party_amount, party_lines, rounded, unclaimed, usages_sum, work_parts}
-unfoldable use Rattle.dsr_ledger.specs.meaning.Ledger.{ledger, line_of}
-use Rattle.dsr_ledger.specs.meaning.Limits.{int_sum_by}
-use Rattle.dsr_ledger.specs.meaning.Reports.{file_line, key_of, outcome_of, report_head}
-unfoldable use Rattle.dsr_ledger.specs.meaning.Reports.{missing, report_of}
-use Rattle.dsr_ledger.specs.meaning.Verdicts.{first_reason, judged, judged_in, reasons, share_total, verdict}
-unfoldable use Rattle.dsr_ledger.specs.meaning.Verdicts.{verdict_by}
-use Rattle.dsr_ledger.proofs.EachLemmas.{AreFew, abs-int_sum_by, abs-sum, each_append, each_filter, each_flat, each_map, each_weaker, few_flat, fewer}
-use Rattle.dsr_ledger.proofs.KeyLemmas.{key_exact}
-use Rattle.dsr_ledger.proofs.LawLemmas.{each_line, each_party}
-use Rattle.dsr_ledger.proofs.PartyLemmas.{parts_and_rest}
-use Rattle.dsr_ledger.proofs.SmallLemmas.{booked_whole}
-use Rattle.dsr_ledger.proofs.TallyLemmas.{size_of, small_parts}
-use Rattle.dsr_ledger.proofs.TextLemmas.{same_text}
-use Rattle.dsr_statement.specs.declared.line.Line.{Line}
 use Rattle.dsr_statement.specs.declared.line.Line.TheVariants as lines
-use Rattle.dsr_statement.specs.meaning.Cells.{Cell, Amount, FileNumber, PartyName, Usages, are_days, are_usages, is_amount, is_cell}
-use Rattle.dsr_statement.specs.meaning.Lines.{column_cells, key_cells, is_line, outcome_cells}
-use Rattle.dsr_statement.specs.meaning.Statement.{files_from, head_of, lines_of_ledger, statement_lines}
-use Rattle.dsr_statement.specs.layer.Statements.{IsReadable, is_text}
 use Rattle.dsr_laws.proofs.Values.{IsCellText}
 use Rattle.dsr_laws.proofs.Records.{IsHead, IsSummary, IsUsage}
 use Rattle.dsr_laws.proofs.Files.{IfSome, IsBlock, IsOpening, IsOutcome}

@@ -1,32 +1,10 @@
 -- What the record of a line has.
-use Rattle.std.proofs.Common.{rules, arith, ◌≡◌, ◌<◌, ◌*◌, ◌-◌, ◌^◌, ℕ, zero, suc, List, [], ◌∷◌, length, map, true, false, refl, subst, eqb}
-use Rattle.std.specs.Prelude.{pos, neg_ℤ, unsigned_abs, Option, Some, None, is_some, Result, Ok, Err, nat_lt, nat_le, ◌&&◌, int_le, slice_get, option_map}
-use Rattle.std.specs.List.{list_all, slice_split, AllByRecursion}
-use Rattle.std.specs.Option.{unwrap_or}
-use Rattle.std.specs.Char.{is_ascii_digit}
-use Rattle.std.specs.Int.{is_in_range}
-use Rattle.std.proofs.lemmas.Int.{ints}
-use Rattle.std.proofs.lemmas.Bool.{cond_both, and_parts, leb-true, true_from_ne_false}
-use Rattle.std.proofs.lemmas.Str.{IsUtf8-nil}
-use Rattle.dsr_cells.specs.meaning.Cells.{cells}
-use Rattle.dsr_cells.specs.meaning.Days.{CivilDay, is_civil_day, day_number, if_civil, day_of_parts, day_of}
-use Rattle.dsr_cells.specs.meaning.Numbers.{digits_sum, is_digits, signed_of, decimal_of_parts, decimal_of, number_of, usages_of, amount_of}
-use Rattle.dsr_cells.specs.meaning.Texts.{is_run_of, is_identifier_text, is_territory_text, is_use_type_text, is_currency_text}
-use Rattle.dsr_cells.proofs.Days.{in_range}
-use Rattle.dsr_cells.proofs.Numbers.{digits_sum-lt, scaled-lt}
-use Rattle.dsr_events.specs.declared.kinds.Column.{Column}
+use Rattle.dsr_laws.proofs.Common.{AllByRecursion, CivilDay, Column, Err, Head, IsUtf8-nil, Kind, LayoutTable, List, None, Ok, Option, Record, RecordFault, Result, RoleLine, Some, Summary, Usage, [], amount_of, and_parts, arith, cell_in, cell_of, cells, cells_at, column_fault, columns_of, cond_both, day_number, day_of, day_of_parts, day_or_first, decimal_of, decimal_of_parts, digits_sum, digits_sum-lt, eqb, false, first_fault, if_civil, if_file_number, in_range, int_le, ints, is_ascii_digit, is_civil_day, is_currency_text, is_digits, is_identifier_text, is_in_range, is_not_before, is_run_of, is_skipped, is_some, is_spelled, is_territory_text, is_use_type_text, leb-true, length, list_all, map, may_be_empty, neg_ℤ, number_of, number_or_zero, or_else, pos, record_by_kind, record_by_role, record_of, refl, role_of, rules, scaled-lt, signed_of, slice_get, slice_split, subst, suc, text_of, true, true_from_ne_false, type_of, unless_fault, unsigned_abs, unwrap_or, usages_of, whole_or_zero, zero, ℕ, ◌&&◌, ◌*◌, ◌-◌, ◌<◌, ◌^◌, ◌∷◌, ◌≡◌}
+use Rattle.std.specs.Prelude.{nat_lt, nat_le, option_map}
 use Rattle.dsr_events.specs.declared.kinds.Column.TheVariants as columns
-use Rattle.dsr_events.specs.declared.kinds.Kind.{Kind}
 use Rattle.dsr_events.specs.declared.kinds.Kind.TheVariants as kinds
-use Rattle.dsr_events.specs.declared.record.Record.{Record}
 use Rattle.dsr_events.specs.declared.record.Record.TheVariants as of
-use Rattle.dsr_events.specs.declared.record.Head.{Head}
-use Rattle.dsr_events.specs.declared.record.Summary.{Summary}
-use Rattle.dsr_events.specs.declared.record.Usage.{Usage}
-use Rattle.dsr_records.specs.declared.fault.RecordFault.{RecordFault}
-use Rattle.dsr_records.specs.meaning.Records.{LayoutTable, RoleLine, cell_in, cells_at, column_fault, or_else, first_fault, fault_of, is_skipped, type_of, role_of}
-use Rattle.dsr_records.specs.meaning.Tables.{cell_of, text_of, columns_of, may_be_empty, if_file_number, is_not_before, is_spelled}
-use Rattle.dsr_records.specs.meaning.Values.{number_or_zero, whole_or_zero, day_or_first, record_by_kind, unless_fault, record_by_role, record_of}
+use Rattle.dsr_records.specs.meaning.Records.{fault_of}
 use Rattle.dsr_laws.proofs.Values.{IsLineText, IsCellText, cells_of_line, values_text}
 
 -- a head that a line spells

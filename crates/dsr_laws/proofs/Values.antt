@@ -1,14 +1,5 @@
 -- The cells of a line, the parts of a list cell, and their values: as texts they keep what the line has.
-use Rattle.std.proofs.Common.{arith, ◌≡◌, ◌<◌, ◌≤◌, ◌+◌, ◌/◌, ◌%◌, take, drop, map, ℕ, zero, suc, inl, inr, List, [], ◌∷◌, ◌++◌, length, get_or, Bool, true, false, refl, ap, sym, subst, ◌∙◌, eqb, add-one, append-nil, append_assoc, length-append}
-use Rattle.std.specs.Prelude.{not, ◌&&◌, replicate}
-use Rattle.std.specs.List.{list_all, onto_first, slice_split, AllByRecursion}
-use Rattle.std.specs.Str.{IsUtf8}
-use Rattle.std.proofs.lemmas.List.{length-replicate}
-use Rattle.std.proofs.lemmas.List.Folds.{list_all-append}
-use Rattle.std.proofs.lemmas.List.Splits.{slice_split-cons_yes, slice_split-cons_no}
-use Rattle.std.proofs.lemmas.Bool.{cases_Bool, cond_both, and_parts, and_from, eqb-true}
-use Rattle.std.proofs.lemmas.Str.{IsUtf8-append, IsUtf8-from_ascii, IsUtf8-take, IsUtf8-drop, IsCharBoundary-before_ascii, IsCharBoundary-after_ascii}
-use Rattle.dsr_cells.specs.meaning.Cells.{parts_after, raw_parts, value_after, value_of}
+use Rattle.dsr_laws.proofs.Common.{AllByRecursion, Bool, IsCharBoundary-after_ascii, IsCharBoundary-before_ascii, IsUtf8, IsUtf8-append, IsUtf8-drop, IsUtf8-from_ascii, IsUtf8-take, List, [], add-one, and_from, and_parts, ap, append-nil, append_assoc, arith, cases_Bool, cond_both, drop, eqb, eqb-true, false, get_or, inl, inr, length, length-append, length-replicate, list_all, list_all-append, map, not, onto_first, parts_after, raw_parts, refl, replicate, slice_split, slice_split-cons_no, slice_split-cons_yes, subst, suc, sym, take, true, value_after, value_of, zero, ℕ, ◌%◌, ◌&&◌, ◌++◌, ◌+◌, ◌/◌, ◌<◌, ◌∙◌, ◌∷◌, ◌≡◌, ◌≤◌}
 
 -- what a text has, its parts before and after an ASCII byte have
 module _ (P : List ℕ → Type 0) (cut : (front : List ℕ) (c : ℕ) (rest : List ℕ) → c < 128 → P (front ++ (c ∷ rest)) → P front × P rest) where

@@ -1,5 +1,5 @@
 //! Laws of the statement of a run: functions that do nothing, whose contracts are the laws.
-ghost use Rattle.std.specs.Prelude.{◌≡◌, List, length, Option, Some, None};
+ghost use Rattle.std.specs.Prelude.{◌≡◌, List, length, Option, Some, None, Ok};
 ghost use Rattle.dsr_file.specs.meaning.Runs.{FileText};
 ghost use Rattle.dsr_intake.specs.declared.options.Options.{Options};
 ghost use Rattle.dsr_intake.specs.meaning.Outcomes.{IsReported};
@@ -10,8 +10,10 @@ ghost use Rattle.dsr_ledger.specs.declared.report.ReportKey.{ReportKey};
 ghost use Rattle.dsr_records.specs.meaning.Records.{LayoutTable};
 ghost use Rattle.dsr_statement.specs.declared.verdict.Status.{Status};
 ghost use Rattle.dsr_statement.specs.layer.Readings.{IsReading};
-ghost use Rattle.dsr_statement.specs.layer.Statements.{IsReadable};
-ghost use Rattle.dsr_statement.specs.meaning.Statement.{statement_of};
+ghost use Rattle.dsr_statement.specs.layer.Seals.{AreDigestsOf, sealed_lines};
+ghost use Rattle.dsr_statement.specs.layer.Statements.{IsReadable, IsSealed};
+ghost use Rattle.dsr_statement.specs.meaning.Digests.{Digest};
+ghost use Rattle.dsr_statement.specs.meaning.Statement.{statement_of, text_of};
 
 use dsr_file::Source;
 
@@ -35,4 +37,15 @@ pub fn what_a_run_wrote_is_read_again<R: Source>()
     ensures { (options : Options) (readers left : List R) (before after : Written) (texts : List FileText) (status : Status)
         → refusal_of (length readers) options ≡ None → IsReported R.told options readers left before after texts status
         → IsWrittenAgain (report_of_texts options.layout texts) before after status }
+{}
+
+/// With a digest for each file, the sealed statement of the texts of a run is a sealed statement, and its lines are read from
+/// its text.
+pub fn sealed_statements_are_read_again()
+    ensures sealed { (layout : LayoutTable) (texts : List FileText) (key : ReportKey) (own : Option Digest) (inputs : List Digest)
+        → AreRunTexts texts → let report = report_of_texts layout texts in report.key ≡ Some key
+        → AreDigestsOf own inputs report → IsSealed (sealed_lines own inputs report) }
+    ensures again { (layout : LayoutTable) (texts : List FileText) (key : ReportKey) (own : Option Digest) (inputs : List Digest)
+        → AreRunTexts texts → let report = report_of_texts layout texts in report.key ≡ Some key → AreDigestsOf own inputs report
+        → IsReading (text_of (sealed_lines own inputs report)) (Ok (sealed_lines own inputs report)) }
 {}
