@@ -14,7 +14,7 @@ import tempfile
 import time
 
 from outside import MAY_PASS, PART, TOP, Entry, Refused, digest_at, digest_of, folders_of, looked_at, note, now, of_what, one_line, opened, program, shown
-from table import ARRIVED, looked_up, show
+from table import ARRIVED, CURRENT, asked_for, looked_up, show
 
 MOST_LETTERS = 100
 ROUNDS = 3
@@ -263,3 +263,23 @@ def make(table, asked):
         entries = looked_at(folder := os.path.join(table.reports, name)) or []
         table.keep(name, dict(of_what(folder, entries, {}, 0), status=MAY_PASS, reason=reason, made=now()), entries)
     return show(table, asked)
+
+
+def page(table, asked):
+    """Prints the page of a current statement. dsr_page is given the files, unpacked, by links that have their names."""
+    one = asked_for(table, asked.name, CURRENT)
+    if reason := table.spoilt(one.newest):
+        raise Refused(1, reason)
+    with tempfile.TemporaryDirectory() as room:
+        making = Making(None, os.path.join(table.reports, one.name), os.fsencode(room))
+        with making.files:
+            making.take_all()
+            for entry, _, given in making.given:
+                os.symlink(b'/dev/fd/%d' % given.fileno(), os.path.join(making.room, entry.name))
+            layout = one.newest['layout'] and os.path.join(table.statements, one.newest['layout'].encode())
+            words = [program('dsr_page'), *(['--layout', layout] if layout else []), *(['--unsealed'] if not one.newest['sealed'] else []),
+                     '--', table.place_of(one.newest), *(entry.name for entry in making.entries)]
+            ended = subprocess.run(words, cwd=room, stdin=subprocess.DEVNULL, stderr=subprocess.PIPE, pass_fds=[given.fileno() for *_, given in making.given],
+                                   env=dict(os.environ, PATH=os.path.dirname(program('dsr_totals')) + os.pathsep + os.environ.get('PATH', os.defpath)))
+    if ended.returncode:
+        raise Refused(1, f'{shown(one.name)}: {one_line(ended.stderr)}')

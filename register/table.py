@@ -1,4 +1,4 @@
-"""The table: which statement is of which bytes, and which was paid; and the state of each report. Times are in UTC."""
+"""The table: which statement is of which bytes, and which was paid; the state of each report, and what changed in it. Times are in UTC."""
 import collections
 import fcntl
 import json
@@ -36,6 +36,9 @@ LAST_PAID = '''select statement.* from statement join part on part.statement = s
 CELLS = ('inputs', 'layout', 'sealed', 'sha256', 'message', 'files', 'first_day', 'last_day', 'remarks', 'status', 'reason', 'made', 'host', 'seconds')
 STATES = ('withdrawn', 'changed', 'failed', 'paid', 'clean', 'accepted', 'remarks')
 CURRENT = STATES[3:]
+# How many cells of a line are its key, of which the first may be the place of a file; the last cell of a line of the ledger is its amount.
+KEYS = dict(REPORT=0, FILE=1, MISSING=1, SUMMARY=2, LEDGER=4, PARTY=5, UNCLAIMED=4, REJECT=2, LAYOUT=0, INPUT=1, END=0)
+OF_A_FILE, OF_THE_LEDGER, UNITS = ('FILE', 'SUMMARY', 'REJECT', 'INPUT'), ('LEDGER', 'PARTY', 'UNCLAIMED'), 10 ** 10
 KEY = ('message', 'files', 'first_day', 'last_day')
 # The newest statement of a report, the one before it, and the one that was paid last; the status is 1 if it wants a person, 3 if another run may do.
 State = collections.namedtuple('State', 'name state reason status newest before paid')
@@ -163,3 +166,40 @@ def asked_for(table, text, states=STATES):
     if one.state not in states:
         raise Refused(1, f'{shown(one.name)} is {one.state}, and not {" or ".join(states)}' + f': {shown(one.reason)}' * bool(one.reason))
     return one
+
+
+def keyed(table, row):
+    """The lines of a statement, each as its key and its other cells. A file has its name, since another may come before it."""
+    names = [name for name, _ in json.loads(row['inputs'])]
+    for line in table.lines_of(row):
+        kind, *cells = map(bytes.decode, line)
+        if kind in OF_A_FILE:
+            cells[0] = names[int(cells[0]) - 1]
+        yield json.dumps([kind, *cells[:KEYS[kind]]]), json.dumps(cells[KEYS[kind]:])
+
+
+def became(kind, key, old, new):
+    """What became of a line, by how much if it is one of the ledger, its key, and its other cells before and after."""
+    more = sum(sign * int(cells[-1].replace('.', '')) for sign, cells in ((-1, old), (1, new)) if cells and kind in OF_THE_LEDGER)
+    word = 'came' if old is None else 'went' if new is None else 'rose' if more > 0 else 'fell' if more < 0 else 'changed'
+    amount = f'{"-" * (more < 0)}{abs(more) // UNITS}.{abs(more) % UNITS:010}' if kind in OF_THE_LEDGER else '-'
+    return [word, amount, kind, *key, *(old or []), *(['->'] if old is not None and new is not None else []), *(new or [])]
+
+
+def compare(table, asked):
+    """Prints how the last two statements of a report differ, also of one that is withdrawn or changed, as its first line says."""
+    one, lines, status = asked_for(table, asked.name), sqlite3.connect(''), 0
+    if not one.before:
+        raise Refused(1, f'{shown(one.name)} has not two statements to compare')
+    print(shown(one.name), one.state, shown(one.reason), sep='\t')
+    lines.execute('create table line (key text primary key, old text, new text)')
+    for which, row in (('old', one.before), ('new', one.newest)):
+        if reason := table.spoilt(row):
+            raise Refused(1, reason)
+        print(which, row['made'], row['path'], sep='\t')
+        lines.executemany(f'insert into line (key, {which}) values (?, ?) on conflict (key) do update set {which} = excluded.{which}', keyed(table, row))
+    for texts in lines.execute('select key, old, new from line where old is not new order by rowid'):
+        (kind, *key), old, new = (text and json.loads(text) for text in texts)
+        print('\t'.join(map(shown, became(kind, key, old, new))))
+        status = 1
+    return status
