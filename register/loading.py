@@ -3,7 +3,6 @@ import contextlib
 import os
 import subprocess
 
-from folder import digest_at
 from outside import Refused, note, one_line, shown
 from table import CURRENT, KEY, looked_up
 
@@ -11,9 +10,7 @@ from table import CURRENT, KEY, looked_up
 MOST_PARTY = 2500
 PSQL = ['psql', '--no-psqlrc', '--quiet', '--no-align', '--tuples-only', '--field-separator=\t', '--set=ON_ERROR_STOP=1']
 THERE = "select encode(name, 'hex'), register, sha256, turn, message_id, number_of_files, first_day, last_day from report;\n"
-BEGIN = '''\\o /dev/null
-create temporary table line (at bigint, kind text, a text, b text, c text, d text, e text, f text, g text, h text) on commit delete rows;
-'''
+BEGIN = '\\o /dev/null\ncreate temporary table line (at bigint, kind text, a text, b text, c text, d text, e text, f text, g text, h text) on commit delete rows;\n'
 TAKE_OUT, PUT_IN = "begin;\nselect take_out('{}', '\\x{}', {});\n", "select put_in('{}', '\\x{}', '{}', {});\ncommit;\n"
 
 
@@ -29,16 +26,9 @@ def do(conninfo, pieces):
     return [line.split('\t') for line in rows.decode().split('\n')[:-1]]
 
 
-def lines_of(table, row):
-    with open(table.place_of(row), 'rb') as file:
-        yield from (line.rstrip(b'\n').split(b'\t') for line in file)
-
-
 def unloadable(table, row):
     """Why PostgreSQL could not hold a statement, or None."""
-    if digest_at(table.place_of(row)) != row['sha256']:
-        return f'the bytes of {row["path"]} are not those that were made'
-    for at, cells in enumerate(lines_of(table, row), 1):
+    for at, cells in enumerate(table.lines_of(row), 1):
         if cells[0] == b'REPORT' and b'0000' in (cells[3][:4], cells[4][:4]):
             return f'line {at}: a year below 1'
         if cells[0] == b'PARTY' and len(cells[5]) > MOST_PARTY:
@@ -59,7 +49,7 @@ def left(table, there, owners, one):
         return 'a newer statement is there'
     if (owner := owners.setdefault(tuple(str(newest[cell]) for cell in KEY), mine)) != mine:
         return f'its MessageId, number of files and period are those of {shown(owner[1])}'
-    return unloadable(table, newest)
+    return table.spoilt(newest) or unloadable(table, newest)
 
 
 def commands(table, gone, wanted):
@@ -69,7 +59,7 @@ def commands(table, gone, wanted):
         yield TAKE_OUT.format(table.id, one.name.hex(), 2 ** 63 - 1) + 'commit;\n'
     for one in wanted:
         yield TAKE_OUT.format(table.id, one.name.hex(), one.newest['turn']) + 'copy line from stdin;\n'
-        for at, cells in enumerate(lines_of(table, one.newest), 1):
+        for at, cells in enumerate(table.lines_of(one.newest), 1):
             yield b'%d\t%s\n' % (at, b'\t'.join(cells + [b''] * (9 - len(cells))).replace(b'\\', b'\\\\').replace(b'\r', b'\\r'))
         yield '\\.\n' + PUT_IN.format(table.id, one.name.hex(), one.newest['sha256'], one.newest['turn'])
 
@@ -81,11 +71,9 @@ def load(table, asked):
     gone = {(table.id, one.name): one for one in found if one.state == 'withdrawn' and (table.id, one.name) in there}
     owners = {tuple(key): (register, bytes.fromhex(name)) for name, register, _, _, *key in rows if (register, bytes.fromhex(name)) not in gone}
     reasons = {one: left(table, there, owners, one) for one in found if one.state != 'withdrawn'}
-    for one in gone.values():
-        print(f'{shown(one.name)}\ttaken out: {one.reason}')
-    for one, reason in reasons.items():
-        if reason:
-            print(f'{shown(one.name)}\tnot loaded: {reason}')
+    told = [(one, f'taken out: {one.reason}') for one in gone.values()] + [(one, f'not loaded: {reason}') for one, reason in reasons.items() if reason]
+    for one, line in told:
+        print(f'{shown(one.name)}\t{line}')
     wanted = [one for one, reason in reasons.items() if reason is None]
     do(asked.conninfo, commands(table, gone.values(), wanted))
     note(f'{len(wanted)} loaded, {len(gone)} taken out, {sum(reason == "" for reason in reasons.values())} left as they are there')

@@ -1,26 +1,20 @@
 """Payment runs: what is owed over the current statements that count, less what was paid; and what was confirmed."""
-import collections
-import contextlib
 import getpass
 import os
 import shutil
 import subprocess
 import sys
 
-from folder import digest_at
-from outside import Programs, Refused, note, now, one_line, shown
-from table import KEY, LAST_PAID, looked_up, state_of
+from outside import Refused, digest_at, note, now, one_line, program, shown
+from table import KEY, LAST_PAID, asked_for, looked_up
 
 
 def accept(table, asked):
     """Lets a current statement with remarks through."""
     table.lock()
-    one = state_of(table, table.called(asked.name))
-    if one.state != 'remarks':
-        raise Refused(1, f'{shown(one.name)} is {one.state}: only a current statement with remarks is accepted')
+    one = asked_for(table, asked.name, ['remarks'])
     with table.base:
         table.base.execute('insert into accepted values (?, ?, ?, ?)', (one.newest['id'], getpass.getuser(), now(), asked.why))
-    return 0
 
 
 def rows_of(one):
@@ -29,10 +23,10 @@ def rows_of(one):
 
 def wrong(table, found, given, left_out):
     """What would pay wrongly: the names of reports, each with the reason."""
-    of_message, names = collections.defaultdict(set), {one.name for one in given}
+    of_message, names = {}, {one.name for one in given}
     for one in found:
         for row in rows_of(one) if one.paid or (one.state != 'withdrawn' and one.name not in left_out) else []:
-            of_message[row['message']].add(one.name)
+            of_message.setdefault(row['message'], set()).add(one.name)
         if one.state == 'withdrawn' and one.paid and one.name not in left_out:
             yield one.name, 'it was paid, and its folder is gone'
     for message, those in of_message.items():
@@ -42,15 +36,15 @@ def wrong(table, found, given, left_out):
         if one.paid and any(one.paid[key] != one.newest[key] for key in KEY):
             yield one.name, f'it was paid as {" ".join(str(one.paid[key]) for key in KEY)}: dsr_totals takes off what the same report gave, and no other'
         for row in rows_of(one):
-            if digest_at(table.place_of(row)) != row['sha256']:
-                yield one.name, f'the bytes of {row["path"]} are not those that were made'
+            if reason := table.spoilt(row):
+                yield one.name, reason
 
 
 def add_up(table, given, out):
     """Runs dsr_totals over the statements of these reports, less those that were paid. What it refuses."""
     rows = [row for one in given for row in rows_of(one)]
     # Statements of an earlier dsr have no seal.
-    words = [Programs().totals, *['--unsealed'][:not all(row['sealed'] for row in rows)],
+    words = [program('dsr_totals'), *['--unsealed'][:not all(row['sealed'] for row in rows)],
              *['--with-remarks'][:any(one.newest['remarks'] for one in given)], '--output', out,
              *(b'--paid=' + os.path.basename(table.place_of(one.paid)) for one in given if one.paid), '--',
              *(os.path.basename(table.place_of(one.newest)) for one in given)]
@@ -74,17 +68,16 @@ def owed(table, asked):
         note('no payment run was prepared' if refused else 'nothing is owed: each statement that counts was paid')
         return int(bool(refused))
     with table.base:
-        number = table.base.execute('insert into payment (path, sha256, prepared) values (?, ?, ?)', ('', digest_at(new), now())).lastrowid
+        number = table.first('select coalesce(max(id), 0) + 1 from payment')[0]
         path = os.path.join(table.payments, b'%d.tsv' % number)
-        table.base.execute('update payment set path = ? where id = ?', (f'payments/{number}.tsv', number))
+        table.base.execute('insert into payment (id, path, sha256, prepared) values (?, ?, ?, ?)', (number, f'payments/{number}.tsv', digest_at(new), now()))
         table.base.executemany('insert into part values (?, ?, ?)', [(number, row['id'], row is one.paid) for one in given for row in rows_of(one)])
         os.rename(new, path)
-    with open(path, 'rb') as totals, open(asked.output + b'.part', 'wb') if asked.output else contextlib.nullcontext(sys.stdout.buffer) as out:
+    with open(path, 'rb') as totals, open(asked.output + b'.part' if asked.output else sys.stdout.fileno(), 'wb', closefd=bool(asked.output)) as out:
         shutil.copyfileobj(totals, out)
     if asked.output:
         os.rename(asked.output + b'.part', asked.output)
     note(f'payment run {number}, of {len(given)} reports; `dsr_register paid {number}` confirms it')
-    return 0
 
 
 def paid(table, asked):
@@ -98,12 +91,10 @@ def paid(table, asked):
         return 0
     if digest_at(table.place_of(run)) != run['sha256']:
         raise Refused(1, f'{run["path"]} is not what was prepared')
-    parts = table.base.execute('select statement, subtracted, report, name from part join statement on statement.id = part.statement'
-                               ' join report on report.id = statement.report where payment = ?', (asked.run,)).fetchall()
-    taken_off = {row['report']: row['statement'] for row in parts if row['subtracted']}
-    last = {row['report']: table.first(LAST_PAID, row['report']) for row in parts}
-    stale = {row['name'] for row in parts if (last[row['report']] and last[row['report']]['id']) != taken_off.get(row['report'])}
-    for name in sorted(stale):
+    parts = table.base.execute('select report, name, max(statement * subtracted) as taken_off from part join statement on statement.id = part.statement'
+                               ' join report on report.id = report where payment = ? group by report order by name', (asked.run,)).fetchall()
+    stale = [row['name'] for row in parts if ((last := table.first(LAST_PAID, row['report'])) and last['id'] or 0) != row['taken_off']]
+    for name in stale:
         print(f'{shown(name)}\tit was paid by another run since this one was prepared')
     if not stale:
         with table.base:
