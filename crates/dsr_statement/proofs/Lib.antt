@@ -11,6 +11,7 @@ pub mod Plain
 pub mod Again
 pub mod OneLine
 pub mod RemarkLines
+pub mod NearLines
 pub mod Readers
 pub mod ReadLines
 pub mod OneReading

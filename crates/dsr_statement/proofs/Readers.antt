@@ -1,19 +1,24 @@
 -- What the reader keeps of lines is enough for the next one.
-use Rattle.std.proofs.Common.{◌≡◌, ℕ, suc, List, [], ◌∷◌, true, false, cond, refl, ap, ◌∙◌, nat_le}
+use Rattle.std.proofs.Common.{◌≡◌, ℕ, suc, List, [], ◌∷◌, true, false, cond, refl, ap, sym, ◌∙◌, nat_le}
 use Rattle.std.specs.Prelude.{◌&&◌, is_some, ℤ, ◌-ℤ◌}
+use Rattle.std.specs.List.{list_all}
 use Rattle.std.specs.Ordering.{int_eq}
 use Rattle.std.specs.Str.{bytes_eq}
-use Rattle.std.proofs.lemmas.Bool.{and_parts}
+use Rattle.std.proofs.lemmas.Bool.{and_from, and_parts}
 use Rattle.std.proofs.lemmas.Slice.Eq.{bytes_eq-Decides}
 use Rattle.dsr_ledger.specs.meaning.Bookings.{Key, key_eq}
+use Rattle.dsr_ledger.specs.declared.report.PartyLine.{PartyLine}
 use Rattle.dsr_statement.specs.declared.line.Line.{Line}
 use Rattle.dsr_statement.specs.declared.line.Line.TheVariants as lines
 use Rattle.dsr_statement.specs.declared.reader.StatementReader.{StatementReader}
 use Rattle.dsr_statement.specs.declared.verdict.Status.TheVariants.{Clean, Remarks}
+use Rattle.dsr_statement.specs.meaning.Cells.{Cell, Usages, Amount, Isrc, Territory, UseType, Currency, PartyName, is_cell}
+use Rattle.dsr_statement.specs.meaning.Lines.{is_line}
 use Rattle.dsr_statement.specs.meaning.Order.{adds_up, file_follows, files_in, follows_reject, input_follows, end_follows, is_complete, is_key_below, is_placed, is_sealed, is_text_below, ledger_follows, left_of, missing_follows, of_latest, party_follows, reject_follows, summary_follows, unclaimed_follows}
 use Rattle.dsr_statement.specs.meaning.Status.{status_of_lines}
-use Rattle.dsr_statement.specs.inner.After.{IsAfter, IsKeyOf, IsLeftOf, IsPartyOf, fits, kept, last_of}
-use Rattle.dsr_statement.specs.inner.Lasts.{end_fits, ends, file_fits, fits_nothing, fits_reject, fits_start, input_fits, ledger_fits, missing_fits, party_fits, reject_fits, summary_fits, unclaimed_fits}
+use Rattle.dsr_statement.specs.inner.After.{IsAfter, IsKeyAfter, IsKeyOf, IsLeftOf, IsPartyOf, fits, kept, last_of}
+use Rattle.dsr_statement.specs.inner.Lasts.{end_fits, ends, file_fits, fits_nothing, fits_reject, fits_start, input_fits, is_within, ledger_fits, missing_fits, party_fits, reject_fits, summary_fits, unclaimed_fits}
+use Rattle.dsr_statement.specs.inner.Near.{is_key}
 use Rattle.dsr_statement.proofs.RemarkLines.{any_remark, remark_next, remark_same}
 
 -- each test of the last line, by what is kept of it
@@ -164,110 +169,151 @@ pub adds_up_same : (r : StatementReader) (before : List Line) (key : Key) (amoun
     → int_eq amount r.left ≡ adds_up before (lines.Unclaimed key amount)
 adds_up_same r before key amount h placed = ap (int_eq amount) (unclaimed_left r.left key before h.left placed)
 
+-- the cells of a line's key are spelled as in a report
+front_cells : (a b c d : Cell) (more : List Cell) → list_all is_cell (a ∷ b ∷ c ∷ d ∷ more) ≡ true → list_all is_cell (a ∷ b ∷ c ∷ d ∷ []) ≡ true
+front_cells a b c d more h =
+    let one = and_parts (is_cell a) (list_all is_cell (b ∷ c ∷ d ∷ more)) h in let two = and_parts (is_cell b) (list_all is_cell (c ∷ d ∷ more)) one.1 in
+    let three = and_parts (is_cell c) (list_all is_cell (d ∷ more)) two.1 in let four = and_parts (is_cell d) (list_all is_cell more) three.1 in
+    and_from (is_cell a) _ one.0 (and_from (is_cell b) _ two.0 (and_from (is_cell c) _ three.0 (and_from (is_cell d) true four.0 refl)))
+
+key_of_ledger : (key : Key) (usages amount : ℤ) → is_line (lines.Ledger key usages amount) ≡ true → is_key key ≡ true
+key_of_ledger key usages amount h = front_cells (Isrc key.isrc) (Territory key.territory) (UseType key.use_type) (Currency key.currency) (Usages usages ∷ Amount amount ∷ []) h
+
+key_of_party : (key : Key) (p : PartyLine) → is_line (lines.Party key p) ≡ true → is_key key ≡ true
+key_of_party key p h = front_cells (Isrc key.isrc) (Territory key.territory) (UseType key.use_type) (Currency key.currency) (PartyName p.party ∷ Amount p.amount ∷ []) h
+
+key_of_unclaimed : (key : Key) (amount : ℤ) → is_line (lines.Unclaimed key amount) ≡ true → is_key key ≡ true
+key_of_unclaimed key amount h = front_cells (Isrc key.isrc) (Territory key.territory) (UseType key.use_type) (Currency key.currency) (Amount amount ∷ []) h
+
+-- below a ledger line the last key is one
+pub key_within : (r : StatementReader) (before : List Line) → IsAfter r before → is_within r.last ≡ true → is_key r.key ≡ true
+key_within r before h in_one = by before h.valid (sym (ap is_within h.last) ∙ in_one)
+  where
+    by : (before : List Line) → IsKeyAfter r.key before → is_within (last_of before) ≡ true → is_key r.key ≡ true
+    by [] valid w = cc
+    by (lines.Ledger key usages amount ∷ before) valid w = valid
+    by (lines.Party key p ∷ before) valid w = valid
+    by (lines.Unclaimed key amount ∷ before) valid w = valid
+    by (lines.Report key ∷ before) valid w = cc
+    by (_ ∷ before) valid w = cc
+
 -- what is kept of one more line
-pub after_kept : (r : StatementReader) (before : List Line) (l : Line) → IsAfter r before → is_placed before l ≡ true → IsAfter (kept r l) (l ∷ before)
-after_kept r before (lines.Report key) h placed = record {
+pub after_kept : (r : StatementReader) (before : List Line) (l : Line) → IsAfter r before → is_line l ≡ true → is_placed before l ≡ true
+    → IsAfter (kept r l) (l ∷ before)
+after_kept r before (lines.Report key) h good placed = record {
   last = refl;
   key = tt;
+  valid = tt;
   party = tt;
   left = tt;
   next = ap suc h.next;
   files = h.files;
   remark = remark_next before (lines.Report key) r.remark r.next h.remark h.next;
 }
-after_kept r before lines.NoReport h placed = record {
+after_kept r before lines.NoReport h good placed = record {
   last = refl;
   key = tt;
+  valid = tt;
   party = tt;
   left = tt;
   next = ap suc h.next;
   files = h.files;
   remark = remark_next before lines.NoReport r.remark r.next h.remark h.next;
 }
-after_kept r before (lines.File place f) h placed = record {
+after_kept r before (lines.File place f) h good placed = record {
   last = refl;
   key = tt;
+  valid = tt;
   party = tt;
   left = tt;
   next = ap suc h.next;
   files = ap suc h.files;
   remark = remark_next before (lines.File place f) r.remark r.next h.remark h.next;
 }
-after_kept r before (lines.Missing n) h placed = record {
+after_kept r before (lines.Missing n) h good placed = record {
   last = refl;
   key = tt;
+  valid = tt;
   party = tt;
   left = tt;
   next = ap suc h.next;
   files = h.files;
   remark = remark_next before (lines.Missing n) r.remark r.next h.remark h.next;
 }
-after_kept r before (lines.Summary d) h placed = record {
+after_kept r before (lines.Summary d) h good placed = record {
   last = refl;
   key = tt;
+  valid = tt;
   party = tt;
   left = tt;
   next = ap suc h.next;
   files = h.files;
   remark = remark_next before (lines.Summary d) r.remark r.next h.remark h.next;
 }
-after_kept r before (lines.Ledger key usages amount) h placed = record {
+after_kept r before (lines.Ledger key usages amount) h good placed = record {
   last = refl;
   key = refl;
+  valid = key_of_ledger key usages amount good;
   party = tt;
   left = refl;
   next = ap suc h.next;
   files = h.files;
   remark = remark_same before (lines.Ledger key usages amount) r.remark refl h.remark;
 }
-after_kept r before (lines.Party key p) h placed = record {
+after_kept r before (lines.Party key p) h good placed = record {
   last = refl;
   key = party_key r.key key p.party before h.key placed;
+  valid = ap is_key (party_key r.key key p.party before h.key placed) ∙ key_of_party key p good;
   party = refl;
   left = ap (λ z. z -ℤ p.amount) (party_left r.left key p.party before h.left placed);
   next = ap suc h.next;
   files = h.files;
   remark = remark_same before (lines.Party key p) r.remark refl h.remark;
 }
-after_kept r before (lines.Unclaimed key amount) h placed = record {
+after_kept r before (lines.Unclaimed key amount) h good placed = record {
   last = refl;
   key = unclaimed_key r.key key before h.key placed;
+  valid = ap is_key (unclaimed_key r.key key before h.key placed) ∙ key_of_unclaimed key amount good;
   party = tt;
   left = tt;
   next = ap suc h.next;
   files = h.files;
   remark = remark_same before (lines.Unclaimed key amount) r.remark refl h.remark;
 }
-after_kept r before (lines.Reject x) h placed = record {
+after_kept r before (lines.Reject x) h good placed = record {
   last = refl;
   key = tt;
+  valid = tt;
   party = tt;
   left = tt;
   next = ap suc h.next;
   files = h.files;
   remark = remark_next before (lines.Reject x) r.remark r.next h.remark h.next;
 }
-after_kept r before (lines.Layout d) h placed = record {
+after_kept r before (lines.Layout d) h good placed = record {
   last = refl;
   key = tt;
+  valid = tt;
   party = tt;
   left = tt;
   next = ap suc h.next;
   files = h.files;
   remark = remark_next before (lines.Layout d) r.remark r.next h.remark h.next;
 }
-after_kept r before (lines.Input place d) h placed = record {
+after_kept r before (lines.Input place d) h good placed = record {
   last = refl;
   key = tt;
+  valid = tt;
   party = tt;
   left = tt;
   next = ap suc h.next;
   files = h.files;
   remark = remark_next before (lines.Input place d) r.remark r.next h.remark h.next;
 }
-after_kept r before (lines.End n s) h placed = record {
+after_kept r before (lines.End n s) h good placed = record {
   last = refl;
   key = tt;
+  valid = tt;
   party = tt;
   left = tt;
   next = ap suc h.next;

@@ -7,4 +7,5 @@ pub mod Cuts
 pub mod Lenient
 pub mod Checks
 pub mod Lasts
+pub mod Near
 pub mod After

@@ -38,7 +38,7 @@ fn are_usages(usages: i128) -> bool
 }
 
 /// Whether an amount is in its range.
-fn is_amount(amount: i128) -> bool
+pub(crate) fn is_amount(amount: i128) -> bool
     ensures { result ≡ is_amount amount }
 {
     amount.unsigned_abs() < 1 << 123

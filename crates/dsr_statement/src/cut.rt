@@ -1,5 +1,5 @@
 //! A text cut in two at a byte.
-ghost use Rattle.std.specs.Prelude.{◌≡◌, ◌<◌, ◌+◌, ◌∷◌, ◌++◌, length, take, drop, slice_index, MatchOption};
+ghost use Rattle.std.specs.Prelude.{◌≡◌, ◌<◌, ◌+◌, ◌∷◌, ◌++◌, length, take, drop, slice_index, IfSome, MatchOption};
 ghost use Rattle.dsr_statement.specs.inner.Cuts.{HasNoPoint};
 
 /// The text before the ASCII byte at a place, and the text behind it.
@@ -28,4 +28,32 @@ pub(crate) fn at_point(text: &str) -> Option<(&str, &str)>
     } else {
         None
     }
+}
+
+/// The text before the TAB at a place, and the text behind it; None if there is another byte, or none.
+#[inline(always)]
+fn at_tab(text: &str, place: usize) -> Option<(&str, &str)>
+    ensures { IfSome result (λ cut. text.now ≡ cut.0.now ++ 9 ∷ cut.1.now) }
+{
+    if text.len() <= place {
+        return None;
+    }
+    if text.as_bytes()[place] == b'\t' {
+        Some(around(text, place))
+    } else {
+        None
+    }
+}
+
+/// The cell at the front of a text, if it is this one and a TAB follows it, and the text behind that.
+#[inline(always)]
+pub(crate) fn after_cell<'t>(text: &'t str, cell: &str) -> Option<(&'t str, &'t str)>
+    ensures same { IfSome result (λ cut. cut.0.now ≡ cell.now) }
+    ensures behind { IfSome result (λ cut. text.now ≡ cell.now ++ 9 ∷ cut.1.now) }
+{
+    let (front, behind) = at_tab(text, cell.len())?;
+    if front == cell {
+        return Some((front, behind));
+    }
+    None
 }

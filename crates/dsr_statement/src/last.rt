@@ -1,9 +1,11 @@
 //! What is kept of the lines read so far.
-ghost use Rattle.std.specs.Prelude.{◌≡◌, OnOk};
+ghost use Rattle.std.specs.Prelude.{◌≡◌, IfSome, OnOk};
 ghost use Rattle.dsr_ledger.specs.meaning.Bookings.{key_eq};
 ghost use Rattle.dsr_statement.specs.meaning.Order.{is_key_below};
-ghost use Rattle.dsr_statement.specs.inner.Lasts.{last_line, file_fits, fits_file, fits_missing, fits_summary, fits_ledger, fits_reject, fits_layout, missing_fits, summary_fits, ledger_fits, party_fits, unclaimed_fits, reject_fits, input_fits, end_fits, fits_start, fits_nothing, ends};
+ghost use Rattle.dsr_statement.specs.inner.Lasts.{last_line, file_fits, fits_file, fits_missing, fits_summary, fits_ledger, fits_reject, fits_layout, missing_fits, summary_fits, ledger_fits, party_fits, unclaimed_fits, reject_fits, input_fits, end_fits, fits_start, fits_nothing, ends, is_within};
+ghost use Rattle.dsr_statement.specs.inner.Near.{key_before};
 
+use crate::cut::after_cell;
 use crate::line::{KeyRef, Line};
 use dsr_cells::{NoMemory, Text};
 use std::alloc::Global;
@@ -193,6 +195,13 @@ impl Last {
         }
     }
 
+    /// Whether it is a ledger line or one of a party.
+    pub(crate) fn is_within(self) -> bool
+        ensures { result ≡ is_within self }
+    {
+        matches!(self, Last::Ledger | Last::Party)
+    }
+
     /// Whether an unclaimed amount may stand next, which has the last key or not.
     pub(crate) fn precedes_unclaimed(self, same_key: bool) -> bool
         ensures { result ≡ unclaimed_fits same_key self }
@@ -263,6 +272,27 @@ impl LastKey {
             && self.territory.as_str() == key.territory
             && self.use_type.as_str() == key.use_type
             && self.currency.as_str() == key.currency
+    }
+
+    /// Its cells at the front of a text, if they are there, with a TAB behind each, and the text behind them.
+    #[inline(always)]
+    pub(crate) fn cut<'t>(&self, text: &'t str) -> Option<(KeyRef<'t>, &'t str)>
+        ensures key { IfSome result (λ cut. cut.0 ≡ self.now) }
+        ensures behind { IfSome result (λ cut. text.now ≡ key_before self.now cut.1.now) }
+    {
+        let (isrc, text) = after_cell(text, self.isrc.as_str())?;
+        let (territory, text) = after_cell(text, self.territory.as_str())?;
+        let (use_type, text) = after_cell(text, self.use_type.as_str())?;
+        let (currency, text) = after_cell(text, self.currency.as_str())?;
+        Some((
+            KeyRef {
+                isrc,
+                territory,
+                use_type,
+                currency,
+            },
+            text,
+        ))
     }
 
     /// Whether it is below this key.

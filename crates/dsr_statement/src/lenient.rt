@@ -141,7 +141,11 @@ pub(crate) fn read_ledger<'l>(row: &FirstCells<'l>) -> Option<Line<'l>>
 }
 
 /// The line of a party with these parts.
-fn party_of<'l>(key: KeyRef<'l>, party: &'l str, amount: Option<i128>) -> Option<Line<'l>>
+pub(crate) fn party_of<'l>(
+    key: KeyRef<'l>,
+    party: &'l str,
+    amount: Option<i128>,
+) -> Option<Line<'l>>
     ensures again { (k : Key) (p : PartyLine) → key.entry ≡ k → party.now ≡ p.party → amount ≡ Some p.amount
         → result ≡ Some (Line.Party k p) }
     ensures own { IfSome result (λ l. IsSome amount (λ a. l ≡ Line.Party key.entry (record { party = party.now; amount = a }))) }
@@ -161,7 +165,7 @@ pub(crate) fn read_party<'l>(row: &FirstCells<'l>) -> Option<Line<'l>>
 }
 
 /// The line of an unclaimed amount with these parts.
-fn unclaimed_of<'l>(key: KeyRef<'l>, amount: Option<i128>) -> Option<Line<'l>>
+pub(crate) fn unclaimed_of<'l>(key: KeyRef<'l>, amount: Option<i128>) -> Option<Line<'l>>
     ensures again { (k : Key) (a : ℤ) → key.entry ≡ k → amount ≡ Some a
         → result ≡ Some (Line.Unclaimed k a) }
     ensures own { IfSome result (λ l. IsSome amount (λ a. l ≡ Line.Unclaimed key.entry a)) }

@@ -7,7 +7,8 @@
 //! 3. [`read`] reads the line whose text it is given: leniently (`number` and `cut`, `lenient`, `file`, `seal`), then it tests
 //!    that the line is one that a statement may have (`check`), and that this is its text.
 //! 4. `reader` reads the lines of a statement one after another: it keeps of them what the next one depends on (`last`,
-//!    `left`), tests that it may stand there and that the amounts of a ledger line add up, and says why not (`fault`).
+//!    `left`), tests that it may stand there and that the amounts of a ledger line add up, and says why not (`fault`). A line
+//!    of a party or of an unclaimed amount is read by the key of its ledger line (`near`), whose cells are not read again.
 //! 5. `write` puts the statement of a report, by `lines` and `key`, into `pieces`, which are written to an [`Outlet`] of dsr_io
 //!    in up to 64 KiB, and flushed at the end. What waits is in a `slice_buffer`, of the memory that `room` has.
 //! 6. `remarks`: the status of a report, whose statement has remarks or not (`verdict`), and which lines are remarks.
@@ -65,6 +66,7 @@ mod lenient;
 mod line;
 mod lines;
 mod names;
+mod near;
 mod number;
 mod pieces;
 mod putting;

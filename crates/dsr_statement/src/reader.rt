@@ -1,19 +1,24 @@
 //! Reading the lines of a statement one after another.
-ghost use Rattle.std.specs.Prelude.{◌≡◌, ◌==◌, ◌-ℤ◌, true, [], ◌∷◌, suc, List, length, reverse, Some, None, Ok, IfOk, IfErr, OnOk, MatchResult, MatchOption, if◌then◌else◌};
+ghost use Rattle.std.specs.Prelude.{◌≡◌, ◌==◌, ◌-ℤ◌, true, [], ◌∷◌, suc, List, length, reverse, Some, None, Ok, IfOk, IfErr, IfSome, OnOk, MatchResult, MatchOption, if◌then◌else◌};
 ghost use Rattle.dsr_statement.specs.declared.line.Line.{Line as LineValue};
+ghost use Rattle.dsr_ledger.specs.meaning.Bookings.{key_eq};
+ghost use Rattle.dsr_statement.specs.meaning.Lines.{is_line};
 ghost use Rattle.dsr_statement.specs.meaning.Order.{is_placed, adds_up, seals, placed, is_no_report, is_complete, is_sealed, is_text_below};
 ghost use Rattle.dsr_statement.specs.meaning.Status.{first_remark, status_of_lines, status_eq};
-ghost use Rattle.dsr_statement.specs.meaning.Readings.{IsNextLine, end_fault};
+ghost use Rattle.dsr_statement.specs.meaning.Readings.{IsLineOf, IsNextLine, end_fault};
+ghost use Rattle.dsr_statement.specs.inner.Near.{HasKey};
 ghost use Rattle.dsr_statement.specs.inner.After.{IsAfter, IsErrorOf, fits, kept, noted};
 
 use crate::fault::{ReadError, StatementFault};
 use crate::last::{Last, LastKey};
 use crate::left::Left;
 use crate::line::{KeyRef, Line, PartyRef};
+use crate::near::near_line;
 use crate::reading::{LINE_LIMIT, read_line};
 use crate::remarks::is_remark;
 use crate::verdict::Status;
 use dsr_cells::{NoMemory, Text};
+use dsr_texts::text_of;
 use std::alloc::Global;
 
 /// The lines of a statement that were read so far, as far as the next one depends on them.
@@ -76,26 +81,61 @@ impl StatementReader {
         ensures refused { (before : List LineValue) → IsAfter self.old before
             → IfErr result (λ e. IsErrorOf e (IsNextLine before bytes.now)) }
     {
+        match self.near_line(bytes) {
+            Some(line) => match self.place(&line, true) {
+                Ok(()) => Ok(line),
+                Err(error) => Err(error),
+            },
+            None => self.any_line(bytes),
+        }
+    }
+
+    /// The line that bytes are, if it has the last key and stands below its ledger line.
+    #[inline(always)]
+    fn near_line<'l>(&self, bytes: &'l [u8]) -> Option<Line<'l>>
+        ensures key { IfSome result (HasKey self.now.key) }
+        ensures spelled { (before : List LineValue) → IsAfter self.now before
+            → IfSome result (λ l. IsLineOf bytes.now (Ok l)) }
+    {
+        if bytes.len() > LINE_LIMIT || !self.last.is_within() {
+            return None;
+        }
+        near_line(text_of(bytes)?, &self.key)
+    }
+
+    /// Reads the next line, whatever its key is.
+    #[inline(never)]
+    fn any_line<'l>(&mut self, bytes: &'l [u8]) -> Result<Line<'l>, ReadError>
+        ensures found { (before : List LineValue) → IsAfter self.old before
+            → IfOk result (λ l. IsNextLine before bytes.now (Ok l)) }
+        ensures after { (before : List LineValue) → IsAfter self.old before
+            → IfOk result (λ l. IsAfter self.new (l ∷ before)) }
+        ensures refused { (before : List LineValue) → IsAfter self.old before
+            → IfErr result (λ e. IsErrorOf e (IsNextLine before bytes.now)) }
+    {
         let line = match read_line(bytes) {
             Ok(line) => line,
             Err(fault) => return Err(ReadError::Fault(fault)),
         };
-        match self.place(&line) {
+        match self.place(&line, false) {
             Ok(()) => Ok(line),
             Err(error) => Err(error),
         }
     }
 
-    /// Keeps what the next line depends on of a line, if it may stand here.
-    fn place(&mut self, line: &Line<'_>) -> Result<(), ReadError>
+    /// Keeps what the next line depends on of a line, if it may stand here. One that has the last key (`is_near`) is not
+    /// compared with it.
+    #[inline(always)]
+    fn place(&mut self, line: &Line<'_>, is_near: bool) -> Result<(), ReadError>
+        requires { is_near ≡ true → HasKey self.old.key line.now }
         ensures placed { (before : List LineValue) → IsAfter self.old before
             → OnOk result (placed before line.now ≡ Ok line.now) }
-        ensures after { (before : List LineValue) → IsAfter self.old before
+        ensures after { (before : List LineValue) → IsAfter self.old before → is_line line.now ≡ true
             → OnOk result (IsAfter self.new (line.now ∷ before)) }
         ensures refused { (before : List LineValue) → IsAfter self.old before
             → IfErr result (λ e. IsErrorOf e (λ r. placed before line.now ≡ r)) }
     {
-        if let Some(fault) = self.fault_of(line) {
+        if let Some(fault) = self.fault_of(line, is_near) {
             return Err(ReadError::Fault(fault));
         }
         match self.keep(line) {
@@ -105,12 +145,14 @@ impl StatementReader {
     }
 
     /// The fault of a line after those before it.
-    fn fault_of(&self, line: &Line<'_>) -> Option<StatementFault>
+    #[inline(always)]
+    fn fault_of(&self, line: &Line<'_>, is_near: bool) -> Option<StatementFault>
+        requires { is_near ≡ true → HasKey self.now.key line.now }
         ensures { (before : List LineValue) → IsAfter self.now before → MatchOption result
             ((is_placed before line.now ≡ true) × (placed before line.now ≡ Ok line.now))
             (λ f. placed before line.now ≡ Err f) }
     {
-        if !self.fits(line) {
+        if !self.fits(line, is_near) {
             return Some(StatementFault::Place);
         }
         if !self.adds_up(line) {
@@ -183,8 +225,19 @@ impl StatementReader {
         self.party.as_str() < party.party
     }
 
+    /// Whether it is the last key. One that is known to be (`is_near`) is not compared.
+    #[inline(always)]
+    fn has_key(&self, key: &KeyRef<'_>, is_near: bool) -> bool
+        requires { is_near ≡ true → key.now ≡ self.now.key }
+        ensures { result ≡ key_eq self.now.key key.now }
+    {
+        is_near || self.key.is(key)
+    }
+
     /// Whether the line may stand next.
-    fn fits(&self, line: &Line<'_>) -> bool
+    #[inline(always)]
+    fn fits(&self, line: &Line<'_>, is_near: bool) -> bool
+        requires { is_near ≡ true → HasKey self.now.key line.now }
         ensures { result ≡ fits self.now line.now }
     {
         match line {
@@ -195,8 +248,8 @@ impl StatementReader {
             Line::Ledger(key, _, _) => { self.last.precedes_ledger(self.key.is_below(key)) }
             Line::Party(key, party) => self
                 .last
-                .precedes_party(self.key.is(key), self.is_below(party)),
-            Line::Unclaimed(key, _) => self.last.precedes_unclaimed(self.key.is(key)),
+                .precedes_party(self.has_key(key, is_near), self.is_below(party)),
+            Line::Unclaimed(key, _) => self.last.precedes_unclaimed(self.has_key(key, is_near)),
             Line::Reject(reject) => { self.last.precedes_reject(reject.file, reject.position) }
             Line::Layout(_) => self.last.is_reject(),
             Line::Input(place, _) => self.last.precedes_input(*place) && *place <= self.files,

@@ -1,5 +1,5 @@
 -- What a reader keeps of the lines that it has read, and the tests by it.
-use Rattle.std.specs.Prelude.{◌≡◌, ℕ, suc, ◌&&◌, nat_le, Bool, if◌then◌else◌, List, [], ◌∷◌, length, reverse, Option, Some, None, ℤ, ◌-ℤ◌, Result, Err}
+use Rattle.std.specs.Prelude.{◌≡◌, ℕ, suc, true, ◌&&◌, nat_le, Bool, if◌then◌else◌, List, [], ◌∷◌, length, reverse, Option, Some, None, ℤ, ◌-ℤ◌, Result, Err}
 use Rattle.dsr_ledger.specs.meaning.Bookings.{Key, key_eq}
 use Rattle.dsr_statement.specs.declared.line.Line.{Line}
 use Rattle.dsr_statement.specs.declared.line.Line.TheVariants as lines
@@ -11,6 +11,7 @@ use Rattle.dsr_statement.specs.declared.fault.ReadError.TheVariants as errors
 use Rattle.dsr_statement.specs.declared.reader.StatementReader.{StatementReader}
 use Rattle.dsr_statement.specs.meaning.Order.{left_of, files_in, is_key_below, is_text_below}
 use Rattle.dsr_statement.specs.meaning.Status.{is_remark, first_remark}
+use Rattle.dsr_statement.specs.inner.Near.{is_key}
 use Rattle.dsr_statement.specs.inner.Lasts.{last_line, file_fits, missing_fits, summary_fits, ledger_fits, party_fits, unclaimed_fits, reject_fits, fits_reject, input_fits, end_fits, fits_start}
 
 -- the latest of these lines, which come latest first
@@ -24,6 +25,13 @@ IsKeyOf k (lines.Ledger key usages amount ∷ before) = k ≡ key
 IsKeyOf k (lines.Party key p ∷ before) = k ≡ key
 IsKeyOf k (lines.Unclaimed key amount ∷ before) = k ≡ key
 IsKeyOf k _ = Unit {0}
+
+-- after a ledger line or one of its others, the cells of this key are spelled as in a report
+abbrev pub IsKeyAfter : Key → List Line → Type 0
+IsKeyAfter k (lines.Ledger key usages amount ∷ before) = is_key k ≡ true
+IsKeyAfter k (lines.Party key p ∷ before) = is_key k ≡ true
+IsKeyAfter k (lines.Unclaimed key amount ∷ before) = is_key k ≡ true
+IsKeyAfter k _ = Unit {0}
 
 -- after the line of a party, this is its name
 abbrev pub IsPartyOf : List ℕ → List Line → Type 0
@@ -40,6 +48,7 @@ IsLeftOf left _ = Unit {0}
 pub record IsAfter (r : StatementReader) (before : List Line) : Type 0 where
   pub last : r.last ≡ last_of before
   pub key : IsKeyOf r.key before
+  pub valid : IsKeyAfter r.key before
   pub party : IsPartyOf r.party before
   pub left : IsLeftOf r.left before
   pub next : r.next ≡ suc (length before)

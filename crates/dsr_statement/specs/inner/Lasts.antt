@@ -93,3 +93,8 @@ ends last = fits_reject last
 abbrev pub fits_nothing : Last → Bool
 fits_nothing lasts.End = true
 fits_nothing _ = false
+
+abbrev pub is_within : Last → Bool
+is_within lasts.Ledger = true
+is_within lasts.Party = true
+is_within _ = false
