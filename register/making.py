@@ -282,4 +282,4 @@ def page(table, asked):
             ended = subprocess.run(words, cwd=room, stdin=subprocess.DEVNULL, stderr=subprocess.PIPE, pass_fds=[given.fileno() for *_, given in making.given],
                                    env=dict(os.environ, PATH=os.path.dirname(program('dsr_totals')) + os.pathsep + os.environ.get('PATH', os.defpath)))
     if ended.returncode:
-        raise Refused(1, f'{shown(one.name)}: {one_line(ended.stderr)}')
+        raise Refused(1, f'{shown(one.name)}: {one_line(ended.stderr) or f"dsr_page ended with {ended.returncode}"}')
