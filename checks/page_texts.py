@@ -377,7 +377,27 @@ def follow_program(count, tools, program):
     count.check('nothing at all', [] if status == 1 and not told else [error])
 
 
+def follow_broken(count, tools):
+    """An output that takes only a part, though Python has no buffer, is no page; what is closed, or no layout, is named in a line."""
+    with tempfile.TemporaryDirectory() as room:
+        path = written(os.path.join(room, 'statement.tsv'), sealed([content_of(os.path.join(HERE, 'examples/report/1.tsv'))[0]]))
+        bad = written(os.path.join(room, 'layout.tsv'), 'HEAD\tHEAD\tone\n')
+        for tool in ('dsr_page', 'dsr_explain'):
+            for title, words, told in (
+                    *([('a disk that takes a part', f'ulimit -f 20; "$0" {path} > {room}/out', 'File too large')] if tool == 'dsr_page' else []),
+                    ('a full disk', f'"$0" {path} > /dev/full', 'No space left on device'),
+                    ('a closed output', f'"$0" {path} >&-', 'standard output is closed'),
+                    ('a closed input', '"$0" - <&-', 'standard input is closed'),
+                    ('a bad layout', f'"$0" --layout {bad} {path}', f'{bad} is not a layout: `dsr --layout` says which line is wrong'),
+                    ('a layout that is not there', f'"$0" --layout {room}/none {path}', f'{room}/none: No such file or directory')):
+                run = subprocess.run(['bash', '-c', words, os.path.join(HERE, 'page', tool)], capture_output=True, text=True, timeout=60,
+                                     env={**tools.environment, 'PYTHONUNBUFFERED': '1'})
+                ends = (run.returncode, run.stderr) == (1, f'{tool}: {told}\n')
+                count.check(f'{tool}: {title}', [] if ends else [run.returncode, run.stderr])
+
+
 def follow_texts(count, tools):
+    follow_broken(count, tools)
     follow_cases(count, tools)
     follow_marks(count, tools)
     follow_refusals(count, tools)

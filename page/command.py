@@ -40,15 +40,18 @@ def layout_of(path):
     """The layout of this file, or the standard one."""
     if path is None:
         return Layout()
+    with open(path, 'rb') as file:
+        text = file.read()
     try:
-        with open(path, 'rb') as file:
-            return Layout(file.read())
-    except (OSError, ValueError, IndexError) as error:
-        raise Refused(f'{path} is not a layout: {error}') from None
+        return Layout(text)
+    except (ValueError, IndexError):
+        raise Refused(f'{path} is not a layout: `dsr --layout` says which line is wrong') from None
 
 
 def report_of(given, on_booked):
     """The report of the statement that was given, with its files."""
+    if given.statement == '-' and sys.stdin is None:
+        raise Refused('standard input is closed')
     file = contextlib.nullcontext(sys.stdin.buffer) if given.statement == '-' else open(given.statement, 'rb')
     with file as lines:
         statement = read_statement(given.statement, lines, on_booked, given.unsealed)
@@ -60,8 +63,11 @@ def report_of(given, on_booked):
 
 def printing():
     """Standard output, once there is something to print: a reader that ends takes this program with it."""
+    if sys.stdout is None:
+        raise Refused('standard output is closed')
     signal.signal(signal.SIGPIPE, signal.SIG_DFL)
-    sys.stdout.reconfigure(encoding='utf-8', errors='backslashreplace', newline='\n')
+    # Always with a buffer: without one (PYTHONUNBUFFERED) what a full disk does not take is lost, and no error says so.
+    sys.stdout = open(sys.stdout.fileno(), 'w', encoding='utf-8', errors='backslashreplace', newline='\n', closefd=False)
     return sys.stdout
 
 
@@ -69,7 +75,11 @@ def ending(name, run):
     """Runs a program; a refusal is its exit status 1, with a line on standard error."""
     try:
         run()
+        sys.stdout.flush()
     except Refused as refused:
         sys.exit(f'{name}: {refused}')
     except OSError as error:
-        sys.exit(f'{name}: {os.fspath(error.filename or "")}: {error.strerror}')
+        # Bytes that could not be written are not written once more at the end.
+        if error.filename is None and sys.stdout:
+            os.dup2(os.open(os.devnull, os.O_WRONLY), sys.stdout.fileno())
+        sys.exit(': '.join([name, *([os.fspath(error.filename)] if error.filename else []), error.strerror]))
