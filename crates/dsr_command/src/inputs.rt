@@ -57,14 +57,22 @@ fn is_input(name: &str) -> bool
 fn input_count(names: &Names) -> usize
     ensures { result ≡ count_by is_input names.now }
 {
-    names.as_slice().iter().filter(|name| is_input(name.as_str())).count()
+    names
+        .as_slice()
+        .iter()
+        .filter(|name| is_input(name.as_str()))
+        .count()
 }
 
 /// Whether standard input is named more than once by names, which are those of standard input if there are none, and by more.
 pub fn is_input_twice(names: &Names, more: &Names) -> bool
     ensures { result ≡ nat_lt 1 (count_by is_input (names_read names.now ++ more.now)) }
 {
-    let count = if names.len() == 0 { 1 } else { input_count(names) };
+    let count = if names.len() == 0 {
+        1
+    } else {
+        input_count(names)
+    };
     count.saturating_add(input_count(more)) > 1
 }
 
@@ -117,11 +125,7 @@ fn open_files<W: World>(
 }
 
 /// Opens standard input if this is its name, and else the file of this name.
-fn open_input<W: World>(
-    world: &W,
-    permit: &W::Permit,
-    name: &str,
-) -> Result<W::Reader, OpenFault>
+fn open_input<W: World>(world: &W, permit: &W::Permit, name: &str) -> Result<W::Reader, OpenFault>
     ensures unfailed { IfOk result (λ r. (W.Reader.told r).failed ≡ false) }
     ensures opened { WhereTold (W.disk world.now) (λ d. Opens (W.Reader.told) (W.Reader.file)
         (with_input d) name.now result) }

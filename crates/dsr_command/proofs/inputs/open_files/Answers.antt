@@ -1,4 +1,4 @@
-use Rattle.dsr_command.proofs.Common.{◌≡◌, ◌∙◌, ◌<◌, ◌++◌, [], ◌∷◌, ap, sym, subst, length, slice_index_or, false, rules, All-push}
+use Rattle.dsr_command.proofs.Common.{◌≡◌, ◌∙◌, ◌<◌, ◌++◌, [], ◌∷◌, ap, subst, length, slice_index_or, false, rules, All-push}
 use Rattle.std.specs.Prelude.{Ok, Err}
 use Rattle.dsr_command.specs.Inputs.{IsRefusalOf}
 use Rattle.dsr_command.specs.World.{Opens, with_input}
