@@ -94,6 +94,11 @@ def names(o):
     o.refuses('a name that is not UTF-8', o.run(b'\xff.tsv'), 2, 'an argument is not UTF-8')
     o.prints('standard input', o.run(feed=lambda pipe: os.write(pipe, o.content)))
     o.prints('standard input by its name', o.run('/dev/stdin', feed=lambda pipe: os.write(pipe, o.content)))
+    o.prints('the name ./-', o.run('./' + o.write('-', o.content)))
+    o.write('-', b'another file')
+    for words in (['-'], ['--', '-']):
+        o.prints(f'standard input by the name - of {len(words)} words', o.run(*words, feed=lambda pipe: os.write(pipe, o.content)))
+    o.refuses('the name - twice', o.run('-', 'small.tsv', '-', feed=lambda pipe: os.write(pipe, o.content)), 2, 'standard input is named twice')
 
 
 def permission(o):

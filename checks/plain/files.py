@@ -38,6 +38,19 @@ def opened(names):
     return [(name, open_file(name)) for name in names]
 
 
+def inputs_named(names, more=()):
+    """The names of what is read: standard input, whose name is -, if there is none. It can be read only once."""
+    names = names or [b'-']
+    if [*names, *more].count(b'-') > 1:
+        raise Answered(2, b'standard input is named twice')
+    return names
+
+
+def open_input(name):
+    """Standard input for its name, or the file of this name, opened."""
+    return sys.stdin.buffer if name == b'-' else open_file(name)
+
+
 def ending_with(file):
     """The bytes of a file to its end, and how it ended: Whole, or Read where a read failed."""
     content = bytearray()

@@ -5,7 +5,7 @@
 
 It is written from docs/PROFILE.md alone, section by section, and shares nothing with the program that it is
 compared with. Texts are bytes throughout. --seal puts lines behind the statement that say of which bytes it is, and that it
-is whole. With no FILE standard input is the one. The exit status is 0 for Clean, 1 for Remarks, 2 for the command line, a bad
+is whole. With no FILE standard input is the one; its name is `-`. The exit status is 0 for Clean, 1 for Remarks, 2 for the command line, a bad
 layout or a file that cannot be opened, and 3 if a write fails.
 """
 import argparse
@@ -14,7 +14,7 @@ import os
 import re
 import sys
 
-from files import Answered, ending_with, opened, print_to
+from files import Answered, ending_with, inputs_named, open_input, opened, print_to
 
 MARK = b'\xef\xbb\xbf'
 PIECE = 4096
@@ -575,12 +575,12 @@ def statement(texts, layout=None, sealed=False):
 def answer(asked):
     """Exit status and statement of what was asked for."""
     layouts = opened([asked.layout] if asked.layout is not None else [])
-    sources = opened(asked.files) or [(b'-', sys.stdin.buffer)]
+    sources = [open_input(name) for name in inputs_named(asked.files)]
     layout, ending = ending_with(layouts[0][1]) if layouts else (None, 'Whole')
     if ending != 'Whole':
         raise Answered(2, b'cannot read ' + asked.layout)
     try:
-        return statement([ending_with(file) for _, file in sources], layout, asked.seal)
+        return statement([ending_with(file) for file in sources], layout, asked.seal)
     except LayoutFault as fault:
         raise Answered(2, b'bad layout at line %d: %s' % (fault.line, fault.name.encode())) from None
 

@@ -4,7 +4,7 @@
   totals.py [--paid=STATEMENT]... [--paid-from LIST]... [--with-remarks] [--unsealed] [--same-message] [--output FILE] [STATEMENT]...
 
 It is written from docs/PROFILE.md alone, shares nothing with the program that it is compared with, and takes one line
-after another. Texts are bytes; amounts are whole numbers of units of 10^-10. With no STATEMENT standard input is the one.
+after another. Texts are bytes; amounts are whole numbers of units of 10^-10. With no STATEMENT standard input is the one; its name is `-`.
 A statement has to be sealed, unless --unsealed is given. --paid-from LIST names statements that were paid, one a line, or
 each ended by a zero byte. The exit status is 0; 1 if a statement was refused, with a line on standard error; 2 for the
 command line or a file that cannot be opened; 3 if a total leaves 128 bits or a write fails. Where it is not 0, nothing was
@@ -16,7 +16,7 @@ import re
 import sys
 from dataclasses import dataclass
 
-from files import Answered, ending_with, open_file, print_to
+from files import Answered, ending_with, inputs_named, open_file, open_input, print_to
 from statement import COLUMNS, Bad, day, is_isrc, pattern, written
 
 MOST_LINE = 16_384
@@ -380,8 +380,8 @@ def names_of(name):
 def at_its_turn(name):
     """A statement that can be opened. An ordinary file is opened again when it is its turn, since there may be more than can be open
     at a time; where it is gone then, a read fails."""
-    file = open_file(name)
-    if not os.path.isfile(name):
+    file = open_input(name)
+    if name == b'-' or not os.path.isfile(name):
         return name, file
     file.close()
 
@@ -412,10 +412,10 @@ def main():
     asked = arguments()
     rules = Rules(asked.with_remarks, asked.unsealed, asked.same_message)
     try:
-        given = [at_its_turn(name) for name in asked.statements]
-        listed = [name for path in asked.paid_from for name in names_of(path)]
-        paid = [at_its_turn(name) for name in asked.paid + listed]
-        print_to(asked.output, totals_of(given or [(b'-', sys.stdin.buffer)], paid, rules))
+        given = [at_its_turn(name) for name in inputs_named(asked.statements)]
+        names = asked.paid + [name for path in asked.paid_from for name in names_of(path)]
+        inputs_named(asked.statements, names)
+        print_to(asked.output, totals_of(given, [at_its_turn(name) for name in names], rules))
     except Answered as answered:
         sys.stderr.buffer.write(b'dsr_totals: ' + answered.line + b'\n')
         sys.exit(answered.status)

@@ -5,11 +5,12 @@ use Rattle.dsr_command.specs.CommandLine.{IsAskedFor, IsFaultFor}
 use Rattle.dsr_command.specs.declared.command.Asked.{Asked}
 use Rattle.dsr_command.specs.declared.command.CommandFault.{CommandFault}
 use Rattle.dsr_command.specs.declared.identity.FileIdentity.{FileIdentity}
+use Rattle.dsr_command.specs.declared.inputs.OpenError.{OpenError}
 use Rattle.dsr_command.specs.declared.layout_file.LayoutReadError.{LayoutReadError}
 use Rattle.dsr_command.specs.declared.new_file.NewFileError.{NewFileError}
 use Rattle.dsr_command.specs.declared.sealing.Sealing.{Sealing}
 use Rattle.dsr_command.specs.declared.world.WordsFault.{WordsFault}
-use Rattle.dsr_command.specs.Faults.{cannot_open_line, dsr, fault_line, layout_refused_line, layout_refused_status, status_number, IsTold}
+use Rattle.dsr_command.specs.Faults.{dsr, fault_line, layout_refused_line, layout_refused_status, status_number, unopened_line, unopened_status, IsTold}
 use Rattle.dsr_command.specs.LayoutFile.{AreAsked, IsLayoutRefused, layout_file, sealing_for}
 use Rattle.dsr_command.specs.NewFiles.{IsNotCreated, cannot_replace_line, new_file_line, new_file_status}
 use Rattle.dsr_command.specs.Outputs.{IsOnlyTold, IsTurnedDown, IsWithoutMemory, Outputs, no_words_line, no_words_status}
@@ -141,11 +142,12 @@ HadOutput {R} {N} g disk left asked options texts before after status (Some name
     ⊎ ((error : NewFileError) × IsNotCreated disk left (files_read disk asked) name error
     × IsOnlyTold (new_file_line dsr name error) before after × (status ≡ new_file_status error))
 
--- with these options, there was a run over the bytes behind the names; or one of them cannot be opened, the first one
-abbrev pub HadTexts : {R N : Type 0} → Ghosts R N → Disk → Option Disk → Asked → Options → Outputs → Outputs → ℕ → Result (List (List ℕ)) (List ℕ) → Type 0
+-- with these options, there was a run over the bytes behind the names; or they cannot be opened: the first one that cannot, or
+-- standard input, which is named twice
+abbrev pub HadTexts : {R N : Type 0} → Ghosts R N → Disk → Option Disk → Asked → Options → Outputs → Outputs → ℕ → Result (List (List ℕ)) OpenError → Type 0
 HadTexts g disk left asked options before after status (Ok texts) = HadOutput g disk left asked options texts before after status asked.output
-HadTexts g disk left asked options before after status (Err name) =
-    IsOnlyTold (cannot_open_line dsr name) before after × (status ≡ 2) × (left ≡ Some disk)
+HadTexts g disk left asked options before after status (Err error) =
+    IsOnlyTold (unopened_line dsr error) before after × (status ≡ unopened_status error) × (left ≡ Some disk)
 
 -- the same, unless memory was refused
 abbrev pub IsRead : {R N : Type 0} → Ghosts R N → Disk → Option Disk → Asked → Options → Outputs → Outputs → ℕ → Type 0

@@ -52,6 +52,41 @@ LAYOUT\t110\t4f839efc348658cbca7afef007b9c24fc0a0bc99fdf425f365ba23953a1ac24a\n\
 INPUT\t1\t206\tfd11b91238d05d4025c3a7b2992eb4cefa4e0449c8336440cd275c513ba3b1b8\n\
 END\t10\tClean\n";
 
+/// A report in three files.
+const PARTS: [&[u8]; 3] = [
+    b"\
+HEAD\tR1\t1\t3\t2024-01-01\t2024-01-31\tS\tL\n\
+SY01\tS1\tGB\tOnDemandStream\tGBP\t10\t0.5\n\
+AS01\t1\tGBABC2400001\tSong\tBand\n\
+SU01\t1\tS1\t10\t0.5\n\
+FOOT\t5\t1\t1\n",
+    b"\
+HEAD\tR1\t2\t3\t2024-01-01\t2024-01-31\tS\tL\n\
+SY01\tS1\tGB\tOnDemandStream\tGBP\t20\t1\n\
+AS01\t1\tGBABC2400002\tSong\tBand\n\
+SU01\t1\tS1\t20\t1\n\
+FOOT\t5\t1\t1\n",
+    b"\
+HEAD\tR1\t3\t3\t2024-01-01\t2024-01-31\tS\tL\n\
+SY01\tS1\tGB\tOnDemandStream\tGBP\t30\t1.5\n\
+AS01\t1\tGBABC2400003\tSong\tBand\n\
+SU01\t1\tS1\t30\t1.5\n\
+FOOT\t5\t1\t1\n",
+];
+
+/// Its statement.
+const STATEMENT_OF_PARTS: &[u8] = b"\
+REPORT\tR1\t3\t2024-01-01\t2024-01-31\t31\n\
+FILE\t1\t1\tOurs\t1\tWhole\n\
+FILE\t2\t2\tOurs\t1\tWhole\n\
+FILE\t3\t3\tOurs\t1\tWhole\n\
+LEDGER\tGBABC2400001\tGB\tOnDemandStream\tGBP\t10\t0.5000000000\n\
+UNCLAIMED\tGBABC2400001\tGB\tOnDemandStream\tGBP\t0.5000000000\n\
+LEDGER\tGBABC2400002\tGB\tOnDemandStream\tGBP\t20\t1.0000000000\n\
+UNCLAIMED\tGBABC2400002\tGB\tOnDemandStream\tGBP\t1.0000000000\n\
+LEDGER\tGBABC2400003\tGB\tOnDemandStream\tGBP\t30\t1.5000000000\n\
+UNCLAIMED\tGBABC2400003\tGB\tOnDemandStream\tGBP\t1.5000000000\n";
+
 /// The file that is there before.
 const OLD: &[u8] = b"an earlier statement\n";
 
@@ -378,6 +413,36 @@ fn each_task_is_done(rt: HostRuntime) -> Result<(), Fail> {
         let ended = run(&rt, rt.alloc(), task.words, Fault::Nothing, u64::MAX, true)?;
         assert!(rt; is_whole(&ended, &task));
     }
+    Ok(())
+}
+
+/// Standard input is the second of three files, though a file has its name too; that file has another name as well.
+#[test]
+fn standard_input_is_between_two_files(rt: HostRuntime) -> Result<(), Fail> {
+    let alloc = rt.alloc();
+    let names = ["1.tsv", "./-", "3.tsv"];
+    for (name, input) in [("-", PARTS[1]), ("./-", OLD)] {
+        let words = ["1.tsv", name, "3.tsv"];
+        let mut world = world_of(alloc, &words, Fault::Nothing)?;
+        world.set_input(input)?;
+        world.add_file("-", OLD)?;
+        for (name, part) in names.iter().zip(PARTS) {
+            world.add_file(name, part)?;
+        }
+        let out = MemoryOutlet::new(alloc, u64::MAX, true);
+        let mut told = MemoryOutlet::new(alloc, u64::MAX, true);
+        let (out, status) = serve(&rt, alloc, &mut world, out, &mut told);
+        assert!(rt; status == 0 && told.bytes().len() == 0);
+        assert!(rt; out.bytes() == STATEMENT_OF_PARTS);
+    }
+    Ok(())
+}
+
+#[test]
+fn standard_input_is_refused_twice(rt: HostRuntime) -> Result<(), Fail> {
+    let words = ["-", "report.tsv", "-"];
+    let ended = run(&rt, rt.alloc(), &words, Fault::Nothing, u64::MAX, true)?;
+    assert!(rt; is_refused(&ended, 2, b"dsr: standard input is named twice\n"));
     Ok(())
 }
 

@@ -21,12 +21,10 @@ mod sealing;
 
 use dsr_command::Host;
 use dsr_intake::ToWrite;
+use program::serve;
 use std::process::ExitCode;
 
 fn main(rt: HostRuntime) -> ExitCode {
-    let mut host = Host { rt };
-    let out = ToWrite::new(rt.stdout());
-    let mut fault = ToWrite::new(rt.stderr());
-    let (_out, status) = program::serve(&rt, rt.alloc(), &mut host, out, &mut fault);
-    ExitCode::from(status)
+    let (out, mut fault) = (ToWrite::new(rt.stdout()), ToWrite::new(rt.stderr()));
+    ExitCode::from(serve(&rt, rt.alloc(), &mut Host { rt }, out, &mut fault).1)
 }

@@ -1,9 +1,9 @@
 -- A file that is one of those that are read, or none of them.
-use Rattle.dsr_command.proofs.Common.{◌≡◌, ◌≢◌, ◌∙◌, ◌+◌, ◌<◌, ℕ, List, [], ◌∷◌, All, Some, arith, length, map, take, sym, subst, slice_index_or, take_more, All-push}
+use Rattle.dsr_command.proofs.Common.{◌≡◌, ◌≢◌, ◌+◌, ◌<◌, ℕ, List, ◌∷◌, All, Some, arith, length, map, take, sym, subst, slice_index_or, take_more, All-push}
 use Rattle.std.specs.Prelude.{Option}
 use Rattle.std.specs.List.{Any}
 use Rattle.std.proofs.Common.{suc}
-use Rattle.std.proofs.lemmas.List.{get_or-map, get_or_default, length-map}
+use Rattle.std.proofs.lemmas.List.{get_or-map, length-map}
 use Rattle.std.proofs.lemmas.List.Elements.{All-cons, All-map}
 use Rattle.dsr_command.specs.declared.identity.FileIdentity.{FileIdentity}
 

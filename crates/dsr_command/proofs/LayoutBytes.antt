@@ -1,8 +1,7 @@
 -- The layout of the bytes that were read of a file is that of all its bytes.
-use Rattle.dsr_command.proofs.Common.{◌≡◌, ◌∙◌, ◌+◌, ◌<◌, ℕ, List, [], ◌++◌, None, Some, refl, ap, sym, subst, inl, inr, arith, length, length-append, append-nil}
-use Rattle.std.specs.Prelude.{◌⊎◌, Option, Result, Ok, Err}
+use Rattle.dsr_command.proofs.Common.{◌≡◌, ◌∙◌, ◌<◌, ℕ, List, [], ◌++◌, None, Some, refl, ap, sym, subst, inl, inr, arith, length, length-append, append-nil}
+use Rattle.std.specs.Prelude.{◌⊎◌, Option, Ok, Err}
 use Rattle.std.specs.Io.KnownBytes.{Consumes, IsAtEnd}
-use Rattle.dsr_records.specs.declared.fault.LayoutError.{LayoutError}
 use Rattle.dsr_records.specs.declared.fault.LayoutFault.TheVariants.{Large}
 use Rattle.dsr_records.specs.meaning.Layouts.{layout_of}
 use Rattle.dsr_records.specs.meaning.Records.{LayoutTable}

@@ -1,17 +1,17 @@
 -- The sources of names, opened one after the other, and the name that cannot be opened.
 use Rattle.dsr_command.proofs.Common.{◌≡◌, ◌∙◌, ◌+◌, ◌<◌, ℕ, List, [], ◌∷◌, ◌++◌, None, Some, refl, ap, ap₂, sym, subst, length, take, drop, map, slice_index_or, map-append, take-append-drop, take_more}
 use Rattle.std.proofs.Common.{suc, drop-cons}
-use Rattle.std.specs.Prelude.{◌≢◌, Option, Result, Ok, Err}
+use Rattle.std.specs.Prelude.{◌≢◌, true, false, if◌then◌else◌, nat_lt, count_by, Option, Result, Ok, Err}
 use Rattle.dsr_io.specs.meaning.Told.{Told}
 use Rattle.dsr_command.specs.declared.identity.FileIdentity.{FileIdentity}
 use Rattle.dsr_command.specs.declared.inputs.OpenError.{OpenError}
-use Rattle.dsr_command.specs.declared.inputs.OpenError.TheVariants.{CannotOpen, Memory}
+use Rattle.dsr_command.specs.declared.inputs.OpenError.TheVariants.{CannotOpen, InputTwice, Memory}
 use Rattle.dsr_command.specs.declared.world.OpenFault.{OpenFault}
 use Rattle.dsr_command.specs.declared.world.OpenFault.TheVariants as fault
 use Rattle.dsr_command.specs.Inputs.{IsRefusal, IsRefusalOf}
-use Rattle.dsr_command.specs.World.{AreFresh, AreSources, Disk, IsFresh, Opens, before_texts, files_for, texts_for, texts_of}
+use Rattle.dsr_command.specs.World.{AreFresh, AreSources, Disk, IsFresh, Opens, before_texts, files_for, is_input, names_read, texts_for, texts_of, with_input}
 
-one_more : (o : Option (List ℕ)) (n : List ℕ) (r s : Result (List (List ℕ)) (List ℕ)) (more texts : List (List ℕ))
+one_more : (o : Option (List ℕ)) (n : List ℕ) (r s : Result (List (List ℕ)) OpenError) (more texts : List (List ℕ))
     → ((ts : List (List ℕ)) → r ≡ Ok ts → s ≡ Ok (ts ++ more)) → before_texts o n r ≡ Ok texts → before_texts o n s ≡ Ok (texts ++ more)
 one_more None n r s more texts step is = cc
 one_more (Some t) n (Err e) s more texts step is = cc
@@ -25,17 +25,17 @@ texts_push files [] n texts b are is = let e : texts ≡ [] = cc in rw (is, e) r
 texts_push files (x ∷ xs) n texts b are is =
     one_more (files x) x (texts_of files xs) (texts_of files (xs ++ n ∷ [])) (b ∷ []) texts (λ ts e. texts_push files xs n ts b e is) are
 
-missing_more : (o : Option (List ℕ)) (n m : List ℕ) (r s : Result (List (List ℕ)) (List ℕ)) (texts : List (List ℕ))
+missing_more : (o : Option (List ℕ)) (n : List ℕ) (m : OpenError) (r s : Result (List (List ℕ)) OpenError) (texts : List (List ℕ))
     → ((ts : List (List ℕ)) → r ≡ Ok ts → s ≡ Err m) → before_texts o n r ≡ Ok texts → before_texts o n s ≡ Err m
 missing_more None n m r s texts step is = cc
 missing_more (Some t) n m (Err e) s texts step is = cc
 missing_more (Some t) n m (Ok ts) s texts step is = rw (step ts refl) refl
 
 texts_missing : (files : List ℕ → Option (List ℕ)) (xs ys : List (List ℕ)) (n : List ℕ) (texts : List (List ℕ))
-    → texts_of files xs ≡ Ok texts → files n ≡ None → texts_of files (xs ++ n ∷ ys) ≡ Err n
+    → texts_of files xs ≡ Ok texts → files n ≡ None → texts_of files (xs ++ n ∷ ys) ≡ Err (CannotOpen n)
 texts_missing files [] ys n texts are is = rw is refl
 texts_missing files (x ∷ xs) ys n texts are is =
-    missing_more (files x) x n (texts_of files xs) (texts_of files (xs ++ n ∷ ys)) texts (λ ts e. texts_missing files xs ys n ts e is) are
+    missing_more (files x) x (CannotOpen n) (texts_of files xs) (texts_of files (xs ++ n ∷ ys)) texts (λ ts e. texts_missing files xs ys n ts e is) are
 
 fresh_push : {R : Type 0} (told : R → Told) (rs : List R) (ts : List (List ℕ)) (r : R) (t : List ℕ)
     → AreFresh told rs ts → IsFresh (told r) t → AreFresh told (rs ++ r ∷ []) (ts ++ t ∷ [])
@@ -69,20 +69,26 @@ pub unopened_at : {R : Type 0} (told : R → Told) (file : R → Option FileIden
     → Opens told file disk (slice_index_or names k e) (Err fault) → IsRefusalOf (slice_index_or names k e) fault error
     → IsRefusal (texts_of disk.files names) error
 unopened_at told file disk names k e sources fault Memory lt are is error = tt
+unopened_at told file disk names k e sources fault InputTwice lt are is error = absurd error
 unopened_at told file disk names k e sources fault.Memory (CannotOpen name) lt are is error = absurd (cc error.0)
 unopened_at told file disk names k e sources fault.Missing (CannotOpen name) lt are is error =
     let n = slice_index_or names k e in
     let same : take k names ++ n ∷ drop (suc k) names ≡ names =
     ap (λ ys. take k names ++ ys) (sym (drop-cons names k e lt)) ∙ take-append-drop k names in
-    subst (λ m. texts_of disk.files names ≡ Err m) (sym error.1)
-    (subst (λ ns. texts_of disk.files ns ≡ Err n) same
+    subst (λ m. texts_of disk.files names ≡ Err (CannotOpen m)) (sym error.1)
+    (subst (λ ns. texts_of disk.files ns ≡ Err (CannotOpen n)) same
     (texts_missing disk.files (take k names) (drop (suc k) names) n are.bytes are.texts_are is))
 
--- what is read for names that are there
-pub texts_named : (disk : Disk) (names : List (List ℕ)) → length names ≢ 0 → texts_for disk names ≡ texts_of disk.files names
-texts_named disk [] some = absurd (some refl)
-texts_named disk (n ∷ ns) some = refl
+-- standard input is named twice
+pub texts_twice : (disk : Disk) (names : List (List ℕ)) → nat_lt 1 (count_by is_input names) ≡ true → texts_for disk names ≡ Err InputTwice
+texts_twice disk names twice = ap (λ b. if b then Err InputTwice else texts_of (with_input disk).files (names_read names)) twice
 
-pub files_named : (disk : Disk) (names : List (List ℕ)) → length names ≢ 0 → files_for disk names ≡ map disk.file names
+-- what is read for names that are there
+pub texts_named : (disk : Disk) (names : List (List ℕ)) → length names ≢ 0 → nat_lt 1 (count_by is_input names) ≡ false
+    → texts_for disk names ≡ texts_of (with_input disk).files names
+texts_named disk [] some once = absurd (some refl)
+texts_named disk (n ∷ ns) some once = ap (λ b. if b then Err InputTwice else texts_of (with_input disk).files (n ∷ ns)) once
+
+pub files_named : (disk : Disk) (names : List (List ℕ)) → length names ≢ 0 → files_for disk names ≡ map (with_input disk).file names
 files_named disk [] some = absurd (some refl)
 files_named disk (n ∷ ns) some = refl

@@ -10,7 +10,6 @@ use Rattle.dsr_command.specs.declared.layout_file.RunOptions.{RunOptions}
 use Rattle.dsr_command.specs.declared.sealing.Sealing.{Sealing}
 use Rattle.dsr_command.specs.LayoutFile.{AreAsked, AreHad, IsLayoutAnswer, IsLayoutAsked, IsLayoutRefused, layout_bytes, layout_file, sealing_for, sealing_of}
 use Rattle.dsr_command.specs.World.{Disk, Opens}
-use Rattle.dsr_intake.specs.declared.options.Options.{Options}
 use Rattle.dsr_io.specs.meaning.Told.{Told}
 use Rattle.dsr_records.specs.meaning.Records.{LayoutTable}
 

@@ -99,11 +99,13 @@ layout_refused_status Memory = 3
 -- the line for files that are not opened
 abbrev pub unopened_line : List ℕ → OpenError → List ℕ
 unopened_line program (unopened.CannotOpen name) = cannot_open_line program name
+unopened_line program unopened.InputTwice = line_of program (codes "standard input is named twice")
 unopened_line program unopened.Memory = line_of program (codes "out of memory")
 
 -- the exit status for files that are not opened
 abbrev pub unopened_status : OpenError → ℕ
 unopened_status (unopened.CannotOpen name) = 2
+unopened_status unopened.InputTwice = 2
 unopened_status unopened.Memory = 3
 
 -- the parts, one after another

@@ -1,6 +1,7 @@
 -- What a world tells of its words and files, and what its calls do to them. A world that tells nothing may do anything.
-use Rattle.std.specs.Prelude.{◌≡◌, ◌≢◌, ◌+◌, ◌-◌, ℕ, Bool, true, false, List, [], ◌∷◌, All, Option, None, Some, option_map, Result, Ok, Err, map}
+use Rattle.std.specs.Prelude.{◌≡◌, ◌≢◌, ◌+◌, ◌-◌, ℕ, Bool, true, false, if◌then◌else◌, nat_lt, List, [], ◌∷◌, All, codes, count_by, Option, None, Some, option_map, Result, Ok, Err, map}
 use Rattle.std.specs.List.{Any}
+use Rattle.std.specs.Str.{bytes_eq}
 use Rattle.dsr_io.specs.declared.source.Failed.{Failed}
 use Rattle.dsr_io.specs.meaning.Told.{Told, no_reads}
 use Rattle.dsr_io.specs.meaning.Written.{Written}
@@ -9,6 +10,8 @@ use Rattle.dsr_command.specs.declared.command.Asked.{Asked}
 use Rattle.dsr_command.specs.declared.identity.FileIdentity.{FileIdentity}
 use Rattle.dsr_command.specs.declared.identity.Place.{Place}
 use Rattle.dsr_command.specs.declared.identity.Place.TheVariants.{Free, Ordinary, Other}
+use Rattle.dsr_command.specs.declared.inputs.OpenError.{OpenError}
+use Rattle.dsr_command.specs.declared.inputs.OpenError.TheVariants.{CannotOpen, InputTwice}
 use Rattle.dsr_command.specs.declared.world.CreateFault.{CreateFault}
 use Rattle.dsr_command.specs.declared.world.CreateFault.TheVariants as create
 use Rattle.dsr_command.specs.declared.world.OpenFault.{OpenFault}
@@ -102,30 +105,47 @@ Puts contents before after name (Err failed) = after ≡ option_map failing befo
 abbrev pub Asks : Option Disk → Asked → Type 0
 Asks told asked = WhereTold told (λ disk. (words : List (List ℕ)) × (disk.words ≡ Some words) × IsAskedFor words asked)
 
--- a text before others; or the name that has none
-abbrev pub before_texts : Option (List ℕ) → List ℕ → Result (List (List ℕ)) (List ℕ) → Result (List (List ℕ)) (List ℕ)
-before_texts None name more = Err name
+-- a text before others; or, if there is none, the name that cannot be opened
+abbrev pub before_texts : Option (List ℕ) → List ℕ → Result (List (List ℕ)) OpenError → Result (List (List ℕ)) OpenError
+before_texts None name more = Err (CannotOpen name)
 before_texts (Some text) name (Ok texts) = Ok (text ∷ texts)
-before_texts (Some text) name (Err missing) = Err missing
+before_texts (Some text) name (Err error) = Err error
 
--- the bytes behind the names, in order; or the first name that has none
-abbrev pub texts_of : (List ℕ → Option (List ℕ)) → List (List ℕ) → Result (List (List ℕ)) (List ℕ)
+-- the bytes behind the names, in order; or the first name that cannot be opened
+abbrev pub texts_of : (List ℕ → Option (List ℕ)) → List (List ℕ) → Result (List (List ℕ)) OpenError
 texts_of files [] = Ok []
 texts_of files (name ∷ names) = before_texts (files name) name (texts_of files names)
 
--- the bytes that are read for these names, in order, or those of standard input if there is none; or the first name that
--- cannot be opened
-abbrev pub texts_for : Disk → List (List ℕ) → Result (List (List ℕ)) (List ℕ)
-texts_for disk [] = Ok (disk.input ∷ [])
-texts_for disk (name ∷ names) = texts_of disk.files (name ∷ names)
+-- the name is that of standard input
+abbrev pub is_input : List ℕ → Bool
+is_input name = bytes_eq name (codes "-")
+
+-- the same disk, but for the name of standard input: it is no file's
+abbrev pub with_input : Disk → Disk
+with_input disk = record disk {
+  files = λ name. if is_input name then Some disk.input else disk.files name;
+  file = λ name. if is_input name then disk.input_file else disk.file name;
+}
+
+-- the names of what is read: standard input if none is given
+abbrev pub names_read : List (List ℕ) → List (List ℕ)
+names_read [] = codes "-" ∷ []
+names_read (name ∷ names) = name ∷ names
+
+-- these texts; or, since it can be read only once, that standard input is named twice
+abbrev pub unless_twice : List (List ℕ) → Result (List (List ℕ)) OpenError → Result (List (List ℕ)) OpenError
+unless_twice names texts = if nat_lt 1 (count_by is_input names) then Err InputTwice else texts
+
+-- the bytes that are read for these names, in order, or those of standard input if there is none; or why they cannot be opened
+abbrev pub texts_for : Disk → List (List ℕ) → Result (List (List ℕ)) OpenError
+texts_for disk names = unless_twice names (texts_of (with_input disk).files (names_read names))
 
 -- the files that are read for these names
 abbrev pub files_for : Disk → List (List ℕ) → List (Option FileIdentity)
-files_for disk [] = disk.input_file ∷ []
-files_for disk (name ∷ names) = map disk.file (name ∷ names)
+files_for disk names = map (with_input disk).file (names_read names)
 
 -- the sources give the bytes that are read for these names
-pub record AreSources {R : Type 0} (told : R → Told) (file : R → Option FileIdentity) (texts : Result (List (List ℕ)) (List ℕ))
+pub record AreSources {R : Type 0} (told : R → Told) (file : R → Option FileIdentity) (texts : Result (List (List ℕ)) OpenError)
     (files : List (Option FileIdentity)) (sources : List R) : Type 0 where
   pub bytes : List (List ℕ)
   pub texts_are : texts ≡ Ok bytes

@@ -172,7 +172,8 @@ fn names_argument<'a>(alloc: Global) -> Arg<'a>
         .help(
             "The files of the report. The first one that has a head says which
 report it is, and of two with one number the first one counts.
-Without a FILE, standard input",
+Without a FILE, or for -, standard input, which can be named once;
+a file of that name is ./-, and in an option - itself",
         )
 }
 

@@ -113,7 +113,7 @@ impl Host {
 impl ReportWorld for Host {
     type Teller = HostRuntime;
 
-    fn open_layout(&self, name: &str) -> Result<HostSource, OpenFault> {
+    fn open_layout(&self, _asked: &Asked, name: &str) -> Result<HostSource, OpenFault> {
         self.open(&HostPermit::AtOnce, name)
     }
 

@@ -1,6 +1,6 @@
-//! Opening the files that are read.
-ghost use Rattle.std.specs.Prelude.{◌≡◌, false, [], All, IfOk, MatchResult, map};
-ghost use Rattle.dsr_command.specs.World.{AreSources, Opens, WhereTold, files_for, texts_for, texts_of};
+//! Opening the files that are read, and standard input, whose name is `-`.
+ghost use Rattle.std.specs.Prelude.{◌≡◌, ◌++◌, false, [], All, IfOk, MatchResult, count_by, map, nat_lt};
+ghost use Rattle.dsr_command.specs.World.{AreSources, Opens, WhereTold, files_for, is_input, names_read, texts_for, texts_of, with_input};
 ghost use Rattle.dsr_command.specs.Inputs.{IsRefusal, IsRefusalOf};
 
 use crate::command::Names;
@@ -13,15 +13,18 @@ use std::alloc::Global;
 pub enum OpenError {
     /// The first file that cannot be opened.
     CannotOpen(Text),
+    /// Standard input is named more than once, and can be read only once.
+    InputTwice,
     /// Memory was refused.
     Memory,
 }
 
-/// Opens the files, or standard input if none is named.
+/// Opens the files, and standard input for the name `-`, or alone if none is named.
 ///
 /// # Errors
 ///
-/// `CannotOpen`: the first file that cannot be opened, by its name. `Memory`: out of memory.
+/// `CannotOpen`: the first file that cannot be opened, by its name. `InputTwice`: standard input is named more than once;
+/// nothing was opened. `Memory`: out of memory.
 pub fn open_inputs<W: World>(
     alloc: Global,
     world: &W,
@@ -37,7 +40,40 @@ pub fn open_inputs<W: World>(
     if names.len() == 0 {
         return open_standard_input(alloc, world, permit);
     }
+    if input_count(names) > 1 {
+        return Err(OpenError::InputTwice);
+    }
     open_files(alloc, world, permit, names)
+}
+
+/// Whether a name is that of standard input.
+fn is_input(name: &str) -> bool
+    ensures { result ≡ is_input name.now }
+{
+    name == "-"
+}
+
+/// How many of the names are that of standard input.
+fn input_count(names: &Names) -> usize
+    ensures { result ≡ count_by is_input names.now }
+{
+    names
+        .as_slice()
+        .iter()
+        .filter(|name| is_input(name.as_str()))
+        .count()
+}
+
+/// Whether standard input is named more than once by names, which are those of standard input if there are none, and by more.
+pub fn is_input_twice(names: &Names, more: &Names) -> bool
+    ensures { result ≡ nat_lt 1 (count_by is_input (names_read names.now ++ more.now)) }
+{
+    let count = if names.len() == 0 {
+        1
+    } else {
+        input_count(names)
+    };
+    count.saturating_add(input_count(more)) > 1
 }
 
 /// Standard input alone.
@@ -62,7 +98,7 @@ fn open_standard_input<W: World>(
     }
 }
 
-/// Opens the files of these names, in order.
+/// Opens what these names stand for, in order.
 fn open_files<W: World>(
     alloc: Global,
     world: &W,
@@ -71,13 +107,13 @@ fn open_files<W: World>(
 ) -> Result<Vec<W::Reader>, OpenError>
     ensures unfailed { IfOk result (λ v. All (λ r. (W.Reader.told r).failed ≡ false) v.items) }
     ensures opened { WhereTold (W.disk world.now) (λ d. MatchResult result
-        (λ v. AreSources W.Reader.told W.Reader.file (texts_of d.files names.now)
-        (map d.file names.now) v.items)
-        (IsRefusal (texts_of d.files names.now))) }
+        (λ v. AreSources W.Reader.told W.Reader.file (texts_of (with_input d).files names.now)
+        (map (with_input d).file names.now) v.items)
+        (IsRefusal (texts_of (with_input d).files names.now))) }
 {
     let mut sources = Vec::new(alloc);
     for name in names.as_slice() {
-        let source = match world.open(permit, name.as_str()) {
+        let source = match open_input(world, permit, name.as_str()) {
             Ok(source) => source,
             Err(fault) => return Err(unopened(alloc, name, fault)),
         };
@@ -86,6 +122,21 @@ fn open_files<W: World>(
         }
     }
     Ok(sources)
+}
+
+/// Opens standard input if this is its name, and else the file of this name.
+fn open_input<W: World>(world: &W, permit: &W::Permit, name: &str) -> Result<W::Reader, OpenFault>
+    ensures unfailed { IfOk result (λ r. (W.Reader.told r).failed ≡ false) }
+    ensures opened { WhereTold (W.disk world.now) (λ d. Opens (W.Reader.told) (W.Reader.file)
+        (with_input d) name.now result) }
+{
+    if is_input(name) {
+        return match world.standard_input(permit) {
+            Ok(source) => Ok(source),
+            Err(NoMemory) => Err(OpenFault::Memory),
+        };
+    }
+    world.open(permit, name)
 }
 
 /// The error of a file that was not opened.

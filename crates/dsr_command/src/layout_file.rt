@@ -58,7 +58,7 @@ pub fn read_options<W: ReportWorld>(
 {
     match &asked.layout {
         Some(name) => {
-            let reader = match world.open_layout(name.as_str()) {
+            let reader = match world.open_layout(asked, name.as_str()) {
                 Ok(reader) => reader,
                 Err(OpenFault::Missing) => return Err(LayoutReadError::CannotOpen),
                 Err(OpenFault::Memory) => return Err(LayoutReadError::Memory),

@@ -10,7 +10,7 @@
 //!    and [`print_text`] (`print`) prints a text.
 //! 3. [`read_options`] (`layout_file`): the options of the run, with the layout that its file gives, the leave to open the
 //!    report's files, and, if a seal is asked for, the digest of the layout ([`Sealing`], in `sealing`).
-//! 4. [`open_inputs`] (`inputs`): a source for each file, or standard input alone. Where progress was asked for [`teller_of`]
+//! 4. [`open_inputs`] (`inputs`): a source for each file, or standard input, whose name is `-` and which can be read only once. Where progress was asked for [`teller_of`]
 //!    has what tells it, and [`watch`] (`watched`) counts with it what the sources give; [`Progress`] (`progress`) writes the
 //!    counts, and at the end how fast the files were read.
 //! 5. [`create_beside`] (`new_file`): a new file for `--output`, in a file's folder. [`settle`] (`replacement`) puts it in the
@@ -64,7 +64,7 @@ pub use faults::{DSR, REFUSED, UNFINISHED, exit_status, write_failed, write_faul
 pub use file_source::FileSource;
 pub use host::Host;
 pub use identity::{FileIdentity, Place};
-pub use inputs::{OpenError, open_inputs};
+pub use inputs::{OpenError, is_input_twice, open_inputs};
 pub use layout_file::{LayoutReadError, RunOptions, read_options};
 pub use new_file::{NewFileError, create_beside};
 pub use new_outlet::NewOutlet;

@@ -24,7 +24,7 @@ pub(crate) struct ProgressLine {
     pub(crate) size: Option<u64>,
     /// The time since the run began, in tenths of a second.
     pub(crate) tenths: u64,
-    /// The time that the rest will take, in seconds, where a terminal shows it.
+    /// The time that the rest will take, in seconds, where a terminal shows it; None if it is less than one.
     pub(crate) left: Option<u64>,
 }
 
@@ -82,10 +82,14 @@ fn rate(read: u64, millis: u64) -> u64 {
     thousand.checked_div(millis).unwrap_or(thousand)
 }
 
-/// How many seconds the rest takes, if it takes as long for each byte as what was read in this many milliseconds.
+/// How many seconds the rest takes, if it takes as long for each byte as what was read in this many milliseconds; None if that
+/// is less than one.
 fn seconds_left(read: u64, size: u64, millis: u64) -> Option<u64> {
     let rest = size.checked_sub(read)?;
-    Some(rest.saturating_mul(millis).checked_div(read)? / 1_000)
+    match rest.saturating_mul(millis).checked_div(read)? / 1_000 {
+        0 => None,
+        seconds => Some(seconds),
+    }
 }
 
 /// What was read of all files so far. Any thread may add to it at any time.

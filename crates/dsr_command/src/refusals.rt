@@ -63,6 +63,7 @@ pub fn not_opened<F: Outlet>(program: &str, error: &OpenError, fault: &mut F) ->
 {
     match error {
         OpenError::CannotOpen(name) => cannot_open(program, name.as_str(), fault),
+        OpenError::InputTwice => refuse(program, "standard input is named twice", fault),
         OpenError::Memory => no_memory(program, fault),
     }
 }

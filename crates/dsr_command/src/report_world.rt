@@ -6,19 +6,21 @@ use std::time::Clock;
 
 /// A world with a layout's file, which is read before the report's files are opened, and with progress.
 pub trait ReportWorld: World {
-    ghost use Rattle.std.specs.Prelude.{◌≡◌, false, true, IfOk, None};
+    ghost use Rattle.std.specs.Prelude.{◌≡◌, false, true, IfOk, None, Some};
     ghost use Rattle.std.specs.Io.KnownBytes.{IsAtEnd};
     ghost use Rattle.dsr_command.specs.World.{Asks, Opens, WhereTold};
 
     /// The time, and what writes the lines of progress.
     type Teller: Clock + Eprint + Copy + Drop + Send + 'static;
 
-    /// Opens the layout's file.
+    /// Opens the layout's file, which the words name, and no other.
     ///
     /// # Errors
     ///
     /// `Missing`: it cannot be opened. `Memory`: out of memory.
-    fn open_layout(&self, name: &str) -> Result<Self::Reader, OpenFault>
+    fn open_layout(&self, asked: &Asked, name: &str) -> Result<Self::Reader, OpenFault>
+        requires asked { Asks (Self.disk self.now) asked.now }
+        requires named { asked.now.layout ≡ Some name.now }
         ensures unfailed { IfOk result (λ r. (Self.Reader.told r).failed ≡ false) }
         ensures opened { WhereTold (Self.disk self.now) (λ d. Opens (Self.Reader.told)
             (Self.Reader.file) d name.now result) };

@@ -306,7 +306,7 @@ impl World for MemoryWorld {
 impl ReportWorld for MemoryWorld {
     type Teller = Quiet;
 
-    fn open_layout(&self, name: &str) -> Result<MemorySource, OpenFault> {
+    fn open_layout(&self, _asked: &Asked, name: &str) -> Result<MemorySource, OpenFault> {
         self.open(&MemoryPermit, name)
     }
 

@@ -9,7 +9,8 @@ use Rattle.std.proofs.lemmas.List.{get_or_default, get_or-take, length-take, tak
 use Rattle.std.proofs.lemmas.List.Quantifiers.{position-Some}
 use Rattle.std.proofs.lemmas.List.Sums.{fails_before_first}
 use Rattle.std.proofs.lemmas.List.Splits.{slice_split_at, slice_split_none}
-use Rattle.dsr_command.specs.declared.inputs.OpenError.TheVariants.{CannotOpen, Memory}
+use Rattle.dsr_command.specs.declared.inputs.OpenError.{OpenError}
+use Rattle.dsr_command.specs.declared.inputs.OpenError.TheVariants.{CannotOpen, InputTwice, Memory}
 use Rattle.dsr_command.specs.declared.world.OpenFault.{OpenFault}
 use Rattle.dsr_command.specs.declared.world.OpenFault.TheVariants as opening
 use Rattle.dsr_command.specs.World.{Disk, Opens, before_texts, texts_of}
@@ -155,6 +156,7 @@ pub one_unread : {R : Type 0} (told : R → Told) (file : R → Option FileIdent
     (error : InputError) → Opens told file d list (Ok source) → IsListFault (told source) (told after) fault → IsUnread list fault error
     → AreUnlisted told d (list ∷ []) error
 one_unread told file d list source after fault (Open (CannotOpen name)) opened h error = absurd error
+one_unread told file d list source after fault (Open InputTwice) opened h error = absurd error
 one_unread told file d list source after fault (Open Memory) opened h error = tt
 one_unread told file d list source after faults.Memory (Read name) opened h error = absurd (cc error.0)
 one_unread {R} told file d list source after faults.Read (Read name) (bytes, there, is) h error =
@@ -169,12 +171,13 @@ one_unread {R} told file d list source after faults.Read (Read name) (bytes, the
 pub one_unopened : {R : Type 0} (told : R → Told) (file : R → Option FileIdentity) (d : Disk) (list : List ℕ) (fault : OpenFault) (error : InputError)
     → Opens told file d list (Err fault) → IsUnopened list fault error → AreUnlisted told d (list ∷ []) error
 one_unopened told file d list opening.Missing (Open (CannotOpen name)) missing error =
-    subst (λ n. texts_of d.files (list ∷ []) ≡ Err n) (sym error.1) (rw missing refl)
+    subst (λ n. texts_of d.files (list ∷ []) ≡ Err (CannotOpen n)) (sym error.1) (rw missing refl)
 one_unopened told file d list opening.Memory (Open (CannotOpen name)) missing error = absurd (cc error.0)
+one_unopened told file d list fault (Open InputTwice) missing error = absurd error
 one_unopened told file d list fault (Open Memory) missing error = tt
 one_unopened told file d list fault (Read name) missing error = absurd error
 
-both : (o : Option (List ℕ)) (n : List ℕ) (r s : Result (List (List ℕ)) (List ℕ)) (more texts : List (List ℕ))
+both : (o : Option (List ℕ)) (n : List ℕ) (r s : Result (List (List ℕ)) OpenError) (more texts : List (List ℕ))
     → ((ts : List (List ℕ)) → r ≡ Ok ts → s ≡ Ok (ts ++ more)) → before_texts o n r ≡ Ok texts → before_texts o n s ≡ Ok (texts ++ more)
 both None n r s more texts step is = cc
 both (Some t) n (Err e) s more texts step is = cc
@@ -188,18 +191,18 @@ texts_append files [] ys texts more are is = let e : texts ≡ [] = cc in rw (is
 texts_append files (x ∷ xs) ys texts more are is =
     both (files x) x (texts_of files xs) (texts_of files (xs ++ ys)) more texts (λ ts e. texts_append files xs ys ts more e is) are
 
-missing_more : (o : Option (List ℕ)) (n m : List ℕ) (r s : Result (List (List ℕ)) (List ℕ)) (texts : List (List ℕ))
+missing_more : (o : Option (List ℕ)) (n : List ℕ) (m : OpenError) (r s : Result (List (List ℕ)) OpenError) (texts : List (List ℕ))
     → ((ts : List (List ℕ)) → r ≡ Ok ts → s ≡ Err m) → before_texts o n r ≡ Ok texts → before_texts o n s ≡ Err m
 missing_more None n m r s texts step is = cc
 missing_more (Some t) n m (Err e) s texts step is = cc
 missing_more (Some t) n m (Ok ts) s texts step is = rw (step ts refl) refl
 
-first_missing : (o : Option (List ℕ)) (n m : List ℕ) (more : Result (List (List ℕ)) (List ℕ)) → before_texts o n (Ok []) ≡ Err m
+first_missing : (o : Option (List ℕ)) (n : List ℕ) (m : OpenError) (more : Result (List (List ℕ)) OpenError) → before_texts o n (Ok []) ≡ Err m
     → before_texts o n more ≡ Err m
 first_missing None n m more e = cc
 first_missing (Some t) n m more e = absurd cc
 
-texts_missing : (files : List ℕ → Option (List ℕ)) (xs ys : List (List ℕ)) (n m : List ℕ) (texts : List (List ℕ))
+texts_missing : (files : List ℕ → Option (List ℕ)) (xs ys : List (List ℕ)) (n : List ℕ) (m : OpenError) (texts : List (List ℕ))
     → texts_of files xs ≡ Ok texts → texts_of files (n ∷ []) ≡ Err m → texts_of files (xs ++ n ∷ ys) ≡ Err m
 texts_missing files [] ys n m texts are is = first_missing (files n) n m (texts_of files ys) is
 texts_missing files (x ∷ xs) ys n m texts are is =
@@ -220,13 +223,19 @@ listed_more d lists k e old now new lt (texts, are, was) (more, is, pushed) = (
       ∙ ap (λ l. old ++ l) (sym (flat_map-append names_in texts more)),
 )
 
+-- a list is not opened
+unlisted_for : (d : Disk) (lists : List (List ℕ)) (k : ℕ) (e : List ℕ) (texts : List (List ℕ)) (error : OpenError) → k < length lists
+    → texts_of d.files (take k lists) ≡ Ok texts → texts_of d.files (slice_index_or lists k e ∷ []) ≡ Err error → texts_of d.files lists ≡ Err error
+unlisted_for d lists k e texts error lt are h =
+    let n = slice_index_or lists k e in
+    let same : take k lists ++ n ∷ drop (suc k) lists ≡ lists = ap (λ ys. take k lists ++ ys) (sym (drop-cons lists k e lt)) ∙ take-append-drop k lists in
+    subst (λ ns. texts_of d.files ns ≡ Err error) same (texts_missing d.files (take k lists) (drop (suc k) lists) n error texts are h)
+
 -- a list is not read
 pub unlisted_at : {R : Type 0} (told : R → Told) (d : Disk) (lists : List (List ℕ)) (k : ℕ) (e : List ℕ) (old now : List (List ℕ)) (error : InputError)
     → k < length lists → AreListed d (take k lists) old now → AreUnlisted told d (slice_index_or lists k e ∷ []) error → AreUnlisted told d lists error
 unlisted_at told d lists k e old now (Open Memory) lt are h = tt
-unlisted_at told d lists k e old now (Open (CannotOpen name)) lt (texts, are, was) h =
-    let n = slice_index_or lists k e in
-    let same : take k lists ++ n ∷ drop (suc k) lists ≡ lists = ap (λ ys. take k lists ++ ys) (sym (drop-cons lists k e lt)) ∙ take-append-drop k lists in
-    subst (λ ns. texts_of d.files ns ≡ Err name) same (texts_missing d.files (take k lists) (drop (suc k) lists) n name texts are h)
+unlisted_at told d lists k e old now (Open (CannotOpen name)) lt (texts, are, was) h = unlisted_for d lists k e texts (CannotOpen name) lt are h
+unlisted_at told d lists k e old now (Open InputTwice) lt (texts, are, was) h = unlisted_for d lists k e texts InputTwice lt are h
 unlisted_at told d lists k e old now (Read name) lt are ((zero, low, is), unreadable) = ((k, lt, get_or_default lists k name e lt ∙ is), unreadable)
 unlisted_at told d lists k e old now (Read name) lt are ((suc j, low, is), unreadable) = absurd (omega arith)

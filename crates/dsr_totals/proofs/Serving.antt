@@ -4,9 +4,9 @@ use Rattle.std.specs.Prelude.{◌⊎◌, Option, None, Some, Result, Ok, Err}
 use Rattle.dsr_totals.specs.declared.command.Asked.{Asked}
 use Rattle.dsr_command.specs.declared.identity.FileIdentity.{FileIdentity}
 use Rattle.dsr_command.specs.declared.inputs.OpenError.{OpenError}
-use Rattle.dsr_command.specs.declared.inputs.OpenError.TheVariants.{CannotOpen, Memory}
+use Rattle.dsr_command.specs.declared.inputs.OpenError.TheVariants.{CannotOpen, InputTwice, Memory}
 use Rattle.dsr_command.specs.declared.new_file.NewFileError.{NewFileError}
-use Rattle.dsr_command.specs.Faults.{IsTold, cannot_open_line, cannot_read_line, line_of}
+use Rattle.dsr_command.specs.Faults.{IsTold, cannot_read_line, line_of, unopened_line, unopened_status}
 use Rattle.dsr_command.specs.Inputs.{IsRefusal}
 use Rattle.dsr_command.specs.NewFiles.{IsCreated, new_file_line, new_file_status}
 use Rattle.dsr_command.specs.Outputs.{IsOnlyTold, Outputs, outputs}
@@ -20,7 +20,7 @@ use Rattle.dsr_totals.specs.declared.lists.InputError.TheVariants.{Open, Read}
 use Rattle.dsr_totals.specs.Refusals.{dsr_totals, unread_line, unread_status}
 use Rattle.dsr_totals.specs.Steps.{AreOpened, AreUnopened}
 use Rattle.dsr_totals.specs.Totaling.{IsAnswerTold, status_after}
-use Rattle.dsr_totals.specs.Serving.{Ghosts, HadLists, HadOutput, HadStatements, HadTexts, HadTotals, HadTotalsInto, IsEnded, IsServedFor, files_asked, texts_asked, with_listed}
+use Rattle.dsr_totals.specs.Serving.{Ghosts, HadLists, HadOutput, HadStatements, HadTexts, HadTotals, HadTotalsInto, IsEnded, IsServedFor, files_asked, lists_asked, texts_asked, with_listed}
 
 -- only this was told, and the output is as it was
 pub only_told : (out f h : Written) (text : List ℕ) → IsTold f h text → IsOnlyTold text (outputs out f) (outputs out h)
@@ -83,15 +83,24 @@ module _ {R N : Type 0} (g : Ghosts R N) (file : R → Option FileIdentity) (d :
       inl (subst (HadLists g d left asked before after s) (sym opened.lists_are)
       (subst (λ a. HadStatements g d left a before after s) opened.now_is had))
 
+  -- one of them cannot be opened
+  unopened : (error : OpenError) (out f h : Written) (s : ℕ)
+      → (lists_asked d asked ≡ Err error)
+      ⊎ ((texts : List (List ℕ)) × (lists_asked d asked ≡ Ok texts) × (texts_asked d (with_listed asked texts) ≡ Err error))
+      → IsTold f h (unopened_line dsr_totals error) → s ≡ unopened_status error → left ≡ Some d
+      → IsServedFor g d left asked (outputs out f) (outputs out h) s
+  unopened error out f h s (inl e) told is same =
+      inl (subst (HadLists g d left asked (outputs out f) (outputs out h) s) (sym e) (only_told out f h (unopened_line dsr_totals error) told, is, same))
+  unopened error out f h s (inr (texts, lists, e)) told is same =
+      inl (subst (HadLists g d left asked (outputs out f) (outputs out h) s) (sym lists) (inl (
+      subst (HadTexts g d left (with_listed asked texts) (outputs out f) (outputs out h) s) (sym e)
+      (only_told out f h (unopened_line dsr_totals error) told, is, same))))
+
   -- they were not opened
   pub unserved : (error : InputError) (out f h : Written) (s : ℕ) → AreUnopened g.told d asked error → IsTold f h (unread_line error)
       → s ≡ unread_status error → left ≡ Some d → IsServedFor g d left asked (outputs out f) (outputs out h) s
-  unserved (Open (CannotOpen name)) out f h s (inl e) told is same =
-      inl (subst (HadLists g d left asked (outputs out f) (outputs out h) s) (sym e) (only_told out f h (cannot_open_line dsr_totals name) told, is, same))
-  unserved (Open (CannotOpen name)) out f h s (inr (texts, lists, e)) told is same =
-      inl (subst (HadLists g d left asked (outputs out f) (outputs out h) s) (sym lists) (inl (
-      subst (HadTexts g d left (with_listed asked texts) (outputs out f) (outputs out h) s) (sym e)
-      (only_told out f h (cannot_open_line dsr_totals name) told, is, same))))
+  unserved (Open (CannotOpen name)) out f h s e told is same = unopened (CannotOpen name) out f h s e told is same
+  unserved (Open InputTwice) out f h s e told is same = unopened InputTwice out f h s e told is same
   unserved (Open Memory) out f h s e told is same = inr (inr ((only_told out f h (line_of dsr_totals (codes "out of memory")) told, is), same))
   unserved (Read list) out f h s (named, unreadable) told is same =
       inr (inl (list, named, unreadable, only_told out f h (cannot_read_line dsr_totals list) told, is, same))

@@ -1,8 +1,8 @@
 -- The names of paid statements in lists.
-use Rattle.std.specs.Prelude.{◌≡◌, ◌⊎◌, ◌==◌, ℕ, Bool, true, false, if◌then◌else◌, List, [], ◌∷◌, ◌++◌, All, IsUtf8, Some, Ok, Err}
+use Rattle.std.specs.Prelude.{◌≡◌, ◌⊎◌, ◌==◌, ℕ, Bool, true, false, if◌then◌else◌, List, [], ◌∷◌, ◌++◌, All, IsUtf8, Some, Ok}
 use Rattle.std.specs.Io.KnownBytes.{Consumes, IsAtEnd}
 use Rattle.std.specs.List.{Any, Contains, flat_map, list_any, slice_split}
-use Rattle.dsr_command.specs.declared.inputs.OpenError.TheVariants.{CannotOpen, Memory}
+use Rattle.dsr_command.specs.Inputs.{IsRefusal}
 use Rattle.dsr_command.specs.World.{Disk, texts_of}
 use Rattle.dsr_io.specs.meaning.Told.{Told}
 use Rattle.dsr_totals.specs.declared.lists.InputError.{InputError}
@@ -62,6 +62,5 @@ IsUnreadable {R} told disk list =
 
 -- the first list that cannot be opened, or one that cannot be read; or memory was refused
 abbrev pub AreUnlisted : {R : Type 0} → (R → Told) → Disk → List (List ℕ) → InputError → Type 0
-AreUnlisted told disk lists (Open (CannotOpen list)) = texts_of disk.files lists ≡ Err list
-AreUnlisted told disk lists (Open Memory) = Unit {0}
+AreUnlisted told disk lists (Open error) = IsRefusal (texts_of disk.files lists) error
 AreUnlisted told disk lists (Read list) = Contains lists list × IsUnreadable told disk list

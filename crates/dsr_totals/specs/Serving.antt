@@ -4,12 +4,13 @@ use Rattle.std.specs.Prelude.{◌≡◌, ◌⊎◌, ◌-◌, ◌∷◌, ◌++◌
 use Rattle.std.specs.List.{Contains}
 use Rattle.dsr_command.specs.declared.command.CommandFault.{CommandFault}
 use Rattle.dsr_command.specs.declared.identity.FileIdentity.{FileIdentity}
+use Rattle.dsr_command.specs.declared.inputs.OpenError.{OpenError}
 use Rattle.dsr_command.specs.declared.new_file.NewFileError.{NewFileError}
 use Rattle.dsr_command.specs.declared.world.WordsFault.{WordsFault}
-use Rattle.dsr_command.specs.Faults.{cannot_open_line, cannot_read_line, IsTold}
+use Rattle.dsr_command.specs.Faults.{cannot_read_line, unopened_line, unopened_status, IsTold}
 use Rattle.dsr_command.specs.NewFiles.{IsNotCreated, cannot_replace_line, new_file_line, new_file_status}
 use Rattle.dsr_command.specs.Outputs.{IsOnlyTold, IsTurnedDown, IsWithoutMemory, Outputs, no_words_line, no_words_status}
-use Rattle.dsr_command.specs.World.{AreFresh, Disk, IsApart, IsReplacedIn, LacksWords, failing, files_for, made, removed, texts_for, texts_of}
+use Rattle.dsr_command.specs.World.{AreFresh, Disk, IsApart, IsReplacedIn, LacksWords, failing, files_for, made, names_read, removed, texts_for, texts_of, unless_twice, with_input}
 use Rattle.dsr_io.specs.meaning.Told.{Told}
 use Rattle.dsr_io.specs.meaning.Written.{Written}
 use Rattle.dsr_totals.specs.CommandLine.{IsAskedFor, IsFaultFor}
@@ -32,26 +33,28 @@ abbrev pub with_listed : Asked → List (List ℕ) → Asked
 with_listed asked texts = record asked { paid = asked.paid ++ names_listed texts }
 
 -- texts behind given ones that are there
-abbrev pub behind_given : Result (List (List ℕ)) (List ℕ) → Result (List (List ℕ)) (List ℕ) → Result (List (List ℕ)) (List ℕ)
-behind_given (Err name) texts = Err name
+abbrev pub behind_given : Result (List (List ℕ)) OpenError → Result (List (List ℕ)) OpenError → Result (List (List ℕ)) OpenError
+behind_given (Err error) texts = Err error
 behind_given (Ok given) texts = texts
 
--- the bytes of the lists, in order; or the first of the given statements and the lists that cannot be opened
-abbrev pub lists_asked : Disk → Asked → Result (List (List ℕ)) (List ℕ)
+-- the bytes of the lists, in order; or why a given statement or a list cannot be opened, the first one
+abbrev pub lists_asked : Disk → Asked → Result (List (List ℕ)) OpenError
 lists_asked disk asked = behind_given (texts_for disk asked.given) (texts_of disk.files asked.lists)
 
--- texts before others; or the first name that has none
-abbrev pub both_texts : Result (List (List ℕ)) (List ℕ) → Result (List (List ℕ)) (List ℕ) → Result (List (List ℕ)) (List ℕ)
-both_texts (Err name) more = Err name
-both_texts (Ok texts) (Err name) = Err name
+-- texts before others; or why one of them cannot be opened
+abbrev pub both_texts : Result (List (List ℕ)) OpenError → Result (List (List ℕ)) OpenError → Result (List (List ℕ)) OpenError
+both_texts (Err error) more = Err error
+both_texts (Ok texts) (Err error) = Err error
 both_texts (Ok texts) (Ok more) = Ok (texts ++ more)
 
--- the bytes of the statements, first those that are given, or of standard input if there is none, and then those that were paid
-abbrev pub texts_asked : Disk → Asked → Result (List (List ℕ)) (List ℕ)
-texts_asked disk asked = both_texts (texts_for disk asked.given) (texts_of disk.files asked.paid)
+-- the bytes of the statements, first those that are given, or of standard input if there is none, and then those that were paid;
+-- among all of them standard input is named at most once
+abbrev pub texts_asked : Disk → Asked → Result (List (List ℕ)) OpenError
+texts_asked disk asked = unless_twice (names_read asked.given ++ asked.paid)
+    (both_texts (texts_for disk asked.given) (texts_of (with_input disk).files asked.paid))
 
 abbrev pub files_asked : Disk → Asked → List (Option FileIdentity)
-files_asked disk asked = files_for disk asked.given ++ map disk.file asked.paid
+files_asked disk asked = files_for disk asked.given ++ map (with_input disk).file asked.paid
 
 -- the totals of these sources were written to standard output, or not, and the exit status and standard error say so
 abbrev pub HadTotals : {R : Type 0} → (R → Told) → Asked → List R → Outputs → Outputs → ℕ → Type 0
@@ -87,11 +90,12 @@ HadOutput {R} {N} g disk left asked texts before after status (Some name) =
     ⊎ ((error : NewFileError) × IsNotCreated disk left (None ∷ files_asked disk asked) name error
     × IsOnlyTold (new_file_line dsr_totals name error) before after × (status ≡ new_file_status error))
 
--- the statements of these bytes were added up; or one of them cannot be opened, the first one
-abbrev pub HadTexts : {R N : Type 0} → Ghosts R N → Disk → Option Disk → Asked → Outputs → Outputs → ℕ → Result (List (List ℕ)) (List ℕ) → Type 0
+-- the statements of these bytes were added up; or they cannot be opened: the first one that cannot, or standard input, which is
+-- named twice
+abbrev pub HadTexts : {R N : Type 0} → Ghosts R N → Disk → Option Disk → Asked → Outputs → Outputs → ℕ → Result (List (List ℕ)) OpenError → Type 0
 HadTexts g disk left asked before after status (Ok texts) = HadOutput g disk left asked texts before after status asked.output
-HadTexts g disk left asked before after status (Err name) =
-    IsOnlyTold (cannot_open_line dsr_totals name) before after × (status ≡ 2) × (left ≡ Some disk)
+HadTexts g disk left asked before after status (Err error) =
+    IsOnlyTold (unopened_line dsr_totals error) before after × (status ≡ unopened_status error) × (left ≡ Some disk)
 
 -- the same, unless memory was refused
 abbrev pub HadStatements : {R N : Type 0} → Ghosts R N → Disk → Option Disk → Asked → Outputs → Outputs → ℕ → Type 0
@@ -100,10 +104,10 @@ HadStatements g disk left asked before after status =
     ⊎ (IsWithoutMemory dsr_totals before after status × (left ≡ Some disk))
 
 -- the same with the names in lists of these bytes; or a given statement or a list cannot be opened, the first one
-abbrev pub HadLists : {R N : Type 0} → Ghosts R N → Disk → Option Disk → Asked → Outputs → Outputs → ℕ → Result (List (List ℕ)) (List ℕ) → Type 0
+abbrev pub HadLists : {R N : Type 0} → Ghosts R N → Disk → Option Disk → Asked → Outputs → Outputs → ℕ → Result (List (List ℕ)) OpenError → Type 0
 HadLists g disk left asked before after status (Ok texts) = HadStatements g disk left (with_listed asked texts) before after status
-HadLists g disk left asked before after status (Err name) =
-    IsOnlyTold (cannot_open_line dsr_totals name) before after × (status ≡ 2) × (left ≡ Some disk)
+HadLists g disk left asked before after status (Err error) =
+    IsOnlyTold (unopened_line dsr_totals error) before after × (status ≡ unopened_status error) × (left ≡ Some disk)
 
 -- one of the lists cannot be read
 abbrev pub LackedList : {R : Type 0} → (R → Told) → Disk → Option Disk → Asked → Outputs → Outputs → ℕ → Type 0

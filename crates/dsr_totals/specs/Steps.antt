@@ -1,10 +1,12 @@
 -- The steps by which lists are read and statements opened.
 use Rattle.std.specs.Prelude.{◌≡◌, ◌⊎◌, ◌==◌, ℕ, false, List, [], ◌∷◌, ◌++◌, All, Option, Result, Ok, Err}
 use Rattle.std.specs.List.{Contains}
-use Rattle.dsr_command.specs.declared.inputs.OpenError.TheVariants.{CannotOpen, Memory}
+use Rattle.dsr_command.specs.declared.inputs.OpenError.TheVariants.{CannotOpen, InputTwice, Memory}
 use Rattle.dsr_command.specs.declared.world.OpenFault.{OpenFault}
 use Rattle.dsr_command.specs.declared.world.OpenFault.TheVariants as opening
 use Rattle.dsr_command.specs.declared.identity.FileIdentity.{FileIdentity}
+use Rattle.dsr_command.specs.declared.inputs.OpenError.{OpenError}
+use Rattle.dsr_command.specs.Inputs.{IsRefusal}
 use Rattle.dsr_command.specs.World.{AreSources, Disk}
 use Rattle.dsr_io.specs.meaning.Told.{Told}
 use Rattle.dsr_totals.specs.declared.command.Asked.{Asked}
@@ -24,11 +26,13 @@ pub record IsCutAt (end : ℕ) (bytes name rest : List ℕ) : Type 0 where
 abbrev pub IsUnread : List ℕ → ListFault → InputError → Type 0
 IsUnread list fault (Read name) = (fault ≡ faults.Read) × (name ≡ list)
 IsUnread list fault (Open (CannotOpen name)) = ⊥
+IsUnread list fault (Open InputTwice) = ⊥
 IsUnread list fault (Open Memory) = Unit {0}
 
 -- the error says that this list cannot be opened, or that memory was refused
 abbrev pub IsUnopened : List ℕ → OpenFault → InputError → Type 0
 IsUnopened list fault (Open (CannotOpen name)) = (fault ≡ opening.Missing) × (name ≡ list)
+IsUnopened list fault (Open InputTwice) = ⊥
 IsUnopened list fault (Open Memory) = Unit {0}
 IsUnopened list fault (Read name) = ⊥
 
@@ -40,16 +44,14 @@ pub record AreOpened {R : Type 0} (told : R → Told) (file : R → Option FileI
   pub now_is : now ≡ with_listed asked texts
   pub sources_are : AreSources told file (texts_asked disk now) (files_asked disk now) sources
 
--- the first file that cannot be opened, or a list that cannot be read; or memory was refused
+-- why files cannot be opened, or a list that cannot be read; or memory was refused
 abbrev pub AreUnopened : {R : Type 0} → (R → Told) → Disk → Asked → InputError → Type 0
-AreUnopened told disk asked (Open (CannotOpen name)) =
-    (lists_asked disk asked ≡ Err name)
-    ⊎ ((texts : List (List ℕ)) × (lists_asked disk asked ≡ Ok texts) × (texts_asked disk (with_listed asked texts) ≡ Err name))
-AreUnopened told disk asked (Open Memory) = Unit {0}
+AreUnopened told disk asked (Open error) =
+    IsRefusal (lists_asked disk asked) error
+    ⊎ ((texts : List (List ℕ)) × (lists_asked disk asked ≡ Ok texts) × IsRefusal (texts_asked disk (with_listed asked texts)) error)
 AreUnopened told disk asked (Read list) = Contains asked.lists list × IsUnreadable told disk list
 
--- the first statement that cannot be opened; or memory was refused
-abbrev pub IsPaidRefusal : Result (List (List ℕ)) (List ℕ) → InputError → Type 0
-IsPaidRefusal texts (Open (CannotOpen name)) = texts ≡ Err name
-IsPaidRefusal texts (Open Memory) = Unit {0}
+-- why statements cannot be opened; or memory was refused
+abbrev pub IsPaidRefusal : Result (List (List ℕ)) OpenError → InputError → Type 0
+IsPaidRefusal texts (Open error) = IsRefusal texts error
 IsPaidRefusal texts (Read list) = ⊥

@@ -141,7 +141,11 @@ fn names_argument<'a>(alloc: Global) -> Arg<'a>
     Arg::new(alloc, "STATEMENT")
         .num_args(0..)
         .action(ArgAction::Append)
-        .help("The statements; without one, standard input")
+        .help(
+            "The statements; without one, or for -, standard input, which
+can be named once, here or by --paid; a file of that name is
+./-, and - itself for --paid-from and --output",
+        )
 }
 
 /// The program's command with its texts, before its arguments.

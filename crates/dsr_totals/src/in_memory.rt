@@ -57,7 +57,7 @@ struct Task {
 }
 
 /// All tasks.
-const TASKS: [Task; 6] = [
+const TASKS: [Task; 7] = [
     Task {
         words: &[],
         openings: 1,
@@ -74,6 +74,13 @@ const TASKS: [Task; 6] = [
     },
     Task {
         words: &["--paid=paid.tsv", "given.tsv"],
+        openings: 2,
+        list: 9,
+        output: "",
+        totals: NOTHING_OWED,
+    },
+    Task {
+        words: &["--paid=-", "given.tsv"],
         openings: 2,
         list: 9,
         output: "",
@@ -279,7 +286,29 @@ fn each_task_is_done(rt: HostRuntime) -> Result<(), Fail> {
     Ok(())
 }
 
-/// 96 runs, of which 85 have a read that fails.
+/// Standard input can be read only once: by its name, as the statement without a name, or by its name in a list.
+#[test]
+fn standard_input_is_refused_twice(rt: HostRuntime) -> Result<(), Fail> {
+    let alloc = rt.alloc();
+    let commands: [&[&str]; 4] = [
+        &["-", "given.tsv", "-"],
+        &["--paid=-", "-"],
+        &["--paid=-"],
+        &["--paid-from", "names", "-"],
+    ];
+    for words in commands {
+        let mut world = world_of(alloc, words, Fault::Nothing)?;
+        world.add_file("names", b"-\n")?;
+        let mut out = MemoryOutlet::new(alloc, u64::MAX, true);
+        let mut told = MemoryOutlet::new(alloc, u64::MAX, true);
+        let status = serve(&rt, alloc, &mut world, &mut out, &mut told);
+        assert!(rt; status == 2 && out.bytes().len() == 0 && is_kept(&world));
+        assert!(rt; told.bytes() == b"dsr_totals: standard input is named twice\n".as_slice());
+    }
+    Ok(())
+}
+
+/// 116 runs, of which 103 have a read that fails.
 #[test]
 fn each_read_fails_in_turn(rt: HostRuntime) -> Result<(), Fail> {
     for task in TASKS {
@@ -291,7 +320,7 @@ fn each_read_fails_in_turn(rt: HostRuntime) -> Result<(), Fail> {
     Ok(())
 }
 
-/// 36 runs, of which 24 have a write and 6 a flush that fails.
+/// 42 runs, of which 28 have a write and 7 a flush that fails.
 #[test]
 fn each_write_fails_in_turn(rt: HostRuntime) -> Result<(), Fail> {
     for task in TASKS {
@@ -301,7 +330,7 @@ fn each_write_fails_in_turn(rt: HostRuntime) -> Result<(), Fail> {
     Ok(())
 }
 
-/// 19 runs.
+/// 22 runs.
 #[test]
 fn memory_is_refused_at_each_call(rt: HostRuntime) -> Result<(), Fail> {
     let text = b"dsr_totals: out of memory\n";

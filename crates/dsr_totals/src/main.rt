@@ -23,11 +23,10 @@ mod totaling;
 
 use dsr_command::Host;
 use dsr_io::ToWrite;
+use program::serve;
 use std::process::ExitCode;
 
 fn main(rt: HostRuntime) -> ExitCode {
-    let mut host = Host { rt };
-    let mut out = ToWrite::new(rt.stdout());
-    let mut fault = ToWrite::new(rt.stderr());
-    ExitCode::from(program::serve(&rt, rt.alloc(), &mut host, &mut out, &mut fault))
+    let (mut out, mut fault) = (ToWrite::new(rt.stdout()), ToWrite::new(rt.stderr()));
+    ExitCode::from(serve(&rt, rt.alloc(), &mut Host { rt }, &mut out, &mut fault))
 }

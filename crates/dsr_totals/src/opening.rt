@@ -6,7 +6,7 @@ ghost use Rattle.dsr_totals.specs.Steps.{AreOpened, AreUnopened, IsPaidRefusal};
 
 use crate::command::Asked;
 use crate::lists::{InputError, read_lists};
-use dsr_command::{OpenError, StatementWorld, open_inputs};
+use dsr_command::{OpenError, StatementWorld, is_input_twice, open_inputs};
 use std::alloc::Global;
 
 /// Opens the statements: the given ones, or standard input if none is named, and then those that were paid, after whose names
@@ -53,6 +53,10 @@ fn with_paid<W: StatementWorld>(
         (IsPaidRefusal (texts_asked d asked.now))) }
 {
     let mut inputs = given;
+    if is_input_twice(&asked.given, &asked.paid) {
+        drop(inputs);
+        return Err(InputError::Open(OpenError::InputTwice));
+    }
     if asked.paid.len() == 0 {
         return Ok(inputs);
     }

@@ -1,5 +1,5 @@
-use Rattle.dsr_command.proofs.Common.{◌≡◌, ◌∙◌, Some, ap, subst, sym}
-use Rattle.std.specs.Prelude.{Ok, Err}
+use Rattle.dsr_command.proofs.Common.{◌∙◌, ap, subst, sym}
+use Rattle.std.specs.Prelude.{Ok}
 use Rattle.dsr_command.specs.LayoutFile.{layout_file}
 use Rattle.dsr_command.specs.World.{Opens}
 use Rattle.dsr_command.proofs.Options.{layout_fault, layout_given, options_had, seal_given}

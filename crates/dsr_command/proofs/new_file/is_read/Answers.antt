@@ -1,4 +1,4 @@
-use Rattle.dsr_command.proofs.Common.{◌≡◌, ◌≢◌, ◌<◌, ◌∙◌, All, Some, ap, subst, length, take, slice_index_or, rules, arith, common_steps, take_all}
+use Rattle.dsr_command.proofs.Common.{◌≡◌, ◌≢◌, All, Some, subst, rules, take_all}
 use Rattle.dsr_command.proofs.Apart.{apart_more, none_read, one_read}
 use Rattle.dsr_command.proofs.new_file.is_read.Goals as goal
 
