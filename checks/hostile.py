@@ -17,6 +17,7 @@ class Outside:
 
     seconds = 20
     megabytes = 64
+    noisy = ()  # words with which something is written to standard error
 
     def __init__(self, program, folder, name, small, large):
         self.folder = folder
@@ -227,6 +228,10 @@ def closed(o):
     o.wants('standard error closed, a name that is not there', o.run('none.tsv', prepare=lambda: os.close(2)), 2)
     o.count.check('all three closed', [] if o.run('small.tsv', prepare=lambda: os.closerange(0, 3)).status == 3 else ['not status 3'])
     o.count.check('the file is as it was', [] if o.read('small.tsv') == o.content else ['it was written to'])
+    for name, numbers in ('input', (0, 1)), ('output', (1, 2)), ('error', (2, 3)), ('all three', (0, 3)):
+        o.write('new.tsv', b'')
+        o.run(*o.noisy, '--output', 'new.tsv', 'small.tsv', prepare=lambda numbers=numbers: os.closerange(*numbers))
+        o.count.check(f'--output with standard {name} closed', [] if o.read('new.tsv') == o.printed else ['it is another text'])
 
 
 def words(o, option, refused):

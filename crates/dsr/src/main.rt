@@ -26,5 +26,5 @@ use std::process::ExitCode;
 
 fn main(rt: HostRuntime) -> ExitCode {
     let (out, mut fault) = (ToWrite::new(rt.stdout()), ToWrite::new(rt.stderr()));
-    ExitCode::from(serve(&rt, rt.alloc(), &mut Host { rt }, out, &mut fault).1)
+    ExitCode::from(serve(&rt, rt.alloc(), &mut Host::new(rt), out, &mut fault).1)
 }

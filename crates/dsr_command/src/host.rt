@@ -1,6 +1,8 @@
-//! The words and the files of the system, of which std tells nothing. Nothing is decided here.
+//! The words and the files of the system, of which std tells nothing. Where an output's links lead (`links`), and how its part is
+//! named (`new`), is decided here; no more.
 ghost use Rattle.std.specs.Prelude.{None};
 
+mod held;
 mod links;
 mod new;
 mod source;
@@ -12,6 +14,7 @@ use crate::statement_world::StatementWorld;
 use crate::world::{CreateFault, OpenFault, WordsFault, World};
 use dsr_cells::NoMemory;
 use dsr_file::Failed;
+use held::Held;
 use links::end_of_links;
 use new::HostNew;
 use source::HostSource;
@@ -23,8 +26,8 @@ use std::{env, fs};
 /// The words and the files of the system.
 #[derive(Drop)]
 pub struct Host {
-    /// The handle of the system.
-    pub rt: HostRuntime,
+    rt: HostRuntime,
+    _held: Held,
 }
 
 /// The leave to open files, and when they are open.
@@ -104,6 +107,14 @@ impl World for Host {
 }
 
 impl Host {
+    /// The system of this handle. It comes before any file is opened.
+    pub fn new(rt: HostRuntime) -> Host {
+        Host {
+            rt,
+            _held: Held::new(rt),
+        }
+    }
+
     /// Whether a name that leads to no file is a name that nothing has, not even a link.
     fn is_free(&self, name: &str) -> bool {
         !name.is_empty() && self.rt.symlink_metadata(name).is_err()

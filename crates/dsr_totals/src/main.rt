@@ -28,5 +28,5 @@ use std::process::ExitCode;
 
 fn main(rt: HostRuntime) -> ExitCode {
     let (mut out, mut fault) = (ToWrite::new(rt.stdout()), ToWrite::new(rt.stderr()));
-    ExitCode::from(serve(&rt, rt.alloc(), &mut Host { rt }, &mut out, &mut fault))
+    ExitCode::from(serve(&rt, rt.alloc(), &mut Host::new(rt), &mut out, &mut fault))
 }

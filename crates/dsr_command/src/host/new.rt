@@ -33,7 +33,7 @@ impl HostNew {
             return Err(CreateFault::Failed);
         }
         let digits = u64::from_le_bytes(digits);
-        let Ok(part) = format!(in rt.alloc(); "{}.{}.part", place, digits) else {
+        let Ok(part) = format!(in rt.alloc(); "{}.{:020}.part", place, digits) else {
             return Err(CreateFault::Memory);
         };
         let Ok(out) = File::create_new(&rt, part.as_str()) else {
