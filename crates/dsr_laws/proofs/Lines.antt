@@ -21,24 +21,6 @@ fits_from : (p : ℕ → Bool) → ((b : ℕ) → p b ≡ true → shown b ≡ t
     → fits most text ≡ true
 fits_from p weaker most text h few = and_from _ _ (all_weaker p shown weaker text h) (le-leb (length text) most few)
 
-digit : (b : ℕ) → is_ascii_digit b ≡ true → shown b ≡ true
-digit b h = grind (arith, nat_tests)
-
-alphanumeric : (b : ℕ) → is_ascii_alphanumeric b ≡ true → shown b ≡ true
-alphanumeric b h = grind (arith, nat_tests)
-
-territory : (b : ℕ) → (is_ascii_alphanumeric b || (eqb b 45)) ≡ true → shown b ≡ true
-territory b h = grind (arith, nat_tests)
-
-capital : (b : ℕ) → is_ascii_uppercase b ≡ true → shown b ≡ true
-capital b h = grind (arith, nat_tests)
-
-capital_or_digit : (b : ℕ) → is_capital_or_digit b ≡ true → shown b ≡ true
-capital_or_digit b h = grind (arith, nat_tests)
-
-small_hex : (b : ℕ) → is_small_hex b ≡ true → shown b ≡ true
-small_hex b h = grind (arith, nat_tests)
-
 fits_append : (m n most : ℕ) (a b : List ℕ) → fits m a ≡ true → fits n b ≡ true → m + n ≤ most → fits most (a ++ b) ≡ true
 fits_append m n most a b p q room =
     let x = and_parts (list_all shown a) (nat_le (length a) m) p in let y = and_parts (list_all shown b) (nat_le (length b) n) q in
@@ -56,12 +38,12 @@ fits_wider m n text wide h =
     let x = and_parts (list_all shown text) (nat_le (length text) m) h in and_from _ _ x.0 (le-leb (length text) n (omega (arith, leb-true (length text) m x.1)))
 
 decimal_fits : (k n : ℕ) → 0 < k → n < 10 ^ k → n < 10 ^ 64 → fits k (decimal n) ≡ true
-decimal_fits k n some low h = fits_from is_ascii_digit digit k (decimal n) (all_digits n h) (length-decimal-le_wide k n some low h)
+decimal_fits k n some low h = fits_from is_ascii_digit (λ b k. grind (arith, nat_tests)) k (decimal n) (all_digits n h) (length-decimal-le_wide k n some low h)
 
 padded_fits : (k n : ℕ) → 0 < k → n < 10 ^ k → n < 10 ^ 64 → fits k (padded_number k n) ≡ true
 padded_fits k n some low h =
     let short = length-decimal-le_wide k n some low h in let zeros = k - length (decimal n) in
-    fits_from is_ascii_digit digit k (padded_number k n) (zeros_digits zeros (decimal n) (all_digits n h))
+    fits_from is_ascii_digit (λ b k. grind (arith, nat_tests)) k (padded_number k n) (zeros_digits zeros (decimal n) (all_digits n h))
     (omega (arith, length-append (replicate zeros 48) (decimal n), length-replicate {A = ℕ} zeros 48))
 
 units_fit : (u : ℕ) → u < 2 ^ 123 → fits 39 (units_text u) ≡ true
@@ -117,8 +99,8 @@ isrc_fits text h =
     let a = (and_parts (list_all is_ascii_uppercase (take 2 text)) (eqb (length (take 2 text)) 2) one.0).0 in
     let b = (and_parts (list_all is_capital_or_digit (take 3 (drop 2 text))) (eqb (length (take 3 (drop 2 text))) 3) one.1).0 in
     let c = and_parts (list_all is_ascii_digit (drop 5 text)) (eqb (length (drop 5 text)) 7) two.1 in
-    and_from _ _ (parts_shown text (all_weaker is_ascii_uppercase shown capital (take 2 text) a)
-    (all_weaker is_capital_or_digit shown capital_or_digit (take 3 (drop 2 text)) b) (all_weaker is_ascii_digit shown digit (drop 5 text) c.0))
+    and_from _ _ (parts_shown text (all_weaker is_ascii_uppercase shown (λ b k. grind (arith, nat_tests)) (take 2 text) a)
+    (all_weaker is_capital_or_digit shown (λ b k. grind (arith, nat_tests)) (take 3 (drop 2 text)) b) (all_weaker is_ascii_digit shown (λ b k. grind (arith, nat_tests)) (drop 5 text) c.0))
     (le-leb (length text) 64 (omega (arith, length-drop 5 text, eqb-true (length (drop 5 text)) 7 c.1)))
 
 -- a text of 1 to so many bytes that pass
@@ -166,14 +148,11 @@ shown_low [] h i = omega arith
 shown_low (b ∷ bs) h zero = omega (arith, (in_range 32 126 b (and_parts (shown b) (list_all shown bs) h).0).1)
 shown_low (b ∷ bs) h (suc i) = shown_low bs (and_parts (shown b) (list_all shown bs) h).1 i
 
-no_feed : (b : ℕ) → shown b ≡ true → not (eqb b 10) ≡ true
-no_feed b h = grind (arith, nat_tests)
-
 fine : (most : ℕ) (text : List ℕ) → fits most text ≡ true → IsFine most text
 fine most text h =
     let two = and_parts (list_all shown text) (nat_le (length text) most) h in record {
       utf8 = IsUtf8-from_ascii text (shown_low text two.0);
-      feedless = all_weaker shown (λ b. not (eqb b 10)) no_feed text two.0;
+      feedless = all_weaker shown (λ b. not (eqb b 10)) (λ b k. grind (arith, nat_tests)) text two.0;
       short = leb-true (length text) most two.1;
     }
 
@@ -202,11 +181,11 @@ cell_fine (DaysIn first last) h n = fine 64 (signed_decimal (days_in first last)
 cell_fine (Identifier most text) h n = fine most text (passing_fits (is_in_range 32 126) (λ b k. k) most text h)
 cell_fine (Isrc text) h n = fine 64 text (isrc_fits text h)
 cell_fine (Territory text) h n =
-    fine 64 text (fits_wider 16 64 text (omega arith) (passing_fits (λ b. is_ascii_alphanumeric b || (eqb b 45)) territory 16 text h))
-cell_fine (UseType text) h n = fine 64 text (passing_fits is_ascii_alphanumeric alphanumeric 64 text h)
+    fine 64 text (fits_wider 16 64 text (omega arith) (passing_fits (λ b. is_ascii_alphanumeric b || (eqb b 45)) (λ b k. grind (arith, nat_tests)) 16 text h))
+cell_fine (UseType text) h n = fine 64 text (passing_fits is_ascii_alphanumeric (λ b k. grind (arith, nat_tests)) 64 text h)
 cell_fine (Currency text) h n =
     let two = and_parts (list_all is_ascii_uppercase text) (eqb (length text) 3) h in
-    fine 64 text (fits_from is_ascii_uppercase capital 64 text two.0 (omega (arith, eqb-true (length text) 3 two.1)))
+    fine 64 text (fits_from is_ascii_uppercase (λ b k. grind (arith, nat_tests)) 64 text two.0 (omega (arith, eqb-true (length text) 3 two.1)))
 cell_fine (PartyName text) h n = record { utf8 = n.line.utf8; feedless = n.line.feedless; short = n.line.short }
 cell_fine (Stands s) h n = fine 64 (standing_name s) (standing_fits s)
 cell_fine (Why r) h n = fine 64 (reason_name r) (reason_fits r)
@@ -216,7 +195,7 @@ cell_fine (FaultName f) h n = fine 64 (name_of f) (fault_fits f)
 cell_fine (ColumnName c) h n = fine 64 (column_name c) (column_fits c)
 cell_fine (Sha256 text) h n =
     let two = and_parts (list_all is_small_hex text) (eqb (length text) 64) h in
-    fine 64 text (fits_from is_small_hex small_hex 64 text two.0 (omega (arith, eqb-true (length text) 64 two.1)))
+    fine 64 text (fits_from is_small_hex (λ b k. grind (arith, nat_tests)) 64 text two.0 (omega (arith, eqb-true (length text) 64 two.1)))
 cell_fine (StatusName s) h n = fine 64 (status_name s) (status_fits s)
 
 -- how long the text of cells is at most
