@@ -9,7 +9,8 @@ use Rattle.dsr_laws.proofs.Readable.{IsFile, readable}
 abbrev file_by : LayoutTable → FileText → File
 file_by layout text = file_of (events_of_text layout text)
 
-files_of : (layout : LayoutTable) (texts : List FileText) → AllByRecursion (λ text. length text.bytes ≤ 2 ^ 36) texts → AllByRecursion IsFile (map (file_by layout) texts)
+files_of : (layout : LayoutTable) (texts : List FileText) → AllByRecursion (λ text. length text.bytes ≤ 2 ^ 36) texts
+    → AllByRecursion IsFile (map (file_by layout) texts)
 files_of layout [] h = tt
 files_of layout (t ∷ ts) h = (file_of_text layout t h.0, files_of layout ts h.1)
 
@@ -70,7 +71,8 @@ module _ {R : Type 0} (told : R → Told) (options : Options) (low : options.max
   given_files (r ∷ rs) (s ∷ ss) [] h = absurd h
 
 -- the report of what the readers of a run gave is readable
-pub run_readable : {R : Type 0} (told : R → Told) (options : Options) (readers left : List R) (texts : List FileText) → refusal_of (length readers) options ≡ None
+pub run_readable : {R : Type 0} (told : R → Told) (options : Options) (readers left : List R) (texts : List FileText)
+    → refusal_of (length readers) options ≡ None
     → GaveEach told options readers left texts → (key : ReportKey) → (report_of_texts options.layout texts).key ≡ Some key
     → IsReadable key (report_of_texts options.layout texts)
 unfolding report_of_texts

@@ -35,7 +35,8 @@ fits_more n b text s h =
 
 fits_wider : (m n : ℕ) (text : List ℕ) → m ≤ n → fits m text ≡ true → fits n text ≡ true
 fits_wider m n text wide h =
-    let x = and_parts (list_all shown text) (nat_le (length text) m) h in and_from _ _ x.0 (le-leb (length text) n (omega (arith, leb-true (length text) m x.1)))
+    let x = and_parts (list_all shown text) (nat_le (length text) m) h in and_from _ _ x.0 (le-leb (length text) n (omega (arith, leb-true
+    (length text) m x.1)))
 
 decimal_fits : (k n : ℕ) → 0 < k → n < 10 ^ k → n < 10 ^ 64 → fits k (decimal n) ≡ true
 decimal_fits k n some low h = fits_from is_ascii_digit (λ b k. grind (arith, nat_tests)) k (decimal n) (all_digits n h) (length-decimal-le_wide k n some low h)
@@ -94,13 +95,15 @@ parts_shown (a ∷ b ∷ c ∷ d ∷ e ∷ more) p q r =
 
 isrc_fits : (text : List ℕ) → is_isrc_text text ≡ true → fits 64 text ≡ true
 isrc_fits text h =
-    let two = and_parts (is_run_of is_ascii_uppercase 2 (take 2 text) && is_run_of is_capital_or_digit 3 (take 3 (drop 2 text))) (is_run_of is_ascii_digit 7 (drop 5 text)) h in
+    let two = and_parts (is_run_of is_ascii_uppercase 2 (take 2 text) && is_run_of is_capital_or_digit 3 (take 3 (drop 2 text))) (is_run_of is_ascii_digit 7
+    (drop 5 text)) h in
     let one = and_parts (is_run_of is_ascii_uppercase 2 (take 2 text)) (is_run_of is_capital_or_digit 3 (take 3 (drop 2 text))) two.0 in
     let a = (and_parts (list_all is_ascii_uppercase (take 2 text)) (eqb (length (take 2 text)) 2) one.0).0 in
     let b = (and_parts (list_all is_capital_or_digit (take 3 (drop 2 text))) (eqb (length (take 3 (drop 2 text))) 3) one.1).0 in
     let c = and_parts (list_all is_ascii_digit (drop 5 text)) (eqb (length (drop 5 text)) 7) two.1 in
     and_from _ _ (parts_shown text (all_weaker is_ascii_uppercase shown (λ b k. grind (arith, nat_tests)) (take 2 text) a)
-    (all_weaker is_capital_or_digit shown (λ b k. grind (arith, nat_tests)) (take 3 (drop 2 text)) b) (all_weaker is_ascii_digit shown (λ b k. grind (arith, nat_tests)) (drop 5 text) c.0))
+    (all_weaker is_capital_or_digit shown (λ b k. grind (arith, nat_tests)) (take 3 (drop 2 text)) b) (all_weaker is_ascii_digit shown (λ b k. grind
+    (arith, nat_tests)) (drop 5 text) c.0))
     (le-leb (length text) 64 (omega (arith, length-drop 5 text, eqb-true (length (drop 5 text)) 7 c.1)))
 
 -- a text of 1 to so many bytes that pass
@@ -203,14 +206,13 @@ abbrev most_in : List Cell → ℕ
 most_in [] = 0
 most_in (c ∷ cs) = most_of c + (1 + most_in cs)
 
-joined : (c : Cell) (cs : List Cell) → list_all is_cell (c ∷ cs) ≡ true → AllByRecursion IsNamedCell (c ∷ cs)
-    → IsFine (most_in (c ∷ cs)) (join_with_byte 9 (map cell_text (c ∷ cs)))
-joined c [] h n =
-    let own = cell_fine c (and_parts (is_cell c) true h).0 n.0 in
-    record { utf8 = own.utf8; feedless = own.feedless; short = omega (arith, own.short) }
-joined c (d ∷ ds) h n =
+joined : (cs : List Cell) → list_all is_cell cs ≡ true → AllByRecursion IsNamedCell cs → IsFine (most_in cs) (join_with_byte 9 (map cell_text cs))
+joined [] h n = fine 0 [] refl
+joined (c ∷ []) h n =
+    let own = cell_fine c (and_parts (is_cell c) true h).0 n.0 in record { utf8 = own.utf8; feedless = own.feedless; short = omega (arith, own.short) }
+joined (c ∷ d ∷ ds) h n =
     let both = and_parts (is_cell c) (list_all is_cell (d ∷ ds)) h in
-    let own = cell_fine c both.0 n.0 in let rest = joined d ds both.1 n.1 in let text = join_with_byte 9 (map cell_text (d ∷ ds)) in
+    let own = cell_fine c both.0 n.0 in let rest = joined (d ∷ ds) both.1 n.1 in let text = join_with_byte 9 (map cell_text (d ∷ ds)) in
     record {
       utf8 = IsUtf8-append (cell_text c) (9 ∷ text) own.utf8 (IsUtf8-append (9 ∷ []) text (IsUtf8-from_ascii (9 ∷ []) tab_low) rest.utf8);
       feedless = list_all-append (λ b. not (eqb b 10)) (cell_text c) (9 ∷ text) ∙ and_from _ _ own.feedless rest.feedless;
@@ -226,61 +228,35 @@ abbrev pub IsNamedLine : Line → Type 0
 IsNamedLine (lines.Party key p) = IsCellText p.party
 IsNamedLine _ = Unit {0}
 
-outcome_named : (o : Outcome) → AllByRecursion IsNamedCell (outcome_cells o)
-outcome_named outcomes.Whole = search rules
-outcome_named (outcomes.Fault line fault) = (tt, (tt, (tt, column (column_named fault))))
-  where
-    column : (o : Option Column) → AllByRecursion IsNamedCell (column_cells o)
-    column None = tt
-    column (Some c) = (tt, tt)
+-- the cells of a line have such a party, and so many bytes at most
+abbrev AreShort : ℕ → List Cell → Type 0
+AreShort most cs = AllByRecursion IsNamedCell cs × (most_in cs ≤ most)
 
-cells_named : (l : Line) → IsNamedLine l → AllByRecursion IsNamedCell (line_cells l)
-cells_named (lines.Report key) n = search rules
-cells_named lines.NoReport n = search rules
-cells_named (lines.File place f) n = (tt, (tt, (tt, (tt, (tt, outcome_named f.outcome)))))
-cells_named (lines.Missing number) n = search rules
-cells_named (lines.Summary d) n = search rules
-cells_named (lines.Ledger key usages amount) n = search rules
-cells_named (lines.Party key p) n = (tt, (tt, (tt, (tt, (tt, (n, (tt, tt)))))))
-cells_named (lines.Unclaimed key amount) n = search rules
-cells_named (lines.Reject r) n = search rules
-cells_named (lines.Layout digest) n = search rules
-cells_named (lines.Input place digest) n = search rules
-cells_named (lines.End count status) n = search rules
+column_short : (o : Option Column) → AreShort 100 (column_cells o)
+column_short None = (tt, omega arith)
+column_short (Some c) = ((tt, tt), omega arith)
 
-outcome_low : (o : Outcome) → most_in (outcome_cells o) ≤ 1000
-outcome_low outcomes.Whole = omega arith
-outcome_low (outcomes.Fault line fault) = omega (arith, column (column_named fault))
-  where
-    column : (o : Option Column) → most_in (column_cells o) ≤ 100
-    column None = omega arith
-    column (Some c) = omega arith
+outcome_short : (o : Outcome) → AreShort 1000 (outcome_cells o)
+outcome_short outcomes.Whole = (search rules, omega arith)
+outcome_short (outcomes.Fault line fault) = let last = column_short (column_named fault) in ((tt, (tt, (tt, last.0))), omega (arith, last.1))
 
-line_low : (l : Line) → most_in (line_cells l) ≤ 16384
-line_low (lines.Report key) = omega arith
-line_low lines.NoReport = omega arith
-line_low (lines.File place f) = omega (arith, outcome_low f.outcome)
-line_low (lines.Missing number) = omega arith
-line_low (lines.Summary d) = omega arith
-line_low (lines.Ledger key usages amount) = omega arith
-line_low (lines.Party key p) = omega arith
-line_low (lines.Unclaimed key amount) = omega arith
-line_low (lines.Reject r) = omega arith
-line_low (lines.Layout digest) = omega arith
-line_low (lines.Input place digest) = omega arith
-line_low (lines.End count status) = omega arith
-
-all_fine : (cs : List Cell) → 0 < length cs → list_all is_cell cs ≡ true → AllByRecursion IsNamedCell cs → IsFine (most_in cs) (join_with_byte 9 (map cell_text cs))
-all_fine [] some h n = absurd (omega arith)
-all_fine (c ∷ cs) some h n = joined c cs h n
-
-some_cells : (l : Line) → 0 < length (line_cells l)
-some_cells (lines.Report key) = omega arith
-some_cells _ = omega arith
+line_short : (l : Line) → IsNamedLine l → AreShort 16384 (line_cells l)
+line_short (lines.Report key) n = (search rules, omega arith)
+line_short lines.NoReport n = (search rules, omega arith)
+line_short (lines.File place f) n = let last = outcome_short f.outcome in ((tt, (tt, (tt, (tt, (tt, last.0))))), omega (arith, last.1))
+line_short (lines.Missing number) n = (search rules, omega arith)
+line_short (lines.Summary d) n = (search rules, omega arith)
+line_short (lines.Ledger key usages amount) n = (search rules, omega arith)
+line_short (lines.Party key p) n = ((tt, (tt, (tt, (tt, (tt, (n, (tt, tt))))))), omega arith)
+line_short (lines.Unclaimed key amount) n = (search rules, omega arith)
+line_short (lines.Reject r) n = (search rules, omega arith)
+line_short (lines.Layout digest) n = (search rules, omega arith)
+line_short (lines.Input place digest) n = (search rules, omega arith)
+line_short (lines.End count status) n = (search rules, omega arith)
 
 -- a line in its ranges is a text
 pub line_is_text : (l : Line) → is_line l ≡ true → IsNamedLine l → is_text l ≡ true
 line_is_text l h n =
-    let all = all_fine (line_cells l) (some_cells l) h (cells_named l n) in
+    let short = line_short l n in let all = joined (line_cells l) h short.0 in
     and_from _ _ (is_utf8-from_IsUtf8 (line_text l) all.utf8)
-    (and_from _ _ (le-leb (length (line_text l)) 16384 (omega (arith, all.short, line_low l))) all.feedless)
+    (and_from _ _ (le-leb (length (line_text l)) 16384 (omega (arith, all.short, short.1))) all.feedless)

@@ -27,7 +27,8 @@ module _ {X : Type 0} (r : X → X → Bool) where
 -- the items of files, in the order of the files
 module _ {X : Type 0} (file : X → ℕ) (r : X → X → Bool) (items : Filed → List X) (own : (d : Filed) → AllByRecursion (λ x. file x ≡ d.place) (items d))
     (inside : (d : Filed) → Sorted r (items d)) (apart : (x y : X) → file x < file y → r x y ≡ true) where
-  later : (place : ℕ) (earlier : List (Option OpeningParts)) (files : List File) → AllByRecursion (λ x. place ≤ file x) (flat_map items (filed_after place earlier files))
+  later : (place : ℕ) (earlier : List (Option OpeningParts)) (files : List File)
+      → AllByRecursion (λ x. place ≤ file x) (flat_map items (filed_after place earlier files))
   later place earlier [] = tt
   later place earlier (f ∷ fs) =
       let d : Filed = record { place = place; standing = standing earlier f.opening; file = f } in
@@ -82,7 +83,8 @@ differences_own d =
 same_file : (place : ℕ) (ds : List Difference) → AllByRecursion (λ x. x.file ≡ place) ds → Sorted not_after ds
 same_file place [] h = tt
 same_file place (x ∷ xs) h =
-    (each_weaker (λ (y : Difference). y.file ≡ place) (λ y. not_after x y ≡ true) (λ y e. le-leb x.file y.file (omega (arith, h.0))) xs h.1, same_file place xs h.1)
+    (each_weaker (λ (y : Difference). y.file ≡ place) (λ y. not_after x y ≡ true) (λ y e. le-leb x.file y.file (omega
+    (arith, h.0))) xs h.1, same_file place xs h.1)
 
 pub differences_by_file : (files : List File) → all_adjacent (λ a b. nat_le a.file b.file) (differences files) ≡ true
 unfolding differences
@@ -144,7 +146,8 @@ pub ledger_by_key : (bs : List Booking) → all_adjacent (λ a b. is_key_below (
 unfolding ledger line_of
 ledger_by_key bs =
     let f : Key → LedgerLine = λ key. line_of key (at_key key bs) in let ks = map (λ b. b.key) bs in
-    subst (λ ls. all_adjacent (λ a b. is_key_below (key_of_line a) (key_of_line b)) ls ≡ true) (sym (mapped_in_order key_cmp key_total key_exact f ks (λ e. e.1)))
+    subst (λ ls. all_adjacent (λ a b. is_key_below (key_of_line a) (key_of_line b)) ls ≡ true) (sym (mapped_in_order key_cmp key_total key_exact f ks
+    (λ e. e.1)))
     (made_in_order key_cmp key_of_line f (λ k. refl) (keys_of (in_order key_cmp f ks)) (sorted_in_order key_cmp key_total key_exact f ks))
 
 -- and the parties of a line by name
