@@ -35,8 +35,11 @@ fits_more n b text s h =
 
 fits_wider : (m n : ℕ) (text : List ℕ) → m ≤ n → fits m text ≡ true → fits n text ≡ true
 fits_wider m n text wide h =
-    let x = and_parts (list_all shown text) (nat_le (length text) m) h in and_from _ _ x.0 (le-leb (length text) n (omega (arith, leb-true
-    (length text) m x.1)))
+    let x = and_parts (list_all shown text) (nat_le (length text) m) h in and_from _ _ x.0 (le-leb (length text) n (omega (
+      arith,
+      leb-true
+          (length text) m x.1,
+    )))
 
 decimal_fits : (k n : ℕ) → 0 < k → n < 10 ^ k → n < 10 ^ 64 → fits k (decimal n) ≡ true
 decimal_fits k n some low h = fits_from is_ascii_digit (λ b k. grind (arith, nat_tests)) k (decimal n) (all_digits n h) (length-decimal-le_wide k n some low h)

@@ -82,9 +82,11 @@ differences_own d =
 
 same_file : (place : ℕ) (ds : List Difference) → AllByRecursion (λ x. x.file ≡ place) ds → Sorted not_after ds
 same_file place [] h = tt
-same_file place (x ∷ xs) h =
-    (each_weaker (λ (y : Difference). y.file ≡ place) (λ y. not_after x y ≡ true) (λ y e. le-leb x.file y.file (omega
-    (arith, h.0))) xs h.1, same_file place xs h.1)
+same_file place (x ∷ xs) h = (
+  each_weaker (λ (y : Difference). y.file ≡ place) (λ y. not_after x y ≡ true) (λ y e. le-leb x.file y.file (omega
+      (arith, h.0))) xs h.1,
+  same_file place xs h.1,
+)
 
 pub differences_by_file : (files : List File) → all_adjacent (λ a b. nat_le a.file b.file) (differences files) ≡ true
 unfolding differences

@@ -201,8 +201,14 @@ ledger_line_good bs h key among =
     )) in (
       (key_cells_good key k (Usages (usages_sum own) ∷ Amount (amount_sum own) ∷ []) (and_from _ _ usages_ (and_from _ _ amount_ refl)), tt),
       each_append IsGood (map (λ p. lines.Party key p) (party_lines own)) (lines.Unclaimed key (unclaimed own) ∷ [])
-          (each_map IsGood (λ p. lines.Party key p) (party_lines own) parties) ((key_cells_good key k (Amount (unclaimed own) ∷ [])
-          (and_from _ _ rest_ refl), tt), tt),
+          (each_map IsGood (λ p. lines.Party key p) (party_lines own) parties) (
+            (
+              key_cells_good key k (Amount (unclaimed own) ∷ [])
+                  (and_from _ _ rest_ refl),
+              tt,
+            ),
+            tt,
+          ),
     )
 
 ledger_good : (files : List File) → length files ≤ 64 → AllByRecursion IsFile files → AllByRecursion IsGood (flat_map lines_of_ledger (ledger (bookings files)))
@@ -349,7 +355,7 @@ key_good (Some head) h k e =
       tt,
     )
 
-length_filed : (place : ℕ) (earlier : List (Option OpeningParts)) (files : List File) → length (filed_after place earlier files) ≡ length files
+pub length_filed : (place : ℕ) (earlier : List (Option OpeningParts)) (files : List File) → length (filed_after place earlier files) ≡ length files
 length_filed place earlier [] = refl
 length_filed place earlier (f ∷ fs) = ap suc (length_filed (suc place) (earlier ++ (f.opening ∷ [])) fs)
 
