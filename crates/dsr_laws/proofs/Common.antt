@@ -1,5 +1,5 @@
 -- The names of other places that the proof files cite, passed on from one place. Declares nothing.
-pub use Rattle.std.proofs.Common.{Bool, List, [], add-one, ap, append-nil, append_assoc, arith, drop, eqb, false, get_or, inl, inr, length, length-append, length-drop, map, refl, rules, subst, suc, sym, take, true, zero, ℕ, ◌%◌, ◌*◌, ◌++◌, ◌+◌, ◌-◌, ◌/◌, ◌<◌, ◌^◌, ◌∙◌, ◌∷◌, ◌≡◌, ◌≤◌}
+pub use Rattle.std.proofs.Common.{Bool, List, [], add-one, ap, append-nil, append_assoc, arith, drop, eqb, false, get_or, inl, inr, length, length-append, length-drop, length-take, map, refl, rules, subst, suc, sym, take, true, zero, ℕ, ◌%◌, ◌*◌, ◌++◌, ◌+◌, ◌-◌, ◌/◌, ◌<◌, ◌^◌, ◌∙◌, ◌∷◌, ◌≡◌, ◌≤◌}
 pub use Rattle.std.proofs.lemmas.Bool.{and_from, and_parts, cases_Bool, cond_both, eq-eqb, eqb-true, le-leb, leb-true, lt-ltb, ltb-false, ltb-true, not-false, or_left, or_right, true_from_ne_false}
 pub use Rattle.std.proofs.lemmas.Bool.Decides.{nat_tests}
 pub use Rattle.std.proofs.lemmas.Fmt.{length-decimal-le_wide}
@@ -68,6 +68,7 @@ pub use Rattle.dsr_io.specs.meaning.Told.{Told}
 pub use Rattle.dsr_ledger.proofs.EachLemmas.{AreFew, abs-int_sum_by, abs-sum, each_append, each_filter, each_flat, each_map, each_weaker, few_flat, fewer}
 pub use Rattle.dsr_ledger.proofs.KeyLemmas.{key_exact, key_total}
 pub use Rattle.dsr_ledger.proofs.LawLemmas.{add_up, each_line, each_party}
+pub use Rattle.dsr_ledger.proofs.NumberedLemmas.{each_at}
 pub use Rattle.dsr_ledger.proofs.OrderLemmas.{mapped_in_order, sorted_in_order}
 pub use Rattle.dsr_ledger.proofs.PartyLemmas.{lines_are, names_of, parts_and_rest}
 pub use Rattle.dsr_ledger.proofs.SmallLemmas.{booked_whole}

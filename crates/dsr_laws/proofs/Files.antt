@@ -1,5 +1,5 @@
 -- What the file of a text has: its opening, its blocks and its outcome.
-use Rattle.dsr_laws.proofs.Common.{AllByRecursion, AllGood, At, BlockParts, Bool, Ending, Err, EventPart, FileFault, First, Holds, IsUtf8-from_is_utf8, Kind, LayoutTable, List, None, Ok, OpeningParts, Option, Outcome, Reading, Record, RecordFault, Result, SkippedLine, Some, Summary, [], and_from, and_parts, arith, block_limit, block_of, but_last, bytes_eq, closed, column, cond_both, cons_option, count_by, count_by-le-length, count_fault, counts_fault, drop, early_fault, end_whole, eqb, events, events_of, false, fault_if, file_fault, filter_map, first_from, first_id, first_if, has_id, in_part, is_identifier_text, is_left_out, is_line_feed, is_long, is_printed_fault, is_skipped_line, is_skipped_record, is_utf8, kept, last_is_line, last_of, last_part, leb-true, length, length-append, length-slice_split, lines, lines_among, list_all, list_any, ltb-false, map, member_fault, not, of_record, of_text, of_utf8, onto_first, opened, opening_of, opens, option_to_list, or_else, outcome, outcome_at, parts, pieces, place, reading, record_of, records, refl, suc, summaries, summary_fault, summary_limit, take, taken, true, usages, without_mark, without_return, works, works_then_usages, zero, ℕ, ◌&&◌, ◌++◌, ◌+◌, ◌-◌, ◌<◌, ◌^◌, ◌||◌, ◌∷◌, ◌≡◌, ◌≤◌}
+use Rattle.dsr_laws.proofs.Common.{AllByRecursion, AllGood, AreFew, At, BlockParts, Bool, Ending, Err, EventPart, FileFault, First, Holds, IsUtf8-from_is_utf8, Kind, LayoutTable, List, None, Ok, OpeningParts, Option, Outcome, Reading, Record, RecordFault, Result, SkippedLine, Some, Summary, [], and_from, and_parts, arith, block_limit, block_of, but_last, bytes_eq, closed, column, cond_both, cons_option, count_by, count_by-le-length, count_fault, counts_fault, drop, each_append, early_fault, end_whole, eqb, events, events_of, false, fault_if, file_fault, filter_map, first_from, first_id, first_if, has_id, in_part, is_identifier_text, is_left_out, is_line_feed, is_long, is_printed_fault, is_skipped_line, is_skipped_record, is_utf8, kept, last_is_line, last_of, last_part, leb-true, length, length-append, length-drop, length-slice_split, length-take, lines, lines_among, list_all, list_any, ltb-false, map, member_fault, not, of_record, of_text, of_utf8, onto_first, opened, opening_of, opens, option_to_list, or_else, outcome, outcome_at, parts, pieces, place, reading, record_of, records, refl, suc, summaries, summary_fault, summary_limit, take, taken, true, usages, without_mark, without_return, works, works_then_usages, zero, ℕ, ◌&&◌, ◌++◌, ◌+◌, ◌-◌, ◌<◌, ◌^◌, ◌||◌, ◌∷◌, ◌≡◌, ◌≤◌}
 use Rattle.std.specs.Prelude.{nat_le}
 use Rattle.std.specs.Option.{option_map}
 use Rattle.dsr_events.specs.declared.event.EventPart.TheVariants as part
@@ -31,12 +31,8 @@ IsReading (Holds r) = IsRecord r
 each_take : (p : ℕ → Bool) (n : ℕ) (xs : List ℕ) → list_all p xs ≡ true → list_all p (take n xs) ≡ true
 each_take p zero xs h = refl
 each_take p (suc n) [] h = refl
-each_take p (suc n) (x ∷ xs) h = let two = and_parts (p x) (list_all p xs) h in and_from (p x) (list_all p (take n xs)) two.0 (each_take p n xs two.1)
-
-take_short : (n : ℕ) (xs : List ℕ) → length (take n xs) ≤ length xs
-take_short zero xs = omega arith
-take_short (suc n) [] = omega arith
-take_short (suc n) (x ∷ xs) = omega (arith, take_short n xs)
+each_take p (suc n) (x ∷ xs) h =
+    let two = and_parts (p x) (list_all p xs) h in and_from (p x) (list_all p (take n xs)) two.0 (each_take p n xs two.1)
 
 fault_named : (f : RecordFault) → is_named (file_fault f) ≡ true
 fault_named record_faults.Many = refl
@@ -60,7 +56,7 @@ reading_spelled layout line h =
       utf8 = IsUtf8-from_is_utf8 text u;
       short =
           let low = ltb-false 8192 (length line) short in
-          cond_both _ (take (length line - 1) line) line (λ t. length t ≤ 8192) (λ k. omega (arith, take_short (length line - 1) line)) (λ k. low);
+          cond_both _ (take (length line - 1) line) line (λ t. length t ≤ 8192) (λ k. omega (arith, length-take (length line - 1) line)) (λ k. low);
       feedless = cond_both _ (take (length line - 1) line) line (λ t. lacks 10 t ≡ true) (λ k. each_take _ (length line - 1) line h) (λ k. h);
     })))) (λ e. refl))
 
@@ -76,16 +72,11 @@ among_few ending [] = omega arith
 among_few ending (p ∷ []) = cond_both (last_is_line ending p) _ _ (λ l. length l ≤ 1) (λ e. omega arith) (λ e. omega arith)
 among_few ending (p ∷ q ∷ ps) = omega (arith, among_few ending (q ∷ ps))
 
-drop_short : (n : ℕ) (xs : List ℕ) → length (drop n xs) ≤ length xs
-drop_short zero xs = omega arith
-drop_short (suc n) [] = omega arith
-drop_short (suc n) (x ∷ xs) = omega (arith, drop_short n xs)
-
 pub lines_few : (bytes : List ℕ) (ending : Ending) → length (lines bytes ending) ≤ length bytes + 1
 lines_few bytes ending =
     let text = without_mark bytes in
     let less : length text ≤ length bytes =
-    cond_both _ (drop 3 bytes) bytes (λ t. length t ≤ length bytes) (λ e. drop_short 3 bytes) (λ e. omega arith) in
+    cond_both _ (drop 3 bytes) bytes (λ t. length t ≤ length bytes) (λ e. omega (arith, length-drop 3 bytes)) (λ e. omega arith) in
     omega (arith, among_few ending (pieces bytes), length-slice_split is_line_feed text, count_by-le-length is_line_feed text)
 
 pub each_reading : (layout : LayoutTable) (ls : List (List ℕ)) → AllByRecursion (λ l. lacks 10 l ≡ true) ls → AllByRecursion IsReading (map (reading layout) ls)
@@ -170,102 +161,66 @@ abbrev IsFirst : ℕ → First → Type 0
 IsFirst n AllGood = Unit {0}
 IsFirst n (At before l f) = AllByRecursion IsReading before × IsReading l × (length before + 1 ≤ n) × (is_named f ≡ true)
 
-each_with : {X : Type 0} (P : X → Type 0) (xs : List X) (x : X) → AllByRecursion P xs → P x → AllByRecursion P (xs ++ (x ∷ []))
-each_with P [] x h p = (p, tt)
-each_with P (y ∷ ys) x h p = (h.0, each_with P ys x h.1 p)
-
 first_found : (n : ℕ) (before ls : List Reading) → AllByRecursion IsReading before → AllByRecursion IsReading ls → length before + length ls ≤ n
     → IsFirst n (first_from before ls)
 first_found n before [] b h few = tt
 first_found n before (l ∷ ls) b h few =
     by (fault_of before l) (line_named before l h.0)
-    (first_found n (before ++ (l ∷ [])) ls (each_with IsReading before l b h.0) h.1 (omega (arith, length-append before (l ∷ []))))
+    (first_found n (before ++ (l ∷ [])) ls (each_append IsReading before (l ∷ []) b (h.0, tt)) h.1 (omega (arith, length-append before (l ∷ []))))
   where
     by : (o : Option FileFault) → is_named_or_none o ≡ true → IsFirst n (first_from (before ++ (l ∷ [])) ls)
         → IsFirst n (first_if o before l (first_from (before ++ (l ∷ [])) ls))
     by None e rest = rest
     by (Some f) e rest = (b, h.0, omega arith, e)
 
+-- at most m of some and n of others
+few_append : {X : Type 0} (P : X → Type 0) (m n : ℕ) (xs ys : List X) → AreFew P m xs → AreFew P n ys → AreFew P (m + n) (xs ++ ys)
+few_append P m n xs ys h k = (omega (arith, h.0, k.0, length-append xs ys), each_append P xs ys h.1 k.1)
+
 -- the records that are taken
-kept_few : (l : Reading) → length (kept l) ≤ 1
-kept_few (Faulty f) = omega arith
-kept_few SkippedLine = omega arith
-kept_few (Holds (of.Head h)) = omega arith
-kept_few (Holds of.Skipped) = omega arith
-kept_few (Holds _) = omega arith
+kept_few : (l : Reading) → IsReading l → AreFew IsRecord 1 (kept l)
+kept_few (Faulty f) h = (omega arith, tt)
+kept_few SkippedLine h = (omega arith, tt)
+kept_few (Holds (of.Head r)) h = (omega arith, (h, tt))
+kept_few (Holds of.Skipped) h = (omega arith, tt)
+kept_few (Holds _) h = (omega arith, (h, tt))
 
-kept_spelled : (l : Reading) → IsReading l → AllByRecursion IsRecord (kept l)
-kept_spelled (Faulty f) h = tt
-kept_spelled SkippedLine h = tt
-kept_spelled (Holds (of.Head r)) h = (h, tt)
-kept_spelled (Holds of.Skipped) h = tt
-kept_spelled (Holds _) h = (h, tt)
+records_few : (ls : List Reading) → AllByRecursion IsReading ls → AreFew IsRecord (length ls) (records ls)
+records_few [] h = (omega arith, tt)
+records_few (l ∷ ls) h =
+    let all = few_append IsRecord 1 (length ls) (kept l) (records ls) (kept_few l h.0) (records_few ls h.1) in (omega (arith, all.0), all.1)
 
-each_append : {X : Type 0} (P : X → Type 0) (xs ys : List X) → AllByRecursion P xs → AllByRecursion P ys → AllByRecursion P (xs ++ ys)
-each_append P [] ys h k = k
-each_append P (x ∷ xs) ys h k = (h.0, each_append P xs ys h.1 k)
+taken_few : (ls : List Reading) (first : First) → AllByRecursion IsReading ls → IsFirst (length ls) first → AreFew IsRecord (length ls) (taken ls first)
+taken_few ls AllGood h f = records_few ls h
+taken_few ls (At before l fault) h f =
+    let all = records_few before f.0 in
+    let more = records_few (before ++ (l ∷ [])) (each_append IsReading before (l ∷ []) f.0 (f.1, tt)) in
+    cond_both (counts_fault fault) _ _ (λ rs. AreFew IsRecord (length ls) (records rs))
+    (λ e. (omega (arith, f.2, more.0, length-append before (l ∷ [])), more.1)) (λ e. (omega (arith, f.2, all.0), all.1))
 
-records_spelled : (ls : List Reading) → AllByRecursion IsReading ls → AllByRecursion IsRecord (records ls)
-records_spelled [] h = tt
-records_spelled (l ∷ ls) h = each_append IsRecord (kept l) (records ls) (kept_spelled l h.0) (records_spelled ls h.1)
+-- the parts of records: at most so many, each of such records
+abbrev AreRecords : List Record → Type 0
+AreRecords rs = AllByRecursion IsRecord rs
 
-records_few : (ls : List Reading) → length (records ls) ≤ length ls
-records_few [] = omega arith
-records_few (l ∷ ls) = omega (arith, kept_few l, records_few ls, length-append (kept l) (records ls))
+onto_few : (n : ℕ) (r : Record) (ps : List (List Record)) → IsRecord r → AreFew AreRecords (suc n) ps → AreFew AreRecords (suc n) (onto_first r ps)
+onto_few n r [] h k = (omega arith, ((h, tt), tt))
+onto_few n r (p ∷ ps) h k = (k.0, ((h, k.1.0), k.1.1))
 
--- at most so many records, each spelled
-abbrev AreTaken : ℕ → List Record → Type 0
-AreTaken n rs = AllByRecursion IsRecord rs × (length rs ≤ n)
+parts_few : (rs : List Record) → AreRecords rs → AreFew AreRecords (suc (length rs)) (parts rs)
+parts_few [] h = (omega arith, (tt, tt))
+parts_few (r ∷ rs) h =
+    let onto = onto_few (length rs) r (parts rs) h.0 (parts_few rs h.1) in
+    cond_both (opens r) _ _ (AreFew AreRecords (suc (suc (length rs)))) (λ e. (omega (arith, onto.0), (tt, onto.1))) (λ e. (omega (arith, onto.0), onto.1))
 
-of_lines : (n : ℕ) (ls : List Reading) → AllByRecursion IsReading ls → length ls ≤ n → AreTaken n (records ls)
-of_lines n ls h few = (records_spelled ls h, omega (arith, records_few ls))
+but_last_few : (n : ℕ) (ps : List (List Record)) → AreFew AreRecords n ps → AreFew AreRecords n (but_last ps)
+but_last_few n [] h = (omega arith, tt)
+but_last_few n (p ∷ []) h = (omega arith, tt)
+but_last_few n (p ∷ q ∷ ps) h =
+    let rest = but_last_few (length (q ∷ ps)) (q ∷ ps) (omega arith, h.1.1) in (omega (arith, h.0, rest.0), (h.1.0, rest.1))
 
-taken_spelled : (n : ℕ) (ls : List Reading) (first : First) → AllByRecursion IsReading ls → length ls ≤ n → IsFirst n first → AreTaken n (taken ls first)
-taken_spelled n ls AllGood h few f = of_lines n ls h few
-taken_spelled n ls (At before l fault) h few f =
-    cond_both (counts_fault fault) _ _ (λ rs. AreTaken n (records rs))
-    (λ e. of_lines n (before ++ (l ∷ [])) (each_with IsReading before l f.0 f.1) (omega (arith, f.2, length-append before (l ∷ []))))
-    (λ e. of_lines n before f.0 (omega (arith, f.2)))
-
--- the parts of records
-onto_each : (r : Record) (ps : List (List Record)) → IsRecord r → AllByRecursion (AllByRecursion IsRecord) ps → AllByRecursion (AllByRecursion IsRecord) (onto_first r ps)
-onto_each r [] h k = ((h, tt), tt)
-onto_each r (p ∷ ps) h k = ((h, k.0), k.1)
-
-onto_few : (n : ℕ) (r : Record) (ps : List (List Record)) → length ps ≤ suc n → length (onto_first r ps) ≤ suc n
-onto_few n r [] few = omega arith
-onto_few n r (p ∷ ps) few = few
-
-parts_spelled : (rs : List Record) → AllByRecursion IsRecord rs → AllByRecursion (AllByRecursion IsRecord) (parts rs)
-parts_spelled [] h = (tt, tt)
-parts_spelled (r ∷ rs) h =
-    let onto = onto_each r (parts rs) h.0 (parts_spelled rs h.1) in
-    cond_both (opens r) _ _ (AllByRecursion (AllByRecursion IsRecord)) (λ e. (tt, onto)) (λ e. onto)
-
-parts_few : (rs : List Record) → length (parts rs) ≤ suc (length rs)
-parts_few [] = omega arith
-parts_few (r ∷ rs) =
-    let onto = onto_few (length rs) r (parts rs) (parts_few rs) in
-    cond_both (opens r) _ _ (λ ps. length ps ≤ suc (suc (length rs))) (λ e. omega (arith, onto)) (λ e. omega (arith, onto))
-
-module _ {X : Type 0} (P : X → Type 0) where
-  but_last_each : (xs : List X) → AllByRecursion P xs → AllByRecursion P (but_last xs)
-  but_last_each [] h = tt
-  but_last_each (x ∷ []) h = tt
-  but_last_each (x ∷ y ∷ ys) h = (h.0, but_last_each (y ∷ ys) h.1)
-
-  but_last_few : (xs : List X) → length (but_last xs) ≤ length xs
-  but_last_few [] = omega arith
-  but_last_few (x ∷ []) = omega arith
-  but_last_few (x ∷ y ∷ ys) = omega (arith, but_last_few (y ∷ ys))
-
-  rest_each : (xs : List X) → AllByRecursion P xs → AllByRecursion P (drop 1 xs)
-  rest_each [] h = tt
-  rest_each (x ∷ xs) h = h.1
-
-  rest_few : (xs : List X) → length (drop 1 xs) ≤ length xs
-  rest_few [] = omega arith
-  rest_few (x ∷ xs) = omega arith
+rest_few : (n : ℕ) (ps : List (List Record)) → AreFew AreRecords n ps → AreFew AreRecords n (drop 1 ps)
+rest_few n [] h = h
+rest_few n (p ∷ ps) h = (omega (arith, h.0), h.1.1)
 
 -- a block, an opening and an outcome of a text
 pub record IsBlock (b : BlockParts) : Type 0 where
@@ -282,49 +237,43 @@ abbrev pub IsOutcome : Outcome → Type 0
 IsOutcome outcomes.Whole = Unit {0}
 IsOutcome (outcomes.Fault line f) = (line < 2 ^ 64) × (is_named f ≡ true)
 
-works_spelled : (rs : List Record) → AllByRecursion IsRecord rs → AllByRecursion (λ w. AllByRecursion IsCellText w.parties) (works rs)
-works_spelled [] h = tt
-works_spelled (of.Work w ∷ rs) h = (h.0, works_spelled rs h.1)
-works_spelled (of.Skipped ∷ rs) h = works_spelled rs h.1
-works_spelled (_ ∷ rs) h = works_spelled rs h.1
+-- the works, the usages and the summaries among records
+record AreMembers (rs : List Record) : Type 0 where
+  works_ : AllByRecursion (λ w. AllByRecursion IsCellText w.parties) (works rs)
+  usages_ : AreFew IsUsage (length rs) (usages rs)
+  summaries_ : AllByRecursion IsSummary (summaries rs)
 
-usages_spelled : (rs : List Record) → AllByRecursion IsRecord rs → AllByRecursion IsUsage (usages rs)
-usages_spelled [] h = tt
-usages_spelled (of.Usage u ∷ rs) h = (h.0, usages_spelled rs h.1)
-usages_spelled (of.Skipped ∷ rs) h = usages_spelled rs h.1
-usages_spelled (_ ∷ rs) h = usages_spelled rs h.1
-
-usages_few : (rs : List Record) → length (usages rs) ≤ length rs
-usages_few [] = omega arith
-usages_few (of.Usage u ∷ rs) = omega (arith, usages_few rs)
-usages_few (of.Skipped ∷ rs) = omega (arith, usages_few rs)
-usages_few (_ ∷ rs) = omega (arith, usages_few rs)
-
-summaries_spelled : (rs : List Record) → AllByRecursion IsRecord rs → AllByRecursion IsSummary (summaries rs)
-summaries_spelled [] h = tt
-summaries_spelled (of.Summary s ∷ rs) h = (h.0, summaries_spelled rs h.1)
-summaries_spelled (of.Skipped ∷ rs) h = summaries_spelled rs h.1
-summaries_spelled (_ ∷ rs) h = summaries_spelled rs h.1
+members : (rs : List Record) → AreRecords rs → AreMembers rs
+members [] h = record { works_ = tt; usages_ = (omega arith, tt); summaries_ = tt }
+members (r ∷ rs) h = add r h.0 (members rs h.1)
+  where
+    add : (r : Record) → IsRecord r → AreMembers rs → AreMembers (r ∷ rs)
+    add (of.Work w) k m = record { works_ = (k, m.works_); usages_ = (omega (arith, m.usages_.0), m.usages_.1); summaries_ = m.summaries_ }
+    add (of.Usage u) k m = record { works_ = m.works_; usages_ = (omega (arith, m.usages_.0), (k, m.usages_.1)); summaries_ = m.summaries_ }
+    add (of.Summary s) k m = record { works_ = m.works_; usages_ = (omega (arith, m.usages_.0), m.usages_.1); summaries_ = (k, m.summaries_) }
+    add of.Skipped k m = record { works_ = m.works_; usages_ = (omega (arith, m.usages_.0), m.usages_.1); summaries_ = m.summaries_ }
+    add _ k m = record { works_ = m.works_; usages_ = (omega (arith, m.usages_.0), m.usages_.1); summaries_ = m.summaries_ }
 
 abbrev pub IfSome : {X : Type 0} → (X → Type 0) → Option X → Type 0
 IfSome P None = Unit {0}
 IfSome P (Some x) = P x
 
-block_spelled : (rs : List Record) → AllByRecursion IsRecord rs → IfSome IsBlock (block_of rs)
+block_spelled : (rs : List Record) → AreRecords rs → IfSome IsBlock (block_of rs)
 block_spelled [] h = tt
 block_spelled (of.Resource r ∷ rs) h =
+    let m = members rs h.1 in
     cond_both (works_then_usages rs && list_all (has_id r.block_id) rs && nat_le (length rs + 1) block_limit) _ _ (IfSome IsBlock) (λ e. record {
       id = h.0;
-      works = works_spelled rs h.1;
-      usages = usages_spelled rs h.1;
-      few = omega (arith, usages_few rs, leb-true (length rs + 1) 64 (and_parts _ _ e).1);
+      works = m.works_;
+      usages = m.usages_.1;
+      few = omega (arith, m.usages_.0, leb-true (length rs + 1) 64 (and_parts _ _ e).1);
     }) (λ e. tt)
 block_spelled (of.Skipped ∷ rs) h = tt
 block_spelled (_ ∷ rs) h = tt
 
-opening_spelled : (rs : List Record) → AllByRecursion IsRecord rs → IfSome IsOpening (opening_of rs)
+opening_spelled : (rs : List Record) → AreRecords rs → IfSome IsOpening (opening_of rs)
 opening_spelled [] h = tt
-opening_spelled (of.Head r ∷ rs) h = record { head = h.0; summaries = summaries_spelled rs h.1 }
+opening_spelled (of.Head r ∷ rs) h = record { head = h.0; summaries = (members rs h.1).summaries_ }
 opening_spelled (of.Skipped ∷ rs) h = tt
 opening_spelled (_ ∷ rs) h = tt
 
@@ -334,64 +283,53 @@ IsPart (part.Opened o) = IsOpening o
 IsPart (part.Block b) = IsBlock b
 IsPart (part.Ended o) = IsOutcome o
 
--- at most so many, each of a text
-abbrev pub AreParts : ℕ → List EventPart → Type 0
-AreParts n es = AllByRecursion IsPart es × (length es ≤ n)
+opening_few : (o : Option OpeningParts) → IfSome IsOpening o → AreFew IsPart 1 (option_to_list (option_map part.Opened o))
+opening_few None h = (omega arith, tt)
+opening_few (Some o) h = (omega arith, (h, tt))
 
-opening_parts : (o : Option OpeningParts) → IfSome IsOpening o → AreParts 1 (option_to_list (option_map part.Opened o))
-opening_parts None h = (tt, omega arith)
-opening_parts (Some o) h = ((h, tt), omega arith)
+opened_few : (rs : List Record) → AreRecords rs → AreFew IsPart 1 (opened rs)
+opened_few rs h =
+    cond_both (list_any opens rs) _ _ (AreFew IsPart 1) (λ e. opening_few (opening_of rs) (opening_spelled rs h)) (λ e. (omega arith, tt))
 
-opened_parts : (rs : List Record) → AllByRecursion IsRecord rs → AreParts 1 (opened rs)
-opened_parts rs h =
-    cond_both (list_any opens rs) _ _ (AreParts 1) (λ e. opening_parts (opening_of rs) (opening_spelled rs h)) (λ e. (tt, omega arith))
-
-block_parts : (ps : List (List Record)) → AllByRecursion (AllByRecursion IsRecord) ps → AreParts (length ps) (map part.Block (filter_map block_of ps))
-block_parts [] h = (tt, omega arith)
-block_parts (p ∷ ps) h = let rest = block_parts ps h.1 in one (block_of p) (block_spelled p h.0) rest.0 rest.1
+blocks_few : (ps : List (List Record)) → AllByRecursion AreRecords ps → AreFew IsPart (length ps) (map part.Block (filter_map block_of ps))
+blocks_few [] h = (omega arith, tt)
+blocks_few (p ∷ ps) h = one (block_of p) (block_spelled p h.0) (blocks_few ps h.1)
   where
-    one : (o : Option BlockParts) → IfSome IsBlock o → AllByRecursion IsPart (map part.Block (filter_map block_of ps))
-        → length (map part.Block (filter_map block_of ps)) ≤ length ps
-        → AreParts (suc (length ps)) (map part.Block (cons_option o (filter_map block_of ps)))
-    one None h k few = (k, omega arith)
-    one (Some b) h k few = ((h, k), omega arith)
+    one : (o : Option BlockParts) → IfSome IsBlock o → AreFew IsPart (length ps) (map part.Block (filter_map block_of ps))
+        → AreFew IsPart (suc (length ps)) (map part.Block (cons_option o (filter_map block_of ps)))
+    one None h k = (omega (arith, k.0), k.1)
+    one (Some b) h k = (omega (arith, k.0), (h, k.1))
 
-parts_append : (m n : ℕ) (xs ys : List EventPart) → AreParts m xs → AreParts n ys → AreParts (m + n) (xs ++ ys)
-parts_append m n xs ys h k = (each_append IsPart xs ys h.0 k.0, omega (arith, h.1, k.1, length-append xs ys))
-
-events_of_parts : (n : ℕ) (rs : List Record) → AreTaken n rs → AreParts (n + 2) (events_of rs)
+events_of_few : (n : ℕ) (rs : List Record) → AreFew IsRecord n rs → AreFew IsPart (n + 2) (events_of rs)
 unfolding events_of
-events_of_parts n rs h =
-    let all = parts_spelled rs h.0 in let Each : List Record → Type 0 = AllByRecursion IsRecord in
-    let blocks = block_parts (closed rs) (rest_each Each (but_last (parts rs)) (but_last_each Each (parts rs) all)) in
-    let both = parts_append 1 (length (closed rs)) (opened rs) (map part.Block (filter_map block_of (closed rs))) (opened_parts rs h.0) blocks in
-    (both.0, omega (arith, both.1, h.1, parts_few rs, but_last_few Each (parts rs), rest_few Each (but_last (parts rs))))
+events_of_few n rs h =
+    let own = parts_few rs h.1 in let most = suc (length rs) in
+    let ps = rest_few most (but_last (parts rs)) (but_last_few most (parts rs) own) in
+    let all =
+    few_append IsPart 1 (length (closed rs)) (opened rs) (map part.Block (filter_map block_of (closed rs))) (opened_few rs h.1)
+    (blocks_few (closed rs) ps.1) in
+    (omega (arith, all.0, ps.0, h.0), all.1)
 
-ended_whole_named : (last : Option Record) (line : ℕ) → line < 2 ^ 64 → IsOutcome (end_whole (column last) line)
-ended_whole_named None line low = (low, refl)
-ended_whole_named (Some (of.Head x)) line low = (low, refl)
-ended_whole_named (Some (of.Summary x)) line low = (low, refl)
-ended_whole_named (Some (of.Resource x)) line low = (low, refl)
-ended_whole_named (Some (of.Work x)) line low = (low, refl)
-ended_whole_named (Some (of.Usage x)) line low = (low, refl)
-ended_whole_named (Some (of.Foot x)) line low = tt
-ended_whole_named (Some of.Skipped) line low = (low, refl)
+end_named : (last : Option Record) (line : ℕ) → line < 2 ^ 64 → IsOutcome (end_whole (column last) line)
+end_named None line low = (low, refl)
+end_named (Some (of.Foot x)) line low = tt
+end_named (Some of.Skipped) line low = (low, refl)
+end_named (Some _) line low = (low, refl)
 
 ended_named : (last : Option Record) (ending : Ending) (line : ℕ) → line < 2 ^ 64 → IsOutcome (outcome_at (column last) ending line)
 ended_named last endings.Read line low = (low, refl)
 ended_named last endings.Reads line low = (low, refl)
-ended_named last endings.Whole line low = ended_whole_named last line low
+ended_named last endings.Whole line low = end_named last line low
 
-outcome_named : (n : ℕ) (ls : List Reading) (ending : Ending) (first : First) → length ls ≤ n → n + 1 < 2 ^ 64 → IsFirst n first → IsOutcome (outcome ls ending first)
-outcome_named n ls ending AllGood few low f = ended_named (last_of (records ls)) ending (length ls + 1) (omega arith)
-outcome_named n ls ending (At before l fault) few low f = (omega (arith, f.2), f.3)
+outcome_named : (ls : List Reading) (ending : Ending) (first : First) → length ls < 2 ^ 63 → IsFirst (length ls) first → IsOutcome (outcome ls ending first)
+outcome_named ls ending AllGood low f = ended_named (last_of (records ls)) ending (length ls + 1) (omega arith)
+outcome_named ls ending (At before l fault) low f = (omega (arith, f.2), f.3)
 
-pub events_parts : (n : ℕ) (ls : List Reading) (ending : Ending) → AllByRecursion IsReading ls → length ls ≤ n → n + 1 < 2 ^ 64 → AreParts (n + 3) (events ls ending)
+pub events_few : (ls : List Reading) (ending : Ending) → AllByRecursion IsReading ls → length ls < 2 ^ 63 → AreFew IsPart (length ls + 3) (events ls ending)
 unfolding events
-events_parts n ls ending h few low =
-    let first = first_from [] ls in let found = first_found n [] ls tt h (omega arith) in
-    let all = events_of_parts n (taken ls first) (taken_spelled n ls first h few found) in
-    let both =
-    parts_append (n + 2) 1 (events_of (taken ls first)) (part.Ended (outcome ls ending first) ∷ []) all
-    ((outcome_named n ls ending first few low found, tt), omega arith) in
-    (both.0, omega (arith, both.1))
+events_few ls ending h low =
+    let first = first_from [] ls in let found = first_found (length ls) [] ls tt h (omega arith) in
+    let last : AreFew IsPart 1 (part.Ended (outcome ls ending first) ∷ []) = (omega arith, (outcome_named ls ending first low found, tt)) in
+    let own = events_of_few (length ls) (taken ls first) (taken_few ls first h found) in
+    let all = few_append IsPart (length ls + 2) 1 (events_of (taken ls first)) (part.Ended (outcome ls ending first) ∷ []) own last in
+    (omega (arith, all.0), all.1)

@@ -1,15 +1,16 @@
 -- What a source gave is within what a run reads.
-use Rattle.dsr_laws.proofs.Common.{AllByRecursion, Ending, EndsAs, File, FileText, GaveEach, GaveText, IsReadable, IsReading, LayoutTable, List, None, Option, Options, Report, ReportKey, Some, Told, [], ap, append-nil, arith, events_of_text, file_of, inl, inr, length, map, refl, refusal_of, report_again, report_of_texts, statement_lines, statement_of, subst, suc, without_report, ℕ, ◌++◌, ◌^◌, ◌∷◌, ◌≡◌, ◌≤◌}
+use Rattle.dsr_laws.proofs.Common.{AllByRecursion, Ending, EndsAs, File, FileText, GaveEach, GaveText, IsReadable, IsReading, LayoutTable, List, None, Option, Options, Report, ReportKey, Some, Told, [], ap, append-nil, arith, events_of_text, file_line, file_of, filed, inl, inr, length, length-map, map, refl, refusal_of, report_again, report_of, report_of_texts, statement_lines, statement_of, subst, suc, without_report, ℕ, ◌++◌, ◌^◌, ◌∷◌, ◌≡◌, ◌≤◌}
 use Rattle.dsr_events.specs.declared.fault.Ending.TheVariants as endings
 use Rattle.dsr_laws.specs.layer.Again.{AreRunTexts, lines_if, reading_of_report}
 use Rattle.dsr_laws.proofs.FilesOfTexts.{file_of_text}
-use Rattle.dsr_laws.proofs.Readable.{IsFile, readable}
+use Rattle.dsr_laws.proofs.Readable.{length_filed, IsFile, readable}
 
 -- the file of a text
 abbrev file_by : LayoutTable → FileText → File
 file_by layout text = file_of (events_of_text layout text)
 
-files_of : (layout : LayoutTable) (texts : List FileText) → AllByRecursion (λ text. length text.bytes ≤ 2 ^ 36) texts → AllByRecursion IsFile (map (file_by layout) texts)
+files_of : (layout : LayoutTable) (texts : List FileText) → AllByRecursion (λ text. length text.bytes ≤ 2 ^ 36) texts
+    → AllByRecursion IsFile (map (file_by layout) texts)
 files_of layout [] h = tt
 files_of layout (t ∷ ts) h = (file_of_text layout t h.0, files_of layout ts h.1)
 
@@ -22,6 +23,12 @@ pub texts_readable : (layout : LayoutTable) (texts : List FileText) (key : Repor
 unfolding report_of_texts
 texts_readable layout texts key h e =
     readable (map (file_by layout) texts) key (omega (arith, h.few, size_of_files layout texts)) (files_of layout texts h.short) e
+
+pub files_few : (layout : LayoutTable) (texts : List FileText) → AreRunTexts texts → length (report_of_texts layout texts).files ≤ 64
+unfolding report_of_texts report_of
+files_few layout texts h =
+    let files = map (file_by layout) texts in
+    omega (arith, h.few, size_of_files layout texts, length_filed 1 [] files, length-map (filed files) file_line)
 
 -- the text of a report that is readable if it has a key
 if_key : (r : Report) → ((key : ReportKey) → r.key ≡ Some key → IsReadable key r) → (o : Option ReportKey) → r.key ≡ o
@@ -70,7 +77,8 @@ module _ {R : Type 0} (told : R → Told) (options : Options) (low : options.max
   given_files (r ∷ rs) (s ∷ ss) [] h = absurd h
 
 -- the report of what the readers of a run gave is readable
-pub run_readable : {R : Type 0} (told : R → Told) (options : Options) (readers left : List R) (texts : List FileText) → refusal_of (length readers) options ≡ None
+pub run_readable : {R : Type 0} (told : R → Told) (options : Options) (readers left : List R) (texts : List FileText)
+    → refusal_of (length readers) options ≡ None
     → GaveEach told options readers left texts → (key : ReportKey) → (report_of_texts options.layout texts).key ≡ Some key
     → IsReadable key (report_of_texts options.layout texts)
 unfolding report_of_texts

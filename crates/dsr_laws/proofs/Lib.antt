@@ -7,3 +7,4 @@ pub mod Orders
 pub mod Lines
 pub mod Readable
 pub mod Given
+pub mod Seals

@@ -21,24 +21,6 @@ fits_from : (p : ℕ → Bool) → ((b : ℕ) → p b ≡ true → shown b ≡ t
     → fits most text ≡ true
 fits_from p weaker most text h few = and_from _ _ (all_weaker p shown weaker text h) (le-leb (length text) most few)
 
-digit : (b : ℕ) → is_ascii_digit b ≡ true → shown b ≡ true
-digit b h = grind (arith, nat_tests)
-
-alphanumeric : (b : ℕ) → is_ascii_alphanumeric b ≡ true → shown b ≡ true
-alphanumeric b h = grind (arith, nat_tests)
-
-territory : (b : ℕ) → (is_ascii_alphanumeric b || (eqb b 45)) ≡ true → shown b ≡ true
-territory b h = grind (arith, nat_tests)
-
-capital : (b : ℕ) → is_ascii_uppercase b ≡ true → shown b ≡ true
-capital b h = grind (arith, nat_tests)
-
-capital_or_digit : (b : ℕ) → is_capital_or_digit b ≡ true → shown b ≡ true
-capital_or_digit b h = grind (arith, nat_tests)
-
-small_hex : (b : ℕ) → is_small_hex b ≡ true → shown b ≡ true
-small_hex b h = grind (arith, nat_tests)
-
 fits_append : (m n most : ℕ) (a b : List ℕ) → fits m a ≡ true → fits n b ≡ true → m + n ≤ most → fits most (a ++ b) ≡ true
 fits_append m n most a b p q room =
     let x = and_parts (list_all shown a) (nat_le (length a) m) p in let y = and_parts (list_all shown b) (nat_le (length b) n) q in
@@ -53,15 +35,19 @@ fits_more n b text s h =
 
 fits_wider : (m n : ℕ) (text : List ℕ) → m ≤ n → fits m text ≡ true → fits n text ≡ true
 fits_wider m n text wide h =
-    let x = and_parts (list_all shown text) (nat_le (length text) m) h in and_from _ _ x.0 (le-leb (length text) n (omega (arith, leb-true (length text) m x.1)))
+    let x = and_parts (list_all shown text) (nat_le (length text) m) h in and_from _ _ x.0 (le-leb (length text) n (omega (
+      arith,
+      leb-true
+          (length text) m x.1,
+    )))
 
 decimal_fits : (k n : ℕ) → 0 < k → n < 10 ^ k → n < 10 ^ 64 → fits k (decimal n) ≡ true
-decimal_fits k n some low h = fits_from is_ascii_digit digit k (decimal n) (all_digits n h) (length-decimal-le_wide k n some low h)
+decimal_fits k n some low h = fits_from is_ascii_digit (λ b k. grind (arith, nat_tests)) k (decimal n) (all_digits n h) (length-decimal-le_wide k n some low h)
 
 padded_fits : (k n : ℕ) → 0 < k → n < 10 ^ k → n < 10 ^ 64 → fits k (padded_number k n) ≡ true
 padded_fits k n some low h =
     let short = length-decimal-le_wide k n some low h in let zeros = k - length (decimal n) in
-    fits_from is_ascii_digit digit k (padded_number k n) (zeros_digits zeros (decimal n) (all_digits n h))
+    fits_from is_ascii_digit (λ b k. grind (arith, nat_tests)) k (padded_number k n) (zeros_digits zeros (decimal n) (all_digits n h))
     (omega (arith, length-append (replicate zeros 48) (decimal n), length-replicate {A = ℕ} zeros 48))
 
 units_fit : (u : ℕ) → u < 2 ^ 123 → fits 39 (units_text u) ≡ true
@@ -112,13 +98,15 @@ parts_shown (a ∷ b ∷ c ∷ d ∷ e ∷ more) p q r =
 
 isrc_fits : (text : List ℕ) → is_isrc_text text ≡ true → fits 64 text ≡ true
 isrc_fits text h =
-    let two = and_parts (is_run_of is_ascii_uppercase 2 (take 2 text) && is_run_of is_capital_or_digit 3 (take 3 (drop 2 text))) (is_run_of is_ascii_digit 7 (drop 5 text)) h in
+    let two = and_parts (is_run_of is_ascii_uppercase 2 (take 2 text) && is_run_of is_capital_or_digit 3 (take 3 (drop 2 text))) (is_run_of is_ascii_digit 7
+    (drop 5 text)) h in
     let one = and_parts (is_run_of is_ascii_uppercase 2 (take 2 text)) (is_run_of is_capital_or_digit 3 (take 3 (drop 2 text))) two.0 in
     let a = (and_parts (list_all is_ascii_uppercase (take 2 text)) (eqb (length (take 2 text)) 2) one.0).0 in
     let b = (and_parts (list_all is_capital_or_digit (take 3 (drop 2 text))) (eqb (length (take 3 (drop 2 text))) 3) one.1).0 in
     let c = and_parts (list_all is_ascii_digit (drop 5 text)) (eqb (length (drop 5 text)) 7) two.1 in
-    and_from _ _ (parts_shown text (all_weaker is_ascii_uppercase shown capital (take 2 text) a)
-    (all_weaker is_capital_or_digit shown capital_or_digit (take 3 (drop 2 text)) b) (all_weaker is_ascii_digit shown digit (drop 5 text) c.0))
+    and_from _ _ (parts_shown text (all_weaker is_ascii_uppercase shown (λ b k. grind (arith, nat_tests)) (take 2 text) a)
+    (all_weaker is_capital_or_digit shown (λ b k. grind (arith, nat_tests)) (take 3 (drop 2 text)) b) (all_weaker is_ascii_digit shown (λ b k. grind
+    (arith, nat_tests)) (drop 5 text) c.0))
     (le-leb (length text) 64 (omega (arith, length-drop 5 text, eqb-true (length (drop 5 text)) 7 c.1)))
 
 -- a text of 1 to so many bytes that pass
@@ -166,14 +154,11 @@ shown_low [] h i = omega arith
 shown_low (b ∷ bs) h zero = omega (arith, (in_range 32 126 b (and_parts (shown b) (list_all shown bs) h).0).1)
 shown_low (b ∷ bs) h (suc i) = shown_low bs (and_parts (shown b) (list_all shown bs) h).1 i
 
-no_feed : (b : ℕ) → shown b ≡ true → not (eqb b 10) ≡ true
-no_feed b h = grind (arith, nat_tests)
-
 fine : (most : ℕ) (text : List ℕ) → fits most text ≡ true → IsFine most text
 fine most text h =
     let two = and_parts (list_all shown text) (nat_le (length text) most) h in record {
       utf8 = IsUtf8-from_ascii text (shown_low text two.0);
-      feedless = all_weaker shown (λ b. not (eqb b 10)) no_feed text two.0;
+      feedless = all_weaker shown (λ b. not (eqb b 10)) (λ b k. grind (arith, nat_tests)) text two.0;
       short = leb-true (length text) most two.1;
     }
 
@@ -202,11 +187,11 @@ cell_fine (DaysIn first last) h n = fine 64 (signed_decimal (days_in first last)
 cell_fine (Identifier most text) h n = fine most text (passing_fits (is_in_range 32 126) (λ b k. k) most text h)
 cell_fine (Isrc text) h n = fine 64 text (isrc_fits text h)
 cell_fine (Territory text) h n =
-    fine 64 text (fits_wider 16 64 text (omega arith) (passing_fits (λ b. is_ascii_alphanumeric b || (eqb b 45)) territory 16 text h))
-cell_fine (UseType text) h n = fine 64 text (passing_fits is_ascii_alphanumeric alphanumeric 64 text h)
+    fine 64 text (fits_wider 16 64 text (omega arith) (passing_fits (λ b. is_ascii_alphanumeric b || (eqb b 45)) (λ b k. grind (arith, nat_tests)) 16 text h))
+cell_fine (UseType text) h n = fine 64 text (passing_fits is_ascii_alphanumeric (λ b k. grind (arith, nat_tests)) 64 text h)
 cell_fine (Currency text) h n =
     let two = and_parts (list_all is_ascii_uppercase text) (eqb (length text) 3) h in
-    fine 64 text (fits_from is_ascii_uppercase capital 64 text two.0 (omega (arith, eqb-true (length text) 3 two.1)))
+    fine 64 text (fits_from is_ascii_uppercase (λ b k. grind (arith, nat_tests)) 64 text two.0 (omega (arith, eqb-true (length text) 3 two.1)))
 cell_fine (PartyName text) h n = record { utf8 = n.line.utf8; feedless = n.line.feedless; short = n.line.short }
 cell_fine (Stands s) h n = fine 64 (standing_name s) (standing_fits s)
 cell_fine (Why r) h n = fine 64 (reason_name r) (reason_fits r)
@@ -216,7 +201,7 @@ cell_fine (FaultName f) h n = fine 64 (name_of f) (fault_fits f)
 cell_fine (ColumnName c) h n = fine 64 (column_name c) (column_fits c)
 cell_fine (Sha256 text) h n =
     let two = and_parts (list_all is_small_hex text) (eqb (length text) 64) h in
-    fine 64 text (fits_from is_small_hex small_hex 64 text two.0 (omega (arith, eqb-true (length text) 64 two.1)))
+    fine 64 text (fits_from is_small_hex (λ b k. grind (arith, nat_tests)) 64 text two.0 (omega (arith, eqb-true (length text) 64 two.1)))
 cell_fine (StatusName s) h n = fine 64 (status_name s) (status_fits s)
 
 -- how long the text of cells is at most
@@ -224,14 +209,13 @@ abbrev most_in : List Cell → ℕ
 most_in [] = 0
 most_in (c ∷ cs) = most_of c + (1 + most_in cs)
 
-joined : (c : Cell) (cs : List Cell) → list_all is_cell (c ∷ cs) ≡ true → AllByRecursion IsNamedCell (c ∷ cs)
-    → IsFine (most_in (c ∷ cs)) (join_with_byte 9 (map cell_text (c ∷ cs)))
-joined c [] h n =
-    let own = cell_fine c (and_parts (is_cell c) true h).0 n.0 in
-    record { utf8 = own.utf8; feedless = own.feedless; short = omega (arith, own.short) }
-joined c (d ∷ ds) h n =
+joined : (cs : List Cell) → list_all is_cell cs ≡ true → AllByRecursion IsNamedCell cs → IsFine (most_in cs) (join_with_byte 9 (map cell_text cs))
+joined [] h n = fine 0 [] refl
+joined (c ∷ []) h n =
+    let own = cell_fine c (and_parts (is_cell c) true h).0 n.0 in record { utf8 = own.utf8; feedless = own.feedless; short = omega (arith, own.short) }
+joined (c ∷ d ∷ ds) h n =
     let both = and_parts (is_cell c) (list_all is_cell (d ∷ ds)) h in
-    let own = cell_fine c both.0 n.0 in let rest = joined d ds both.1 n.1 in let text = join_with_byte 9 (map cell_text (d ∷ ds)) in
+    let own = cell_fine c both.0 n.0 in let rest = joined (d ∷ ds) both.1 n.1 in let text = join_with_byte 9 (map cell_text (d ∷ ds)) in
     record {
       utf8 = IsUtf8-append (cell_text c) (9 ∷ text) own.utf8 (IsUtf8-append (9 ∷ []) text (IsUtf8-from_ascii (9 ∷ []) tab_low) rest.utf8);
       feedless = list_all-append (λ b. not (eqb b 10)) (cell_text c) (9 ∷ text) ∙ and_from _ _ own.feedless rest.feedless;
@@ -247,61 +231,35 @@ abbrev pub IsNamedLine : Line → Type 0
 IsNamedLine (lines.Party key p) = IsCellText p.party
 IsNamedLine _ = Unit {0}
 
-outcome_named : (o : Outcome) → AllByRecursion IsNamedCell (outcome_cells o)
-outcome_named outcomes.Whole = search rules
-outcome_named (outcomes.Fault line fault) = (tt, (tt, (tt, column (column_named fault))))
-  where
-    column : (o : Option Column) → AllByRecursion IsNamedCell (column_cells o)
-    column None = tt
-    column (Some c) = (tt, tt)
+-- the cells of a line have such a party, and so many bytes at most
+abbrev AreShort : ℕ → List Cell → Type 0
+AreShort most cs = AllByRecursion IsNamedCell cs × (most_in cs ≤ most)
 
-cells_named : (l : Line) → IsNamedLine l → AllByRecursion IsNamedCell (line_cells l)
-cells_named (lines.Report key) n = search rules
-cells_named lines.NoReport n = search rules
-cells_named (lines.File place f) n = (tt, (tt, (tt, (tt, (tt, outcome_named f.outcome)))))
-cells_named (lines.Missing number) n = search rules
-cells_named (lines.Summary d) n = search rules
-cells_named (lines.Ledger key usages amount) n = search rules
-cells_named (lines.Party key p) n = (tt, (tt, (tt, (tt, (tt, (n, (tt, tt)))))))
-cells_named (lines.Unclaimed key amount) n = search rules
-cells_named (lines.Reject r) n = search rules
-cells_named (lines.Layout digest) n = search rules
-cells_named (lines.Input place digest) n = search rules
-cells_named (lines.End count status) n = search rules
+column_short : (o : Option Column) → AreShort 100 (column_cells o)
+column_short None = (tt, omega arith)
+column_short (Some c) = ((tt, tt), omega arith)
 
-outcome_low : (o : Outcome) → most_in (outcome_cells o) ≤ 1000
-outcome_low outcomes.Whole = omega arith
-outcome_low (outcomes.Fault line fault) = omega (arith, column (column_named fault))
-  where
-    column : (o : Option Column) → most_in (column_cells o) ≤ 100
-    column None = omega arith
-    column (Some c) = omega arith
+outcome_short : (o : Outcome) → AreShort 1000 (outcome_cells o)
+outcome_short outcomes.Whole = (search rules, omega arith)
+outcome_short (outcomes.Fault line fault) = let last = column_short (column_named fault) in ((tt, (tt, (tt, last.0))), omega (arith, last.1))
 
-line_low : (l : Line) → most_in (line_cells l) ≤ 16384
-line_low (lines.Report key) = omega arith
-line_low lines.NoReport = omega arith
-line_low (lines.File place f) = omega (arith, outcome_low f.outcome)
-line_low (lines.Missing number) = omega arith
-line_low (lines.Summary d) = omega arith
-line_low (lines.Ledger key usages amount) = omega arith
-line_low (lines.Party key p) = omega arith
-line_low (lines.Unclaimed key amount) = omega arith
-line_low (lines.Reject r) = omega arith
-line_low (lines.Layout digest) = omega arith
-line_low (lines.Input place digest) = omega arith
-line_low (lines.End count status) = omega arith
-
-all_fine : (cs : List Cell) → 0 < length cs → list_all is_cell cs ≡ true → AllByRecursion IsNamedCell cs → IsFine (most_in cs) (join_with_byte 9 (map cell_text cs))
-all_fine [] some h n = absurd (omega arith)
-all_fine (c ∷ cs) some h n = joined c cs h n
-
-some_cells : (l : Line) → 0 < length (line_cells l)
-some_cells (lines.Report key) = omega arith
-some_cells _ = omega arith
+line_short : (l : Line) → IsNamedLine l → AreShort 16384 (line_cells l)
+line_short (lines.Report key) n = (search rules, omega arith)
+line_short lines.NoReport n = (search rules, omega arith)
+line_short (lines.File place f) n = let last = outcome_short f.outcome in ((tt, (tt, (tt, (tt, (tt, last.0))))), omega (arith, last.1))
+line_short (lines.Missing number) n = (search rules, omega arith)
+line_short (lines.Summary d) n = (search rules, omega arith)
+line_short (lines.Ledger key usages amount) n = (search rules, omega arith)
+line_short (lines.Party key p) n = ((tt, (tt, (tt, (tt, (tt, (n, (tt, tt))))))), omega arith)
+line_short (lines.Unclaimed key amount) n = (search rules, omega arith)
+line_short (lines.Reject r) n = (search rules, omega arith)
+line_short (lines.Layout digest) n = (search rules, omega arith)
+line_short (lines.Input place digest) n = (search rules, omega arith)
+line_short (lines.End count status) n = (search rules, omega arith)
 
 -- a line in its ranges is a text
 pub line_is_text : (l : Line) → is_line l ≡ true → IsNamedLine l → is_text l ≡ true
 line_is_text l h n =
-    let all = all_fine (line_cells l) (some_cells l) h (cells_named l n) in
+    let short = line_short l n in let all = joined (line_cells l) h short.0 in
     and_from _ _ (is_utf8-from_IsUtf8 (line_text l) all.utf8)
-    (and_from _ _ (le-leb (length (line_text l)) 16384 (omega (arith, all.short, line_low l))) all.feedless)
+    (and_from _ _ (le-leb (length (line_text l)) 16384 (omega (arith, all.short, short.1))) all.feedless)

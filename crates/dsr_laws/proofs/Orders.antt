@@ -1,6 +1,7 @@
 -- The lists of a report are in order.
 use Rattle.dsr_laws.proofs.Common.{AddsUp, AllByRecursion, BlockParts, Booked, Booking, Bool, Difference, File, Filed, Head, IsStrictlySortedBy, Key, LedgerLine, Less, List, None, OpeningParts, Option, Ordering, PartyLine, Reject, Rejected, Some, Verdict, [], add_up, all_adjacent, all_parts, and_from, ap, are_parties_in_order, arith, at_key, bookings, cond_both, difference, differences, differences_in, each_append, each_filter, each_line, each_weaker, eq-eqb, exact_bytes, filed, filed_after, filter, flat_map, in_order, is_before, is_key_below, is_lt, is_text_below, is_there, judged_in, key_cmp, key_exact, key_of_line, key_total, keys_of, le-leb, ledger, line_of, lines_are, list_all, lt-ltb, map, mapped_in_order, missing, missing_for, names_of, nat_list_cmp_total, not, or_left, or_right, party_amount, party_lines, range_with_len, recursion_from_All, refl, rejects, rejects_from, rejects_in, report_head, report_of, sorted_in_order, standing, subst, suc, summaries_of, sym, text_cmp, true, usages_in, zero, ℕ, ◌++◌, ◌+◌, ◌<◌, ◌∙◌, ◌∷◌, ◌≡◌, ◌≤◌}
 use Rattle.std.proofs.Common.{nat_lt, nat_le}
+use Rattle.dsr_laws.proofs.Values.{each_both}
 
 -- each item stands in a relation to all later ones
 abbrev Sorted : {X : Type 0} → (X → X → Bool) → List X → Type 0
@@ -26,7 +27,8 @@ module _ {X : Type 0} (r : X → X → Bool) where
 -- the items of files, in the order of the files
 module _ {X : Type 0} (file : X → ℕ) (r : X → X → Bool) (items : Filed → List X) (own : (d : Filed) → AllByRecursion (λ x. file x ≡ d.place) (items d))
     (inside : (d : Filed) → Sorted r (items d)) (apart : (x y : X) → file x < file y → r x y ≡ true) where
-  later : (place : ℕ) (earlier : List (Option OpeningParts)) (files : List File) → AllByRecursion (λ x. place ≤ file x) (flat_map items (filed_after place earlier files))
+  later : (place : ℕ) (earlier : List (Option OpeningParts)) (files : List File)
+      → AllByRecursion (λ x. place ≤ file x) (flat_map items (filed_after place earlier files))
   later place earlier [] = tt
   later place earlier (f ∷ fs) =
       let d : Filed = record { place = place; standing = standing earlier f.opening; file = f } in
@@ -80,8 +82,11 @@ differences_own d =
 
 same_file : (place : ℕ) (ds : List Difference) → AllByRecursion (λ x. x.file ≡ place) ds → Sorted not_after ds
 same_file place [] h = tt
-same_file place (x ∷ xs) h =
-    (each_weaker (λ (y : Difference). y.file ≡ place) (λ y. not_after x y ≡ true) (λ y e. le-leb x.file y.file (omega (arith, h.0))) xs h.1, same_file place xs h.1)
+same_file place (x ∷ xs) h = (
+  each_weaker (λ (y : Difference). y.file ≡ place) (λ y. not_after x y ≡ true) (λ y e. le-leb x.file y.file (omega
+      (arith, h.0))) xs h.1,
+  same_file place xs h.1,
+)
 
 pub differences_by_file : (files : List File) → all_adjacent (λ a b. nat_le a.file b.file) (differences files) ≡ true
 unfolding differences
@@ -104,16 +109,12 @@ rejects_late place n ((b, Rejected reason) ∷ js) = (
   each_weaker (λ (x : Reject). n + 1 ≤ x.position) (λ x. n ≤ x.position) (λ x h. omega arith) (rejects_from place (n + 1) js) (rejects_late place (n + 1) js),
 )
 
-both_each : {X : Type 0} (P Q R : X → Type 0) → ((x : X) → P x → Q x → R x) → (xs : List X) → AllByRecursion P xs → AllByRecursion Q xs → AllByRecursion R xs
-both_each P Q R f [] p q = tt
-both_each P Q R f (x ∷ xs) p q = (f x p.0 q.0, both_each P Q R f xs p.1 q.1)
-
 rejects_sorted : (place n : ℕ) (js : List (BlockParts × Verdict)) → Sorted is_before (rejects_from place n js)
 rejects_sorted place n [] = tt
 rejects_sorted place n ((b, Booked) ∷ js) = rejects_sorted place (n + 1) js
 rejects_sorted place n ((b, Rejected reason) ∷ js) =
     let x : Reject = record { file = place; position = n; block_id = b.id; reason = reason } in let rest = rejects_from place (n + 1) js in (
-      both_each (λ (y : Reject). y.file ≡ place) (λ y. n + 1 ≤ y.position) (λ y. is_before x y ≡ true) (λ y e k.
+      each_both (λ (y : Reject). y.file ≡ place) (λ y. n + 1 ≤ y.position) (λ y. is_before x y ≡ true) (λ y e k.
           or_right (nat_lt place y.file) _ (and_from _ _ (eq-eqb place y.file (sym e)) (lt-ltb n y.position (omega arith)))) rest (rejects_own place (n + 1) js)
           (rejects_late place (n + 1) js),
       rejects_sorted place (n + 1) js,
@@ -147,7 +148,8 @@ pub ledger_by_key : (bs : List Booking) → all_adjacent (λ a b. is_key_below (
 unfolding ledger line_of
 ledger_by_key bs =
     let f : Key → LedgerLine = λ key. line_of key (at_key key bs) in let ks = map (λ b. b.key) bs in
-    subst (λ ls. all_adjacent (λ a b. is_key_below (key_of_line a) (key_of_line b)) ls ≡ true) (sym (mapped_in_order key_cmp key_total key_exact f ks (λ e. e.1)))
+    subst (λ ls. all_adjacent (λ a b. is_key_below (key_of_line a) (key_of_line b)) ls ≡ true) (sym (mapped_in_order key_cmp key_total key_exact f ks
+    (λ e. e.1)))
     (made_in_order key_cmp key_of_line f (λ k. refl) (keys_of (in_order key_cmp f ks)) (sorted_in_order key_cmp key_total key_exact f ks))
 
 -- and the parties of a line by name

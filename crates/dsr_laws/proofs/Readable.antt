@@ -160,7 +160,8 @@ zip_named a (p ∷ ps) (s ∷ ss) h = (h.0, zip_named a ps ss h.1)
 
 works_named : (a : ℤ) (works : List WorkParts) → AreNamed works → AllByRecursion (λ q. IsCellText q.party) (flat_map (work_parts a) works)
 works_named a [] h = tt
-works_named a (w ∷ ws) h = each_append (λ q. IsCellText q.party) (work_parts a w) (flat_map (work_parts a) ws) (zip_named a w.parties w.shares h.0) (works_named a ws h.1)
+works_named a (w ∷ ws) h =
+    each_append (λ q. IsCellText q.party) (work_parts a w) (flat_map (work_parts a) ws) (zip_named a w.parties w.shares h.0) (works_named a ws h.1)
 
 parts_named : (bs : List Booking) → AllByRecursion IsBooking bs → AllByRecursion (λ q. IsCellText q.party) (all_parts bs)
 parts_named [] h = tt
@@ -200,7 +201,14 @@ ledger_line_good bs h key among =
     )) in (
       (key_cells_good key k (Usages (usages_sum own) ∷ Amount (amount_sum own) ∷ []) (and_from _ _ usages_ (and_from _ _ amount_ refl)), tt),
       each_append IsGood (map (λ p. lines.Party key p) (party_lines own)) (lines.Unclaimed key (unclaimed own) ∷ [])
-          (each_map IsGood (λ p. lines.Party key p) (party_lines own) parties) ((key_cells_good key k (Amount (unclaimed own) ∷ []) (and_from _ _ rest_ refl), tt), tt),
+          (each_map IsGood (λ p. lines.Party key p) (party_lines own) parties) (
+            (
+              key_cells_good key k (Amount (unclaimed own) ∷ [])
+                  (and_from _ _ rest_ refl),
+              tt,
+            ),
+            tt,
+          ),
     )
 
 ledger_good : (files : List File) → length files ≤ 64 → AllByRecursion IsFile files → AllByRecursion IsGood (flat_map lines_of_ledger (ledger (bookings files)))
@@ -221,7 +229,8 @@ number_good : (o : Option OpeningParts) → ((x : OpeningParts) → o ≡ Some x
 number_good None h = refl
 number_good (Some o) h = lt-ltb o.head.file_number (2 ^ 32) (omega (arith, (h o refl).head.number))
 
-files_good : (place : ℕ) (ds : List Filed) → AllByRecursion IsFiled ds → place + length ds ≤ 2 ^ 32 → AllByRecursion IsGood (files_from place (map file_line ds))
+files_good : (place : ℕ) (ds : List Filed) → AllByRecursion IsFiled ds → place + length ds ≤ 2 ^ 32
+    → AllByRecursion IsGood (files_from place (map file_line ds))
 files_good place [] h low = tt
 files_good place (d ∷ ds) h low = (
   (
@@ -276,7 +285,8 @@ differences_good : (d : Filed) → IsFiled d → AllByRecursion (λ x. IsGood (l
 differences_good d h =
     let us = usages_in d.file.blocks in let few = usages_few d.file.blocks h.file.blocks h.file.few in
     let ss = summaries_of d.file.opening in
-    each_filter (λ (x : Difference). IsGood (lines.Summary x)) _ (map (difference d.place us) ss) (each_map (λ (x : Difference). IsGood (lines.Summary x)) (difference d.place us) ss (
+    each_filter (λ (x : Difference). IsGood (lines.Summary x)) _ (map (difference d.place us) ss) (each_map (λ (x : Difference). IsGood (lines.Summary x))
+    (difference d.place us) ss (
     each_weaker IsSummary (λ s. IsGood (lines.Summary (difference d.place us s))) (difference_good d.place us h.place few) ss (summaries_good d.file h.file)))
 
 -- the rejects
@@ -345,7 +355,7 @@ key_good (Some head) h k e =
       tt,
     )
 
-length_filed : (place : ℕ) (earlier : List (Option OpeningParts)) (files : List File) → length (filed_after place earlier files) ≡ length files
+pub length_filed : (place : ℕ) (earlier : List (Option OpeningParts)) (files : List File) → length (filed_after place earlier files) ≡ length files
 length_filed place earlier [] = refl
 length_filed place earlier (f ∷ fs) = ap suc (length_filed (suc place) (earlier ++ (f.opening ∷ [])) fs)
 
@@ -358,10 +368,12 @@ lines_good files k few h e =
       subst (λ (o : Option ReportKey). IsGood (head_of o)) (sym e) (key_good (report_head files) head k e),
       each_append IsGood _ _ (files_good 1 ds all (omega (arith, length_filed 1 [] files))) (
           each_append IsGood _ _ (missing_good (report_head files) head ds) (
-          each_append IsGood _ _ (each_map IsGood (λ d. lines.Summary d) (flat_map differences_in ds) (each_flat (λ x. IsGood (lines.Summary x)) differences_in ds
+          each_append IsGood _ _ (each_map IsGood (λ d. lines.Summary d) (flat_map differences_in ds) (each_flat (λ x. IsGood
+          (lines.Summary x)) differences_in ds
           (each_weaker IsFiled _ differences_good ds all))) (
           each_append IsGood _ _ (ledger_good files few h) (
-          each_map IsGood (λ r. lines.Reject r) (flat_map rejects_in ds) (each_flat (λ r. IsGood (lines.Reject r)) rejects_in ds (each_weaker IsFiled _ rejects_in_good ds all)))))),
+          each_map IsGood (λ r. lines.Reject r) (flat_map rejects_in ds) (each_flat (λ r. IsGood (lines.Reject r)) rejects_in ds
+          (each_weaker IsFiled _ rejects_in_good ds all)))))),
     )
 
 some_files : (files : List File) (k : ReportKey) → (report_of files).key ≡ Some k → 0 < length (report_of files).files

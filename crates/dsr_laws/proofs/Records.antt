@@ -1,5 +1,5 @@
 -- What the record of a line has.
-use Rattle.dsr_laws.proofs.Common.{AllByRecursion, CivilDay, Column, Err, Head, IsUtf8-nil, Kind, LayoutTable, List, None, Ok, Option, Record, RecordFault, Result, RoleLine, Some, Summary, Usage, [], amount_of, and_parts, arith, cell_in, cell_of, cells, cells_at, column_fault, columns_of, cond_both, day_number, day_of, day_of_parts, day_or_first, decimal_of, decimal_of_parts, digits_sum, digits_sum-lt, eqb, false, first_fault, if_civil, if_file_number, in_range, int_le, ints, is_ascii_digit, is_civil_day, is_currency_text, is_digits, is_identifier_text, is_in_range, is_not_before, is_run_of, is_skipped, is_some, is_spelled, is_territory_text, is_use_type_text, leb-true, length, list_all, map, may_be_empty, neg_ℤ, number_of, number_or_zero, or_else, pos, record_by_kind, record_by_role, record_of, refl, role_of, rules, scaled-lt, signed_of, slice_get, slice_split, subst, suc, text_of, true, true_from_ne_false, type_of, unless_fault, unsigned_abs, unwrap_or, usages_of, whole_or_zero, zero, ℕ, ◌&&◌, ◌*◌, ◌-◌, ◌<◌, ◌^◌, ◌∷◌, ◌≡◌}
+use Rattle.dsr_laws.proofs.Common.{AllByRecursion, CivilDay, Column, Err, Head, IsUtf8-nil, Kind, LayoutTable, List, None, Ok, Option, Record, RecordFault, Result, RoleLine, Some, Summary, Usage, [], amount_of, and_parts, arith, cell_in, cell_of, cells, cells_at, column_fault, columns_of, cond_both, day_number, day_of, day_of_parts, day_or_first, decimal_of, decimal_of_parts, digits_sum, digits_sum-lt, each_at, eqb, false, first_fault, if_civil, if_file_number, in_range, int_le, ints, is_ascii_digit, is_civil_day, is_currency_text, is_digits, is_identifier_text, is_in_range, is_not_before, is_run_of, is_skipped, is_some, is_spelled, is_territory_text, is_use_type_text, leb-true, length, list_all, map, may_be_empty, neg_ℤ, number_of, number_or_zero, or_else, pos, record_by_kind, record_by_role, record_of, refl, role_of, rules, scaled-lt, signed_of, slice_get, slice_split, suc, text_of, true, true_from_ne_false, type_of, unless_fault, unsigned_abs, unwrap_or, usages_of, whole_or_zero, zero, ℕ, ◌&&◌, ◌*◌, ◌-◌, ◌<◌, ◌^◌, ◌∷◌, ◌≡◌}
 use Rattle.std.specs.Prelude.{nat_lt, nat_le, option_map}
 use Rattle.dsr_events.specs.declared.kinds.Column.TheVariants as columns
 use Rattle.dsr_events.specs.declared.kinds.Kind.TheVariants as kinds
@@ -167,16 +167,11 @@ or_no_text : (o : Option (List ℕ)) → ((text : List ℕ) → o ≡ Some text 
 or_no_text None h = no_text
 or_no_text (Some text) h = h text refl
 
-cell_at : (cells : List (List ℕ)) → AllByRecursion IsCellText cells → (i : ℕ) (text : List ℕ) → slice_get cells i ≡ Some text → IsCellText text
-cell_at [] all i text e = cc
-cell_at (c ∷ cs) all zero text e = let same : c ≡ text = cc in subst IsCellText same all.0
-cell_at (c ∷ cs) all (suc i) text e = cell_at cs all.1 i text e
-
 text_in_row : (cells : List (List ℕ)) → AllByRecursion IsCellText cells → (positions : List (Option ℕ)) (i : ℕ)
     → IsCellText (text_of (map (cell_in cells) positions) i)
 text_in_row cells all [] i = no_text
 text_in_row cells all (None ∷ ps) zero = no_text
-text_in_row cells all (Some p ∷ ps) zero = or_no_text (slice_get cells p) (cell_at cells all p)
+text_in_row cells all (Some p ∷ ps) zero = or_no_text (slice_get cells p) (λ text e. each_at IsCellText cells p text all e)
 text_in_row cells all (p ∷ ps) (suc i) = text_in_row cells all ps i
 
 -- the record of a line, if it has one

@@ -1,5 +1,5 @@
 -- The cells of a line, the parts of a list cell, and their values: as texts they keep what the line has.
-use Rattle.dsr_laws.proofs.Common.{AllByRecursion, Bool, IsCharBoundary-after_ascii, IsCharBoundary-before_ascii, IsUtf8, IsUtf8-append, IsUtf8-drop, IsUtf8-from_ascii, IsUtf8-take, List, [], add-one, and_from, and_parts, ap, append-nil, append_assoc, arith, cases_Bool, cond_both, drop, eqb, eqb-true, false, get_or, inl, inr, length, length-append, length-replicate, list_all, list_all-append, map, not, onto_first, parts_after, raw_parts, refl, replicate, slice_split, slice_split-cons_no, slice_split-cons_yes, subst, suc, sym, take, true, value_after, value_of, zero, ℕ, ◌%◌, ◌&&◌, ◌++◌, ◌+◌, ◌/◌, ◌<◌, ◌∙◌, ◌∷◌, ◌≡◌, ◌≤◌}
+use Rattle.dsr_laws.proofs.Common.{AllByRecursion, Bool, IsCharBoundary-after_ascii, IsCharBoundary-before_ascii, IsUtf8, IsUtf8-append, IsUtf8-drop, IsUtf8-from_ascii, IsUtf8-take, List, [], add-one, and_from, and_parts, ap, append-nil, append_assoc, arith, cases_Bool, cond_both, drop, each_map, each_weaker, eqb, eqb-true, false, get_or, inl, inr, length, length-append, length-replicate, list_all, list_all-append, map, not, onto_first, parts_after, raw_parts, refl, replicate, slice_split, slice_split-cons_no, slice_split-cons_yes, subst, suc, sym, take, true, value_after, value_of, zero, ℕ, ◌%◌, ◌&&◌, ◌++◌, ◌+◌, ◌/◌, ◌<◌, ◌∙◌, ◌∷◌, ◌≡◌, ◌≤◌}
 
 -- what a text has, its parts before and after an ASCII byte have
 module _ (P : List ℕ → Type 0) (cut : (front : List ℕ) (c : ℕ) (rest : List ℕ) → c < 128 → P (front ++ (c ∷ rest)) → P front × P rest) where
@@ -122,14 +122,15 @@ cell_cut front c rest low h =
     let l = line_cut front c rest low h.line in let t = all_cut (λ b. not (eqb b 9)) front c rest h.tabless in
     (record { line = l.0; tabless = t.0 }, record { line = l.1; tabless = t.1 })
 
--- both
-all_both : {X : Type 0} (P Q R : X → Type 0) → ((x : X) → P x → Q x → R x) → (xs : List X) → AllByRecursion P xs → AllByRecursion Q xs → AllByRecursion R xs
-all_both P Q R f [] p q = tt
-all_both P Q R f (x ∷ xs) p q = (f x p.0 q.0, all_both P Q R f xs p.1 q.1)
+-- what follows from two facts of each item
+pub each_both : {X : Type 0} (P Q R : X → Type 0) → ((x : X) → P x → Q x → R x) → (xs : List X) → AllByRecursion P xs → AllByRecursion Q xs
+    → AllByRecursion R xs
+each_both P Q R f [] p q = tt
+each_both P Q R f (x ∷ xs) p q = (f x p.0 q.0, each_both P Q R f xs p.1 q.1)
 
 pub cells_of_line : (line : List ℕ) → IsLineText line → AllByRecursion IsCellText (slice_split (λ b. eqb b 9) line)
 cells_of_line line h =
-    all_both IsLineText (λ p. lacks 9 p ≡ true) IsCellText (λ p l t. record { line = l; tabless = t }) (slice_split (λ b. eqb b 9) line)
+    each_both IsLineText (λ p. lacks 9 p ≡ true) IsCellText (λ p l t. record { line = l; tabless = t }) (slice_split (λ b. eqb b 9) line)
     (each_piece IsLineText line_cut 9 (omega arith) line h) (pieces_lack 9 line)
 
 -- the value of a part
@@ -195,8 +196,6 @@ value_text part h = record {
 
 -- the values of a list cell
 pub values_text : (cell : List ℕ) → IsCellText cell → AllByRecursion IsCellText (map value_of (raw_parts cell))
-values_text cell h = mapped (raw_parts cell) (each_part IsCellText cell_cut cell h)
-  where
-    mapped : (ps : List (List ℕ)) → AllByRecursion IsCellText ps → AllByRecursion IsCellText (map value_of ps)
-    mapped [] k = tt
-    mapped (p ∷ ps) k = (value_text p k.0, mapped ps k.1)
+values_text cell h =
+    let ps = raw_parts cell in
+    each_map IsCellText value_of ps (each_weaker IsCellText (λ p. IsCellText (value_of p)) value_text ps (each_part IsCellText cell_cut cell h))

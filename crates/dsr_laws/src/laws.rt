@@ -1,19 +1,17 @@
 //! Laws of the statement of a run: functions that do nothing, whose contracts are the laws.
-ghost use Rattle.std.specs.Prelude.{◌≡◌, List, length, Option, Some, None, Ok};
+ghost use Rattle.std.specs.Prelude.{◌≡◌, ℕ, List, length, Option, Some, None};
 ghost use Rattle.dsr_file.specs.meaning.Runs.{FileText};
 ghost use Rattle.dsr_intake.specs.declared.options.Options.{Options};
 ghost use Rattle.dsr_intake.specs.meaning.Outcomes.{IsReported};
 ghost use Rattle.dsr_intake.specs.meaning.Texts.{refusal_of, report_of_texts};
 ghost use Rattle.dsr_io.specs.meaning.Written.{Written};
-ghost use Rattle.dsr_laws.specs.layer.Again.{AreRunTexts, IsWrittenAgain, reading_of_report};
+ghost use Rattle.dsr_laws.specs.layer.Again.{AreRunTexts, AreSealable, IsReadSealed, IsWrittenAgain, reading_of_report};
 ghost use Rattle.dsr_ledger.specs.declared.report.ReportKey.{ReportKey};
 ghost use Rattle.dsr_records.specs.meaning.Records.{LayoutTable};
 ghost use Rattle.dsr_statement.specs.declared.verdict.Status.{Status};
 ghost use Rattle.dsr_statement.specs.layer.Readings.{IsReading};
-ghost use Rattle.dsr_statement.specs.layer.Seals.{AreDigestsOf, sealed_lines};
-ghost use Rattle.dsr_statement.specs.layer.Statements.{IsReadable, IsSealed};
-ghost use Rattle.dsr_statement.specs.meaning.Digests.{Digest};
-ghost use Rattle.dsr_statement.specs.meaning.Statement.{statement_of, text_of};
+ghost use Rattle.dsr_statement.specs.layer.Statements.{IsReadable};
+ghost use Rattle.dsr_statement.specs.meaning.Statement.{statement_of};
 
 use dsr_file::Source;
 
@@ -39,13 +37,10 @@ pub fn what_a_run_wrote_is_read_again<R: Source>()
         → IsWrittenAgain (report_of_texts options.layout texts) before after status }
 {}
 
-/// With a digest for each file, the sealed statement of the texts of a run is a sealed statement, and its lines are read from
-/// its text.
+/// The statement of the texts of a run, with the seal of the bytes of its files, is a sealed statement, and is read as its
+/// lines.
 pub fn sealed_statements_are_read_again()
-    ensures sealed { (layout : LayoutTable) (texts : List FileText) (key : ReportKey) (own : Option Digest) (inputs : List Digest)
+    ensures { (layout : LayoutTable) (texts : List FileText) (key : ReportKey) (own : Option (List ℕ)) (given : List (List ℕ))
         → AreRunTexts texts → let report = report_of_texts layout texts in report.key ≡ Some key
-        → AreDigestsOf own inputs report → IsSealed (sealed_lines own inputs report) }
-    ensures again { (layout : LayoutTable) (texts : List FileText) (key : ReportKey) (own : Option Digest) (inputs : List Digest)
-        → AreRunTexts texts → let report = report_of_texts layout texts in report.key ≡ Some key → AreDigestsOf own inputs report
-        → IsReading (text_of (sealed_lines own inputs report)) (Ok (sealed_lines own inputs report)) }
+        → AreSealable own given report → IsReadSealed own given report }
 {}
