@@ -1,5 +1,5 @@
 //! A book: the sums of each account.
-use crate::account::Account;
+use crate::account::{Account, AccountRef};
 use crate::reports::Role;
 use crate::seeded::Seeded;
 use crate::sums::Sums;
@@ -39,12 +39,12 @@ impl Book {
 
     /// This place, if the account is there.
     #[inline(always)]
-    fn hinted(&self, place: usize, account: &Account) -> Option<usize>
+    fn hinted(&self, place: usize, account: &AccountRef<'_>) -> Option<usize>
         ensures index { IfSome result (λ i. index_of account_eq self.now.sums account.now ≡ Some i) }
         ensures within { IfSome result (λ i. i < index_map_len self.now.sums) }
     {
         let (own, _) = self.sums.as_slice().get_index(place)?;
-        if *own == *account {
+        if own.is(account) {
             return Some(place);
         }
         None
@@ -52,7 +52,7 @@ impl Book {
 
     /// The place of an account, if that is the place of the last posting or the next one.
     #[inline(always)]
-    fn near(&self, account: &Account) -> Option<usize>
+    fn near(&self, account: &AccountRef<'_>) -> Option<usize>
         ensures index { IfSome result (λ i. index_of account_eq self.now.sums account.now ≡ Some i) }
         ensures within { IfSome result (λ i. i < index_map_len self.now.sums) }
     {
@@ -62,11 +62,13 @@ impl Book {
         }
     }
 
-    /// The same as `post`. It is quicker if the account is that of the last posting or the next one.
+    /// Adds numbers to an account, or subtracts those that were paid. It is quick if the account is that of the last posting
+    /// or the next one.
+    #[inline(always)]
     pub(crate) fn post_near(
         &mut self,
         alloc: Global,
-        account: &Account,
+        account: &AccountRef<'_>,
         numbers: &Sums,
         role: Role,
     ) -> Result<(), NoMemory>
@@ -80,7 +82,8 @@ impl Book {
                 return Ok(());
             }
         }
-        self.post(alloc, account, numbers, role)
+        let own = Account::copy_of(alloc, account)?;
+        self.post(alloc, &own, numbers, role)
     }
 
     /// Adds numbers to an account, or subtracts those that were paid.

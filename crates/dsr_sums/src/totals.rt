@@ -1,7 +1,7 @@
 //! The books of totals, and the lines that are added to them.
 ghost use Rattle.std.specs.Prelude.{◌≡◌, ◌&&◌, [], true, List, OnOk};
 
-use crate::account::Account;
+use crate::account::{Account, AccountRef};
 use crate::book::Book;
 use crate::reports::Role;
 use crate::seeded::Seeded;
@@ -17,9 +17,7 @@ pub(crate) struct Totals {
     pub(crate) currencies: Book,
     pub(crate) markets: Book,
     pub(crate) parties: Book,
-    /// The accounts that are posted to, one for each book, so that a long text is written over in its memory.
-    currency: Account,
-    market: Account,
+    /// The party's account that is posted to, so that a long name is written over in its memory.
     party: Account,
 }
 
@@ -44,8 +42,6 @@ impl Totals {
             currencies: Book::new(alloc, seeded),
             markets: Book::new(alloc, seeded),
             parties: Book::new(alloc, seeded),
-            currency: Account::blank(),
-            market: Account::blank(),
             party: Account::blank(),
         }
     }
@@ -79,13 +75,11 @@ impl Totals {
             claimed: 0,
             unclaimed: 0,
         };
-        self.currency.assign_currency(self.alloc, key.currency)?;
+        let currency = AccountRef::of_currency(key.currency);
         self.currencies
-            .post_near(self.alloc, &self.currency, &numbers, role)?;
-        self.market
-            .assign_market(self.alloc, key.territory, key.use_type, key.currency)?;
-        self.markets
-            .post_near(self.alloc, &self.market, &numbers, role)?;
+            .post_near(self.alloc, &currency, &numbers, role)?;
+        let market = AccountRef::of_market(key.territory, key.use_type, key.currency);
+        self.markets.post_near(self.alloc, &market, &numbers, role)?;
         Ok(())
     }
 
@@ -111,11 +105,11 @@ impl Totals {
             claimed: 0,
             unclaimed: 0,
         };
-        self.currency.assign_currency(self.alloc, key.currency)?;
+        let currency = AccountRef::of_currency(key.currency);
         self.currencies
-            .post_near(self.alloc, &self.currency, &claimed, role)?;
-        self.party
-            .assign_party(self.alloc, party.party, key.currency)?;
+            .post_near(self.alloc, &currency, &claimed, role)?;
+        let account = AccountRef::of_party(party.party, key.currency);
+        self.party.assign(self.alloc, &account)?;
         self.parties.post(self.alloc, &self.party, &owed, role)?;
         Ok(())
     }
@@ -131,9 +125,9 @@ impl Totals {
             claimed: 0,
             unclaimed: amount,
         };
-        self.currency.assign_currency(self.alloc, key.currency)?;
+        let currency = AccountRef::of_currency(key.currency);
         self.currencies
-            .post_near(self.alloc, &self.currency, &numbers, role)?;
+            .post_near(self.alloc, &currency, &numbers, role)?;
         Ok(())
     }
 

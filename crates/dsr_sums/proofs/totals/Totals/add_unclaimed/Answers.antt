@@ -9,5 +9,5 @@ use Rattle.dsr_sums.proofs.totals.Totals.add_unclaimed.Goals as goal
 pub returns : goal.returns
 returns c =
     unclaimed_added c.args.self.now _ c.args.role c.args.key.now c.args.amount _ _
-    (c.in_ok-assign_currency.ensures ∙ ap (λ (k : Key). currency_account k.currency) c.key.view_is)
+    (c.of_currency-currency.ensures ∙ ap (λ (k : Key). currency_account k.currency) c.key.view_is)
     (to_z-of_z w128 c.args.amount c.ranges.amount) c.in_ok-post_near.ensures refl refl
