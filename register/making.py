@@ -235,7 +235,7 @@ def make(table, asked):
     names, others = folders_of(table.reports)
     layout = asked.layout and digest_at(asked.layout)
     if layout == '':
-        raise Refused(2, f'{shown(asked.layout)} is no file that can be read')
+        raise Refused(3, f'{shown(asked.layout)} is no file that can be read')
     layout = layout and f'layout.{layout}.tsv'
     for name in others:
         note(f'left out, since it is in no folder of a report: {shown(name)}')
