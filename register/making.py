@@ -233,13 +233,17 @@ def make(table, asked):
     os.makedirs(making, exist_ok=True)
     table.lock()
     names, others = folders_of(table.reports)
+    layout = asked.layout and digest_at(asked.layout)
+    if layout == '':
+        raise Refused(3, f'{shown(asked.layout)} is no file that can be read')
+    layout = layout and f'layout.{layout}.tsv'
     for name in others:
         note(f'left out, since it is in no folder of a report: {shown(name)}')
     with table.base:
         table.base.execute('update register set reports = ?', (table.reports,))
         table.base.execute('update report set here = 0')
         table.base.executemany(ARRIVED, [(name,) for name in names])
-    if layout := asked.layout and f'layout.{digest_at(asked.layout)}.tsv':
+    if layout:
         shutil.copyfile(asked.layout, os.path.join(table.statements, layout.encode()))
     settle(table, making)
     again = {table.called(text): '' for text in asked.only or []} or {

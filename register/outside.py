@@ -40,7 +40,7 @@ def now():
 
 
 def note(line):
-    with contextlib.suppress(BrokenPipeError):
+    with contextlib.suppress(OSError):
         sys.stdout.flush()
     print(f'dsr_register: {line}', file=sys.stderr, flush=True)
 

@@ -76,7 +76,11 @@ def owed(table, asked):
     with open(path, 'rb') as totals, open(asked.output + b'.part' if asked.output else sys.stdout.fileno(), 'wb', closefd=bool(asked.output)) as out:
         shutil.copyfileobj(totals, out)
     if asked.output:
-        os.rename(asked.output + b'.part', asked.output)
+        try:
+            os.rename(asked.output + b'.part', asked.output)
+        except OSError:
+            os.remove(asked.output + b'.part')
+            raise
     note(f'payment run {number}, of {len(given)} reports; `dsr_register paid {number}` confirms it')
 
 
