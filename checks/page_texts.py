@@ -43,8 +43,9 @@ def cases():
         words = text_of(os.path.join(path, 'args')).splitlines()
         layout = words[words.index('--layout'):][:2] if '--layout' in words else []
         most = int(words[words.index('--max-reads') + 1]) if '--max-reads' in words else None
-        files = [word for word in words if word.endswith('.tsv') and word not in layout] or [
-            '.' if '.' in words else case_files.read(name).given]
+        given = case_files.read(name).given
+        files = [given if word == '-' else word for word in words if word.endswith(('.tsv', '/-')) or word == '-' if word not in layout] or [
+            '.' if '.' in words else given]
         text = sealed([content_of(os.path.join(path, file), most) for file in files],
                       content_of(os.path.join(path, layout[1]))[0] if layout else None)
         if not text.startswith(text_of(os.path.join(path, 'expected'))):
