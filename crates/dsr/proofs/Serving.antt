@@ -12,10 +12,10 @@ use Rattle.dsr_command.specs.declared.sealing.Sealing.{Sealing}
 use Rattle.dsr_command.specs.LayoutFile.{layout_file, sealing_for}
 use Rattle.dsr_command.specs.NewFiles.{IsCreated, new_file_line, new_file_status}
 use Rattle.dsr_command.specs.Outputs.{IsOnlyTold, Outputs, outputs}
-use Rattle.dsr_command.specs.World.{AreSources, Disk, files_for, made, texts_for}
+use Rattle.dsr_command.specs.World.{AreSources, Disk, Ghosts, files_for, made, texts_for}
 use Rattle.dsr_intake.specs.declared.options.Options.{Options}
 use Rattle.dsr_io.specs.meaning.Written.{Written}
-use Rattle.dsr.specs.Serving.{Ghosts, HadOutput, HadRun, HadRunInto, HadTexts, IsRead, files_read}
+use Rattle.dsr.specs.Serving.{HadOutput, HadRun, HadRunInto, HadTexts, IsRead, files_read}
 
 -- only this was told, and the output is as it was
 pub only_told : (out f h : Written) (text : List ℕ) → IsTold f h text → IsOnlyTold text (outputs out f) (outputs out h)
@@ -44,17 +44,17 @@ printed g file d left asked options seal sources before after s sealed are is ha
 
 -- the run over the sources wrote to a new file
 pub stored : {R N : Type 0} (g : Ghosts R N) (file : R → Option FileIdentity) (d : Disk) (between left : Option Disk) (asked : Asked) (options : Options)
-    (layout : Option FileIdentity) (seal : Option Sealing) (sources : List R) (name : List ℕ) (new : N) (out f h : Written) (s : ℕ)
+    (layout : Option FileIdentity) (seal : Option Sealing) (sources : List R) (name : List ℕ) (new : N × List ℕ) (out f h : Written) (s : ℕ)
     → layout ≡ layout_file d asked.layout → seal ≡ sealing_for d asked
     → AreSources g.told file (texts_for d asked.files) (files_for d asked.files) sources
     → asked.output ≡ Some name → IsCreated g.written d between (layout ∷ map file sources) name (Ok new)
-    → HadRunInto g options seal sources new name (made d) left f h s
+    → HadRunInto g options seal sources new.0 name (made d) left f h s
     → IsRead g d left asked options (outputs out f) (outputs out h) s
 stored g file d between left asked options layout seal sources name new out f h s at sealed are is created had =
     let beside = subst (λ read. IsCreated g.written d between read name (Ok new)) (read_are g file d asked layout sources at are) created in
-    let ran = subst (λ x. HadRunInto g options x sources new name (made d) left f h s) sealed had in
+    let ran = subst (λ x. HadRunInto g options x sources new.0 name (made d) left f h s) sealed had in
     had_texts g d left asked options (outputs out f) (outputs out h) s are.bytes (Some name) are.texts_are is
-    (inl (sources, are.fresh, beside.0, new, beside.2, ran, refl))
+    (inl (sources, are.fresh, beside.0, new.0, beside.1.2, ran, refl))
 
 -- there is no new file
 pub unstored : {R N : Type 0} (g : Ghosts R N) (file : R → Option FileIdentity) (d : Disk) (left : Option Disk) (asked : Asked) (options : Options)

@@ -14,7 +14,7 @@ use Rattle.dsr_command.specs.Faults.{dsr, fault_line, layout_refused_line, layou
 use Rattle.dsr_command.specs.LayoutFile.{AreAsked, IsLayoutRefused, layout_file, sealing_for}
 use Rattle.dsr_command.specs.NewFiles.{IsNotCreated, cannot_replace_line, new_file_line, new_file_status}
 use Rattle.dsr_command.specs.Outputs.{IsOnlyTold, IsTurnedDown, IsWithoutMemory, Outputs, no_words_line, no_words_status}
-use Rattle.dsr_command.specs.World.{AreFresh, Disk, IsApart, IsReplacedIn, LacksWords, failing, files_for, made, removed, texts_for}
+use Rattle.dsr_command.specs.World.{AreFresh, Disk, Ghosts, IsApart, IsReplacedIn, LacksWords, failing, files_for, made, removed, texts_for}
 use Rattle.dsr_file.specs.meaning.Runs.{FileText}
 use Rattle.dsr_io.specs.meaning.Told.{Told}
 use Rattle.dsr_io.specs.meaning.Written.{Written, IsFlushed, IsCut}
@@ -30,14 +30,6 @@ use Rattle.dsr_seal.specs.meaning.Digests.{digest_of}
 use Rattle.dsr_statement.specs.declared.verdict.Status.{Status}
 use Rattle.dsr_statement.specs.meaning.Seals.{seal_lines}
 use Rattle.dsr_statement.specs.meaning.Statement.{statement_of, text_of}
-
--- what the sources and the new files of a world tell
-pub record Ghosts (R N : Type 0) : Type 0 where
-  pub told : R → Told
-  pub written : N → Written
-
-abbrev pub ghosts : {R N : Type 0} → (R → Told) → (N → Written) → Ghosts R N
-ghosts told written = record { told = told; written = written }
 
 -- a run is refused for this reason before it reads, or memory was refused before it began
 abbrev pub IsRefusedFor : Result Status RunError → IntakeError → Type 0

@@ -1,7 +1,6 @@
 //! The program over words and files in memory: whole, and with each of its calls failing in turn.
 use crate::program::serve;
 use dsr_cells::NoMemory;
-use dsr_command::CreateFault;
 use dsr_memory::{Fault, MemoryOutlet, MemoryWorld};
 use std::alloc::Global;
 use std::random::RandomSource;
@@ -481,24 +480,23 @@ fn memory_is_refused_at_each_call(rt: HostRuntime) -> Result<(), Fail> {
             assert!(rt; ends_without_memory(&rt, rt.alloc(), &task, Fault::Open(opening))?);
         }
         if task.output.len() > 0 {
-            let fault = Fault::Create(CreateFault::Memory);
-            assert!(rt; ends_without_memory(&rt, rt.alloc(), &task, fault)?);
+            assert!(rt; ends_without_memory(&rt, rt.alloc(), &task, Fault::Link)?);
         }
     }
     Ok(())
 }
 
-/// 9 runs.
+/// 12 runs.
 #[test]
 fn each_call_for_a_new_file_fails_in_turn(rt: HostRuntime) -> Result<(), Fail> {
     for task in TASKS {
         if task.output.len() > 0 {
-            let fault = Fault::Create(CreateFault::Failed);
             let text = b"dsr: cannot create ";
-            assert!(rt; ends_without_file(&rt, rt.alloc(), &task, fault, 2, text)?);
+            assert!(rt; ends_without_file(&rt, rt.alloc(), &task, Fault::Random, 2, text)?);
+            assert!(rt; ends_without_file(&rt, rt.alloc(), &task, Fault::Create, 2, text)?);
             let text = b"dsr: cannot replace ";
             assert!(rt; ends_without_file(&rt, rt.alloc(), &task, Fault::Sync, 3, text)?);
-            assert!(rt; ends_without_file(&rt, rt.alloc(), &task, Fault::Put, 3, text)?);
+            assert!(rt; ends_without_file(&rt, rt.alloc(), &task, Fault::Rename, 3, text)?);
         }
     }
     Ok(())

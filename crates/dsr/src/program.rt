@@ -3,8 +3,8 @@ ghost use Rattle.std.specs.Prelude.{◌≡◌, false, map, [], Some, unwrap_or};
 ghost use Rattle.std.specs.String.{string_bytes};
 ghost use Rattle.dsr_command.specs.LayoutFile.{AreHad};
 ghost use Rattle.dsr_command.specs.Outputs.{outputs};
-ghost use Rattle.dsr_command.specs.World.{Asks, WhereTold};
-ghost use Rattle.dsr.specs.Serving.{IsDone, IsRead, IsServed, IsServedFor, ghosts};
+ghost use Rattle.dsr_command.specs.World.{Asks, WhereTold, ghosts};
+ghost use Rattle.dsr.specs.Serving.{IsDone, IsRead, IsServed, IsServedFor};
 
 use crate::running::{Reading, run_into, run_printed};
 use dsr_command::{
@@ -142,15 +142,18 @@ fn read_files<
         };
         return run_printed(rt, alloc, reading, out, fault);
     };
-    match create_beside(world, name, &inputs, layout) {
-        Ok(new) => {
+    match create_beside(alloc, world, name, &inputs, &[layout]) {
+        Ok((new, place)) => {
             let reading = Reading {
                 teller,
                 inputs,
                 options,
                 seal,
             };
-            (out, run_into(rt, alloc, world, reading, name, new, fault))
+            (
+                out,
+                run_into(rt, alloc, world, reading, name, &place, new, fault),
+            )
         }
         Err(error) => {
             drop(options);

@@ -1,9 +1,9 @@
 //! A run, and where its statement goes.
-ghost use Rattle.std.specs.Prelude.{◌≡◌, false, List, All};
+ghost use Rattle.std.specs.Prelude.{◌≡◌, false, List, All, Some};
 ghost use Rattle.dsr_command.specs.Faults.{status_number};
 ghost use Rattle.dsr_command.specs.Outputs.{outputs};
-ghost use Rattle.dsr_command.specs.World.{WhereTold};
-ghost use Rattle.dsr.specs.Serving.{IsAnswer, IsAnswerFor, IsAnswerTold, HadRun, HadRunInto, ghosts};
+ghost use Rattle.dsr_command.specs.World.{WhereTold, ghosts, stands_for};
+ghost use Rattle.dsr.specs.Serving.{IsAnswer, IsAnswerFor, IsAnswerTold, HadRun, HadRunInto};
 
 use crate::sealing::run_sealed;
 use dsr_cells::{NoMemory, Text};
@@ -51,8 +51,8 @@ pub(crate) fn run_printed<
     (out, status)
 }
 
-/// Reads the files and writes their statement to a new file, which is put in the place of the file of this name only if
-/// there is a report. Returns the exit status.
+/// Reads the files and writes their statement to a new file, which is put in the place that this name stands for only if there
+/// is a report. Returns the exit status.
 pub(crate) fn run_into<
     H: Threads + Wait + RandomSource + Clock + Copy + Send + 'static,
     W: ReportWorld,
@@ -63,18 +63,20 @@ pub(crate) fn run_into<
     world: &mut W,
     reading: Reading<W::Reader, W::Teller>,
     name: &Text,
+    place: &Text,
     new: W::New,
     fault: &mut F,
 ) -> u8
     requires sources { All (λ r. (W.Reader.told r).failed ≡ false) reading.inputs.items }
     requires outlet { (W.New.told new).failed ≡ false }
     requires empty { (W.New.told new).taken ≡ 0 }
-    ensures { WhereTold (W.disk world.old) (λ d. HadRunInto (ghosts (W.Reader.told) (W.New.told))
-        reading.options.value reading.seal reading.inputs.items new name.now d (W.disk world.new)
-        (F.told fault.old) (F.told fault.new) result) }
+    ensures { WhereTold (W.disk world.old) (λ d. stands_for d name.now ≡ Some place.now
+        → HadRunInto (ghosts (W.Reader.told) (W.New.told)) reading.options.value reading.seal
+        reading.inputs.items new name.now d (W.disk world.new) (F.told fault.old)
+        (F.told fault.new) result) }
 {
     let (new, answer) = run_inputs(rt, alloc, reading, new);
-    match settle(world, new, name, &answer) {
+    match settle(world, new, place, &answer) {
         Ok(()) => status_of(&answer, fault),
         Err(Failed) => cannot_replace(DSR, name, fault),
     }

@@ -1,2 +1,3 @@
 -- The definitions that relate the code to those of `meaning`.
 pub mod Parts
+pub mod Digits

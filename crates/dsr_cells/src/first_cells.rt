@@ -62,7 +62,7 @@ fn first_tab(bytes: &[u8]) -> Option<usize>
 
 /// The first cell of a line, and what follows its TAB; None if the line has no TAB, so that it is one cell.
 #[inline(always)]
-fn first_cell(line: &str) -> Option<(&str, &str)>
+pub fn first_cell(line: &str) -> Option<(&str, &str)>
     ensures { MatchOption result (cells line.now ≡ line.now ∷ [])
         (λ cut. cells line.now ≡ cut.0.now ∷ cells cut.1.now) }
 {

@@ -1,6 +1,7 @@
 pub mod Apart
 pub mod Common
 pub mod LayoutBytes
+pub mod Links
 pub mod Opening
 pub mod Options
 pub mod Printing

@@ -1,5 +1,6 @@
 -- New files that take the place of others: where they end, and the lines of those that cannot be had.
 use Rattle.std.specs.Prelude.{◌≡◌, ◌⊎◌, ◌-◌, ℕ, List, ◌∷◌, [], ◌++◌, codes, Option, None, Some, Result, Ok, Err}
+use Rattle.dsr_cells.specs.meaning.Written.{padded_number}
 use Rattle.dsr_io.specs.declared.source.Failed.{Failed}
 use Rattle.dsr_io.specs.meaning.Written.{Written}
 use Rattle.dsr_command.specs.declared.identity.FileIdentity.{FileIdentity}
@@ -7,7 +8,7 @@ use Rattle.dsr_command.specs.declared.identity.Place.{Place}
 use Rattle.dsr_command.specs.declared.identity.Place.TheVariants.{Other}
 use Rattle.dsr_command.specs.declared.new_file.NewFileError.{NewFileError}
 use Rattle.dsr_command.specs.declared.new_file.NewFileError.TheVariants.{IsRead, CannotCreate, Memory}
-use Rattle.dsr_command.specs.World.{Disk, IsApart, IsOneRead, IsReplacedIn, failing, made, removed}
+use Rattle.dsr_command.specs.World.{Disk, IsApart, IsOneRead, IsReplacedIn, failing, made, removed, stands_for}
 use Rattle.dsr_command.specs.Faults.{line_of, shown}
 
 -- why there can be no new file for this place, if there can be none
@@ -17,18 +18,36 @@ IsPlaceFault place read (Some IsRead) = IsOneRead place read
 IsPlaceFault place read (Some CannotCreate) = place ≡ Other
 IsPlaceFault place read (Some Memory) = ⊥
 
--- there is no new file: the place of the output is a file that is read, or no ordinary file; or the new file cannot be created;
--- or memory was refused
+-- the name of a new file beside the one of this name
+abbrev pub part_of : List ℕ → ℕ → List ℕ
+part_of place number = place ++ (codes "." ++ (padded_number 20 number ++ codes ".part"))
+
+abbrev pub IsPartOf : List ℕ → List ℕ → Type 0
+IsPartOf place part = (number : ℕ) × (part ≡ part_of place number)
+
+-- no new file was made: the name's links have no end, or a call has failed; or memory was refused
+abbrev pub IsUnmade : Disk → Option Disk → List ℕ → NewFileError → Type 0
+IsUnmade before after name IsRead = ⊥
+IsUnmade before after name CannotCreate = ((stands_for before name ≡ None) × (after ≡ Some before)) ⊎ (after ≡ Some (failing before))
+IsUnmade before after name Memory = after ≡ Some before
+
+-- a new file was made, for the place that the name stands for
+abbrev pub IsMade : {N : Type 0} → (N → Written) → Disk → Option Disk → List ℕ → Result (N × List ℕ) NewFileError → Type 0
+IsMade written before after name (Ok new) =
+    (stands_for before name ≡ Some new.1) × (after ≡ Some (made before)) × ((written new.0).contents ≡ Some [])
+IsMade written before after name (Err error) = IsUnmade before after name error
+
+-- there is no new file: the place of the output is a file that is read, or no ordinary file; or none was made
 abbrev pub IsNotCreated : Disk → Option Disk → List (Option FileIdentity) → List ℕ → NewFileError → Type 0
 IsNotCreated before after read name IsRead = IsOneRead (before.place name) read × (after ≡ Some before)
 IsNotCreated before after read name CannotCreate =
-    ((before.place name ≡ Other) × (after ≡ Some before)) ⊎ (IsApart (before.place name) read × (after ≡ Some (failing before)))
-IsNotCreated before after read name Memory = IsApart (before.place name) read × (after ≡ Some before)
+    ((before.place name ≡ Other) × (after ≡ Some before)) ⊎ (IsApart (before.place name) read × IsUnmade before after name CannotCreate)
+IsNotCreated before after read name Memory = IsApart (before.place name) read × IsUnmade before after name Memory
 
 -- a new file was created for a place that is none of the files that are read; or there is none, for this reason
-abbrev pub IsCreated : {N : Type 0} → (N → Written) → Disk → Option Disk → List (Option FileIdentity) → List ℕ → Result N NewFileError → Type 0
-IsCreated written before after read name (Ok new) =
-    IsApart (before.place name) read × (after ≡ Some (made before)) × ((written new).contents ≡ Some [])
+abbrev pub IsCreated : {N : Type 0} → (N → Written) → Disk → Option Disk → List (Option FileIdentity) → List ℕ
+    → Result (N × List ℕ) NewFileError → Type 0
+IsCreated written before after read name (Ok new) = IsApart (before.place name) read × IsMade written before after name (Ok new)
 IsCreated written before after read name (Err error) = IsNotCreated before after read name error
 
 -- a new file is in its place, or it could not be put there and was removed

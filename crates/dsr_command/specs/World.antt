@@ -1,6 +1,7 @@
 -- What a world tells of its words and files, and what its calls do to them. A world that tells nothing may do anything.
-use Rattle.std.specs.Prelude.{◌≡◌, ◌≢◌, ◌+◌, ◌-◌, ℕ, Bool, true, false, if◌then◌else◌, nat_lt, List, [], ◌∷◌, All, codes, count_by, Option, None, Some, option_map, Result, Ok, Err, map}
+use Rattle.std.specs.Prelude.{◌≡◌, ◌≢◌, ◌+◌, ◌-◌, ℕ, Bool, true, false, if◌then◌else◌, nat_lt, List, [], ◌∷◌, All, codes, count_by, Option, None, Some, option_map, unwrap_or, Result, Ok, Err, map, zero, suc}
 use Rattle.std.specs.List.{Any}
+use Rattle.std.specs.Path.{path_join, path_parent}
 use Rattle.std.specs.Str.{bytes_eq}
 use Rattle.dsr_io.specs.declared.source.Failed.{Failed}
 use Rattle.dsr_io.specs.meaning.Told.{Told, no_reads}
@@ -12,19 +13,19 @@ use Rattle.dsr_command.specs.declared.identity.Place.{Place}
 use Rattle.dsr_command.specs.declared.identity.Place.TheVariants.{Free, Ordinary, Other}
 use Rattle.dsr_command.specs.declared.inputs.OpenError.{OpenError}
 use Rattle.dsr_command.specs.declared.inputs.OpenError.TheVariants.{CannotOpen, InputTwice}
-use Rattle.dsr_command.specs.declared.world.CreateFault.{CreateFault}
-use Rattle.dsr_command.specs.declared.world.CreateFault.TheVariants as create
+use Rattle.dsr_command.specs.declared.link.Link.{Link}
+use Rattle.dsr_command.specs.declared.link.Link.TheVariants.{Plain, To, Barred}
 use Rattle.dsr_command.specs.declared.world.OpenFault.{OpenFault}
 use Rattle.dsr_command.specs.declared.world.OpenFault.TheVariants as opening
 use Rattle.dsr_command.specs.declared.world.WordsFault.{WordsFault}
 use Rattle.dsr_command.specs.declared.world.WordsFault.TheVariants as unread
 
--- the words, if each is UTF-8; the name that each name stands for, which is itself or where its links lead; the bytes behind each
--- name, if it can be opened, and which file it is then; those of standard input; what a name is as a place for an output; how many
--- new files wait beside others; whether a call for one has failed
+-- the words, if each is UTF-8; what each name is as a link; the bytes behind each name, if it can be opened, and which file it is
+-- then; those of standard input; what a name is as a place for an output; how many new files wait beside others; whether a call for
+-- one has failed
 pub record Disk : Type 0 where
   pub words : Option (List (List ℕ))
-  pub stands_for : List ℕ → List ℕ
+  pub link : List ℕ → Link
   pub files : List ℕ → Option (List ℕ)
   pub file : List ℕ → Option FileIdentity
   pub input : List ℕ
@@ -33,10 +34,37 @@ pub record Disk : Type 0 where
   pub parts : ℕ
   pub failed : Bool
 
+-- what the sources and the new files of a world tell
+pub record Ghosts (R N : Type 0) : Type 0 where
+  pub told : R → Told
+  pub written : N → Written
+
+abbrev pub ghosts : {R N : Type 0} → (R → Told) → (N → Written) → Ghosts R N
+ghosts told written = record { told = told; written = written }
+
 -- this holds of what is told
 abbrev pub WhereTold : Option Disk → (Disk → Type 0) → Type 0
 WhereTold None P = Unit {0}
 WhereTold (Some disk) P = P disk
+
+-- what a link of this name names by its text, which is seen from the link's folder
+abbrev pub seen_from : List ℕ → List ℕ → List ℕ
+seen_from name text = path_join (unwrap_or (path_parent name) name) text
+
+-- the end of the links of this name, which is this as a link
+abbrev pub end_after : (List ℕ → Option (List ℕ)) → List ℕ → Link → Option (List ℕ)
+end_after end name Plain = Some name
+end_after end name (To text) = end (seen_from name text)
+end_after end name Barred = None
+
+-- the name at which the links of a name end, if it is among this many
+abbrev pub end_of_links : (List ℕ → Link) → ℕ → List ℕ → Option (List ℕ)
+end_of_links link zero name = None
+end_of_links link (suc more) name = end_after (end_of_links link more) name (link name)
+
+-- the name that a name stands for: itself, or where its links lead
+abbrev pub stands_for : Disk → List ℕ → Option (List ℕ)
+stands_for disk = end_of_links disk.link 40
 
 -- a call for a new file has failed
 abbrev pub failing : Disk → Disk
@@ -80,26 +108,28 @@ Opens told file disk name (Err opening.Missing) = disk.files name ≡ None
 Opens told file disk name (Err opening.Memory) = Unit {0}
 
 -- a new file holds nothing; one that cannot be created is none
-abbrev pub Creates : {N : Type 0} → (N → Written) → Option Disk → Option Disk → Result N CreateFault → Type 0
+abbrev pub Creates : {N : Type 0} → (N → Written) → Option Disk → Option Disk → Result N Failed → Type 0
 Creates written before after (Ok new) = (after ≡ option_map made before) × WhereTold before (λ disk. (written new).contents ≡ Some [])
-Creates written before after (Err create.Failed) = after ≡ option_map failing before
-Creates written before after (Err create.Memory) = after ≡ before
+Creates written before after (Err failed) = after ≡ option_map failing before
 
--- these are the bytes behind the name, and behind each that stands for the same one; those behind each other name are as they
--- were, each name stands for what it stood for, and this many new files wait
+-- the name stands for a place: these are the bytes behind each name that stands for it; those behind each other name are as they
+-- were, each link is as it was, and this many new files wait
 pub record IsReplaced (contents : Option (List ℕ)) (name : List ℕ) (parts : ℕ) (before after : Disk) : Type 0 where
-  pub there : (same : List ℕ) → before.stands_for same ≡ before.stands_for name → after.files same ≡ contents
-  pub others : (other : List ℕ) → before.stands_for other ≢ before.stands_for name → after.files other ≡ before.files other
-  pub links : after.stands_for ≡ before.stands_for
+  pub place : List ℕ
+  pub leads : stands_for before name ≡ Some place
+  pub there : (same : List ℕ) → stands_for before same ≡ Some place → after.files same ≡ contents
+  pub others : (other : List ℕ) → stands_for before other ≢ Some place → after.files other ≡ before.files other
+  pub links : (any : List ℕ) → after.link any ≡ before.link any
   pub parts_are : after.parts ≡ parts
 
 abbrev pub IsReplacedIn : Option (List ℕ) → List ℕ → ℕ → Disk → Option Disk → Type 0
 IsReplacedIn contents name parts before after = (left : Disk) × (after ≡ Some left) × IsReplaced contents name parts before left
 
--- the new file is in the place of the one of this name
+-- a new file of these bytes is in this place, so that they stand behind each name that stands for it
 abbrev pub Puts : Option (List ℕ) → Option Disk → Option Disk → List ℕ → Result (Unit {0}) Failed → Type 0
-Puts contents before after name (Ok done) = WhereTold before (λ disk. IsReplacedIn contents name (disk.parts - 1) disk after)
-Puts contents before after name (Err failed) = after ≡ option_map failing before
+Puts contents before after place (Ok done) = WhereTold before (λ disk.
+    (name : List ℕ) → stands_for disk name ≡ Some place → IsReplacedIn contents name (disk.parts - 1) disk after)
+Puts contents before after place (Err failed) = after ≡ option_map failing before
 
 -- the words ask for this run
 abbrev pub Asks : Option Disk → Asked → Type 0

@@ -1,26 +1,26 @@
-//! The words and the files of the system, of which std tells nothing. Where an output's links lead (`links`), and how its part is
-//! named (`new`), is decided here; no more.
+//! The words and the files of the system, of which std tells nothing. How a file is read in its turn (`source`), what a name is as
+//! a place for an output, and that a new file is removed if it cannot be opened once more (`new`), is decided here; no more.
 ghost use Rattle.std.specs.Prelude.{None};
 
 mod held;
-mod links;
 mod new;
 mod source;
 
 use crate::command::Asked;
 use crate::identity::{FileIdentity, Place};
+use crate::link::Link;
 use crate::report_world::ReportWorld;
 use crate::statement_world::StatementWorld;
-use crate::world::{CreateFault, OpenFault, WordsFault, World};
-use dsr_cells::NoMemory;
+use crate::world::{OpenFault, WordsFault, World};
+use dsr_cells::{NoMemory, Text};
 use dsr_file::Failed;
 use held::Held;
-use links::end_of_links;
 use new::HostNew;
 use source::HostSource;
 use std::fs::{Files, Metadata};
 use std::io::{ErrorKind, IsTerminal};
 use std::os::unix::fs::MetadataExt;
+use std::random::RandomSource;
 use std::{env, fs};
 
 /// The words and the files of the system.
@@ -85,24 +85,36 @@ impl World for Host {
         }
     }
 
-    fn create_beside(&mut self, name: &str) -> Result<HostNew, CreateFault> {
-        match end_of_links(self.rt, name) {
-            Ok(end) => HostNew::create(self.rt, end.into_string()),
-            Err(error) if error.kind() == ErrorKind::OutOfMemory => Err(CreateFault::Memory),
-            Err(_) => Err(CreateFault::Failed),
+    fn link(&self, name: &str) -> Result<Link, NoMemory> {
+        match self.rt.symlink_metadata(name) {
+            Ok(link) if link.is_symlink() && self.is_descriptor(&link) => Ok(Link::Barred),
+            Ok(link) if link.is_symlink() => self.read_link(name),
+            _ => Ok(Link::Plain),
         }
+    }
+
+    fn random(&mut self) -> Result<u64, Failed> {
+        let mut bytes = [0u8; 8];
+        match self.rt.fill_bytes(&mut bytes) {
+            Ok(()) => Ok(u64::from_le_bytes(bytes)),
+            Err(_) => Err(Failed),
+        }
+    }
+
+    fn create(&mut self, name: Text) -> Result<HostNew, Failed> {
+        HostNew::create(self.rt, name)
     }
 
     fn sync(&mut self, new: &mut HostNew) -> Result<(), Failed> {
         new.file.sync_all().map_err(|_| Failed)
     }
 
-    fn put(&mut self, new: &HostNew, _name: &str) -> Result<(), Failed> {
-        fs::rename(&self.rt, new.part.as_str(), new.place.as_str()).map_err(|_| Failed)
+    fn rename(&mut self, new: &HostNew, name: &str) -> Result<(), Failed> {
+        fs::rename(&self.rt, new.name.as_str(), name).map_err(|_| Failed)
     }
 
     fn remove(&mut self, new: HostNew) {
-        let _ = fs::remove_file(&self.rt, new.part.as_str());
+        let _ = fs::remove_file(&self.rt, new.name.as_str());
     }
 }
 
@@ -112,6 +124,23 @@ impl Host {
         Host {
             rt,
             _held: Held::new(rt),
+        }
+    }
+
+    /// The link of this name.
+    fn read_link(&self, name: &str) -> Result<Link, NoMemory> {
+        match self.rt.read_link(self.rt.alloc(), name) {
+            Ok(text) => Ok(Link::To(Text::of_string(self.rt.alloc(), text.into_string())?)),
+            Err(error) if error.kind() == ErrorKind::OutOfMemory => Err(NoMemory),
+            Err(_) => Ok(Link::Barred),
+        }
+    }
+
+    /// Whether a link is among those that the system makes of what a process has open, as the one to which `/dev/stdout` leads.
+    fn is_descriptor(&self, link: &Metadata) -> bool {
+        match self.rt.symlink_metadata("/proc/self") {
+            Ok(process) => process.dev() == link.dev(),
+            Err(_) => false,
         }
     }
 

@@ -139,8 +139,8 @@ fn open_input<W: World>(world: &W, permit: &W::Permit, name: &str) -> Result<W::
     world.open(permit, name)
 }
 
-/// The error of a file that was not opened.
-fn unopened(alloc: Global, name: &Text, fault: OpenFault) -> OpenError
+/// The error of a file that was not opened, by its name.
+pub fn unopened(alloc: Global, name: &Text, fault: OpenFault) -> OpenError
     ensures { IsRefusalOf name.now fault result }
 {
     match (fault, name.copy(alloc)) {

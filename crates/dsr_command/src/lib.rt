@@ -3,8 +3,8 @@
 //! 1. [`World`] (`world`): what a program asks of its surroundings, that is its words, names and files. [`FileSource`]
 //!    (`file_source`) is a file that is read, [`NewOutlet`] (`new_outlet`) a new one that is written. [`ReportWorld`]
 //!    (`report_world`) has a layout's file and progress, and [`StatementWorld`] (`statement_world`) neither. [`Host`] (`host`)
-//!    is the world of the system; no other code touches its files: `host/source.rt` reads them, `host/new.rt` makes new ones,
-//!    and `host/links.rt` follows the links of an output's name. `identity` says which file a name is.
+//!    is the world of the system; no other code touches its files: `host/source.rt` reads them, and `host/new.rt` makes new
+//!    ones. `identity` says which file a name is, and [`Link`] (`link`) where one leads that is a link.
 //! 2. [`asked`] (`arguments`): what the command line asks for ([`Asked`], in `command`), or why there is no run. The texts of
 //!    the help and the version are here. [`no_words`] and [`turn_down`] (`answers`) are all that is done where there is no run,
 //!    and [`print_text`] (`print`) prints a text.
@@ -13,8 +13,8 @@
 //! 4. [`open_inputs`] (`inputs`): a source for each file, or standard input, whose name is `-` and which can be read only once. Where progress was asked for [`teller_of`]
 //!    has what tells it, and [`watch`] (`watched`) counts with it what the sources give; [`Progress`] (`progress`) writes the
 //!    counts, and at the end how fast the files were read.
-//! 5. [`create_beside`] (`new_file`): a new file for `--output`, in a file's folder. [`settle`] (`replacement`) puts it in the
-//!    place of that file after an Ok, and else removes it.
+//! 5. [`create_beside`] (`new_file`): a new file for `--output`, beside the file to which the links of a name lead. [`settle`]
+//!    (`replacement`) puts it in the place of that file after an Ok, and else removes it.
 //! 6. [`write_fault`] and [`exit_status`] (`faults`): the line that says why a run failed, and the exit status.
 //! 7. [`refuse`], [`not_opened`], [`layout_refused`], [`cannot_read`], [`no_new_file`] and [`no_memory`] (`refusals`): what ends
 //!    the program before a file of the report is read.
@@ -45,6 +45,7 @@ mod host;
 mod identity;
 mod inputs;
 mod layout_file;
+mod link;
 mod new_file;
 mod new_outlet;
 mod print;
@@ -64,8 +65,9 @@ pub use faults::{DSR, REFUSED, UNFINISHED, exit_status, write_failed, write_faul
 pub use file_source::FileSource;
 pub use host::Host;
 pub use identity::{FileIdentity, Place};
-pub use inputs::{OpenError, is_input_twice, open_inputs};
+pub use inputs::{OpenError, is_input_twice, open_inputs, unopened};
 pub use layout_file::{LayoutReadError, RunOptions, read_options};
+pub use link::Link;
 pub use new_file::{NewFileError, create_beside};
 pub use new_outlet::NewOutlet;
 pub use print::{print_text, write_parts};
@@ -78,4 +80,4 @@ pub use report_world::ReportWorld;
 pub use sealing::Sealing;
 pub use statement_world::StatementWorld;
 pub use watched::{Telling, Watched, teller_of, watch};
-pub use world::{CreateFault, OpenFault, WordsFault, World};
+pub use world::{OpenFault, WordsFault, World};

@@ -5,6 +5,9 @@ use dsr_intake::Outlet;
 pub trait NewOutlet: Outlet {
     ghost use Rattle.std.specs.Prelude.{List, ℕ, Option};
 
+    /// The name under which it was created.
+    ghost name: { Self → List ℕ };
+
     /// The bytes that were synced last, if they are known.
     ghost synced: { Self → Option (List ℕ) };
 }

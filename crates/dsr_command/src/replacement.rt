@@ -1,13 +1,13 @@
 //! Putting a new file in another one's place, or removing it.
-ghost use Rattle.std.specs.Prelude.{◌≡◌};
+ghost use Rattle.std.specs.Prelude.{◌≡◌, ℕ, List, Some};
 ghost use Rattle.dsr_command.specs.NewFiles.{IsPlaced, IsSettled};
-ghost use Rattle.dsr_command.specs.World.{WhereTold};
+ghost use Rattle.dsr_command.specs.World.{WhereTold, stands_for};
 
 use crate::world::World;
 use dsr_cells::Text;
 use dsr_file::Failed;
 
-/// Puts a new file in the place of the one of this name if the answer is Ok, and removes it if not.
+/// Puts a new file in the place of the one of this name, which is no link, if the answer is Ok, and removes it if not.
 ///
 /// # Errors
 ///
@@ -15,14 +15,14 @@ use dsr_file::Failed;
 pub fn settle<W: World, T, E>(
     world: &mut W,
     new: W::New,
-    name: &Text,
+    place: &Text,
     answer: &Result<T, E>,
 ) -> Result<(), Failed>
-    ensures { WhereTold (W.disk world.old) (λ d. IsSettled (W.New.told new).contents name.now d
-        (W.disk world.new) answer.now result) }
+    ensures { WhereTold (W.disk world.old) (λ d. (name : List ℕ) → stands_for d name ≡ Some place.now
+        → IsSettled (W.New.told new).contents name d (W.disk world.new) answer.now result) }
 {
     match answer {
-        Ok(_) => take_place(world, new, name),
+        Ok(_) => take_place(world, new, place),
         Err(_) => {
             world.remove(new);
             Ok(())
@@ -31,13 +31,13 @@ pub fn settle<W: World, T, E>(
 }
 
 /// Syncs a new file to the disk and puts it in the place of the one of this name, or removes it.
-fn take_place<W: World>(world: &mut W, new: W::New, name: &Text) -> Result<(), Failed>
-    ensures { WhereTold (W.disk world.old) (λ d. IsPlaced (W.New.told new).contents name.now d
-        (W.disk world.new) result) }
+fn take_place<W: World>(world: &mut W, new: W::New, place: &Text) -> Result<(), Failed>
+    ensures { WhereTold (W.disk world.old) (λ d. (name : List ℕ) → stands_for d name ≡ Some place.now
+        → IsPlaced (W.New.told new).contents name d (W.disk world.new) result) }
 {
     let mut new = new;
     match world.sync(&mut new) {
-        Ok(()) => put_or_remove(world, new, name),
+        Ok(()) => put_or_remove(world, new, place),
         Err(Failed) => {
             world.remove(new);
             Err(Failed)
@@ -46,12 +46,12 @@ fn take_place<W: World>(world: &mut W, new: W::New, name: &Text) -> Result<(), F
 }
 
 /// Puts a new file, of which all bytes were synced, in the place of the one of this name, or removes it.
-fn put_or_remove<W: World>(world: &mut W, new: W::New, name: &Text) -> Result<(), Failed>
+fn put_or_remove<W: World>(world: &mut W, new: W::New, place: &Text) -> Result<(), Failed>
     requires { W.New.synced new ≡ (W.New.told new).contents }
-    ensures { WhereTold (W.disk world.old) (λ d. IsPlaced (W.New.told new).contents name.now d
-        (W.disk world.new) result) }
+    ensures { WhereTold (W.disk world.old) (λ d. (name : List ℕ) → stands_for d name ≡ Some place.now
+        → IsPlaced (W.New.told new).contents name d (W.disk world.new) result) }
 {
-    match world.put(&new, name.as_str()) {
+    match world.rename(&new, place.as_str()) {
         Ok(()) => Ok(()),
         Err(Failed) => {
             world.remove(new);

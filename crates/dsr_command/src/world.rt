@@ -1,8 +1,9 @@
 //! What a program asks of its surroundings.
 use crate::file_source::FileSource;
 use crate::identity::Place;
+use crate::link::Link;
 use crate::new_outlet::NewOutlet;
-use dsr_cells::NoMemory;
+use dsr_cells::{NoMemory, Text};
 use dsr_file::Failed;
 
 /// Why there are no words.
@@ -19,15 +20,6 @@ pub enum WordsFault {
 pub enum OpenFault {
     /// It is not there, or cannot be opened.
     Missing,
-    /// Memory was refused.
-    Memory,
-}
-
-/// Why there is no new file.
-#[derive(Clone, Copy, PartialEq, Eq)]
-pub enum CreateFault {
-    /// It cannot be created.
-    Failed,
     /// Memory was refused.
     Memory,
 }
@@ -84,14 +76,32 @@ pub trait World {
     fn place(&self, name: &str) -> Place
         ensures { WhereTold (disk self.now) (λ d. result ≡ d.place name.now) };
 
-    /// Creates a new, empty file beside the one of this name.
+    /// What the name is as a link.
     ///
     /// # Errors
     ///
-    /// `Failed`: it cannot be created. `Memory`: out of memory.
-    fn create_beside(&mut self, name: &str) -> Result<Self::New, CreateFault>
+    /// Out of memory.
+    fn link(&self, name: &str) -> Result<Link, NoMemory>
+        ensures { WhereTold (disk self.now) (λ d. IfOk result (λ link. link ≡ d.link name.now)) };
+
+    /// A random number.
+    ///
+    /// # Errors
+    ///
+    /// `Failed`: there is none.
+    fn random(&mut self) -> Result<u64, Failed>
+        ensures { MatchResult result (λ _. disk self.new ≡ disk self.old)
+            (λ _. disk self.new ≡ option_map failing (disk self.old)) };
+
+    /// Creates a new, empty file of this name, which nothing has.
+    ///
+    /// # Errors
+    ///
+    /// `Failed`: it cannot be created.
+    fn create(&mut self, name: Text) -> Result<Self::New, Failed>
         ensures sound { IfOk result (λ n. (Self.New.told n).failed ≡ false) }
         ensures empty { IfOk result (λ n. (Self.New.told n).taken ≡ 0) }
+        ensures named { IfOk result (λ n. Self.New.name n ≡ name) }
         ensures created { Creates (Self.New.told) (disk self.old) (disk self.new) result };
 
     /// Syncs a new file to the disk.
@@ -105,12 +115,12 @@ pub trait World {
             × (Self.New.synced new.new ≡ (Self.New.told new.new).contents))
             (λ _. disk self.new ≡ option_map failing (disk self.old)) };
 
-    /// Puts a new file, of which all bytes were synced, in the place of what this name stands for.
+    /// Gives a new file, of which all bytes were synced, this name, which a file may have that is gone then.
     ///
     /// # Errors
     ///
-    /// `Failed`: it could not be renamed, and is still beside.
-    fn put(&mut self, new: &Self::New, name: &str) -> Result<(), Failed>
+    /// `Failed`: it has its own name still.
+    fn rename(&mut self, new: &Self::New, name: &str) -> Result<(), Failed>
         requires { Self.New.synced new.now ≡ (Self.New.told new.now).contents }
         ensures { Puts (Self.New.told new.now).contents (disk self.old) (disk self.new) name.now
             result };

@@ -1,5 +1,5 @@
 //! Reading the files of a report and writing its statement.
-ghost use Rattle.std.specs.Prelude.{◌≡◌, false, List, All, OnOk, IfOk, IfErr, Err, MatchOption, vec_len};
+ghost use Rattle.std.specs.Prelude.{◌≡◌, false, List, All, OnOk, IfOk, IfErr, IfSome, Err, MatchOption, vec_len};
 ghost use Rattle.dsr_file.specs.meaning.Runs.{FileText};
 ghost use Rattle.dsr_ledger.specs.declared.report.Report.{Report};
 ghost use Rattle.dsr_ledger.specs.inner.BooksWords.{AreClosed};
@@ -20,7 +20,7 @@ use dsr_cells::NoMemory;
 use dsr_file::Source;
 use dsr_io::Outlet;
 use dsr_ledger::{ClosedBooks, ReportView};
-use dsr_statement::{Room, Status, view_status, write_statement};
+use dsr_statement::{Room, Status, status, write_statement};
 use std::alloc::Global;
 use std::random::RandomSource;
 use std::sync::Wait;
@@ -84,7 +84,7 @@ fn write_books<W: Outlet>(
     ensures late { IfErr result IsLateRun }
 {
     match books.report() {
-        Ok(mut report) => write_report(alloc, &mut report, out),
+        Ok(mut view) => write_report(alloc, &mut view, out),
         Err(NoMemory) => Err(RunError::Intake(IntakeError::Memory)),
     }
 }
@@ -93,23 +93,23 @@ fn write_books<W: Outlet>(
 /// allocated before the first byte is written.
 fn write_report<W: Outlet>(
     alloc: Global,
-    report: &mut ReportView<'_>,
+    view: &mut ReportView<'_>,
     out: &mut W,
 ) -> Result<Status, RunError>
-    requires ready { IsReady report.old.ledger }
-    ensures written { (r : Report) → IsViewOf report.old r
+    requires ready { IfSome view.old.ledger IsReady }
+    ensures written { (r : Report) → IsViewOf view.old r
         → OnOk result (IsFlushed (statement_of r) (W.told out.old) (W.told out.new)) }
-    ensures status { (r : Report) → IsViewOf report.old r
+    ensures status { (r : Report) → IsViewOf view.old r
         → IfOk result (λ status. status ≡ status_of r) }
-    ensures unfinished { (r : Report) → IsViewOf report.old r
+    ensures unfinished { (r : Report) → IsViewOf view.old r
         → IfErr result (IsUnfinished r (W.told out.old) (W.told out.new)) }
     ensures late { IfErr result IsLateRun }
 {
     let Ok(room) = Room::new(alloc) else {
         return Err(RunError::Memory);
     };
-    let status = view_status(report);
-    match write_statement(room, report, out) {
+    let status = status(view.report);
+    match write_statement(room, view, out) {
         Ok(()) => Ok(status),
         Err(written) => Err(RunError::Write { written }),
     }

@@ -1,5 +1,5 @@
 -- The report's parts made of the files' states are those of the files that they represent.
-use Rattle.dsr_ledger.proofs.Common.{◌≡◌, ℕ, List, [], ◌∷◌, ◌++◌, true, sym, ◌∙◌, ap, arith, Bool, ◌+◌, append_assoc, false, refl, not, ◌&&◌, ◌||◌, Option, option_map, None, Some, map, ℤ, filter, if◌then◌else◌, list_any, flat_map, range_with_len, bytes_eq, map-id, list_any-append, Summary, key_of, outcome_of, file_line, report_head, missing, first_head, summaries_of, File, Filed, filed, found_in, sums_at, openings_of, FileBooks, Summaries, tally_at, FileStands, Stands, Usage, usages_in, is_ours, ended_whole, naming, difference, differs, differences_in, differences, has_number, is_there, missing_for, rejects_in, rejects, BTreeSet, contains, nat_cmp, filter_of_map_range_with_len_more, Kept, int_sum_by, line_kept, is_number_kept, not_in, sums_or_zeros, difference_to, differences_to, differences_kept, Head}
+use Rattle.dsr_ledger.proofs.Common.{◌≡◌, ℕ, List, [], ◌∷◌, ◌++◌, true, sym, ◌∙◌, ap, arith, Bool, ◌+◌, append_assoc, false, refl, not, ◌&&◌, ◌||◌, Option, option_map, None, Some, map, ℤ, filter, if◌then◌else◌, list_any, flat_map, range_with_len, bytes_eq, map-id, list_any-append, Summary, key_of, outcome_of, file_line, report_head, report_of, missing, first_head, summaries_of, File, Filed, filed, found_in, sums_at, openings_of, FileBooks, Summaries, tally_at, FileStands, Stands, Usage, usages_in, is_ours, ended_whole, naming, difference, differs, differences_in, differences, has_number, is_there, missing_for, rejects_in, rejects, BTreeSet, contains, nat_cmp, filter_of_map_range_with_len_more, Kept, int_sum_by, line_kept, is_number_kept, not_in, sums_or_zeros, difference_to, differences_to, differences_kept, Head}
 use Rattle.dsr_ledger.proofs.TextLemmas.{text_itself}
 use Rattle.dsr_ledger.proofs.EachLemmas.{zero-add}
 use Rattle.dsr_ledger.proofs.FilesLemmas.{openings_are, zip_folds, zip_maps}
@@ -54,30 +54,37 @@ differences_stand f d s =
 
 -- closed books, as they were made of the states
 pub record Assembled (kept : Kept) (numbers : BTreeSet ℕ) (c : ClosedBooks) : Type 0 where
-  pub key : c.key ≡ option_map key_of (first_head (openings_of kept.files.items))
-  pub lines : c.files ≡ map line_kept kept.files.items
+  pub key : c.report.key ≡ option_map key_of (first_head (openings_of kept.files.items))
+  pub lines : c.report.files ≡ map line_kept kept.files.items
   pub own : (n : ℕ) → contains nat_cmp numbers n ≡ list_any (is_number_kept n) kept.files.items
-  pub missing : c.missing ≡ not_in c.key numbers
-  pub differences : c.differences ≡ flat_map differences_kept kept.files.items
+  pub missing : c.report.missing ≡ not_in c.report.key numbers
+  pub differences : c.report.differences ≡ flat_map differences_kept kept.files.items
   pub ledger : c.ledger ≡ kept.ledger
-  pub rejects : c.rejects ≡ flat_map (λ f. f.rejects.items) kept.files.items
+  pub rejects : c.report.rejects ≡ flat_map (λ f. f.rejects.items) kept.files.items
 
 pub closed_is : (kept : Kept) (numbers : BTreeSet ℕ) (c : ClosedBooks) → Assembled kept numbers c → (files : List File) → Stands kept files → AreClosed c files
-unfolding missing differences rejects
+unfolding missing differences rejects report_of
 closed_is kept numbers c a files h =
     let fs = kept.files.items in let key = a.key ∙ ap (λ os. option_map key_of (first_head os)) (openings_are 1 [] fs files h.each) in
     let there : (n : ℕ) → contains nat_cmp numbers n ≡ is_there n (filed files) =
     λ n. a.own n ∙ zip_folds FileStands (is_number_kept n) _ ◌||◌ (list_any (is_number_kept n)) (is_there n)
     (λ f d s i. is_ours (s.standing i) && has_number n (s.opening i)) refl (λ _ _. refl) (λ _ _. refl) fs (filed files) h.each in
+    let lines = a.lines ∙ zip_maps FileStands line_kept file_line (λ f d s.
+    let number = ap (option_map (λ o. o.head.file_number)) s.opening in
+    λ i. record { number = number i; standing = s.standing i; blocks = s.blocks i; outcome = outcome_of (s.outcome i) }) fs (filed files) h.each in
+    let missing_ = a.missing ∙ ap (λ k. not_in k numbers) key ∙ not_in_is (report_head files) numbers (filed files) there in
+    let differences_ = a.differences ∙ zip_folds FileStands differences_kept differences_in ◌++◌ (flat_map differences_kept) (flat_map differences_in)
+    differences_stand refl (λ _ _. refl) (λ _ _. refl) fs (filed files) h.each in
+    let rejects_ = a.rejects ∙ zip_folds FileStands (λ f. f.rejects.items) rejects_in ◌++◌ (flat_map (λ f. f.rejects.items)) (flat_map rejects_in)
+    (λ f d s. s.rejects) refl (λ _ _. refl) (λ _ _. refl) fs (filed files) h.each in
     record {
-      key = key;
-      lines = a.lines ∙ zip_maps FileStands line_kept file_line (λ f d s.
-          let number = ap (option_map (λ o. o.head.file_number)) s.opening in
-          λ i. record { number = number i; standing = s.standing i; blocks = s.blocks i; outcome = outcome_of (s.outcome i) }) fs (filed files) h.each;
-      missing = a.missing ∙ ap (λ k. not_in k numbers) key ∙ not_in_is (report_head files) numbers (filed files) there;
-      differences = a.differences ∙ zip_folds FileStands differences_kept differences_in ◌++◌ (flat_map differences_kept) (flat_map differences_in)
-          differences_stand refl (λ _ _. refl) (λ _ _. refl) fs (filed files) h.each;
+      report = λ i. record {
+        key = key i;
+        files = lines i;
+        missing = missing_ i;
+        differences = differences_ i;
+        ledger = c.report.ledger;
+        rejects = rejects_ i;
+      };
       ledger = λ q. ap (λ l. tally_at l q) a.ledger ∙ h.ledger q;
-      rejects = a.rejects ∙ zip_folds FileStands (λ f. f.rejects.items) rejects_in ◌++◌ (flat_map (λ f. f.rejects.items)) (flat_map rejects_in)
-          (λ f d s. s.rejects) refl (λ _ _. refl) (λ _ _. refl) fs (filed files) h.each;
     }

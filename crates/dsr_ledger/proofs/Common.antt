@@ -23,7 +23,7 @@ pub use Rattle.std.proofs.lemmas.Map.Keys.{IsDistinct-IsPermutation, IsDistinct-
 pub use Rattle.std.proofs.lemmas.Map.Lookups.{exact_bytes}
 pub use Rattle.std.proofs.lemmas.Map.Steps.{length-le_from_distinct_below}
 pub use Rattle.std.proofs.lemmas.Map.Text.{is_eq-slice_cmp}
-pub use Rattle.std.proofs.lemmas.Map.Views.{Contains-keys_from_lookup, any-filter_same, list_any-from_Contains}
+pub use Rattle.std.proofs.lemmas.Map.Views.{any-filter_same, list_any-from_Contains}
 pub use Rattle.std.proofs.lemmas.Option.{MatchOption-at_some, get_or_from_slice_get, gets, same_Some, slice_get-get_or, slice_get-map, slice_get_read, slice_get_within}
 pub use Rattle.std.proofs.lemmas.Result.{IfOk-weaker, MatchResult-from_err, on_err_weaker, on_ok_weaker}
 pub use Rattle.std.proofs.lemmas.Simd.{map-map}
@@ -68,8 +68,10 @@ pub use Rattle.dsr_ledger.specs.declared.file.summaries.SummaryState.{SummarySta
 pub use Rattle.dsr_ledger.specs.declared.ledger.Ledger.{Ledger}
 pub use Rattle.dsr_ledger.specs.declared.ledger.line.Line.{Line}
 pub use Rattle.dsr_ledger.specs.declared.ledger.part.SeatPart.{SeatPart}
+pub use Rattle.dsr_ledger.specs.declared.ledger.parts.Parts.{Parts}
 pub use Rattle.dsr_ledger.specs.declared.ledger.parts.SeatShare.{SeatShare}
 pub use Rattle.dsr_ledger.specs.declared.ledger.recording.Recording.{Recording}
+pub use Rattle.dsr_ledger.specs.declared.ledger.seats.Seats.{Seats}
 pub use Rattle.dsr_ledger.specs.declared.ledger.summary_key.SummaryKey.{SummaryKey}
 pub use Rattle.dsr_ledger.specs.declared.report.LedgerLine.{LedgerLine}
 pub use Rattle.dsr_ledger.specs.declared.report.PartyLine.{PartyLine}

@@ -108,9 +108,6 @@ module _ {X : Type 0} (number : X → ℕ) where
   pub numbers_kept : (xs : List X) (i : ℕ) (x w : X) → x ≡ get_or xs i x → number w ≡ number x → numbers (set xs i w) ≡ numbers xs
   numbers_kept xs i x w is same = map-set_same number xs i w x (same ∙ ap number is)
 
-  pub items_are_numbered : (xs : List X) → IsNumbered (item_in xs) (length xs)
-  items_are_numbered xs = subst (IsNumbered (item_in xs)) (length-map xs number) (places_are_numbered nat_eq same_number (numbers xs))
-
   pub item_more : (xs : List X) (x : X) (q : ℕ) → item_in xs (number x) ≡ None
       → item_in (xs ++ x ∷ []) q ≡ cond (nat_eq (number x) q) (Some (length xs)) (item_in xs q)
   item_more xs x q none =

@@ -1,6 +1,7 @@
 -- The tallies of lines when a line is added, widened or changed, and when a seat is given.
-use Rattle.dsr_ledger.proofs.Common.{◌≡◌, ℕ, ◌<◌, List, [], ◌∷◌, ◌++◌, length, refl, ap, subst, ◌∙◌, arith, cond, set, get_or, nat_eq, ⊎_elim, sym, Option, None, Some, slice_get, length_push, slice_get_within, gets, same_Some, slice_get-get_or, slice_get_read, SeatShare, IsWithNumber, AreApart, AreBelow, read_at, place_in, part_in, part_seats, owed_at_place, HaveParts, IsDistinct, bytes_eq, cases_eq, nat_tests, nat_eq_equiv, common_steps, list_any-append, bytes_eq-Decides, IsDistinct-from_apart, IsDistinct-push, Line, Tally, no_tally, line_tally, line_in, lines_tally, AreWithin, IsWide, LinesGrow, length-le_from_distinct_below}
-use Rattle.dsr_ledger.proofs.NumberedLemmas.{items_grow, items_pushed, none_any, place_more, read_changed, by_new_key, numbers_kept, items_are_numbered, items_written, same_number}
+use Rattle.dsr_ledger.proofs.Common.{◌≡◌, ℕ, ◌<◌, List, [], ◌∷◌, ◌++◌, length, refl, ap, subst, ◌∙◌, arith, cond, set, get_or, nat_eq, ⊎_elim, sym, Option, None, Some, slice_get, length_push, slice_get_within, gets, same_Some, slice_get-get_or, slice_get_read, SeatShare, Grows, IsWithNumber, AreApart, AreBelow, AreIndexed, place_in, part_in, part_seats, owed_at_place, HaveParts, IsDistinct, bytes_eq, cases_eq, nat_tests, nat_eq_equiv, common_steps, list_any-append, bytes_eq-Decides, IsDistinct-from_apart, IsDistinct-push, Line, Parts, Recording, PartsGrow, seat_numbers, line_keys, no_tally, line_tally, line_in, lines_tally, AreWithin, IsWide, LinesGrow, length-le_from_distinct_below}
+use Rattle.dsr_ledger.proofs.PartLemmas.{parts_kept}
+use Rattle.dsr_ledger.proofs.NumberedLemmas.{items_grow, items_pushed, none_any, place_more, by_new_key, numbers_kept, items_written, same_number}
 
 abbrev pub key_of : Line → ℕ
 key_of l = l.sums.key
@@ -17,10 +18,6 @@ grow_pushed ls l none nothing = record {
   wide = λ ss i h. record { line = h.line; there = (let at = h.there in grind (arith, common_steps, gets)); wide = h.wide };
 }
 
--- seats that have parts in a line have them in the one that replaces it
-abbrev pub KeepsParts : Line → Line → Type 0
-KeepsParts l w = (ss : List SeatShare) → HaveParts ss l.parts.items.items → HaveParts ss w.parts.items.items
-
 pub written_there : {X : Type 0} (ls : List X) (i : ℕ) (w : X) → i < length ls → slice_get (set ls i w) i ≡ Some w
 written_there ls i w below = grind (arith, common_steps, gets)
 
@@ -33,32 +30,28 @@ wide_here ss ls i l h is =
     let at = slice_get_read ls (length ls) i l refl (wide_below ss ls i h) is in
     subst (λ (x : Line). HaveParts ss x.parts.items.items) (same_Some h.line l (sym h.there ∙ at)) h.wide
 
-pub wide_written : (ls : List Line) (i : ℕ) (l w : Line) → i < length ls → l ≡ get_or ls i l → KeepsParts l w → (ss : List SeatShare) (j : ℕ) → IsWide ss ls j
-    → IsWide ss (set ls i w) j
-wide_written ls i l w below is f ss j h =
+pub wide_written : (ls : List Line) (i : ℕ) (l w : Line) → i < length ls → l ≡ get_or ls i l
+    → Grows (part_in l.parts.items.items) (part_in w.parts.items.items) → (ss : List SeatShare) (j : ℕ) → IsWide ss ls j → IsWide ss (set ls i w) j
+wide_written ls i l w below is grow ss j h =
     ⊎_elim
     (λ e.
-    let wide = f ss (wide_here ss ls i l (subst (IsWide ss ls) (sym e) h) is) in
+    let wide = parts_kept ss l.parts.items.items w.parts.items.items grow (wide_here ss ls i l (subst (IsWide ss ls) (sym e) h) is) in
     subst (IsWide ss (set ls i w)) e (record { line = w; there = written_there ls i w below; wide = wide }))
     (λ e. let at = h.there in record { line = h.line; there = grind (arith, common_steps, gets, e); wide = h.wide })
     (cases_eq i j)
 
--- a line is replaced by one with the same tally
-pub grow_written : (ls : List Line) (i : ℕ) (l w : Line) → i < length ls → l ≡ get_or ls i l → w.sums.key ≡ l.sums.key
-    → ((seat : List ℕ → Option ℕ) → line_tally seat w ≡ line_tally seat l) → KeepsParts l w → LinesGrow ls (set ls i w)
-grow_written ls i l w below is same alike f = record {
-  tallies = λ seat number. items_written key_of (line_tally seat) no_tally ls i l w below is same (alike seat) number;
-  numbers = λ q n e. ap (λ ks. place_in ks q) (numbers_kept key_of ls i l w is same) ∙ e;
-  wide = wide_written ls i l w below is f;
-}
-
--- a line is replaced by one with a greater tally
-pub tally_changed : (seat : List ℕ → Option ℕ) (f : Tally → Tally) (ls : List Line) (i : ℕ) (l w : Line) (key : ℕ) → l ≡ get_or ls i l → w.sums.key ≡ l.sums.key
-    → line_tally seat w ≡ f (line_tally seat l) → line_in ls key ≡ Some i
-    → (q : ℕ) → lines_tally seat (set ls i w) (Some q) ≡ cond (nat_eq key q) (f (lines_tally seat ls (Some q))) (lines_tally seat ls (Some q))
-tally_changed seat f ls i l w key is same change at q =
-    ap (λ ks. read_at (line_tally seat) no_tally (set ls i w) (place_in ks q)) (numbers_kept key_of ls i l w is same)
-    ∙ read_changed nat_eq same_number (line_tally seat) no_tally f (line_in ls) key ls i l w (items_are_numbered key_of ls) at is change q
+-- a line is given parts of which nothing is owed
+pub grow_widened : (ls : List Line) (i : ℕ) (l : Line) (parts : Parts) → i < length ls → l ≡ get_or ls i l
+    → PartsGrow l.parts.items.items parts.items.items → LinesGrow ls (set ls i (record { sums = l.sums; parts = parts }))
+grow_widened ls i l parts below is grow =
+    let w : Line = record { sums = l.sums; parts = parts } in
+    let alike : (seat : List ℕ → Option ℕ) → line_tally seat w ≡ line_tally seat l =
+    λ seat j. record { is_booked = l.sums.is_booked; usages = l.sums.usages; amount = l.sums.amount; owed = λ q. grow.owed (seat q) j } in
+    record {
+      tallies = λ seat number. items_written key_of (line_tally seat) no_tally ls i l w below is refl (alike seat) number;
+      numbers = λ q n e. ap (λ ks. place_in ks q) (numbers_kept key_of ls i l w is refl) ∙ e;
+      wide = wide_written ls i l w below is grow.places;
+    }
 
 pub within_pushed : (seats : ℕ) (ls : List Line) (l : Line) → AreWithin seats ls → IsWithin seats l → AreWithin seats (ls ++ l ∷ [])
 within_pushed seats ls l all one i x e k j at =
@@ -69,6 +62,22 @@ pub within_written : (seats : ℕ) (ls : List Line) (i : ℕ) (w : Line) → Are
 within_written seats ls i w all one j x e k n at =
     let same = λ (s : w ≡ x). one k n (ap (λ (y : Line). part_in y.parts.items.items k) s ∙ at) in
     grind (arith, common_steps, gets, λ (s : slice_get ls j ≡ Some x). all j x s k n at, same)
+
+-- the ghost fields of a recording of which a line is replaced
+pub line_put : (r : Recording) (i : ℕ) (l w : Line) → i < length r.lines.items → l ≡ get_or r.lines.items i l → w.sums.key ≡ l.sums.key
+    → (IsWithin (length (seat_numbers r.seats)) l → IsWithin (length (seat_numbers r.seats)) w) → record {
+      apart : AreApart (line_keys (set r.lines.items i w));
+      indexed : AreIndexed (line_keys (set r.lines.items i w)) r.index;
+      within : AreWithin (length (seat_numbers r.seats)) (set r.lines.items i w);
+    }
+line_put r i l w below is same still =
+    let ls = r.lines.items in let keys = sym (numbers_kept key_of ls i l w is same) in
+    let one = still (r.within i l (slice_get_read ls (length ls) i l refl below is)) in
+    record {
+      apart = subst AreApart keys r.apart;
+      indexed = subst (λ ks. AreIndexed ks r.index) keys r.indexed;
+      within = within_written (length (seat_numbers r.seats)) ls i w r.within one;
+    }
 
 pub below_with : (old new : List ℕ) (n m : ℕ) → IsWithNumber old new n → n < m → AreBelow m old → AreBelow m new
 below_with old new n m h less below k i e =

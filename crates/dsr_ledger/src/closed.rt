@@ -12,7 +12,7 @@ use crate::books::Kept;
 use crate::file::FileBooks;
 use crate::findings::{differences_of, file_lines, key_and_rejects, missing_numbers, own_numbers};
 use crate::ledger::Ledger;
-use crate::report::{Differences, FileLines, Numbers, Rejects, Report, ReportKey};
+use crate::report::{Differences, FileLines, LedgerLines, Report};
 use crate::view::copies::copied_lines;
 use crate::view::{LedgerView, ReportView};
 use dsr_cells::NoMemory;
@@ -22,11 +22,7 @@ use std::collections::BTreeSet;
 /// Books whose files have all ended: their report, but for the lines of the ledger, and the ledger.
 pub struct ClosedBooks {
     alloc: Global,
-    key: Option<ReportKey>,
-    files: FileLines,
-    missing: Numbers,
-    differences: Differences,
-    rejects: Rejects,
+    report: Report,
     ledger: Ledger,
     ghost small: { ∥ AreOfSmall ledger ∥₁ },
 }
@@ -36,11 +32,7 @@ impl Drop for ClosedBooks {
     fn drop(self) {
         let ClosedBooks {
             alloc: _,
-            key: _,
-            files: _,
-            missing: _,
-            differences: _,
-            rejects: _,
+            report: _,
             ledger: _,
         } = self;
     }
@@ -70,7 +62,7 @@ fn told_of(alloc: Global, files: &[FileBooks]) -> Result<Told, NoMemory>
 }
 
 impl ClosedBooks {
-    ghost use Rattle.std.specs.Prelude.{List};
+    ghost use Rattle.std.specs.Prelude.{List, IfSome};
     ghost use Rattle.dsr_ledger.specs.meaning.Files.{File};
     ghost use Rattle.dsr_ledger.specs.meaning.Reports.{report_of};
     ghost use Rattle.dsr_ledger.specs.inner.BooksWords.{AreClosed};
@@ -109,13 +101,17 @@ impl ClosedBooks {
             drop(ledger);
             return Err(NoMemory);
         };
-        Ok(ClosedBooks {
-            alloc,
+        let report = Report {
             key,
             files: lines,
             missing,
             differences,
+            ledger: LedgerLines::new(alloc),
             rejects,
+        };
+        Ok(ClosedBooks {
+            alloc,
+            report,
             ledger,
         })
     }
@@ -126,17 +122,13 @@ impl ClosedBooks {
     ///
     /// `NoMemory`: out of memory for making the lines of the ledger.
     pub fn report(&self) -> Result<ReportView<'_>, NoMemory>
-        ensures ready { IfOk result (λ r. IsReady r.ledger) }
+        ensures ready { IfOk result (λ r. IfSome r.ledger IsReady) }
         ensures report { (files : List File) → AreClosed self.now files
             → IfOk result (λ r. IsViewOf r (report_of files)) }
     {
         Ok(ReportView {
-            key: &self.key,
-            files: self.files.as_slice(),
-            missing: self.missing.as_slice(),
-            differences: self.differences.as_slice(),
-            ledger: LedgerView::of(self.alloc, &self.ledger)?,
-            rejects: self.rejects.as_slice(),
+            report: &self.report,
+            ledger: Some(LedgerView::of(self.alloc, &self.ledger)?),
         })
     }
 
@@ -155,21 +147,11 @@ impl ClosedBooks {
         };
         let ClosedBooks {
             alloc: _,
-            key,
-            files,
-            missing,
-            differences,
-            rejects,
+            mut report,
             ledger,
         } = self;
         drop(ledger);
-        Ok(Report {
-            key,
-            files,
-            missing,
-            differences,
-            ledger: lines,
-            rejects,
-        })
+        report.ledger = lines;
+        Ok(report)
     }
 }

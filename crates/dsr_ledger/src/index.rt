@@ -74,22 +74,6 @@ fn is_above<T: Numbered>(items: &[T], number: u32) -> bool
     }
 }
 
-/// The numbers of items, in their order.
-fn gather<T: Numbered>(
-    alloc: Global,
-    seeded: Seeded,
-    items: &[T],
-) -> Result<IndexSet<u32, Seeded>, NoMemory>
-    requires { AreApart (map T.number_of items.now) }
-    ensures { IfOk result (λ numbers. numbers.keys ≡ map T.number_of items.now) }
-{
-    let mut numbers = IndexSet::with_hasher(alloc, seeded);
-    for item in items {
-        numbers.insert(item.number())?;
-    }
-    Ok(numbers)
-}
-
 /// The set of the numbers of items, in their order, and of one more number.
 #[cold]
 #[inline(never)]
@@ -104,7 +88,10 @@ fn boxed<T: Numbered>(
     ensures { IfOk result (λ numbers.
         numbers.value.keys ≡ map T.number_of items.now ++ number ∷ []) }
 {
-    let mut numbers = gather(alloc, seeded, items)?;
+    let mut numbers = IndexSet::with_hasher(alloc, seeded);
+    for item in items {
+        numbers.insert(item.number())?;
+    }
     numbers.insert(number)?;
     Ok(Box::new(alloc, numbers)?)
 }

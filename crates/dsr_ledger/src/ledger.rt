@@ -96,7 +96,7 @@ impl Ledger {
         };
         if last < self.recordings.len() {
             let (_, found) = self.recordings.pair_mut(last);
-            found.set_next(next);
+            found.next = next;
         }
     }
 
@@ -194,7 +194,7 @@ impl Ledger {
         let party = self.party(alloc, name)?;
         let seeded = *self.recordings.hasher();
         let (_, found) = self.recordings.pair_mut(recording);
-        found.seat(alloc, seeded, party)
+        found.seats.seat(alloc, seeded, party)
     }
 
     /// The number of a summary key, which is given one if it has none. A number past 32 bits is reported as `NoMemory`.
@@ -260,6 +260,8 @@ impl Ledger {
         ensures spares { spares.old ≤ spares.new + (2 + length shares.now) }
     {
         let (_, found) = self.recordings.pair_mut(recording);
-        found.add(line, usage, shares, spares);
+        let line = &mut found.lines[line];
+        line.sums.add(usage, spares);
+        line.parts.add(usage.amount, shares, spares);
     }
 }

@@ -1,4 +1,4 @@
-//! A view of a report: its parts are borrowed, and its ledger lines borrow their texts. The lines come one after
+//! A view of a report, which is borrowed; its ledger lines borrow their texts. The lines come one after
 //! another: recordings in the order of their ISRCs, in each its lines in the order of their keys, with their parties in the
 //! order of their names (`sorted`). `copies` makes copies of the lines.
 ghost use Rattle.std.specs.Prelude.{◌≡◌, ◌+◌, ◌<◌, ◌≤◌, ◌-ℤ◌, ◌^◌, IfOk, length, sum_by, unsigned_abs, vec_capacity};
@@ -12,7 +12,7 @@ use crate::ledger::Ledger;
 use crate::ledger::line::Line;
 use crate::ledger::recording::Recording;
 use crate::ledger::summary_key::SummaryKey;
-use crate::report::{Difference, FileLine, Reject, ReportKey};
+use crate::report::Report;
 use crate::view::sorted::{lines_by_key, parties_by_name, sorted_recordings};
 use dsr_cells::{Isrc, NoMemory, Text};
 use std::alloc::Global;
@@ -36,7 +36,7 @@ impl<'a> Model for PartyView<'a> {
     ghost view = { λ view. record { party = view.party.now; amount = view.amount } };
 }
 
-/// A line of the ledger. Contracts see it as a `LedgerLine`.
+/// A line of the ledger, but for its parties. Contracts see it as a `LedgerLine` without parties.
 #[derive(Drop)]
 pub struct LineView<'a> {
     /// The recording (ISO 3901).
@@ -53,11 +53,10 @@ pub struct LineView<'a> {
     pub amount: i128,
     /// The amount minus the amounts of the parties, in units of 10^-10 of the currency.
     pub unclaimed: i128,
-    /// The parties that have a part, by the bytes of their names.
-    pub parties: &'a [PartyView<'a>],
 }
 
 impl<'a> Model for LineView<'a> {
+    ghost use Rattle.std.specs.Prelude.{[]};
     ghost use Rattle.dsr_ledger.specs.declared.report.LedgerLine.{LedgerLine as LedgerLineValue};
 
     ghost Value = { LedgerLineValue };
@@ -69,7 +68,7 @@ impl<'a> Model for LineView<'a> {
       currency = view.currency.now;
       usages = view.usages;
       amount = view.amount;
-      parties = view.parties.now;
+      parties = [];
       unclaimed = view.unclaimed;
     } };
 }
@@ -187,7 +186,7 @@ impl<'a> LedgerView<'a> {
         })
     }
 
-    /// The next line, without its parties, which `whole` adds. This allocates nothing.
+    /// The next line, without its parties, which `parties` has. This allocates nothing.
     pub fn next(&mut self) -> Option<LineView<'a>>
         requires { IsReady self.old }
         ensures ready { IsReady self.new }
@@ -215,40 +214,22 @@ impl<'a> LedgerView<'a> {
             usages: found.line.sums.usages(),
             amount,
             unclaimed: unclaimed(amount, self.parties.as_slice()),
-            parties: &[],
         })
     }
 
-    /// The line that was given last, with its parties.
-    pub fn whole<'b>(&'b self, line: &LineView<'b>) -> LineView<'b>
-        ensures { result ≡ whole_line self.now line.now }
+    /// The parties of the line that was given last, by the bytes of their names.
+    pub fn parties(&self) -> &[PartyView<'_>]
+        ensures { result.now ≡ self.now.parties.items }
     {
-        LineView {
-            isrc: line.isrc,
-            territory: line.territory,
-            use_type: line.use_type,
-            currency: line.currency,
-            usages: line.usages,
-            amount: line.amount,
-            unclaimed: line.unclaimed,
-            parties: self.parties.as_slice(),
-        }
+        self.parties.as_slice()
     }
 }
 
-/// A report whose ledger lines borrow their texts, and whose other parts are borrowed.
+/// A report that is borrowed.
 #[derive(Drop)]
 pub struct ReportView<'a> {
-    /// The key of the first file, in the order given, that has an opening; None if no file has.
-    pub key: &'a Option<ReportKey>,
-    /// The line of each file, in the order given.
-    pub files: &'a [FileLine],
-    /// The numbers from 1 to NumberOfFiles that no file with the standing Ours has, ascending; none without a key.
-    pub missing: &'a [u32],
-    /// The differences of the files that are Ours and ended whole, by file and then in file order.
-    pub differences: &'a [Difference],
-    /// The ledger: the booked usages and amounts, and each party's part.
-    pub ledger: LedgerView<'a>,
-    /// The rejected blocks.
-    pub rejects: &'a [Reject],
+    /// The report, without its ledger's lines if these borrow their texts.
+    pub report: &'a Report,
+    /// The ledger's lines that borrow their texts; None if the report has them itself.
+    pub ledger: Option<LedgerView<'a>>,
 }

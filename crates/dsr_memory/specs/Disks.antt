@@ -5,6 +5,7 @@ use Rattle.std.specs.Str.{bytes_eq}
 use Rattle.dsr_command.specs.declared.identity.FileIdentity.{FileIdentity}
 use Rattle.dsr_command.specs.declared.identity.Place.{Place}
 use Rattle.dsr_command.specs.declared.identity.Place.TheVariants.{Free, Ordinary, Other}
+use Rattle.dsr_command.specs.declared.link.Link.TheVariants.{Plain}
 use Rattle.dsr_command.specs.World.{Disk}
 use Rattle.dsr_memory.specs.declared.file.MemoryFile.{MemoryFile}
 use Rattle.dsr_memory.specs.declared.world.MemoryWorld.{MemoryWorld}
@@ -28,11 +29,11 @@ abbrev pub place_of : Option MemoryFile → Place
 place_of None = Free
 place_of (Some file) = if file.is_ordinary then Ordinary file.identity else Other
 
--- what the world has. There are no links: each name stands for itself
+-- what the world has. There are no links
 abbrev pub disk_of : MemoryWorld → Disk
 disk_of w = record {
   words = if w.is_utf8 then Some w.words else None;
-  stands_for = λ name. name;
+  link = λ name. Plain;
   files = λ name. bytes_of (file_of w.files.items name);
   file = λ name. identity_of (file_of w.files.items name);
   input = w.input.items;

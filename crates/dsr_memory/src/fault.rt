@@ -1,5 +1,4 @@
 //! Calls that fail.
-use dsr_command::CreateFault;
 
 /// The call of a world that fails. Calls of one kind have numbers from 0.
 #[derive(Clone, Copy, PartialEq, Eq)]
@@ -12,16 +11,20 @@ pub enum Fault {
     Open(u64),
     /// In the source of the opening with the first number, the read with the second one fails.
     Read(u64, u64),
-    /// There is no new file.
-    Create(CreateFault),
+    /// Memory for a link is refused.
+    Link,
+    /// There is no random number.
+    Random,
+    /// A new file cannot be created.
+    Create,
     /// This write to a new file fails.
     Write(u64),
     /// A new file cannot be flushed.
     Flush,
     /// A new file cannot be synced.
     Sync,
-    /// A new file cannot be put in its place.
-    Put,
+    /// A new file cannot be renamed.
+    Rename,
 }
 
 impl Fault {

@@ -1,6 +1,7 @@
 //! Outlets in memory.
 ghost use Rattle.std.specs.Prelude.{◌≡◌, [], false, not, length, take, Some};
 
+use dsr_cells::Text;
 use dsr_command::NewOutlet;
 use dsr_io::{Failed, Outlet};
 use std::alloc::Global;
@@ -10,6 +11,7 @@ const PIECE: usize = 64;
 
 /// A new file, or an output: it keeps what it takes, at most 64 bytes a write, until a write or a flush fails.
 pub struct MemoryOutlet {
+    name: Text,
     bytes: Vec<u8>,
     sound_writes: u64,
     flushes: bool,
@@ -23,6 +25,7 @@ pub struct MemoryOutlet {
 impl Drop for MemoryOutlet {
     fn drop(self) {
         let MemoryOutlet {
+            name: _,
             bytes: _,
             sound_writes: _,
             flushes: _,
@@ -47,6 +50,7 @@ impl MemoryOutlet {
             } }
     {
         MemoryOutlet {
+            name: Text::default(),
             bytes: Vec::new(alloc),
             sound_writes,
             flushes,
@@ -55,6 +59,16 @@ impl MemoryOutlet {
             unflushed: false,
             synced: 0,
         }
+    }
+
+    /// The same, as a new file of this name.
+    pub(crate) fn named(self, name: Text) -> MemoryOutlet
+        ensures same { ⟦<MemoryOutlet as Outlet>⟧.told result ≡ ⟦<MemoryOutlet as Outlet>⟧.told self }
+        ensures named { ⟦<MemoryOutlet as NewOutlet>⟧.name result ≡ name }
+    {
+        let mut new = self;
+        new.name = name;
+        new
     }
 
     /// What was written.
@@ -126,5 +140,7 @@ impl Outlet for MemoryOutlet {
 }
 
 impl NewOutlet for MemoryOutlet {
+    ghost name = { λ s. s.name };
+
     ghost synced = { λ s. Some (take s.synced s.bytes.items) };
 }

@@ -12,8 +12,8 @@ use crate::quiet::Quiet;
 use crate::source::MemorySource;
 use dsr_cells::{NoMemory, Text};
 use dsr_command::{
-    Asked, CreateFault, FileIdentity, FileSource, Names, OpenFault, Place, ReportWorld,
-    StatementWorld, WordsFault, World,
+    Asked, FileIdentity, FileSource, Link, Names, OpenFault, Place, ReportWorld, StatementWorld,
+    WordsFault, World,
 };
 use dsr_io::{Failed, Source};
 use std::alloc::Global;
@@ -251,23 +251,29 @@ impl World for MemoryWorld {
         }
     }
 
-    fn create_beside(&mut self, _name: &str) -> Result<MemoryOutlet, CreateFault> {
-        if self.fault == Fault::Create(CreateFault::Memory) {
-            return Err(CreateFault::Memory);
+    fn link(&self, _name: &str) -> Result<Link, NoMemory> {
+        if self.fault == Fault::Link {
+            return Err(NoMemory);
         }
-        if self.fault == Fault::Create(CreateFault::Failed) {
+        Ok(Link::Plain)
+    }
+
+    fn random(&mut self) -> Result<u64, Failed> {
+        if self.fault == Fault::Random {
             self.failed = true;
-            return Err(CreateFault::Failed);
+            return Err(Failed);
         }
-        let Some(parts) = self.parts.checked_add(1) else {
-            return Err(CreateFault::Memory);
-        };
-        self.parts = parts;
-        Ok(MemoryOutlet::new(
-            self.alloc,
-            self.fault.sound_writes(),
-            self.fault != Fault::Flush,
-        ))
+        Ok(self.parts)
+    }
+
+    fn create(&mut self, name: Text) -> Result<MemoryOutlet, Failed> {
+        if self.fault == Fault::Create || self.parts == u64::MAX {
+            self.failed = true;
+            return Err(Failed);
+        }
+        self.parts += 1;
+        let flushes = self.fault != Fault::Flush;
+        Ok(MemoryOutlet::new(self.alloc, self.fault.sound_writes(), flushes).named(name))
     }
 
     fn sync(&mut self, new: &mut MemoryOutlet) -> Result<(), Failed> {
@@ -279,8 +285,8 @@ impl World for MemoryWorld {
         Ok(())
     }
 
-    fn put(&mut self, new: &MemoryOutlet, name: &str) -> Result<(), Failed> {
-        if self.fault == Fault::Put {
+    fn rename(&mut self, new: &MemoryOutlet, name: &str) -> Result<(), Failed> {
+        if self.fault == Fault::Rename {
             self.failed = true;
             return Err(Failed);
         }

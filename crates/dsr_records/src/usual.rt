@@ -7,14 +7,14 @@ ghost use Rattle.dsr_events.specs.declared.record.Record.TheVariants as records;
 ghost use Rattle.dsr_records.specs.inner.Usual.{BeginsWithRecord};
 
 mod cells;
-mod digits;
+mod point;
 
 use crate::check::{ResourceLine, UsageLine, WorkLine};
 use crate::spelled::count_shares;
 use arrayvec::ArrayVec;
 use cells::{Cell, Cells};
-use digits::{point_in_16, usual_decimals, usual_number};
-use dsr_cells::{Amount, count_values};
+use dsr_cells::{Amount, count_values, usual_decimals, usual_number};
+use point::point_in_16;
 
 /// The number of bytes that a page must have: those behind the bytes that are looked at are read too.
 const PAGE: usize = 96;

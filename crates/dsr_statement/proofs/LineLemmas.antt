@@ -20,22 +20,25 @@ then {W} {told} {p} {q} {r} {xs} {ys} first second = both_put told p q r xs ys f
 pub turn : {W : Type 0} {told : W → Written} {p q : Pieces W} {xs ys : List ℕ} → Puts told p q xs → xs ≡ ys → Puts told p q ys
 turn {W} {told} {p} {q} puts e = subst (λ l. Puts told p q l) e puts
 
--- the lines of one more item
-pub one_more : {W : Type 0} {told : W → Written} {p q r : Pieces W} {X : Type 0} (f : X → List ℕ) (xs : List X) (x : X)
-    → Puts told p q (flat_map f xs) → Puts told q r (f x) → Puts told p r (flat_map f (xs ++ x ∷ []))
-one_more f xs x before now = turn (then before now) (sym (flat_map-append f xs (x ∷ []) ∙ ap (λ l. flat_map f xs ++ l) (append-nil (f x))))
+-- the lines of one more item, behind others
+pub one_more : {W : Type 0} {told : W → Written} {p q r : Pieces W} {X : Type 0} (front : List ℕ) (f : X → List ℕ) (xs : List X) (x : X)
+    → Puts told p q (front ++ flat_map f xs) → Puts told q r (f x) → Puts told p r (front ++ flat_map f (xs ++ x ∷ []))
+one_more front f xs x before now =
+    turn (then before now) (append_assoc front (flat_map f xs) (f x)
+    ∙ ap (λ l. front ++ l) (sym (flat_map-append f xs (x ∷ []) ∙ ap (λ l. flat_map f xs ++ l) (append-nil (f x)))))
 
 -- the lines of the first items of a list, and of one more
-pub more : {W : Type 0} {told : W → Written} {p q r : Pieces W} {X : Type 0} (f : X → List ℕ) (xs : List X) (i : ℕ) (x d : X) → i < length xs
-    → x ≡ get_or xs i d → Puts told p q (flat_map f (take i xs)) → Puts told q r (f x) → Puts told p r (flat_map f (take (i + 1) xs))
-more f xs i x d less is before now =
-    let front : take (i + 1) xs ≡ take i xs ++ x ∷ [] = take_more xs i d less ∙ ap (λ y. take i xs ++ y ∷ []) (sym is) in
-    turn (one_more f (take i xs) x before now) (sym (ap (flat_map f) front))
+pub more : {W : Type 0} {told : W → Written} {p q r : Pieces W} {X : Type 0} (front : List ℕ) (f : X → List ℕ) (xs : List X) (i : ℕ) (x d : X)
+    → i < length xs → x ≡ get_or xs i d → Puts told p q (front ++ flat_map f (take i xs)) → Puts told q r (f x)
+    → Puts told p r (front ++ flat_map f (take (i + 1) xs))
+more front f xs i x d less is before now =
+    let first : take (i + 1) xs ≡ take i xs ++ x ∷ [] = take_more xs i d less ∙ ap (λ y. take i xs ++ y ∷ []) (sym is) in
+    turn (one_more front f (take i xs) x before now) (ap (λ l. front ++ l) (sym (ap (flat_map f) first)))
 
 -- the lines of all items
-pub all : {W : Type 0} {told : W → Written} {p q : Pieces W} {X : Type 0} (f : X → List ℕ) (xs : List X) (i : ℕ) → length xs ≤ i
-    → Puts told p q (flat_map f (take i xs)) → Puts told p q (flat_map f xs)
-all f xs i end puts = turn puts (ap (flat_map f) (take_all i xs end))
+pub all : {W : Type 0} {told : W → Written} {p q : Pieces W} {X : Type 0} (front : List ℕ) (f : X → List ℕ) (xs : List X) (i : ℕ) → length xs ≤ i
+    → Puts told p q (front ++ flat_map f (take i xs)) → Puts told p q (front ++ flat_map f xs)
+all front f xs i end puts = turn puts (ap (λ l. front ++ flat_map f l) (take_all i xs end))
 
 pub text_append : (a b : List Line) → text_of (a ++ b) ≡ text_of a ++ text_of b
 text_append a b = flat_map-append line_bytes a b
@@ -52,18 +55,14 @@ text_flat f (x ∷ xs) =
     flat_map-cons (λ y. text_of (f y)) x xs ∙ ap (λ t. text_of (f x) ++ t) (text_flat f xs) ∙ sym (text_append (f x) (flat_map f xs))
     ∙ ap text_of (sym (flat_map-cons f x xs))
 
--- the lines of a ledger line whose parties are put in two parts
-pub two_parts : (l : LedgerLine) (ps : List PartyLine)
-    → sums_bytes l ++ (flat_map (party_bytes l) l.parties ++ (flat_map (party_bytes l) ps ++ unclaimed_bytes l))
-    ≡ text_of (lines_of_ledger (record l { parties = l.parties ++ ps }))
-two_parts l ps =
-    let whole = record l { parties = l.parties ++ ps } in
-    let parties = map (λ (p : PartyLine). lines.Party (key_of_line l) p) (l.parties ++ ps) in
-    let last = lines.Unclaimed (key_of_line l) l.unclaimed in
-    ap (λ t. sums_bytes l ++ t) (sym (append_assoc (flat_map (party_bytes l) l.parties) (flat_map (party_bytes l) ps) (unclaimed_bytes l))
-    ∙ ap (λ t. t ++ unclaimed_bytes l) (sym (flat_map-append (party_bytes l) l.parties ps) ∙ text_map (λ (p : PartyLine). lines.Party (key_of_line l) p) (l.parties ++ ps))
-    ∙ ap (λ t. text_of parties ++ t) (sym (append-nil (unclaimed_bytes l)))
-    ∙ sym (text_append parties (last ∷ [])))
+-- the lines of a ledger line with these parties
+pub ledger_parts : (l : LedgerLine) (ps : List PartyLine)
+    → (sums_bytes l ++ flat_map (party_bytes l) ps) ++ unclaimed_bytes l ≡ text_of (lines_of_ledger (record l { parties = ps }))
+ledger_parts l ps =
+    let party = λ (p : PartyLine). lines.Party (key_of_line l) p in
+    append_assoc (sums_bytes l) (flat_map (party_bytes l) ps) (unclaimed_bytes l)
+    ∙ ap (λ t. sums_bytes l ++ t) ((λ i. text_map party ps i ++ sym (append-nil (unclaimed_bytes l)) i)
+    ∙ sym (text_append (map party ps) (lines.Unclaimed (key_of_line l) l.unclaimed ∷ [])))
 
 -- the line of one more file
 files_more : (place : ℕ) (files : List FileLine) (f : FileLine)

@@ -1,12 +1,11 @@
 -- The lines with the key of the ledger line before them.
-use Rattle.std.proofs.Common.{arith, ◌≡◌, ◌≤◌, ℕ, List, [], ◌∷◌, ◌++◌, length, take, take_all, true, false, refl, ap, sym, subst, ◌∙◌, nat_lt, Option, Some, None, Ok}
-use Rattle.std.specs.Prelude.{IfSome, ℤ, codes, slice_index_or}
+use Rattle.std.proofs.Common.{arith, ◌≡◌, ◌≢◌, ℕ, List, [], ◌∷◌, ◌++◌, length, true, false, refl, ap, sym, subst, ◌∙◌, eqb, nat_lt, Option, Some, None, Ok}
+use Rattle.std.specs.Prelude.{IfSome, ℤ, codes}
 use Rattle.std.specs.List.{list_all, join_with_byte}
 use Rattle.std.specs.Str.{IsUtf8}
 use Rattle.std.proofs.lemmas.Str.{is_utf8-from_IsUtf8}
 use Rattle.std.proofs.lemmas.Bool.{and_from, and_parts}
-use Rattle.std.proofs.lemmas.List.{length-take}
-use Rattle.std.proofs.lemmas.List.Splits.{join_with_byte-slice_split}
+use Rattle.std.proofs.lemmas.List.Splits.{length-slice_split, join_with_byte-slice_split}
 use Rattle.dsr_cells.specs.meaning.Cells.{cells}
 use Rattle.dsr_ledger.specs.meaning.Bookings.{Key}
 use Rattle.dsr_ledger.specs.declared.report.PartyLine.{PartyLine}
@@ -18,20 +17,19 @@ use Rattle.dsr_statement.specs.inner.Lenient.{IsSome}
 use Rattle.dsr_statement.specs.inner.Near.{is_key, key_before}
 use Rattle.dsr_statement.proofs.Plain.{cells_no_tab}
 
--- a row of two cells is that of the text before a TAB and the text behind it
-two : (row : List (List ℕ)) → length row ≡ 2 → row ≡ slice_index_or row 0 [] ∷ slice_index_or row 1 [] ∷ []
-two (a ∷ b ∷ []) n = refl
-two _ n = absurd (omega arith)
+-- the first cell and the cells behind it, put together
+joined : (cell : List ℕ) (more : List (List ℕ)) → more ≢ [] → join_with_byte 9 (cell ∷ more) ≡ cell ++ 9 ∷ join_with_byte 9 more
+joined cell [] some = absurd (some refl)
+joined cell (next ∷ more) some = refl
 
-pub two_cells : (text : List ℕ) (row : List (List ℕ)) (party last : List ℕ) → row ≡ take 10 (cells text) → length row ≡ 2 → party ≡ slice_index_or row 0 []
-    → last ≡ slice_index_or row 1 [] → (text ≡ party ++ 9 ∷ last) × (has_no_tab party ≡ true)
-two_cells text row party last e n first second =
-    let few : length (cells text) ≤ 10 = omega (arith, length-take 10 (cells text), ap length e) in
-    let whole : row ≡ cells text = e ∙ take_all 10 (cells text) few in
-    let own : row ≡ party ∷ last ∷ [] = two row n ∙ rw (first, second) refl in
-    let same : cells text ≡ party ∷ last ∷ [] = sym whole ∙ own in
-    let plain : list_all has_no_tab (party ∷ last ∷ []) ≡ true = ap (list_all has_no_tab) (sym same) ∙ cells_no_tab text in
-    (sym (join_with_byte-slice_split 9 text) ∙ ap (join_with_byte 9) same, (and_parts (has_no_tab party) _ plain).0)
+-- a text is its first cell, the TAB behind it, and the rest
+pub first_cut : (text party rest : List ℕ) → cells text ≡ party ∷ cells rest → (text ≡ party ++ 9 ∷ rest) × (has_no_tab party ≡ true)
+first_cut text party rest same =
+    let some : cells rest ≢ [] = λ none. absurd (omega (arith, length-slice_split (λ b. eqb b 9) rest, ap length none)) in (
+      sym (join_with_byte-slice_split 9 text) ∙ ap (join_with_byte 9) same ∙ joined party (cells rest) some
+          ∙ ap (λ t. party ++ 9 ∷ t) (join_with_byte-slice_split 9 rest),
+      (and_parts (has_no_tab party) _ (ap (list_all has_no_tab) (sym same) ∙ cells_no_tab text)).0,
+    )
 
 -- the cells of a key and others are spelled as in a report
 more_cells : (a b c d : Cell) (more : List Cell) → list_all is_cell (a ∷ b ∷ c ∷ d ∷ []) ≡ true → list_all is_cell more ≡ true

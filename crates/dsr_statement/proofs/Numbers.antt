@@ -1,22 +1,25 @@
 -- Usages and amounts are read from their own texts, and from no others.
-use Rattle.std.proofs.Common.{arith, lit≤, ◌≡◌, ◌≢◌, ◌<◌, ◌≤◌, ◌+◌, ◌-◌, ◌*◌, ◌/◌, ◌%◌, ◌^◌, ℕ, zero, suc, List, [], ◌∷◌, ◌++◌, length, Bool, true, false, refl, ap, sym, ◌∙◌, inl, inr, Option, Some, None, cond, eqb, nat_lt}
+use Rattle.std.proofs.Common.{arith, lit≤, take, take_all, ◌≡◌, ◌≢◌, ◌<◌, ◌≤◌, ◌+◌, ◌-◌, ◌*◌, ◌/◌, ◌%◌, ◌^◌, ℕ, zero, suc, List, [], ◌∷◌, ◌++◌, length, Bool, true, false, refl, ap, sym, ◌∙◌, inl, inr, Option, Some, None, cond, eqb, nat_lt}
 use Rattle.std.specs.Prelude.{ℤ, pos, negsuc, neg_ℤ}
 use Rattle.std.specs.Option.{option_map}
 use Rattle.std.specs.List.{list_all, slice_split, join_with_byte}
 use Rattle.std.specs.Char.{is_ascii_digit}
 use Rattle.std.specs.Fmt.{decimal, signed_decimal}
+use Rattle.std.specs.Simd.Lanes.{chunk}
+use Rattle.std.proofs.Math.Seq.{take-append_seam}
 use Rattle.std.specs.Int.{is_negative}
 use Rattle.std.proofs.lemmas.Nat.{div-mul-add, mod-mul-add}
 use Rattle.std.proofs.lemmas.Bool.{and_parts, and_from, le-ltb, lt-ltb, cases_Bool, eqb-true, eq-eqb, ne_eqb}
 use Rattle.std.proofs.lemmas.Bool.Decides.{nat_tests}
 use Rattle.std.proofs.lemmas.List.Splits.{join_with_byte-slice_split}
-use Rattle.dsr_cells.specs.meaning.Numbers.{digits_sum}
+use Rattle.dsr_cells.specs.inner.Digits.{IsFilledUp}
+use Rattle.dsr_cells.specs.meaning.Numbers.{digits_sum, digits_of, is_digits}
 use Rattle.dsr_cells.specs.meaning.Texts.{is_run_of}
 use Rattle.dsr_cells.specs.meaning.Written.{padded_number, written}
-use Rattle.dsr_cells.proofs.Numbers.{digits_sum-lt}
+use Rattle.dsr_cells.proofs.Numbers.{digits_sum-lt, is_digits_yes}
 use Rattle.dsr_cells.proofs.Spelled.{all_digits, zeros_digits, zeros_spelled, spelled, padded_length}
 use Rattle.dsr_statement.specs.meaning.Cells.{are_usages, is_amount}
-use Rattle.dsr_statement.specs.inner.Numbers.{◌>>=◌, below, not_zero, signed_in, usages_in, units_of_parts, units_in, amount_in, number_in}
+use Rattle.dsr_statement.specs.inner.Numbers.{◌>>=◌, below, not_zero, signed_in, usages_in, units_of_parts, units_in, amount_in, number_in, has_leading_zero}
 use Rattle.dsr_statement.proofs.Digits.{number_again, number_spelled, padded_same, some_digits}
 use Rattle.dsr_statement.proofs.Signs.{signed_plain, signed_minus, units_cut}
 
@@ -129,6 +132,25 @@ amount_spelled text z e =
 
 pub below_limit : (n limit : ℕ) → nat_lt n limit ≡ true → n < limit
 below_limit n limit h = grind (arith, nat_tests)
+
+-- a number of up to eight digits without leading zeros, and ten decimals, which are read from the text by words
+pub parts_by_words : (limit : ℕ) (text whole decimals : List ℕ) (front units : ℕ) → 2 ^ 64 ≤ limit → text ≡ whole ++ 46 ∷ decimals → length decimals ≡ 10
+    → has_leading_zero whole ≡ false → digits_of 8 (chunk 0 (length whole) text) ≡ Some front → front < 2 ^ 30 → IsFilledUp 10 (chunk 0 10 decimals) units
+    → units_of_parts limit (whole ∷ decimals ∷ []) ≡ Some (front * 10 ^ 10 + units)
+unfolding number_in
+parts_by_words limit text whole decimals front units most cut ten no_zero read few filled =
+    let own : take (length whole) text ≡ whole = ap (take (length whole)) cut ∙ take-append_seam whole (46 ∷ decimals) in
+    let all : take 10 decimals ≡ decimals = take_all 10 decimals (omega (arith, ten)) in
+    let (digits, front_is) = if_some (is_digits 8 whole) (digits_sum whole) front (ap (digits_of 8) (sym own) ∙ read) in
+    let tests = and_parts (list_all is_ascii_digit whole) _ digits in
+    let some : nat_lt 0 (length whole) ≡ true = (and_parts (nat_lt 0 (length whole)) _ tests.1).0 in
+    let again : is_digits (length whole) whole ≡ true = is_digits_yes (length whole) whole tests.0 (below_limit 0 (length whole) some) (omega arith) in
+    let run : list_all is_ascii_digit decimals ≡ true = ap (list_all is_ascii_digit) (sym all) ∙ (and_parts _ _ filled.0).0 in
+    let units_is : units ≡ digits_sum decimals = filled.1 ∙ rw (all, ten) (omega arith) in
+    let low : digits_sum decimals < 10 ^ 10 = digits_sum-lt decimals 10 run (omega (arith, ten)) in
+    let front_low : nat_lt (digits_sum whole) limit ≡ true = lt-ltb _ _ (omega (arith, front_is, few, most)) in
+    let sum_low : nat_lt (digits_sum whole * 10 ^ 10 + digits_sum decimals) limit ≡ true = lt-ltb _ _ (omega (arith, front_is, few, most, low)) in
+    rw (run, ten, no_zero, again, front_low, sum_low, front_is, units_is) refl
 
 -- a text that begins with a digit has no minus sign
 no_minus : (front more rest : List ℕ) → list_all is_ascii_digit front ≡ true → 0 < length front → front ++ more ≢ 45 ∷ rest

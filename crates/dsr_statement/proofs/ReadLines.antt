@@ -1,5 +1,6 @@
 -- The lines of a text that was read: it is their text, and they are in their places.
 use Rattle.std.proofs.Common.{arith, ◌≡◌, ℕ, List, [], ◌∷◌, ◌++◌, length, Bool, true, false, refl, ap, sym, subst, ◌∙◌, append_assoc, inl, inr, None, Some, Result, Ok, Err, eqb, nat_lt, ◌&&◌}
+use Rattle.std.specs.Prelude.{not, if◌then◌else◌}
 use Rattle.std.specs.Str.{IsUtf8, is_utf8}
 use Rattle.std.proofs.lemmas.Str.{IsUtf8-from_is_utf8, is_utf8-from_IsUtf8}
 use Rattle.std.specs.Result.{IfErr, IfOk}
@@ -15,7 +16,7 @@ use Rattle.dsr_statement.specs.declared.fault.ReadError.TheVariants as errors
 use Rattle.dsr_statement.specs.inner.After.{IsErrorOf}
 use Rattle.dsr_statement.specs.meaning.Lines.{line_bytes}
 use Rattle.dsr_statement.specs.meaning.Order.{placed, is_placed, adds_up, seals, is_no_report, is_complete}
-use Rattle.dsr_statement.specs.meaning.Readings.{IsLineOf, IsNextLine, IsReadingAfter, IsReadingOf, Refusal, Spells, end_fault, ended, fault_of, most_bytes, refused_after}
+use Rattle.dsr_statement.specs.meaning.Readings.{IsLineOf, IsNextLine, IsReadingAfter, IsReadingOf, Spells, end_fault, ended, fault_of, most_bytes}
 use Rattle.dsr_statement.specs.meaning.Statement.{text_of}
 use Rattle.dsr_statement.specs.layer.Statements.{AreInPlace}
 
@@ -45,52 +46,36 @@ pub next_refused : (before : List Line) (bytes : List ℕ) (l : Line) (e : ReadE
 next_refused before bytes l (errors.Fault f) is h = (Ok l, is, sym h)
 next_refused before bytes l errors.Memory is h = tt
 
-placed_same : (before : List Line) (x l : Line) → placed before x ≡ Ok l → x ≡ l
-placed_same before x l e = elim (cases_Bool (is_placed before x)) [
-  | inr f ↦ let none : placed before x ≡ Err faults.Place = rw f refl in cc
-  | inl a ↦ elim (cases_Bool (adds_up before x)) [
-    | inr f ↦ let none : placed before x ≡ Err faults.Sum = rw (a, f) refl in cc
-    | inl b ↦ elim (cases_Bool (seals before x)) [
-      | inr f ↦ let none : placed before x ≡ Err faults.Seal = rw (a, b, f) refl in cc
-      | inl s ↦ elim (cases_Bool (is_no_report x)) [
-        | inl f ↦ let none : placed before x ≡ Err faults.NoReport = rw (a, b, s, f) refl in cc
-        | inr c ↦ let some : placed before x ≡ Ok x = rw (a, b, s, c) refl in cc
-      ]
-    ]
-  ]
-]
+-- a line that is in its place passes the tests
+pub is_in_place : (before : List Line) (x l : Line) → placed before x ≡ Ok l
+    → (is_placed before x ≡ true) × (adds_up before x ≡ true) × (seals before x ≡ true) × (x ≡ l)
+is_in_place before x l = by (is_placed before x) (adds_up before x) (seals before x) (is_no_report x)
+  where
+    by : (p a s n : Bool)
+        → (if not p then Err faults.Place else if not a then Err faults.Sum else if not s then Err faults.Seal else if n then Err faults.NoReport else Ok x) ≡ Ok l
+        → (p ≡ true) × (a ≡ true) × (s ≡ true) × (x ≡ l)
+    by true true true false h = (refl, refl, refl, cc)
+    by _ _ _ _ h = absurd cc
 
 -- the next line is one that the bytes spell, in its place
 pub next_is : (before : List Line) (bytes : List ℕ) (l : Line) → IsNextLine before bytes (Ok l) → IsLineOf bytes (Ok l) × (placed before l ≡ Ok l)
 next_is before bytes l (Ok x, is, e) =
-    let same : x ≡ l = placed_same before x l (sym e) in
+    let same : x ≡ l = (is_in_place before x l (sym e)).3 in
     (subst (λ (y : Line). IsLineOf bytes (Ok y)) same is, ap (placed before) (sym same) ∙ sym e)
 next_is before bytes l (Err f, is, e) = cc
 
 -- a text that ends without a fault has nothing behind its last line
 pub ended_ok : (before : List Line) (rest : List ℕ) (failed : Bool) (ls : List Line) → Ok ls ≡ ended before (end_fault before rest failed)
     → (rest ≡ []) × (is_complete before ≡ true) × (ls ≡ [])
-ended_ok before rest failed ls e = elim (cases_Bool (nat_lt most_bytes (length rest))) [
-  | inl t ↦ let none : end_fault before rest failed ≡ Some faults.LongLine = rw t refl in refused faults.LongLine none
-  | inr f ↦ elim (cases_Bool failed) [
-    | inl t ↦ let none : end_fault before rest failed ≡ Some faults.Read = rw (f, t) refl in refused faults.Read none
-    | inr g ↦ elim (cases_Bool (eqb (length rest) 0 && is_complete before)) [
-      | inr h ↦ let none : end_fault before rest failed ≡ Some faults.Cut = rw (f, g, h) refl in refused faults.Cut none
-      | inl t ↦
-          let none : end_fault before rest failed ≡ None = rw (f, g, t) refl in
-          let some : ended before (end_fault before rest failed) ≡ Ok [] = ap (ended before) none in
-          let both = and_parts (eqb (length rest) 0) (is_complete before) t in
-          let same : ls ≡ [] = cc in
-          (empty rest (eqb-true _ _ both.0), both.1, same)
-    ]
-  ]
-]
+ended_ok before rest failed ls e =
+    let end = by (nat_lt most_bytes (length rest)) failed (eqb (length rest) 0 && is_complete before) e in
+    let both = and_parts (eqb (length rest) 0) (is_complete before) end.0 in (empty rest (eqb-true _ _ both.0), both.1, end.1)
   where
-    refuses : {A : Type 0} (r : Refusal) (x : List Line) → Ok x ≡ Err r → A
-    refuses r x q = cc
-
-    refused : {A : Type 0} (fault : StatementFault) → end_fault before rest failed ≡ Some fault → A
-    refused fault h = refuses (refused_after before fault) ls (e ∙ ap (ended before) h)
+    by : (long failed whole : Bool)
+        → Ok ls ≡ ended before (if long then Some faults.LongLine else if failed then Some faults.Read else if whole then None else Some faults.Cut)
+        → (whole ≡ true) × (ls ≡ [])
+    by false false true h = (refl, cc)
+    by _ _ _ h = absurd cc
 
     empty : (xs : List ℕ) → length xs ≡ 0 → xs ≡ []
     empty [] h = refl

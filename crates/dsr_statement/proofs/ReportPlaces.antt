@@ -5,7 +5,6 @@ use Rattle.std.specs.List.{flat_map, list_all, AllByRecursion}
 use Rattle.std.proofs.lemmas.Int.{ints}
 use Rattle.std.proofs.lemmas.Bool.{and_parts, and_from, eq-eqb}
 use Rattle.std.proofs.lemmas.Bool.Decides.{Decides-int_eq}
-use Rattle.std.proofs.lemmas.Slice.Eq.{bytes_eq-Decides}
 use Rattle.std.proofs.lemmas.List.Concat.{flat_map-cons}
 use Rattle.std.proofs.lemmas.List.{append-nil}
 use Rattle.dsr_ledger.specs.meaning.Bookings.{Key, key_eq}
@@ -24,6 +23,7 @@ use Rattle.dsr_statement.specs.declared.line.Line.TheVariants as lines
 use Rattle.dsr_statement.specs.meaning.Statement.{head_of, files_from, lines_of_ledger, statement_lines}
 use Rattle.dsr_statement.specs.meaning.Order.{placed, is_placed, adds_up, seals, is_no_report, of_latest, left_of, may_end, is_key_below, is_text_below, follows_file, follows_missing, follows_summary, follows_ledger, unclaimed_follows}
 use Rattle.dsr_statement.specs.layer.Statements.{AreInPlace, IsStatement, all_adjacent, are_parties_in_order, is_before, IsReadable}
+use Rattle.dsr_statement.proofs.Readers.{same_key}
 
 -- a line that passes the tests stands where it may
 pub placed_ok : (before : List Line) (l : Line) → is_placed before l ≡ true → adds_up before l ≡ true → seals before l ≡ true → is_no_report l ≡ false
@@ -56,50 +56,28 @@ module _ {X : Type 0} (f : X → Line) (adjacent : X → X → Bool) (before_it 
 
 -- what may stand after a part may stand after the parts before it
 file_missing : (l : Line) → follows_file l ≡ true → follows_missing l ≡ true
-file_missing (lines.File place f) h = refl
-file_missing (lines.Missing n) h = refl
-file_missing (lines.Report key) h = cc
-file_missing _ h = cc
+file_missing l h = grind arith
 
 missing_summary : (l : Line) → follows_missing l ≡ true → follows_summary l ≡ true
-missing_summary (lines.File place f) h = refl
-missing_summary (lines.Missing n) h = refl
-missing_summary (lines.Summary d) h = refl
-missing_summary _ h = cc
+missing_summary l h = grind arith
 
 summary_ledger : (l : Line) → follows_summary l ≡ true → follows_ledger l ≡ true
-summary_ledger (lines.File place f) h = refl
-summary_ledger (lines.Missing n) h = refl
-summary_ledger (lines.Summary d) h = refl
-summary_ledger (lines.Unclaimed key a) h = refl
-summary_ledger _ h = cc
+summary_ledger l h = grind arith
 
 ledger_ends : (l : Line) → follows_ledger l ≡ true → may_end l ≡ true
-ledger_ends (lines.File place f) h = refl
-ledger_ends (lines.Missing n) h = refl
-ledger_ends (lines.Summary d) h = refl
-ledger_ends (lines.Unclaimed key a) h = refl
-ledger_ends (lines.Reject r) h = cc
-ledger_ends _ h = cc
+ledger_ends l h = grind arith
 
 missing_first : (n : ℕ) (before : List Line) → Latest follows_file before → placed before (lines.Missing n) ≡ Ok (lines.Missing n)
-missing_first n [] h = cc
 missing_first n (lines.File place f ∷ before) h = refl
-missing_first n (_ ∷ before) h = cc
+missing_first n _ h = cc
 
 summary_first : (d : Difference) (before : List Line) → Latest follows_missing before → placed before (lines.Summary d) ≡ Ok (lines.Summary d)
-summary_first d [] h = cc
 summary_first d (lines.File place f ∷ before) h = refl
-summary_first d (lines.Missing n ∷ before) h = refl
-summary_first d (_ ∷ before) h = cc
+summary_first d _ h = cc
 
 reject_first : (r : Reject) (before : List Line) → Latest follows_ledger before → placed before (lines.Reject r) ≡ Ok (lines.Reject r)
-reject_first r [] h = cc
 reject_first r (lines.File place f ∷ before) h = refl
-reject_first r (lines.Missing n ∷ before) h = refl
-reject_first r (lines.Summary d ∷ before) h = refl
-reject_first r (lines.Unclaimed key a ∷ before) h = refl
-reject_first r (_ ∷ before) h = cc
+reject_first r _ h = cc
 
 rejects_in_place : (rs : List Reject) (before : List Line) → Latest follows_ledger before → all_adjacent is_before rs ≡ true
     → AreInPlace before (map (λ x. lines.Reject x) rs ++ [])
@@ -121,12 +99,8 @@ missing_in_place ns rest before then p h =
     part_in_place (λ (n : ℕ). lines.Missing n) nat_lt follows_file follows_missing rest missing_first
     (λ x y b q. placed_ok (lines.Missing x ∷ b) (lines.Missing y) q refl refl refl) file_missing (λ x. refl) then ns before p h
 
--- equal keys
 key_itself : (key : Key) → key_eq key key ≡ true
-key_itself key =
-    and_from _ _ ((bytes_eq-Decides key.isrc key.isrc).1 refl)
-    (and_from _ _ ((bytes_eq-Decides key.territory key.territory).1 refl)
-    (and_from _ _ ((bytes_eq-Decides key.use_type key.use_type).1 refl) ((bytes_eq-Decides key.currency key.currency).1 refl)))
+key_itself key = (same_key key key).1 refl
 
 -- the unclaimed amount stands after the parties that leave it
 unclaimed_in_place : (key : Key) (before : List Line) (amount : ℤ) → of_latest false (unclaimed_follows key) before ≡ true → left_of before ≡ amount
@@ -191,11 +165,8 @@ block_lines l ls rest =
 
 ledger_first : (l : LedgerLine) (before : List Line) → Latest follows_summary before
     → placed before (lines.Ledger (key_of_line l) l.usages l.amount) ≡ Ok (lines.Ledger (key_of_line l) l.usages l.amount)
-ledger_first l [] h = cc
 ledger_first l (lines.File place f ∷ before) h = refl
-ledger_first l (lines.Missing n ∷ before) h = refl
-ledger_first l (lines.Summary d ∷ before) h = refl
-ledger_first l (_ ∷ before) h = cc
+ledger_first l _ h = cc
 
 ledgers_after : (l : LedgerLine) (ls : List LedgerLine) (before rest : List Line)
     → ((b : List Line) → Latest follows_ledger b → AreInPlace b rest)

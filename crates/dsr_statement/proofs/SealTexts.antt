@@ -104,7 +104,6 @@ line_is_text (lines.End n s) of h =
     let low = ltb-true n (2 ^ 64) (and_parts (nat_lt n (2 ^ 64)) true h).0 in
     short_text (line_text (lines.End n s)) (both_parts (decimal n) (9 ∷ status_name s) (number_bytes n low) (status_bytes s))
     (omega (arith, number_length n low, status_length s, length-append (decimal n) (9 ∷ status_name s)))
-line_is_text (lines.Report key) of h = cc
 line_is_text _ of h = cc
 
 all_are_texts : (ls : List Line) → list_all is_of_seal ls ≡ true → list_all is_line ls ≡ true → list_all is_text ls ≡ true

@@ -1,19 +1,19 @@
 -- Sealed statements: how many lines they have, and that they are read again.
-use Rattle.std.proofs.Common.{arith, ◌≡◌, ℕ, List, [], ◌∷◌, ◌++◌, length, Bool, true, false, cond, refl, ap, sym, subst, ◌∙◌, inl, inr, append_assoc, append-nil, length-append, Ok, Err, eqb}
+use Rattle.std.proofs.Common.{arith, ◌≡◌, ℕ, List, [], ◌∷◌, ◌++◌, length, Bool, true, false, cond, refl, ap, sym, subst, ◌∙◌, append_assoc, append-nil, length-append, Ok, eqb}
 use Rattle.std.specs.Prelude.{reverse}
 use Rattle.std.specs.List.{list_any}
-use Rattle.std.proofs.lemmas.Bool.{and_parts, cases_Bool, eqb-true}
+use Rattle.std.proofs.lemmas.Bool.{and_parts, eqb-true}
 use Rattle.std.proofs.lemmas.List.{length-reverse, reverse-append}
 use Rattle.std.proofs.lemmas.List.Sorted.{IsPermutation-reverse, list_any-IsPermutation}
 use Rattle.dsr_statement.specs.declared.line.Line.{Line}
 use Rattle.dsr_statement.specs.declared.line.Line.TheVariants as lines
-use Rattle.dsr_statement.specs.declared.fault.StatementFault.TheVariants as faults
 use Rattle.dsr_statement.specs.declared.verdict.Status.{Status}
 use Rattle.dsr_statement.specs.declared.verdict.Status.TheVariants as statuses
-use Rattle.dsr_statement.specs.meaning.Order.{adds_up, files_in, follows, is_end, is_placed, is_sealed, placed, seals}
+use Rattle.dsr_statement.specs.meaning.Order.{files_in, follows, is_end, is_sealed, placed}
 use Rattle.dsr_statement.specs.meaning.Status.{is_remark, status_eq, status_of_lines}
 use Rattle.dsr_statement.specs.layer.Statements.{AreInPlace, IsSealed}
 use Rattle.dsr_statement.proofs.Again.{not_both}
+use Rattle.dsr_statement.proofs.ReadLines.{is_in_place}
 
 -- the lines after others are in their places
 pub behind : (before xs ys : List Line) → AreInPlace before (xs ++ ys) → AreInPlace (reverse xs ++ before) ys
@@ -22,30 +22,15 @@ behind before (x ∷ xs) ys h =
     subst (λ (b : List Line). AreInPlace b ys) (sym (append_assoc (reverse xs) (x ∷ []) before) ∙ ap (λ b. b ++ before) (sym (reverse-append (x ∷ []) xs)))
     (behind (x ∷ before) xs ys h.1)
 
--- what is tested of a line in its place
-pub is_in_place : (before : List Line) (l : Line) → placed before l ≡ Ok l → (is_placed before l ≡ true) × (seals before l ≡ true)
-is_in_place before l h = elim (cases_Bool (is_placed before l)) [
-  | inr f ↦ let none : placed before l ≡ Err faults.Place = rw f refl in cc
-  | inl a ↦ elim (cases_Bool (adds_up before l)) [
-    | inr f ↦ let none : placed before l ≡ Err faults.Sum = rw (a, f) refl in cc
-    | inl b ↦ elim (cases_Bool (seals before l)) [
-      | inr f ↦ let none : placed before l ≡ Err faults.Seal = rw (a, b, f) refl in cc
-      | inl s ↦ (a, s)
-    ]
-  ]
-]
-
 -- no line may stand after END
 after_end : (files n : ℕ) (s : Status) (l : Line) → follows files l (lines.End n s) ≡ false
 after_end files n s (lines.Report key) = refl
 after_end files n s _ = refl
 
 pub nothing_behind : (before : List Line) (l : Line) → placed before l ≡ Ok l → is_sealed before ≡ false
-nothing_behind [] l h = refl
 nothing_behind (lines.End n s ∷ before) l h =
-    not_both (follows (files_in before) l (lines.End n s)) (is_in_place (lines.End n s ∷ before) l h).0 (after_end (files_in before) n s l)
-nothing_behind (lines.Report key ∷ before) l h = refl
-nothing_behind (_ ∷ before) l h = refl
+    not_both (follows (files_in before) l (lines.End n s)) (is_in_place (lines.End n s ∷ before) l l h).0 (after_end (files_in before) n s l)
+nothing_behind _ l h = refl
 
 -- no more lines behind those that are sealed
 pub no_prefix : (ls more : List Line) → IsSealed ls → IsSealed (ls ++ more) → more ≡ []
@@ -58,8 +43,7 @@ no_prefix ls (l ∷ more) short long =
 same_status : (s t : Status) → status_eq s t ≡ true → s ≡ t
 same_status statuses.Clean statuses.Clean h = refl
 same_status statuses.Remarks statuses.Remarks h = refl
-same_status statuses.Clean statuses.Remarks h = cc
-same_status statuses.Remarks statuses.Clean h = cc
+same_status _ _ h = cc
 
 pub any_reverse : (test : Line → Bool) (ls : List Line) → list_any test ls ≡ list_any test (reverse ls)
 any_reverse test ls = list_any-IsPermutation test ls (reverse ls) (IsPermutation-reverse ls)
@@ -71,7 +55,7 @@ end_counts ls count status h =
     let rest : AreInPlace (reverse ls) (lines.End count status ∷ []) =
     subst (λ (b : List Line). AreInPlace b (lines.End count status ∷ [])) (append-nil (reverse ls)) (behind [] ls (lines.End count status ∷ []) h.statement.places) in
     let both = and_parts (eqb count (length (reverse ls))) (status_eq status (status_of_lines (reverse ls)))
-    (is_in_place (reverse ls) (lines.End count status) rest.0).1 in (
+    (is_in_place (reverse ls) (lines.End count status) (lines.End count status) rest.0).2 in (
       eqb-true count (length (reverse ls)) both.0 ∙ length-reverse ls,
       same_status status (status_of_lines (reverse ls)) both.1 ∙ ap (λ b. cond b statuses.Remarks statuses.Clean) (sym (any_reverse is_remark ls)),
     )
@@ -87,17 +71,7 @@ last_is_end front l h = sym (ap is_sealed (reverse-append front (l ∷ []))) ∙
 -- lines that end alike are equally many
 ends_alike : (one other : List Line) (l : Line) → IsSealed (one ++ l ∷ []) → IsSealed (other ++ l ∷ []) → length one ≡ length other
 ends_alike one other (lines.End count status) a b = sym (end_counts one count status a).0 ∙ (end_counts other count status b).0
-ends_alike one other (lines.Report key) a b = let end = last_is_end one (lines.Report key) a.sealed in cc
-ends_alike one other lines.NoReport a b = let end = last_is_end one lines.NoReport a.sealed in cc
-ends_alike one other (lines.File place f) a b = let end = last_is_end one (lines.File place f) a.sealed in cc
-ends_alike one other (lines.Missing n) a b = let end = last_is_end one (lines.Missing n) a.sealed in cc
-ends_alike one other (lines.Summary d) a b = let end = last_is_end one (lines.Summary d) a.sealed in cc
-ends_alike one other (lines.Ledger key u x) a b = let end = last_is_end one (lines.Ledger key u x) a.sealed in cc
-ends_alike one other (lines.Party key p) a b = let end = last_is_end one (lines.Party key p) a.sealed in cc
-ends_alike one other (lines.Unclaimed key x) a b = let end = last_is_end one (lines.Unclaimed key x) a.sealed in cc
-ends_alike one other (lines.Reject r) a b = let end = last_is_end one (lines.Reject r) a.sealed in cc
-ends_alike one other (lines.Layout d) a b = let end = last_is_end one (lines.Layout d) a.sealed in cc
-ends_alike one other (lines.Input place d) a b = let end = last_is_end one (lines.Input place d) a.sealed in cc
+ends_alike one other l a b = let end = last_is_end one l a.sealed in cc
 
 empty : (xs : List Line) → length xs ≡ 0 → xs ≡ []
 empty [] h = refl

@@ -28,7 +28,7 @@ use Rattle.dsr_statement.specs.meaning.Statement.{files_from, head_of, lines_of_
 use Rattle.dsr_statement.specs.layer.Statements.{AreInPlace, IsReadable, IsSealed, is_text}
 use Rattle.dsr_statement.specs.meaning.Status.{is_remark, status_eq, status_of, status_of_lines}
 use Rattle.dsr_statement.proofs.AgainTexts.{is_read_again}
-use Rattle.dsr_statement.proofs.RemarkLines.{report_status}
+use Rattle.dsr_statement.proofs.RemarkLines.{none_of_ledger, none_pass, report_status}
 use Rattle.dsr_statement.proofs.ReportPlaces.{is_statement, placed_ok}
 use Rattle.dsr_statement.proofs.Sealed.{any_reverse}
 use Rattle.dsr_statement.proofs.SealTexts.{seal_texts}
@@ -45,17 +45,12 @@ in_place_then before (x ∷ xs) ys h then =
 files_append : (a b : List Line) → files_in (a ++ b) ≡ files_in a + files_in b
 files_append [] b = omega arith
 files_append (lines.File place f ∷ a) b = omega (arith, files_append a b)
-files_append (lines.Report key ∷ a) b = files_append a b
 files_append (_ ∷ a) b = files_append a b
 
 files_reverse : (ls : List Line) → files_in (reverse ls) ≡ files_in ls
 files_reverse [] = refl
 files_reverse (l ∷ ls) =
-    ap files_in (reverse-append (l ∷ []) ls) ∙ files_append (reverse ls) (l ∷ []) ∙ ap (λ n. n + files_in (l ∷ [])) (files_reverse ls)
-    ∙ turned (files_in ls) (files_in (l ∷ [])) ∙ sym (files_append (l ∷ []) ls)
-  where
-    turned : (a b : ℕ) → a + b ≡ b + a
-    turned a b = omega arith
+    omega (arith, ap files_in (reverse-append (l ∷ []) ls), files_append (reverse ls) (l ∷ []), files_append (l ∷ []) ls, files_reverse ls)
 
 files_of : (place : ℕ) (fs : List FileLine) → files_in (files_from place fs) ≡ length fs
 files_of place [] = refl
@@ -68,11 +63,8 @@ files_of_others line is (x ∷ xs) = is x (map line xs) ∙ files_of_others line
 files_of_ledger : (ls : List LedgerLine) → files_in (flat_map lines_of_ledger ls) ≡ 0
 files_of_ledger [] = refl
 files_of_ledger (l ∷ ls) =
-    let parties = map (λ (p : PartyLine). lines.Party (key_of_line l) p) l.parties in
-    let none : files_in parties ≡ 0 = files_of_others (λ (p : PartyLine). lines.Party (key_of_line l) p) (λ p ls. refl) l.parties in
-    let here : files_in (lines_of_ledger l) ≡ 0 = files_append parties (lines.Unclaimed (key_of_line l) l.unclaimed ∷ []) ∙ ap (λ n. n + 0) none in
-    ap files_in (flat_map-cons lines_of_ledger l ls) ∙ files_append (lines_of_ledger l) (flat_map lines_of_ledger ls)
-    ∙ (λ i. here i + files_of_ledger ls i)
+    ap files_in (flat_map-cons lines_of_ledger l ls)
+    ∙ simp files_append (rw (files_of_others (λ (p : PartyLine). lines.Party (key_of_line l) p) (λ p ls. refl) l.parties, files_of_ledger ls) refl)
 
 files_of_head : (key : Option ReportKey) (ls : List Line) → files_in (head_of key ∷ ls) ≡ files_in ls
 files_of_head (Some key) ls = refl
@@ -80,59 +72,38 @@ files_of_head None ls = refl
 
 files_of_report : (r : Report) → files_in (statement_lines r) ≡ length r.files
 files_of_report r =
-    let files = files_from 1 r.files in let missing = map (λ (n : ℕ). lines.Missing n) r.missing in
-    let differences = map (λ (d : Difference). lines.Summary d) r.differences in
-    let ledger = flat_map lines_of_ledger r.ledger in let rejects = map (λ (x : Reject). lines.Reject x) r.rejects in
-    let a = files_append ledger rejects in let b = files_append differences (ledger ++ rejects) in
-    let c = files_append missing (differences ++ (ledger ++ rejects)) in
-    let d = files_append files (missing ++ (differences ++ (ledger ++ rejects))) in
-    let none_missing = files_of_others (λ (n : ℕ). lines.Missing n) (λ n ls. refl) r.missing in
-    let none_differ = files_of_others (λ (d : Difference). lines.Summary d) (λ d ls. refl) r.differences in
-    let none_rejected = files_of_others (λ (x : Reject). lines.Reject x) (λ x ls. refl) r.rejects in
-    files_of_head r.key (files ++ (missing ++ (differences ++ (ledger ++ rejects))))
-    ∙ omega (arith, a, b, c, d, none_missing, none_differ, none_rejected, files_of_ledger r.ledger, files_of 1 r.files)
+    simp (files_of_head, files_append) (rw (
+      files_of 1 r.files,
+      files_of_others (λ (n : ℕ). lines.Missing n) (λ n ls. refl) r.missing,
+      files_of_others (λ (d : Difference). lines.Summary d) (λ d ls. refl) r.differences,
+      files_of_ledger r.ledger,
+      files_of_others (λ (x : Reject). lines.Reject x) (λ x ls. refl) r.rejects,
+    ) (omega arith))
 
 -- no line of a report is END
-no_end : {X : Type 0} (line : X → Line) → ((x : X) → is_end (line x) ≡ false) → (xs : List X) → list_any is_end (map line xs) ≡ false
-no_end line is [] = refl
-no_end line is (x ∷ xs) = rw (is x) (no_end line is xs)
-
-neither : (a b : List Line) → list_any is_end a ≡ false → list_any is_end b ≡ false → list_any is_end (a ++ b) ≡ false
-neither a b p q = list_any-append is_end a b ∙ rw p q
-
 no_end_files : (place : ℕ) (fs : List FileLine) → list_any is_end (files_from place fs) ≡ false
 no_end_files place [] = refl
 no_end_files place (f ∷ fs) = no_end_files (suc place) fs
 
-no_end_ledger : (ls : List LedgerLine) → list_any is_end (flat_map lines_of_ledger ls) ≡ false
-no_end_ledger [] = refl
-no_end_ledger (l ∷ ls) =
-    let parties = no_end (λ (p : PartyLine). lines.Party (key_of_line l) p) (λ p. refl) l.parties in
-    ap (list_any is_end) (flat_map-cons lines_of_ledger l ls)
-    ∙ neither (lines_of_ledger l) (flat_map lines_of_ledger ls)
-    (neither (map (λ (p : PartyLine). lines.Party (key_of_line l) p) l.parties) (lines.Unclaimed (key_of_line l) l.unclaimed ∷ []) parties refl) (no_end_ledger ls)
-
-no_end_head : (key : Option ReportKey) (ls : List Line) → list_any is_end ls ≡ false → list_any is_end (head_of key ∷ ls) ≡ false
-no_end_head (Some key) ls h = h
-no_end_head None ls h = h
+no_end_head : (key : Option ReportKey) → is_end (head_of key) ≡ false
+no_end_head (Some key) = refl
+no_end_head None = refl
 
 no_end_report : (r : Report) → list_any is_end (statement_lines r) ≡ false
 no_end_report r =
-    let rejects = map (λ (x : Reject). lines.Reject x) r.rejects in let ledger = flat_map lines_of_ledger r.ledger in
-    let differences = map (λ (d : Difference). lines.Summary d) r.differences in
-    let missing = map (λ (n : ℕ). lines.Missing n) r.missing in let files = files_from 1 r.files in
-    no_end_head r.key (files ++ (missing ++ (differences ++ (ledger ++ rejects))))
-    (neither files (missing ++ (differences ++ (ledger ++ rejects))) (no_end_files 1 r.files)
-    (neither missing (differences ++ (ledger ++ rejects)) (no_end (λ (n : ℕ). lines.Missing n) (λ n. refl) r.missing)
-    (neither differences (ledger ++ rejects) (no_end (λ (d : Difference). lines.Summary d) (λ d. refl) r.differences)
-    (neither ledger rejects (no_end_ledger r.ledger) (no_end (λ (x : Reject). lines.Reject x) (λ x. refl) r.rejects)))))
+    simp list_any-append (rw (
+      no_end_head r.key,
+      no_end_files 1 r.files,
+      none_pass is_end (λ (n : ℕ). lines.Missing n) (λ n. refl) r.missing,
+      none_pass is_end (λ (d : Difference). lines.Summary d) (λ d. refl) r.differences,
+      none_of_ledger is_end (λ key usages amount. refl) (λ key p. refl) (λ key amount. refl) r.ledger,
+      none_pass is_end (λ (x : Reject). lines.Reject x) (λ x. refl) r.rejects,
+    ) refl)
 
 -- lines that are whole and have no END are ready for a seal
 ready : (before : List Line) → list_any is_end before ≡ false → is_complete before ≡ true → of_latest false follows_reject before ≡ true
-ready [] none h = cc
 ready (lines.End n s ∷ before) none h = cc
-ready (lines.Report key ∷ before) none h = h
-ready (_ ∷ before) none h = h
+ready _ none h = h
 
 -- INPUT lines, and END behind them
 inputs_after : (place : ℕ) (d : Digest) (ds : List Digest) (before : List Line) (count : ℕ) (status : Status)
@@ -151,15 +122,8 @@ inputs_after place d (e ∷ es) before count status files number is = (
 
 first_input : (before : List Line) (files : ℕ) → of_latest false follows_layout before ≡ true → nat_le 1 files ≡ true
     → of_latest false (λ last. input_follows 1 last && nat_le 1 files) before ≡ true
-first_input [] files h some = cc
 first_input (lines.File place f ∷ before) files h some = some
-first_input (lines.Missing n ∷ before) files h some = some
-first_input (lines.Summary d ∷ before) files h some = some
-first_input (lines.Unclaimed key x ∷ before) files h some = some
-first_input (lines.Reject x ∷ before) files h some = some
-first_input (lines.Layout d ∷ before) files h some = some
-first_input (lines.Report key ∷ before) files h some = cc
-first_input (_ ∷ before) files h some = cc
+first_input _ files h some = cc
 
 inputs_in_place : (ds : List Digest) (before : List Line) (count : ℕ) (status : Status)
     → 0 < length ds → of_latest false follows_layout before ≡ true → files_in before ≡ length ds → count ≡ length before + length ds
@@ -175,10 +139,8 @@ inputs_length place [] = refl
 inputs_length place (d ∷ ds) = ap suc (inputs_length (suc place) ds)
 
 layout_ready : (before : List Line) → of_latest false follows_reject before ≡ true → of_latest false follows_layout before ≡ true
-layout_ready [] h = cc
 layout_ready (lines.Layout d ∷ before) h = refl
-layout_ready (lines.Report key ∷ before) h = h
-layout_ready (_ ∷ before) h = h
+layout_ready _ h = h
 
 -- the seal stands behind lines that are ready for it
 seal_in_place : (layout : Option Digest) (ds : List Digest) (before : List Line) (count : ℕ) (status : Status)

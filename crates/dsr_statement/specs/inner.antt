@@ -6,6 +6,5 @@ pub mod Numbers
 pub mod Cuts
 pub mod Lenient
 pub mod Checks
-pub mod Lasts
 pub mod Near
 pub mod After

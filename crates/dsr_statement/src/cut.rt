@@ -16,8 +16,9 @@ fn around(text: &str, place: usize) -> (&str, &str)
 /// The text before the point that ten bytes follow, and these; None if there is no such point.
 #[inline(always)]
 pub(crate) fn at_point(text: &str) -> Option<(&str, &str)>
-    ensures { MatchOption result (HasNoPoint text.now)
+    ensures cut { MatchOption result (HasNoPoint text.now)
         (λ cut. text.now ≡ cut.0.now ++ 46 ∷ cut.1.now) }
+    ensures ten { IfSome result (λ cut. length cut.1.now ≡ 10) }
 {
     if text.len() < 11 {
         return None;

@@ -1,8 +1,10 @@
 //! What is kept of the lines read so far.
-ghost use Rattle.std.specs.Prelude.{◌≡◌, IfSome, OnOk};
+ghost use Rattle.std.specs.Prelude.{◌≡◌, List, IfSome, OnOk};
 ghost use Rattle.dsr_ledger.specs.meaning.Bookings.{key_eq};
-ghost use Rattle.dsr_statement.specs.meaning.Order.{is_key_below};
-ghost use Rattle.dsr_statement.specs.inner.Lasts.{last_line, file_fits, fits_file, fits_missing, fits_summary, fits_ledger, fits_reject, fits_layout, missing_fits, summary_fits, ledger_fits, party_fits, unclaimed_fits, reject_fits, input_fits, end_fits, fits_start, fits_nothing, ends, is_within};
+ghost use Rattle.dsr_statement.specs.declared.line.Line.{Line as LineValue};
+ghost use Rattle.dsr_statement.specs.meaning.Order.{is_key_below, file_follows, missing_follows, summary_follows, reject_follows, input_follows, end_follows, follows_file, follows_missing, follows_summary, follows_ledger, follows_reject, may_end, is_end};
+ghost use Rattle.dsr_statement.specs.meaning.Status.{is_nil};
+ghost use Rattle.dsr_statement.specs.inner.After.{last_line, last_of, Settles};
 ghost use Rattle.dsr_statement.specs.inner.Near.{key_before};
 
 use crate::cut::after_cell;
@@ -12,7 +14,7 @@ use std::alloc::Global;
 use std::marker::Model;
 
 /// The last line that was read, as far as the next one depends on it.
-#[derive(Clone, Copy, PartialEq, Eq)]
+#[derive(Clone, Copy)]
 pub(crate) enum Last {
     /// None was.
     Start,
@@ -62,28 +64,28 @@ impl Last {
 
     /// Whether a statement begins here.
     pub(crate) fn is_start(self) -> bool
-        ensures { result ≡ fits_start self }
+        ensures { (before : List LineValue) → self ≡ last_of before → result ≡ is_nil before }
     {
         matches!(self, Last::Start)
     }
 
     /// Whether a statement may end here.
     pub(crate) fn may_end(self) -> bool
-        ensures { result ≡ ends self }
+        ensures { Settles self may_end result }
     {
         self.is_end() || self.is_reject()
     }
 
     /// Whether it is END.
     pub(crate) fn is_end(self) -> bool
-        ensures { result ≡ fits_nothing self }
+        ensures { Settles self is_end result }
     {
         matches!(self, Last::End)
     }
 
     /// Whether the line of the file at this place may stand next.
     pub(crate) fn precedes_file(self, place: u64) -> bool
-        ensures { result ≡ file_fits place self }
+        ensures { Settles self (file_follows place) result }
     {
         match self {
             Last::Report => place == 1,
@@ -94,59 +96,53 @@ impl Last {
 
     /// Whether it is the line of a file.
     fn is_file(self) -> bool
-        ensures { result ≡ fits_file self }
+        ensures { Settles self follows_file result }
     {
         matches!(self, Last::File(_))
     }
 
     /// Whether it is the line of a file or of a missing one.
     fn is_missing(self) -> bool
-        ensures { result ≡ fits_missing self }
+        ensures { Settles self follows_missing result }
     {
         matches!(self, Last::Missing(_)) || self.is_file()
     }
 
     /// Whether it is the line of a file, of a missing one or of a difference.
-    fn is_summary(self) -> bool
-        ensures { result ≡ fits_summary self }
+    pub(crate) fn is_summary(self) -> bool
+        ensures { Settles self follows_summary result }
     {
         matches!(self, Last::Summary(_)) || self.is_missing()
     }
 
     /// Whether it is one of these or the last of a ledger line.
     fn is_unclaimed(self) -> bool
-        ensures { result ≡ fits_ledger self }
+        ensures { Settles self follows_ledger result }
     {
         matches!(self, Last::Unclaimed) || self.is_summary()
     }
 
     /// Whether a statement that is not sealed may end with it.
     pub(crate) fn is_reject(self) -> bool
-        ensures { result ≡ fits_reject self }
+        ensures { Settles self follows_reject result }
     {
         matches!(self, Last::Reject(_, _)) || self.is_unclaimed()
     }
 
-    /// Whether it is one of these or the line of the layout.
-    fn is_layout(self) -> bool
-        ensures { result ≡ fits_layout self }
-    {
-        matches!(self, Last::Layout) || self.is_reject()
-    }
-
     /// Whether the line of the bytes of the file at this place may stand next.
     pub(crate) fn precedes_input(self, place: u64) -> bool
-        ensures { result ≡ input_fits place self }
+        ensures { Settles self (input_follows place) result }
     {
         match self {
             Last::Input(before) => before < place && place - before == 1,
-            _ => self.is_layout() && place == 1,
+            Last::Layout => place == 1,
+            _ => self.is_reject() && place == 1,
         }
     }
 
     /// Whether END may stand next, after so many files.
     pub(crate) fn precedes_end(self, files: u64) -> bool
-        ensures { result ≡ end_fits files self }
+        ensures { Settles self (end_follows files) result }
     {
         match self {
             Last::Input(place) => place == files,
@@ -156,7 +152,7 @@ impl Last {
 
     /// Whether the line of this missing file may stand next.
     pub(crate) fn precedes_missing(self, number: u32) -> bool
-        ensures { result ≡ missing_fits number self }
+        ensures { Settles self (missing_follows number) result }
     {
         match self {
             Last::Missing(before) => before < number,
@@ -166,7 +162,7 @@ impl Last {
 
     /// Whether the line of a difference of this file may stand next.
     pub(crate) fn precedes_summary(self, file: u64) -> bool
-        ensures { result ≡ summary_fits file self }
+        ensures { Settles self (summary_follows file) result }
     {
         match self {
             Last::Summary(before) => before <= file,
@@ -174,44 +170,9 @@ impl Last {
         }
     }
 
-    /// Whether a ledger line may stand next, whose key is above the last one or not.
-    pub(crate) fn precedes_ledger(self, is_above: bool) -> bool
-        ensures { result ≡ ledger_fits is_above self }
-    {
-        match self {
-            Last::Unclaimed => is_above,
-            _ => self.is_summary(),
-        }
-    }
-
-    /// Whether the line of a party may stand next, which has the last key or not, and whose name is above the last one or not.
-    pub(crate) fn precedes_party(self, same_key: bool, is_above: bool) -> bool
-        ensures { result ≡ party_fits same_key is_above self }
-    {
-        match self {
-            Last::Ledger => same_key,
-            Last::Party => same_key && is_above,
-            _ => false,
-        }
-    }
-
-    /// Whether it is a ledger line or one of a party.
-    pub(crate) fn is_within(self) -> bool
-        ensures { result ≡ is_within self }
-    {
-        matches!(self, Last::Ledger | Last::Party)
-    }
-
-    /// Whether an unclaimed amount may stand next, which has the last key or not.
-    pub(crate) fn precedes_unclaimed(self, same_key: bool) -> bool
-        ensures { result ≡ unclaimed_fits same_key self }
-    {
-        matches!(self, Last::Ledger | Last::Party) && same_key
-    }
-
     /// Whether the line of this rejected block may stand next.
     pub(crate) fn precedes_reject(self, file: u64, position: u64) -> bool
-        ensures { result ≡ reject_fits file position self }
+        ensures { Settles self (reject_follows file position) result }
     {
         match self {
             Last::Reject(last, before) => { last < file || (last == file && before < position) }

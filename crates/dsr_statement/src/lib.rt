@@ -87,7 +87,7 @@ pub use pieces::Pieces;
 pub use putting::put;
 pub use reader::StatementReader;
 pub use reading::{LINE_LIMIT, read};
-pub use remarks::{is_remark, status, view_status};
+pub use remarks::{is_remark, status};
 pub use room::Room;
 pub use sink::{Match, Sink};
 pub use verdict::Status;

@@ -1,25 +1,21 @@
 //! Putting lines of a statement, each with its line feed. Those of a ledger line begin with the cells of its key, which are
 //! laid once.
-ghost use Rattle.std.specs.Prelude.{◌≡◌, ◌∷◌, ◌++◌, IfSome};
-ghost use Rattle.std.specs.List.{flat_map};
-ghost use Rattle.dsr_ledger.specs.meaning.Laws.{key_of_line};
+ghost use Rattle.std.specs.Prelude.{◌≡◌};
 ghost use Rattle.dsr_statement.specs.declared.line.Line.{Line as LineValue};
 ghost use Rattle.dsr_statement.specs.meaning.Lines.{line_bytes};
 ghost use Rattle.dsr_statement.specs.meaning.Statement.{head_of, lines_of_ledger, text_of};
 ghost use Rattle.dsr_statement.specs.inner.Pieces.{Puts};
-ghost use Rattle.dsr_statement.specs.inner.Rows.{key_text, sums_bytes, party_bytes, unclaimed_bytes};
+ghost use Rattle.dsr_statement.specs.inner.Rows.{sums_bytes, party_bytes, unclaimed_bytes};
 
 use crate::cells::{put_signed, put_text};
-use crate::key::{laid_key, put_key};
+use crate::key::LaidLine;
 use crate::line::{DifferenceRef, Line, RejectRef, ReportRef};
 use crate::pieces::Pieces;
 use crate::putting::put;
 use crate::sink::Sink;
 use crate::slice_buffer::SliceBuffer;
 use dsr_io::Outlet;
-use dsr_ledger::{
-    Difference, FileLine, LedgerLine, LineView, PartyLine, PartyView, Reject, ReportKey,
-};
+use dsr_ledger::{Difference, FileLine, LedgerLine, LineView, PartyView, Reject, ReportKey};
 
 /// Puts a line.
 pub fn put_line<W: Outlet>(out: &mut Pieces<'_, W>, line: &Line<'_>)
@@ -59,52 +55,72 @@ pub(crate) fn file_line<'l>(place: u64, file: &FileLine) -> Line<'l>
     )
 }
 
-/// The line of a difference.
-pub(crate) fn difference_line(difference: &Difference) -> Line<'_>
-    ensures { result ≡ LineValue.Summary difference.now }
-{
-    Line::Summary(DifferenceRef {
-        file: u64::from(difference.file),
-        summary_id: difference.summary_id.as_str(),
-        stated_usages: i128::from(difference.stated_usages),
-        found_usages: difference.found_usages,
-        stated_amount: difference.stated_amount,
-        found_amount: difference.found_amount,
-    })
+/// What a statement has a line of.
+pub(crate) trait AsLine {
+    ghost line: { Self → LineValue };
+
+    /// Its line.
+    fn as_line(&self) -> Line<'_>
+        ensures { result ≡ line self.now };
 }
 
-/// The line of a rejected block.
-pub(crate) fn reject_line(reject: &Reject) -> Line<'_>
-    ensures { result ≡ LineValue.Reject reject.now }
-{
-    Line::Reject(RejectRef {
-        file: u64::from(reject.file),
-        position: reject.position,
-        block_id: reject.block_id.as_str(),
-        reason: reject.reason,
-    })
+/// The number of a missing file.
+impl AsLine for u32 {
+    ghost line = { λ n. LineValue.Missing n };
+
+    fn as_line(&self) -> Line<'_> {
+        Line::Missing(*self)
+    }
 }
 
-/// Puts the lines of a ledger line: its sums, its parties, then those of a report's line (`own`), and the unclaimed amount.
-/// The cells of the key, with which each of them begins, are written into `room` once. Nothing is put once the outlet has
-/// failed.
+impl AsLine for Difference {
+    ghost line = { λ d. LineValue.Summary d };
+
+    fn as_line(&self) -> Line<'_> {
+        Line::Summary(DifferenceRef {
+            file: u64::from(self.file),
+            summary_id: self.summary_id.as_str(),
+            stated_usages: i128::from(self.stated_usages),
+            found_usages: self.found_usages,
+            stated_amount: self.stated_amount,
+            found_amount: self.found_amount,
+        })
+    }
+}
+
+impl AsLine for Reject {
+    ghost line = { λ x. LineValue.Reject x };
+
+    fn as_line(&self) -> Line<'_> {
+        Line::Reject(RejectRef {
+            file: u64::from(self.file),
+            position: self.position,
+            block_id: self.block_id.as_str(),
+            reason: self.reason,
+        })
+    }
+}
+
+/// Puts the lines of a ledger line: its sums, these parties, and the unclaimed amount. The cells of the key, with which each
+/// of them begins, are written into `room` once. Nothing is put once the outlet has failed.
 pub(crate) fn put_ledger<W: Outlet>(
     out: &mut Pieces<'_, W>,
     room: &mut SliceBuffer<'_>,
     line: &LineView<'_>,
-    own: &[PartyLine],
+    parties: &[PartyView<'_>],
 )
     ensures { Puts W.told out.old out.new
-        (text_of (lines_of_ledger (record line.now { parties = line.now.parties ++ own.now }))) }
+        (text_of (lines_of_ledger (record line.now { parties = parties.now }))) }
 {
     if out.drop_if_failed() {
         return;
     }
-    let key = laid_key(room, line);
-    put_sums(out, key, line);
-    put_parties(out, key, line);
-    put_own_parties(out, key, line, own);
-    put_unclaimed(out, key, line)
+    let laid = LaidLine::of(room, line);
+    put_sums(out, &laid);
+    for party in parties {
+        put_party(out, &laid, party);
+    }
+    put_unclaimed(out, &laid)
 }
 
 /// Puts the lines of a ledger line of a report.
@@ -123,73 +139,49 @@ pub(crate) fn put_own_ledger<W: Outlet>(
         usages: line.usages,
         amount: line.amount,
         unclaimed: line.unclaimed,
-        parties: &[],
     };
-    put_ledger(out, room, &view, line.parties.as_slice())
-}
-
-/// Puts the lines of the parties of a report's line. `key` has the key's cells, if they fit.
-fn put_own_parties<W: Outlet>(
-    out: &mut Pieces<'_, W>,
-    key: Option<&[u8]>,
-    line: &LineView<'_>,
-    parties: &[PartyLine],
-)
-    requires { IfSome key (λ k. k.now ≡ key_text (key_of_line line.now)) }
-    ensures { Puts W.told out.old out.new (flat_map (party_bytes line.now) parties.now) }
-{
-    for party in parties {
+    let laid = LaidLine::of(room, &view);
+    put_sums(out, &laid);
+    for party in line.parties.as_slice() {
         let view = PartyView {
             party: &party.party,
             amount: party.amount,
         };
-        put_party(out, key, line, &view);
+        put_party(out, &laid, &view);
     }
+    put_unclaimed(out, &laid)
 }
 
-/// Puts the line of a key's sums. `key` has the key's cells, if they fit.
-fn put_sums<W: Outlet>(out: &mut Pieces<'_, W>, key: Option<&[u8]>, line: &LineView<'_>)
-    requires { IfSome key (λ k. k.now ≡ key_text (key_of_line line.now)) }
-    ensures { Puts W.told out.old out.new (sums_bytes line.now) }
+/// Puts the line of a key's sums.
+#[inline(always)]
+fn put_sums<W: Outlet>(out: &mut Pieces<'_, W>, laid: &LaidLine<'_>)
+    ensures { Puts W.told out.old out.new (sums_bytes laid.now) }
 {
+    let line = laid.line;
     out.put(b"LEDGER");
-    put_key(out, key, line);
+    laid.put_key(out);
     put_signed(out, line.usages);
     out.put_last_amount(line.amount);
 }
 
-/// Puts the lines of a key's parties. `key` has the key's cells, if they fit.
-fn put_parties<W: Outlet>(out: &mut Pieces<'_, W>, key: Option<&[u8]>, line: &LineView<'_>)
-    requires { IfSome key (λ k. k.now ≡ key_text (key_of_line line.now)) }
-    ensures { Puts W.told out.old out.new (flat_map (party_bytes line.now) line.now.parties) }
-{
-    for party in line.parties {
-        put_party(out, key, line, party);
-    }
-}
-
-/// Puts the line of a party. `key` has the key's cells, if they fit.
-fn put_party<W: Outlet>(
-    out: &mut Pieces<'_, W>,
-    key: Option<&[u8]>,
-    line: &LineView<'_>,
-    party: &PartyView<'_>,
-)
-    requires { IfSome key (λ k. k.now ≡ key_text (key_of_line line.now)) }
-    ensures { Puts W.told out.old out.new (party_bytes line.now party.now) }
+/// Puts the line of a party.
+#[inline(always)]
+fn put_party<W: Outlet>(out: &mut Pieces<'_, W>, laid: &LaidLine<'_>, party: &PartyView<'_>)
+    ensures { Puts W.told out.old out.new (party_bytes laid.now party.now) }
 {
     out.put(b"PARTY");
-    put_key(out, key, line);
+    laid.put_key(out);
     put_text(out, party.party.as_str());
     out.put_last_amount(party.amount);
 }
 
-/// Puts the line of a key's unclaimed amount. `key` has the key's cells, if they fit.
-fn put_unclaimed<W: Outlet>(out: &mut Pieces<'_, W>, key: Option<&[u8]>, line: &LineView<'_>)
-    requires { IfSome key (λ k. k.now ≡ key_text (key_of_line line.now)) }
-    ensures { Puts W.told out.old out.new (unclaimed_bytes line.now) }
+/// Puts the line of a key's unclaimed amount.
+#[inline(always)]
+fn put_unclaimed<W: Outlet>(out: &mut Pieces<'_, W>, laid: &LaidLine<'_>)
+    ensures { Puts W.told out.old out.new (unclaimed_bytes laid.now) }
 {
+    let line = laid.line;
     out.put(b"UNCLAIMED");
-    put_key(out, key, line);
+    laid.put_key(out);
     out.put_last_amount(line.unclaimed);
 }

@@ -10,7 +10,7 @@ use crate::last::LastKey;
 use crate::lenient::{party_of, unclaimed_of};
 use crate::line::Line;
 use crate::number::read_amount;
-use dsr_cells::FirstCells;
+use dsr_cells::first_cell;
 
 /// The amount that a text spells, if it is in its range.
 fn amount_in_range(text: &str) -> Option<i128>
@@ -30,11 +30,8 @@ fn near_party<'l>(text: &'l str, last: &LastKey) -> Option<Line<'l>>
         → IfSome result (Spells (codes "PARTY" ++ 9 ∷ text.now)) }
 {
     let (key, rest) = last.cut(text)?;
-    let row = FirstCells::of(rest);
-    if row.len() != 2 {
-        return None;
-    }
-    party_of(key, row.at(0), amount_in_range(row.at(1)))
+    let (party, amount) = first_cell(rest)?;
+    party_of(key, party, amount_in_range(amount))
 }
 
 /// The line of an unclaimed amount with the last key, from the text behind its name.

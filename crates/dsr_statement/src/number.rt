@@ -1,14 +1,14 @@
 //! The numbers that cells spell.
-ghost use Rattle.std.specs.Prelude.{◌≡◌, ◌<◌, ◌≤◌, ◌^◌, ◌+◌, length, IfSome, [], ◌∷◌, Some, pos, neg_ℤ};
+ghost use Rattle.std.specs.Prelude.{◌≡◌, ◌<◌, ◌≤◌, ◌^◌, ◌+◌, ◌++◌, length, IfSome, [], ◌∷◌, Some, pos, neg_ℤ};
 ghost use Rattle.std.specs.Option.{option_map};
 ghost use Rattle.dsr_cells.specs.meaning.Numbers.{digits_of};
 ghost use Rattle.dsr_statement.specs.inner.Numbers.{below, has_leading_zero, number_in, usages_in, units_in, units_of_parts, amount_in, not_zero};
 
 use crate::cut::at_point;
-use dsr_cells::read_number;
+use dsr_cells::{read_number, usual_decimals, usual_number};
 
 /// The number of the units of an amount of one.
-const UNITS: u128 = 10_000_000_000;
+const UNITS: u64 = 10_000_000_000;
 
 /// Amounts have fewer units than this.
 const MOST_UNITS: u128 = 1 << 123;
@@ -109,17 +109,31 @@ pub(crate) fn read_usages(text: &str) -> Option<i128>
     }
 }
 
+/// The units that 1 to 8 digits and, behind a point, ten decimals of a text spell, read by words; None for others.
+#[inline(always)]
+fn usual_parts(text: &str, whole: &str, decimals: &str) -> Option<u64>
+    requires text { text.now ≡ whole.now ++ 46 ∷ decimals.now }
+    requires ten { length decimals.now ≡ 10 }
+    ensures { IfSome result (λ n.
+        units_of_parts (2 ^ 123) (whole.now ∷ decimals.now ∷ []) ≡ Some n) }
+{
+    if leads_with_zero(whole) {
+        return None;
+    }
+    let front = usual_number(text.as_bytes(), 0, whole.len())?;
+    let units = usual_decimals(decimals.as_bytes(), 0, 10)?;
+    Some(front * UNITS + units)
+}
+
 /// The units that a whole part and ten decimals spell.
 fn read_parts(whole: &str, decimals: &str) -> Option<u128>
+    requires { length decimals.now ≡ 10 }
     ensures value { result ≡ units_of_parts (2 ^ 123) (whole.now ∷ decimals.now ∷ []) }
     ensures bound { IfSome result (λ n. n < 2 ^ 123) }
 {
-    if decimals.len() != 10 {
-        return None;
-    }
     let units = u128::from(read_number(decimals)?);
     let whole = read_below(whole, MOST_UNITS)?;
-    let sum = whole.checked_mul(UNITS)?.checked_add(units)?;
+    let sum = whole.checked_mul(UNITS as u128)?.checked_add(units)?;
     if sum < MOST_UNITS { Some(sum) } else { None }
 }
 
@@ -129,7 +143,10 @@ fn read_units(text: &str) -> Option<u128>
     ensures bound { IfSome result (λ n. n < 2 ^ 123) }
 {
     match at_point(text) {
-        Some((whole, decimals)) => read_parts(whole, decimals),
+        Some((whole, decimals)) => match usual_parts(text, whole, decimals) {
+            Some(units) => Some(u128::from(units)),
+            None => read_parts(whole, decimals),
+        },
         None => None,
     }
 }

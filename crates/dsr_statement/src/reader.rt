@@ -1,13 +1,13 @@
 //! Reading the lines of a statement one after another.
-ghost use Rattle.std.specs.Prelude.{◌≡◌, ◌==◌, ◌-ℤ◌, true, [], ◌∷◌, suc, List, length, reverse, Some, None, Ok, IfOk, IfErr, IfSome, OnOk, MatchResult, MatchOption, if◌then◌else◌};
+ghost use Rattle.std.specs.Prelude.{◌≡◌, ◌==◌, ◌-ℤ◌, true, false, [], ◌∷◌, suc, List, length, reverse, Some, None, Ok, IfOk, IfErr, IfSome, OnOk, MatchResult, MatchOption, if◌then◌else◌};
 ghost use Rattle.dsr_statement.specs.declared.line.Line.{Line as LineValue};
 ghost use Rattle.dsr_ledger.specs.meaning.Bookings.{key_eq};
 ghost use Rattle.dsr_statement.specs.meaning.Lines.{is_line};
-ghost use Rattle.dsr_statement.specs.meaning.Order.{is_placed, adds_up, seals, placed, is_no_report, is_complete, is_sealed, is_text_below};
+ghost use Rattle.dsr_statement.specs.meaning.Order.{is_placed, adds_up, seals, placed, is_no_report, is_sealed, of_latest, ledger_follows, party_follows, unclaimed_follows};
 ghost use Rattle.dsr_statement.specs.meaning.Status.{first_remark, status_of_lines, status_eq};
 ghost use Rattle.dsr_statement.specs.meaning.Readings.{IsLineOf, IsNextLine, end_fault};
-ghost use Rattle.dsr_statement.specs.inner.Near.{HasKey};
-ghost use Rattle.dsr_statement.specs.inner.After.{IsAfter, IsErrorOf, fits, kept, noted};
+ghost use Rattle.dsr_statement.specs.inner.Near.{HasKey, is_key};
+ghost use Rattle.dsr_statement.specs.inner.After.{IsAfter, IsErrorOf, kept, noted};
 
 use crate::fault::{ReadError, StatementFault};
 use crate::last::{Last, LastKey};
@@ -97,7 +97,7 @@ impl StatementReader {
         ensures spelled { (before : List LineValue) → IsAfter self.now before
             → IfSome result (λ l. IsLineOf bytes.now (Ok l)) }
     {
-        if bytes.len() > LINE_LIMIT || !self.last.is_within() {
+        if bytes.len() > LINE_LIMIT || !self.is_within() {
             return None;
         }
         near_line(text_of(bytes)?, &self.key)
@@ -183,7 +183,7 @@ impl StatementReader {
         if failed {
             return Err(StatementFault::Read);
         }
-        if !rest.is_empty() || !self.is_complete() {
+        if !rest.is_empty() || !self.last.may_end() {
             return Err(StatementFault::Cut);
         }
         Ok(())
@@ -211,20 +211,6 @@ impl StatementReader {
         self.last.is_end()
     }
 
-    /// Whether a statement may end here.
-    fn is_complete(&self) -> bool
-        ensures { (before : List LineValue) → IsAfter self.now before → result ≡ is_complete before }
-    {
-        self.last.may_end()
-    }
-
-    /// Whether the name of the last party is below this one's.
-    fn is_below(&self, party: &PartyRef<'_>) -> bool
-        ensures { result ≡ is_text_below self.now.party party.now.party }
-    {
-        self.party.as_str() < party.party
-    }
-
     /// Whether it is the last key. One that is known to be (`is_near`) is not compared.
     #[inline(always)]
     fn has_key(&self, key: &KeyRef<'_>, is_near: bool) -> bool
@@ -234,22 +220,61 @@ impl StatementReader {
         is_near || self.key.is(key)
     }
 
+    /// Whether the last line is a ledger line or one of a party: then the last key is its key.
+    fn is_within(&self) -> bool
+        ensures { (before : List LineValue) → IsAfter self.now before
+            → result ≡ true → is_key self.now.key ≡ true }
+    {
+        matches!(self.last, Last::Ledger | Last::Party)
+    }
+
+    /// Whether a ledger line with this key may stand next.
+    fn precedes_ledger(&self, key: &KeyRef<'_>) -> bool
+        ensures { (before : List LineValue) → IsAfter self.now before
+            → result ≡ of_latest false (ledger_follows key.now) before }
+    {
+        match self.last {
+            Last::Unclaimed => self.key.is_below(key),
+            last => last.is_summary(),
+        }
+    }
+
+    /// Whether the line of a party with this key may stand next.
+    #[inline(always)]
+    fn precedes_party(&self, key: &KeyRef<'_>, party: &PartyRef<'_>, is_near: bool) -> bool
+        requires { is_near ≡ true → key.now ≡ self.now.key }
+        ensures { (before : List LineValue) → IsAfter self.now before
+            → result ≡ of_latest false (party_follows key.now party.now.party) before }
+    {
+        self.precedes_unclaimed(key, is_near)
+            && (matches!(self.last, Last::Ledger) || self.party.as_str() < party.party)
+    }
+
+    /// Whether an unclaimed amount with this key may stand next.
+    #[inline(always)]
+    fn precedes_unclaimed(&self, key: &KeyRef<'_>, is_near: bool) -> bool
+        requires { is_near ≡ true → key.now ≡ self.now.key }
+        ensures { (before : List LineValue) → IsAfter self.now before
+            → result ≡ of_latest false (unclaimed_follows key.now) before }
+    {
+        matches!(self.last, Last::Ledger | Last::Party) && self.has_key(key, is_near)
+    }
+
     /// Whether the line may stand next.
     #[inline(always)]
     fn fits(&self, line: &Line<'_>, is_near: bool) -> bool
         requires { is_near ≡ true → HasKey self.now.key line.now }
-        ensures { result ≡ fits self.now line.now }
+        ensures { (before : List LineValue) → IsAfter self.now before
+            → result ≡ is_placed before line.now }
     {
         match line {
             Line::Report(_) | Line::NoReport => self.last.is_start(),
             Line::File(place, _) => self.last.precedes_file(*place),
             Line::Missing(number) => self.last.precedes_missing(*number),
             Line::Summary(difference) => self.last.precedes_summary(difference.file),
-            Line::Ledger(key, _, _) => { self.last.precedes_ledger(self.key.is_below(key)) }
-            Line::Party(key, party) => self
-                .last
-                .precedes_party(self.has_key(key, is_near), self.is_below(party)),
-            Line::Unclaimed(key, _) => self.last.precedes_unclaimed(self.has_key(key, is_near)),
+            Line::Ledger(key, _, _) => self.precedes_ledger(key),
+            Line::Party(key, party) => self.precedes_party(key, party, is_near),
+            Line::Unclaimed(key, _) => self.precedes_unclaimed(key, is_near),
             Line::Reject(reject) => { self.last.precedes_reject(reject.file, reject.position) }
             Line::Layout(_) => self.last.is_reject(),
             Line::Input(place, _) => self.last.precedes_input(*place) && *place <= self.files,
@@ -286,6 +311,7 @@ impl StatementReader {
     }
 
     /// The status of the lines.
+    #[tactic(auto, using(crate::proofs::RemarkLines::any_remark))]
     fn status(&self) -> Status
         ensures { (before : List LineValue) → IsAfter self.now before → result ≡ status_of_lines before }
     {

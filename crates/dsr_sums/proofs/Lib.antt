@@ -7,3 +7,4 @@ pub mod ReadingLemmas
 pub mod TotalingLemmas
 pub mod SourceLemmas
 pub mod LawLemmas
+pub mod KeptLemmas

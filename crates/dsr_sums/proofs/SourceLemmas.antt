@@ -114,13 +114,13 @@ module _ (before now : Told) (unsealed : Bool) (role : Role) (start totals : Tot
   finished_long result long ends = finished false now result ends w.consumed w.sound (inr (inr (long_settles long)))
 
   -- the source is at its end
-  pub finished_whole : (left : Told) (n : ℕ) (piece : List ℕ) (result : Result StatementReport ReadingError) → n ≡ 0 → 0 < length piece
-      → Consumes now.remaining left.remaining (take n piece) × (n ≡ 0 → 0 < length piece → IsAtEnd left.remaining) → left.failed ≡ now.failed
+  pub finished_whole : (left : Told) (piece : List ℕ) (result : Result StatementReport ReadingError) → Consumes now.remaining left.remaining piece
+      → (piece ≡ []) × IsAtEnd left.remaining → left.failed ≡ now.failed
       → ((done : List Line) → Reads r done → FinishesAt unsealed r.role done kept false result) → IsReadFrom before left unsealed role start totals result
-  finished_whole left n piece result none some h same ends =
-      let nothing : Consumes now.remaining left.remaining [] = subst (λ m. Consumes now.remaining left.remaining (take m piece)) none h.0 in
+  finished_whole left piece result more none same ends =
+      let nothing : Consumes now.remaining left.remaining [] = subst (Consumes now.remaining left.remaining) none.0 more in
       let all = consumes_more before.remaining now.remaining left.remaining (w.bytes ++ kept) [] w.consumed nothing in
-      finished false left result ends (subst (Consumes before.remaining left.remaining) (append-nil (w.bytes ++ kept)) all) (same ∙ w.sound) (inl (h.1 none some))
+      finished false left result ends (subst (Consumes before.remaining left.remaining) (append-nil (w.bytes ++ kept)) all) (same ∙ w.sound) (inl none.1)
 
   -- a read failed
   pub finished_failed : (left : Told) (result : Result StatementReport ReadingError) → Keeps now.remaining left.remaining → left.failed ≡ true

@@ -1,6 +1,7 @@
 //! What statements add up to: the sums of each currency and of each market, and what each party is owed.
 //!
-//! 1. `reading` cuts a source into lines, and reads the lines of a statement by dsr_statement.
+//! 1. `reading` cuts a source into lines, and reads the lines of a statement by dsr_statement. `kept` has the bytes of a source
+//!    that are not taken yet.
 //! 2. `totals` adds each line to the accounts (`account`) of its currency, its market and its party, in three books (`book`),
 //!    which keep the sums of each account (`sums`). What was paid is subtracted. A sum that leaves the range of 128 bits is
 //!    remembered, and nothing more is added. `seeded` has the hashers of the books.
@@ -41,6 +42,7 @@
 mod account;
 mod answer;
 mod book;
+mod kept;
 pub mod laws;
 mod reading;
 mod reports;

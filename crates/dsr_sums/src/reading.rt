@@ -1,11 +1,12 @@
 //! Reading a statement from a source, and adding its lines to the totals.
-ghost use Rattle.std.specs.Prelude.{◌≡◌, ◌≤◌, ◌||◌, [], false, suc, List, OnOk, IfOk, IfErr, drop, take, length, vec_len};
+ghost use Rattle.std.specs.Prelude.{◌≡◌, ◌≤◌, ◌||◌, [], false, suc, List, OnOk, IfOk, IfErr, drop, take, length};
 ghost use Rattle.dsr_statement.specs.declared.line.Line.{Line as LineValue};
 ghost use Rattle.dsr_statement.specs.inner.After.{IsAfter};
 ghost use Rattle.dsr_statement.specs.meaning.Order.{is_sealed};
 ghost use Rattle.dsr_sums.specs.meaning.Statements.{key_of_line, either};
 ghost use Rattle.dsr_sums.specs.inner.Readings.{Reads, TakesLine, TakesLines, HasNoLineFeed, IsRefusedAt, IsRefusedIn, FinishesAt, IsReadFrom};
 
+use crate::kept::Kept;
 use crate::reports::{Role, StatementReport};
 use crate::totals::Totals;
 use dsr_cells::{NoMemory, Text};
@@ -14,9 +15,6 @@ use dsr_ledger::ReportKey;
 use dsr_statement::{LINE_LIMIT, Line, ReadError, ReportRef, StatementFault, StatementReader};
 use dsr_texts::line_end;
 use std::alloc::Global;
-
-/// The most bytes of a read.
-const PIECE: usize = 32_768;
 
 /// Why a statement is not read to its end.
 #[derive(Debug, Clone, Copy, PartialEq, Eq)]
@@ -178,16 +176,6 @@ impl Reading {
     }
 }
 
-/// Drops the first bytes.
-fn drop_front(bytes: &mut Vec<u8>, count: usize)
-    requires { count ≤ vec_len bytes.old }
-    ensures { bytes.new.items ≡ drop count bytes.old.items }
-{
-    let rest = bytes.len() - count;
-    bytes.copy_within(count.., 0);
-    bytes.truncate(rest);
-}
-
 /// Reads a statement to its end or its first fault, and adds its lines to the totals. One without a seal is refused unless
 /// `unsealed`.
 pub(crate) fn read_statement<R: Source>(
@@ -201,23 +189,19 @@ pub(crate) fn read_statement<R: Source>(
     ensures { IsReadFrom (R.told source.old) (R.told source.new) unsealed role totals.old totals.new
         result }
 {
-    let mut piece = [0u8; PIECE];
-    let mut kept = Vec::new(alloc);
+    let mut kept = Kept::new();
     let mut reading = Reading::new(alloc, role);
     'reads: for _ in 0..u64::MAX {
-        if kept.len() > LINE_LIMIT {
-            return reading.finish(&kept, false, unsealed);
+        if kept.as_slice().len() > LINE_LIMIT {
+            return reading.finish(kept.as_slice(), false, unsealed);
         }
-        match source.read(&mut piece) {
-            Ok(0) => return reading.finish(&kept, false, unsealed),
-            Ok(count) => match kept.extend_from_slice(&piece[..count]) {
-                Ok(()) => {}
-                Err(_) => return Err(ReadingError::Memory),
-            },
-            Err(Failed) => return reading.finish(&kept, true, unsealed),
+        match kept.read_behind(source) {
+            Ok(0) => return reading.finish(kept.as_slice(), false, unsealed),
+            Ok(_) => {}
+            Err(Failed) => return reading.finish(kept.as_slice(), true, unsealed),
         }
-        match reading.take_lines(&kept, totals) {
-            Ok(used) => drop_front(&mut kept, used),
+        match reading.take_lines(kept.as_slice(), totals) {
+            Ok(used) => kept.drop_front(used),
             Err(error) => return Err(error),
         }
     }

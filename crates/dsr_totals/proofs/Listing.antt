@@ -1,11 +1,11 @@
 -- The names in lists, cut off one after another.
-use Rattle.std.proofs.Common.{◌≡◌, ◌∙◌, ◌+◌, ◌<◌, ◌≢◌, ℕ, zero, suc, List, [], ◌∷◌, ◌++◌, true, false, refl, ap, ap₂, sym, subst, cond, Bool, get_or, length, length-append, take, drop, append_assoc, append-nil, arith, inl, inr, slice_index_or, drop-cons}
+use Rattle.std.proofs.Common.{◌≡◌, ◌∙◌, ◌+◌, ◌<◌, ◌≢◌, ℕ, zero, suc, List, [], ◌∷◌, ◌++◌, true, false, refl, ap, ap₂, sym, subst, cond, Bool, get_or, length, length-append, take, drop, append_assoc, append-nil, arith, inl, inr, slice_index_or, drop-cons, map}
 use Rattle.std.specs.Prelude.{◌⊎◌, ◌==◌, All, IsUtf8, Option, None, Some, Result, Ok, Err}
 use Rattle.std.specs.Io.KnownBytes.{Consumes, IsAtEnd}
 use Rattle.std.specs.List.{Any, Contains, flat_map, onto_first, position, position_or_len, slice_split}
 use Rattle.std.proofs.lemmas.Bool.{cases_lt, eq-eqb, eqb-true, lt-ltb}
 use Rattle.std.proofs.lemmas.Grind.{flat_map-append}
-use Rattle.std.proofs.lemmas.List.{get_or_default, get_or-take, length-take, take_more, take-append-drop}
+use Rattle.std.proofs.lemmas.List.{get_or_default, get_or-take, length-take, map-append, take_more, take-append-drop}
 use Rattle.std.proofs.lemmas.List.Quantifiers.{position-Some}
 use Rattle.std.proofs.lemmas.List.Sums.{fails_before_first}
 use Rattle.std.proofs.lemmas.List.Splits.{slice_split_at, slice_split_none}
@@ -13,6 +13,7 @@ use Rattle.dsr_command.specs.declared.inputs.OpenError.{OpenError}
 use Rattle.dsr_command.specs.declared.inputs.OpenError.TheVariants.{CannotOpen, InputTwice, Memory}
 use Rattle.dsr_command.specs.declared.world.OpenFault.{OpenFault}
 use Rattle.dsr_command.specs.declared.world.OpenFault.TheVariants as opening
+use Rattle.dsr_command.specs.Inputs.{IsRefusalOf}
 use Rattle.dsr_command.specs.World.{Disk, Opens, before_texts, texts_of}
 use Rattle.dsr_io.specs.meaning.Told.{Told}
 use Rattle.dsr_command.specs.declared.identity.FileIdentity.{FileIdentity}
@@ -21,7 +22,7 @@ use Rattle.dsr_totals.specs.declared.lists.InputError.TheVariants.{Open, Read}
 use Rattle.dsr_totals.specs.declared.lists.ListFault.{ListFault}
 use Rattle.dsr_totals.specs.declared.lists.ListFault.TheVariants as faults
 use Rattle.dsr_totals.specs.Lists.{AreListed, AreUnlisted, GaveAll, HasBadName, IsListFault, IsListRead, IsUnreadable, name_end, names_ended, names_in, names_listed, without_empty_last}
-use Rattle.dsr_totals.specs.Steps.{IsCutAt, IsUnopened, IsUnread}
+use Rattle.dsr_totals.specs.Steps.{IsCutAt, IsUnread}
 
 -- bytes are cut at their first end
 pub cut_found : (end : ℕ) (bytes : List ℕ) (i : ℕ) → position (λ b. b == end) bytes ≡ Some i → IsCutAt end bytes (take i bytes) (drop (i + 1) bytes)
@@ -168,14 +169,13 @@ one_unread {R} told file d list source after faults.Read (Read name) (bytes, the
     by (inr (given, gave, bad)) = inr (subst HasBadName (sym (gave_all (told source) (told after) bytes given is.fresh.remaining gave)) bad)
 
 -- a list that is not opened
-pub one_unopened : {R : Type 0} (told : R → Told) (file : R → Option FileIdentity) (d : Disk) (list : List ℕ) (fault : OpenFault) (error : InputError)
-    → Opens told file d list (Err fault) → IsUnopened list fault error → AreUnlisted told d (list ∷ []) error
-one_unopened told file d list opening.Missing (Open (CannotOpen name)) missing error =
+pub one_unopened : {R : Type 0} (told : R → Told) (file : R → Option FileIdentity) (d : Disk) (list : List ℕ) (fault : OpenFault) (error : OpenError)
+    → Opens told file d list (Err fault) → IsRefusalOf list fault error → AreUnlisted told d (list ∷ []) (Open error)
+one_unopened told file d list opening.Missing (CannotOpen name) missing error =
     subst (λ n. texts_of d.files (list ∷ []) ≡ Err (CannotOpen n)) (sym error.1) (rw missing refl)
-one_unopened told file d list opening.Memory (Open (CannotOpen name)) missing error = absurd (cc error.0)
-one_unopened told file d list fault (Open InputTwice) missing error = absurd error
-one_unopened told file d list fault (Open Memory) missing error = tt
-one_unopened told file d list fault (Read name) missing error = absurd error
+one_unopened told file d list opening.Memory (CannotOpen name) missing error = absurd (cc error.0)
+one_unopened told file d list fault InputTwice missing error = absurd error
+one_unopened told file d list fault Memory missing error = tt
 
 both : (o : Option (List ℕ)) (n : List ℕ) (r s : Result (List (List ℕ)) OpenError) (more texts : List (List ℕ))
     → ((ts : List (List ℕ)) → r ≡ Ok ts → s ≡ Ok (ts ++ more)) → before_texts o n r ≡ Ok texts → before_texts o n s ≡ Ok (texts ++ more)
@@ -222,6 +222,12 @@ listed_more d lists k e old now new lt (texts, are, was) (more, is, pushed) = (
   pushed ∙ ap (λ l. l ++ names_listed more) was ∙ append_assoc old (names_listed texts) (names_listed more)
       ∙ ap (λ l. old ++ l) (sym (flat_map-append names_in texts more)),
 )
+
+-- one more file is known
+pub files_more : {X : Type 0} (file : List ℕ → X) (lists : List (List ℕ)) (k : ℕ) (e : List ℕ) (files : List X) (x : X) → k < length lists
+    → files ≡ map file (take k lists) → x ≡ file (slice_index_or lists k e) → files ++ x ∷ [] ≡ map file (take (k + 1) lists)
+files_more file lists k e files x lt are is =
+    (λ i. are i ++ is i ∷ []) ∙ sym (map-append file (take k lists) (slice_index_or lists k e ∷ [])) ∙ ap (map file) (sym (take_more lists k e lt))
 
 -- a list is not opened
 unlisted_for : (d : Disk) (lists : List (List ℕ)) (k : ℕ) (e : List ℕ) (texts : List (List ℕ)) (error : OpenError) → k < length lists

@@ -14,6 +14,7 @@ use Rattle.dsr_io.specs.meaning.Told.{Told}
 use Rattle.dsr_totals.specs.declared.command.Asked.{Asked}
 use Rattle.dsr_totals.specs.declared.lists.InputError.{InputError}
 use Rattle.dsr_totals.specs.declared.lists.InputError.TheVariants.{Open, Read}
+use Rattle.dsr_totals.specs.declared.opening.Opened.{Opened}
 use Rattle.dsr_totals.specs.Lists.{AreListed, AreUnlisted}
 use Rattle.dsr_totals.specs.Serving.{behind_given, both_texts, files_asked, lists_asked, texts_asked, with_listed}
 use Rattle.dsr_totals.specs.Steps.{AreOpened, AreUnopened, IsPaidRefusal}
@@ -114,8 +115,15 @@ module _ {R : Type 0} (told : R → Told) (file : R → Option FileIdentity) (d 
     lists_are = ap₂ behind_given are.texts_are listed.1
 
     -- all were opened
-    pub all_opened : (sources : List R) → AreSources told file (texts_asked d now) (files_asked d now) sources → AreOpened told file d asked now sources
-    all_opened sources more = record { texts = listed.0; lists_are = lists_are; now_is = now_is; sources_are = more }
+    pub all_opened : (opened : Opened R) → AreSources told file (texts_asked d now) (files_asked d now) opened.inputs.items
+        → opened.lists.items ≡ map d.file asked.lists → AreOpened told file d asked now opened
+    all_opened opened more files = record {
+      texts = listed.0;
+      lists_are = lists_are;
+      now_is = now_is;
+      sources_are = more;
+      files_are = files ∙ ap (λ a. map d.file a.lists) (sym same);
+    }
 
     -- a statement that was paid cannot be opened
     pub not_opened : (error : InputError) → IsPaidRefusal (texts_asked d now) error → AreUnopened told d asked error

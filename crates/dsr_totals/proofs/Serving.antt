@@ -1,6 +1,6 @@
 -- From what the stages say to what the program does.
-use Rattle.std.proofs.Common.{◌≡◌, ◌∷◌, ℕ, List, refl, subst, sym, ap, inl, inr, codes, map}
-use Rattle.std.specs.Prelude.{◌⊎◌, Option, None, Some, Result, Ok, Err}
+use Rattle.std.proofs.Common.{◌≡◌, ◌++◌, ℕ, List, refl, subst, sym, ap₂, inl, inr, codes, map}
+use Rattle.std.specs.Prelude.{◌⊎◌, Option, Some, Result, Ok, Err}
 use Rattle.dsr_totals.specs.declared.command.Asked.{Asked}
 use Rattle.dsr_command.specs.declared.identity.FileIdentity.{FileIdentity}
 use Rattle.dsr_command.specs.declared.inputs.OpenError.{OpenError}
@@ -10,17 +10,18 @@ use Rattle.dsr_command.specs.Faults.{IsTold, cannot_read_line, line_of, unopened
 use Rattle.dsr_command.specs.Inputs.{IsRefusal}
 use Rattle.dsr_command.specs.NewFiles.{IsCreated, new_file_line, new_file_status}
 use Rattle.dsr_command.specs.Outputs.{IsOnlyTold, Outputs, outputs}
-use Rattle.dsr_command.specs.World.{AreSources, Disk, made}
+use Rattle.dsr_command.specs.World.{AreSources, Disk, Ghosts, made}
 use Rattle.dsr_command.specs.NewFiles.{IsSettled, cannot_replace_line}
 use Rattle.dsr_io.specs.declared.source.Failed.{Failed}
 use Rattle.dsr_io.specs.meaning.Written.{Written}
 use Rattle.dsr_totals.specs.declared.totaling.WriteError.{WriteError}
 use Rattle.dsr_totals.specs.declared.lists.InputError.{InputError}
 use Rattle.dsr_totals.specs.declared.lists.InputError.TheVariants.{Open, Read}
+use Rattle.dsr_totals.specs.declared.opening.Opened.{Opened}
 use Rattle.dsr_totals.specs.Refusals.{dsr_totals, unread_line, unread_status}
 use Rattle.dsr_totals.specs.Steps.{AreOpened, AreUnopened}
 use Rattle.dsr_totals.specs.Totaling.{IsAnswerTold, status_after}
-use Rattle.dsr_totals.specs.Serving.{Ghosts, HadLists, HadOutput, HadStatements, HadTexts, HadTotals, HadTotalsInto, IsEnded, IsServedFor, files_asked, lists_asked, texts_asked, with_listed}
+use Rattle.dsr_totals.specs.Serving.{HadLists, HadOutput, HadStatements, HadTexts, HadTotals, HadTotalsInto, IsEnded, IsServedFor, files_asked, files_read, lists_asked, texts_asked, with_listed}
 
 -- only this was told, and the output is as it was
 pub only_told : (out f h : Written) (text : List ℕ) → IsTold f h text → IsOnlyTold text (outputs out f) (outputs out h)
@@ -34,30 +35,31 @@ had_texts g d left asked before after s texts output are is had =
 
 -- the files that are read, as they were opened
 read_are : {R N : Type 0} (g : Ghosts R N) (file : R → Option FileIdentity) (d : Disk) (asked : Asked) (sources : List R)
-    → AreSources g.told file (texts_asked d asked) (files_asked d asked) sources → None ∷ map file sources ≡ None ∷ files_asked d asked
-read_are g file d asked sources are = ap (λ xs. None ∷ xs) are.files_are
+    (lists : List (Option FileIdentity)) → AreSources g.told file (texts_asked d asked) (files_asked d asked) sources
+    → lists ≡ map d.file asked.lists → lists ++ map file sources ≡ files_read d asked
+read_are g file d asked sources lists are is = ap₂ (λ xs ys. xs ++ ys) is are.files_are
 
 -- the run over the sources wrote to a new file
 pub stored : {R N : Type 0} (g : Ghosts R N) (file : R → Option FileIdentity) (d : Disk) (between left : Option Disk) (asked : Asked)
-    (sources : List R) (name : List ℕ) (new : N) (out f h : Written) (s : ℕ)
-    → AreSources g.told file (texts_asked d asked) (files_asked d asked) sources
-    → asked.output ≡ Some name → IsCreated g.written d between (None ∷ map file sources) name (Ok new)
-    → HadTotalsInto g asked sources new name (made d) left f h s
+    (sources : List R) (lists : List (Option FileIdentity)) (name : List ℕ) (new : N × List ℕ) (out f h : Written) (s : ℕ)
+    → AreSources g.told file (texts_asked d asked) (files_asked d asked) sources → lists ≡ map d.file asked.lists
+    → asked.output ≡ Some name → IsCreated g.written d between (lists ++ map file sources) name (Ok new)
+    → HadTotalsInto g asked sources new.0 name (made d) left f h s
     → HadStatements g d left asked (outputs out f) (outputs out h) s
-stored g file d between left asked sources name new out f h s are is created had =
-    let beside = subst (λ read. IsCreated g.written d between read name (Ok new)) (read_are g file d asked sources are) created in
+stored g file d between left asked sources lists name new out f h s are lists_are is created had =
+    let beside = subst (λ read. IsCreated g.written d between read name (Ok new)) (read_are g file d asked sources lists are lists_are) created in
     had_texts g d left asked (outputs out f) (outputs out h) s are.bytes (Some name) are.texts_are is
-    (inl (sources, are.fresh, beside.0, new, beside.2, had, refl))
+    (inl (sources, are.fresh, beside.0, new.0, beside.1.2, had, refl))
 
 -- there is no new file
 pub unstored : {R N : Type 0} (g : Ghosts R N) (file : R → Option FileIdentity) (d : Disk) (left : Option Disk) (asked : Asked)
-    (sources : List R) (name : List ℕ) (error : NewFileError) (out f h : Written) (s : ℕ)
-    → AreSources g.told file (texts_asked d asked) (files_asked d asked) sources
-    → asked.output ≡ Some name → IsCreated g.written d left (None ∷ map file sources) name (Err error)
+    (sources : List R) (lists : List (Option FileIdentity)) (name : List ℕ) (error : NewFileError) (out f h : Written) (s : ℕ)
+    → AreSources g.told file (texts_asked d asked) (files_asked d asked) sources → lists ≡ map d.file asked.lists
+    → asked.output ≡ Some name → IsCreated g.written d left (lists ++ map file sources) name (Err error)
     → IsTold f h (new_file_line dsr_totals name error) → s ≡ new_file_status error
     → HadStatements g d left asked (outputs out f) (outputs out h) s
-unstored g file d left asked sources name error out f h s are is none told status =
-    let not = subst (λ read. IsCreated g.written d left read name (Err error)) (read_are g file d asked sources are) none in
+unstored g file d left asked sources lists name error out f h s are lists_are is none told status =
+    let not = subst (λ read. IsCreated g.written d left read name (Err error)) (read_are g file d asked sources lists are lists_are) none in
     had_texts g d left asked (outputs out f) (outputs out h) s are.bytes (Some name) are.texts_are is
     (inr (error, not, only_told out f h (new_file_line dsr_totals name error) told, status))
 
@@ -77,11 +79,11 @@ unsettled asked contents name d left f h s (Err e) failed removed told is = absu
 
 module _ {R N : Type 0} (g : Ghosts R N) (file : R → Option FileIdentity) (d : Disk) (left : Option Disk) (asked : Asked) where
   -- the statements were opened and added up
-  pub served : (now : Asked) (sources : List R) (before after : Outputs) (s : ℕ) → AreOpened g.told file d asked now sources
+  pub served : (now : Asked) (opened : Opened R) (before after : Outputs) (s : ℕ) → AreOpened g.told file d asked now opened
       → HadStatements g d left now before after s → IsServedFor g d left asked before after s
-  served now sources before after s opened had =
-      inl (subst (HadLists g d left asked before after s) (sym opened.lists_are)
-      (subst (λ a. HadStatements g d left a before after s) opened.now_is had))
+  served now opened before after s are had =
+      inl (subst (HadLists g d left asked before after s) (sym are.lists_are)
+      (subst (λ a. HadStatements g d left a before after s) are.now_is had))
 
   -- one of them cannot be opened
   unopened : (error : OpenError) (out f h : Written) (s : ℕ)

@@ -1,6 +1,6 @@
 -- What the program does: what it writes to standard output and standard error or to a file, and its exit status, by its words
 -- and the bytes behind names.
-use Rattle.std.specs.Prelude.{◌≡◌, ◌⊎◌, ◌-◌, ◌∷◌, ◌++◌, ℕ, List, [], map, Option, None, Some, Result, Ok, Err}
+use Rattle.std.specs.Prelude.{◌≡◌, ◌⊎◌, ◌-◌, ◌++◌, ℕ, List, [], map, Option, None, Some, Result, Ok, Err}
 use Rattle.std.specs.List.{Contains}
 use Rattle.dsr_command.specs.declared.command.CommandFault.{CommandFault}
 use Rattle.dsr_command.specs.declared.identity.FileIdentity.{FileIdentity}
@@ -10,7 +10,7 @@ use Rattle.dsr_command.specs.declared.world.WordsFault.{WordsFault}
 use Rattle.dsr_command.specs.Faults.{cannot_read_line, unopened_line, unopened_status, IsTold}
 use Rattle.dsr_command.specs.NewFiles.{IsNotCreated, cannot_replace_line, new_file_line, new_file_status}
 use Rattle.dsr_command.specs.Outputs.{IsOnlyTold, IsTurnedDown, IsWithoutMemory, Outputs, no_words_line, no_words_status}
-use Rattle.dsr_command.specs.World.{AreFresh, Disk, IsApart, IsReplacedIn, LacksWords, failing, files_for, made, names_read, removed, texts_for, texts_of, unless_twice, with_input}
+use Rattle.dsr_command.specs.World.{AreFresh, Disk, Ghosts, IsApart, IsReplacedIn, LacksWords, failing, files_for, made, names_read, removed, texts_for, texts_of, unless_twice, with_input}
 use Rattle.dsr_io.specs.meaning.Told.{Told}
 use Rattle.dsr_io.specs.meaning.Written.{Written}
 use Rattle.dsr_totals.specs.CommandLine.{IsAskedFor, IsFaultFor}
@@ -19,14 +19,6 @@ use Rattle.dsr_totals.specs.declared.totaling.WriteError.{WriteError}
 use Rattle.dsr_totals.specs.Lists.{IsUnreadable, names_listed}
 use Rattle.dsr_totals.specs.Refusals.{dsr_totals}
 use Rattle.dsr_totals.specs.Totaling.{IsAnswerTold, WroteTotals, status_after}
-
--- what the sources and the new files of a world tell
-pub record Ghosts (R N : Type 0) : Type 0 where
-  pub told : R → Told
-  pub written : N → Written
-
-abbrev pub ghosts : {R N : Type 0} → (R → Told) → (N → Written) → Ghosts R N
-ghosts told written = record { told = told; written = written }
 
 -- what is asked for once lists of these bytes were read: the names in them stand behind those of the paid statements
 abbrev pub with_listed : Asked → List (List ℕ) → Asked
@@ -56,6 +48,10 @@ texts_asked disk asked = unless_twice (names_read asked.given ++ asked.paid)
 abbrev pub files_asked : Disk → Asked → List (Option FileIdentity)
 files_asked disk asked = files_for disk asked.given ++ map (with_input disk).file asked.paid
 
+-- the files that are read: the lists and the statements
+abbrev pub files_read : Disk → Asked → List (Option FileIdentity)
+files_read disk asked = map disk.file asked.lists ++ files_asked disk asked
+
 -- the totals of these sources were written to standard output, or not, and the exit status and standard error say so
 abbrev pub HadTotals : {R : Type 0} → (R → Told) → Asked → List R → Outputs → Outputs → ℕ → Type 0
 HadTotals {R} told asked sources before after status = (answer : Result (Unit {0}) WriteError) × (left : List R)
@@ -84,10 +80,10 @@ abbrev pub HadOutput : {R N : Type 0} → Ghosts R N → Disk → Option Disk �
 HadOutput {R} {N} g disk left asked texts before after status None =
     (sources : List R) × AreFresh g.told sources texts × HadTotals g.told asked sources before after status × (left ≡ Some disk)
 HadOutput {R} {N} g disk left asked texts before after status (Some name) =
-    ((sources : List R) × AreFresh g.told sources texts × IsApart (disk.place name) (None ∷ files_asked disk asked)
+    ((sources : List R) × AreFresh g.told sources texts × IsApart (disk.place name) (files_read disk asked)
     × (new : N) × ((g.written new).contents ≡ Some [])
     × HadTotalsInto g asked sources new name (made disk) left before.fault after.fault status × (after.out ≡ before.out))
-    ⊎ ((error : NewFileError) × IsNotCreated disk left (None ∷ files_asked disk asked) name error
+    ⊎ ((error : NewFileError) × IsNotCreated disk left (files_read disk asked) name error
     × IsOnlyTold (new_file_line dsr_totals name error) before after × (status ≡ new_file_status error))
 
 -- the statements of these bytes were added up; or they cannot be opened: the first one that cannot, or standard input, which is

@@ -1,9 +1,7 @@
 -- The steps by which lists are read and statements opened.
-use Rattle.std.specs.Prelude.{◌≡◌, ◌⊎◌, ◌==◌, ℕ, false, List, [], ◌∷◌, ◌++◌, All, Option, Result, Ok, Err}
+use Rattle.std.specs.Prelude.{◌≡◌, ◌⊎◌, ◌==◌, ℕ, false, List, [], ◌∷◌, ◌++◌, All, map, Option, Result, Ok, Err}
 use Rattle.std.specs.List.{Contains}
 use Rattle.dsr_command.specs.declared.inputs.OpenError.TheVariants.{CannotOpen, InputTwice, Memory}
-use Rattle.dsr_command.specs.declared.world.OpenFault.{OpenFault}
-use Rattle.dsr_command.specs.declared.world.OpenFault.TheVariants as opening
 use Rattle.dsr_command.specs.declared.identity.FileIdentity.{FileIdentity}
 use Rattle.dsr_command.specs.declared.inputs.OpenError.{OpenError}
 use Rattle.dsr_command.specs.Inputs.{IsRefusal}
@@ -13,6 +11,7 @@ use Rattle.dsr_totals.specs.declared.command.Asked.{Asked}
 use Rattle.dsr_totals.specs.declared.lists.InputError.{InputError}
 use Rattle.dsr_totals.specs.declared.lists.InputError.TheVariants.{Open, Read}
 use Rattle.dsr_totals.specs.declared.lists.ListFault.{ListFault}
+use Rattle.dsr_totals.specs.declared.opening.Opened.{Opened}
 use Rattle.dsr_totals.specs.declared.lists.ListFault.TheVariants as faults
 use Rattle.dsr_totals.specs.Lists.{IsUnreadable}
 use Rattle.dsr_totals.specs.Serving.{files_asked, lists_asked, texts_asked, with_listed}
@@ -29,20 +28,14 @@ IsUnread list fault (Open (CannotOpen name)) = ⊥
 IsUnread list fault (Open InputTwice) = ⊥
 IsUnread list fault (Open Memory) = Unit {0}
 
--- the error says that this list cannot be opened, or that memory was refused
-abbrev pub IsUnopened : List ℕ → OpenFault → InputError → Type 0
-IsUnopened list fault (Open (CannotOpen name)) = (fault ≡ opening.Missing) × (name ≡ list)
-IsUnopened list fault (Open InputTwice) = ⊥
-IsUnopened list fault (Open Memory) = Unit {0}
-IsUnopened list fault (Read name) = ⊥
-
 -- the statements were opened: the names in the lists stand behind those of the paid ones, and the sources give the bytes behind
--- all names
-pub record AreOpened {R : Type 0} (told : R → Told) (file : R → Option FileIdentity) (disk : Disk) (asked now : Asked) (sources : List R) : Type 0 where
+-- all names; and these files are the lists
+pub record AreOpened {R : Type 0} (told : R → Told) (file : R → Option FileIdentity) (disk : Disk) (asked now : Asked) (opened : Opened R) : Type 0 where
   pub texts : List (List ℕ)
   pub lists_are : lists_asked disk asked ≡ Ok texts
   pub now_is : now ≡ with_listed asked texts
-  pub sources_are : AreSources told file (texts_asked disk now) (files_asked disk now) sources
+  pub sources_are : AreSources told file (texts_asked disk now) (files_asked disk now) opened.inputs.items
+  pub files_are : opened.lists.items ≡ map disk.file now.lists
 
 -- why files cannot be opened, or a list that cannot be read; or memory was refused
 abbrev pub AreUnopened : {R : Type 0} → (R → Told) → Disk → Asked → InputError → Type 0

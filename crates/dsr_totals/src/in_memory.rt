@@ -1,7 +1,6 @@
 //! The program over words and files in memory: whole, and with each of its calls failing in turn.
 use crate::program::serve;
 use dsr_cells::NoMemory;
-use dsr_command::CreateFault;
 use dsr_memory::{Fault, MemoryOutlet, MemoryWorld};
 use std::alloc::Global;
 use std::random::RandomSource;
@@ -340,24 +339,23 @@ fn memory_is_refused_at_each_call(rt: HostRuntime) -> Result<(), Fail> {
             assert!(rt; ends_refused(&rt, rt.alloc(), &task, Fault::Open(opening), 3, text)?);
         }
         if task.output.len() > 0 {
-            let fault = Fault::Create(CreateFault::Memory);
-            assert!(rt; ends_refused(&rt, rt.alloc(), &task, fault, 3, text)?);
+            assert!(rt; ends_refused(&rt, rt.alloc(), &task, Fault::Link, 3, text)?);
         }
     }
     Ok(())
 }
 
-/// 6 runs.
+/// 8 runs.
 #[test]
 fn each_call_for_a_new_file_fails_in_turn(rt: HostRuntime) -> Result<(), Fail> {
     for task in TASKS {
         if task.output.len() > 0 {
-            let fault = Fault::Create(CreateFault::Failed);
             let text = b"dsr_totals: cannot create ";
-            assert!(rt; ends_refused(&rt, rt.alloc(), &task, fault, 2, text)?);
+            assert!(rt; ends_refused(&rt, rt.alloc(), &task, Fault::Random, 2, text)?);
+            assert!(rt; ends_refused(&rt, rt.alloc(), &task, Fault::Create, 2, text)?);
             let text = b"dsr_totals: cannot replace ";
             assert!(rt; ends_refused(&rt, rt.alloc(), &task, Fault::Sync, 3, text)?);
-            assert!(rt; ends_refused(&rt, rt.alloc(), &task, Fault::Put, 3, text)?);
+            assert!(rt; ends_refused(&rt, rt.alloc(), &task, Fault::Rename, 3, text)?);
         }
     }
     Ok(())

@@ -1,12 +1,12 @@
 //! The names of paid statements in lists.
-ghost use Rattle.std.specs.Prelude.{◌≡◌, ◌==◌, ◌<◌, ◌++◌, ◌∷◌, [], length, IfSome, MatchResult, IsUtf8};
+ghost use Rattle.std.specs.Prelude.{◌≡◌, ◌==◌, ◌<◌, ◌++◌, ◌∷◌, [], length, map, IfOk, IfSome, MatchResult, IsUtf8};
 ghost use Rattle.std.specs.List.{position};
 ghost use Rattle.dsr_command.specs.World.{WhereTold};
 ghost use Rattle.dsr_totals.specs.Lists.{AreListed, AreUnlisted, GaveAll, HasBadName, IsListFault, IsListRead, name_end, names_in};
-ghost use Rattle.dsr_totals.specs.Steps.{IsCutAt, IsUnopened, IsUnread};
+ghost use Rattle.dsr_totals.specs.Steps.{IsCutAt, IsUnread};
 
 use dsr_cells::Text;
-use dsr_command::{Names, OpenError, OpenFault, StatementWorld};
+use dsr_command::{FileIdentity, FileSource, Names, OpenError, StatementWorld, unopened};
 use dsr_io::{Failed, Source};
 use std::alloc::Global;
 
@@ -133,40 +133,32 @@ fn unread(alloc: Global, list: &Text, fault: ListFault) -> InputError
     }
 }
 
-/// The error of a list that is not opened, by its name.
-fn unopened(alloc: Global, list: &Text, fault: OpenFault) -> InputError
-    ensures { IsUnopened list.now fault result }
-{
-    match (fault, list.copy(alloc)) {
-        (OpenFault::Missing, Ok(list)) => InputError::Open(OpenError::CannotOpen(list)),
-        _ => InputError::Open(OpenError::Memory),
-    }
-}
-
-/// Opens a list, and appends the names in it.
+/// Opens a list, and appends the names in it. Returns which file it is, if that is known.
 fn open_list<W: StatementWorld>(
     alloc: Global,
     world: &W,
     permit: &W::Permit,
     list: &Text,
     names: &mut Names,
-) -> Result<(), InputError>
-    ensures { WhereTold (W.disk world.now) (λ d. MatchResult result
+) -> Result<Option<FileIdentity>, InputError>
+    ensures listed { WhereTold (W.disk world.now) (λ d. MatchResult result
         (λ _. AreListed d (list.now ∷ []) names.old names.new)
         (AreUnlisted W.Reader.told d (list.now ∷ []))) }
+    ensures file { WhereTold (W.disk world.now) (λ d. IfOk result (λ f. f ≡ d.file list.now)) }
 {
     let source = match world.open(permit, list.as_str()) {
         Ok(source) => source,
-        Err(fault) => return Err(unopened(alloc, list, fault)),
+        Err(fault) => return Err(InputError::Open(unopened(alloc, list, fault))),
     };
+    let file = source.identity();
     let mut source = source;
     match read_list(alloc, &mut source, names) {
-        Ok(()) => Ok(()),
+        Ok(()) => Ok(file),
         Err(fault) => Err(unread(alloc, list, fault)),
     }
 }
 
-/// Appends the names in the lists, in order.
+/// Appends the names in the lists, in order. Returns which files the lists are, as far as that is known.
 ///
 /// # Errors
 ///
@@ -177,15 +169,21 @@ pub(crate) fn read_lists<W: StatementWorld>(
     permit: &W::Permit,
     lists: &Names,
     names: &mut Names,
-) -> Result<(), InputError>
-    ensures { WhereTold (W.disk world.now) (λ d. MatchResult result
+) -> Result<Vec<Option<FileIdentity>>, InputError>
+    ensures listed { WhereTold (W.disk world.now) (λ d. MatchResult result
         (λ _. AreListed d lists.now names.old names.new) (AreUnlisted W.Reader.told d lists.now)) }
+    ensures files { WhereTold (W.disk world.now) (λ d. IfOk result
+        (λ files. files.items ≡ map d.file lists.now)) }
 {
+    let mut files = Vec::new(alloc);
     for list in lists.as_slice() {
-        match open_list(alloc, world, permit, list, names) {
-            Ok(()) => {}
+        let file = match open_list(alloc, world, permit, list, names) {
+            Ok(file) => file,
             Err(error) => return Err(error),
+        };
+        if files.push(file).is_err() {
+            return Err(InputError::Open(OpenError::Memory));
         }
     }
-    Ok(())
+    Ok(files)
 }

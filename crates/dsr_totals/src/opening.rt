@@ -6,8 +6,17 @@ ghost use Rattle.dsr_totals.specs.Steps.{AreOpened, AreUnopened, IsPaidRefusal};
 
 use crate::command::Asked;
 use crate::lists::{InputError, read_lists};
-use dsr_command::{OpenError, StatementWorld, is_input_twice, open_inputs};
+use dsr_command::{FileIdentity, OpenError, StatementWorld, is_input_twice, open_inputs};
 use std::alloc::Global;
+
+/// What was opened.
+#[derive(Drop)]
+pub(crate) struct Opened<R> {
+    /// The statements.
+    pub(crate) inputs: Vec<R>,
+    /// Which files the lists are, as far as that is known.
+    pub(crate) lists: Vec<Option<FileIdentity>>,
+}
 
 /// Opens the statements: the given ones, or standard input if none is named, and then those that were paid, after whose names
 /// those in the lists are put.
@@ -15,10 +24,11 @@ pub(crate) fn open_statements<W: StatementWorld>(
     alloc: Global,
     world: &W,
     asked: &mut Asked,
-) -> Result<Vec<W::Reader>, InputError>
-    ensures unfailed { IfOk result (λ v. All (λ r. (W.Reader.told r).failed ≡ false) v.items) }
+) -> Result<Opened<W::Reader>, InputError>
+    ensures unfailed { IfOk result (λ o.
+        All (λ r. (W.Reader.told r).failed ≡ false) o.inputs.items) }
     ensures opened { WhereTold (W.disk world.now) (λ d. MatchResult result
-        (λ v. AreOpened W.Reader.told W.Reader.file d asked.old asked.new v.items)
+        (AreOpened W.Reader.told W.Reader.file d asked.old asked.new)
         (AreUnopened W.Reader.told d asked.old)) }
 {
     let permit = world.permit();
@@ -26,10 +36,17 @@ pub(crate) fn open_statements<W: StatementWorld>(
         Ok(given) => given,
         Err(error) => return Err(InputError::Open(error)),
     };
-    match read_lists(alloc, world, &permit, &asked.lists, &mut asked.paid) {
-        Ok(()) => with_paid(alloc, world, &permit, asked, given),
+    let lists = match read_lists(alloc, world, &permit, &asked.lists, &mut asked.paid) {
+        Ok(lists) => lists,
         Err(error) => {
             drop(given);
+            return Err(error);
+        }
+    };
+    match with_paid(alloc, world, &permit, asked, given) {
+        Ok(inputs) => Ok(Opened { inputs, lists }),
+        Err(error) => {
+            drop(lists);
             Err(error)
         }
     }

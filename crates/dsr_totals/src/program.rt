@@ -2,13 +2,13 @@
 ghost use Rattle.std.specs.Prelude.{◌≡◌, false, All, Some, map};
 ghost use Rattle.std.specs.String.{string_bytes};
 ghost use Rattle.dsr_command.specs.Outputs.{outputs};
-ghost use Rattle.dsr_command.specs.World.{AreSources, WhereTold};
-ghost use Rattle.dsr_totals.specs.Serving.{HadStatements, IsDone, IsServed, IsServedFor, files_asked, ghosts, texts_asked};
+ghost use Rattle.dsr_command.specs.World.{AreSources, WhereTold, ghosts};
+ghost use Rattle.dsr_totals.specs.Serving.{HadStatements, IsDone, IsServed, IsServedFor, files_asked, texts_asked};
 
 use crate::arguments::asked;
 use crate::command::Asked;
 use crate::faults::{DSR_TOTALS, not_read};
-use crate::opening::open_statements;
+use crate::opening::{Opened, open_statements};
 use crate::totaling::{print_totals, replace_by_totals};
 use dsr_command::{StatementWorld, create_beside, no_new_file, no_words, turn_down};
 use dsr_io::Outlet;
@@ -68,7 +68,7 @@ fn read_and_print<H: RandomSource, W: StatementWorld, O: Outlet, F: Outlet>(
 {
     let mut asked = asked;
     match open_statements(alloc, world, &mut asked) {
-        Ok(inputs) => print_opened(rt, alloc, world, &asked, inputs, out, fault),
+        Ok(opened) => print_opened(rt, alloc, world, &asked, opened, out, fault),
         Err(error) => not_read(&error, fault),
     }
 }
@@ -79,22 +79,29 @@ fn print_opened<H: RandomSource, W: StatementWorld, O: Outlet, F: Outlet>(
     alloc: Global,
     world: &mut W,
     asked: &Asked,
-    inputs: Vec<W::Reader>,
+    opened: Opened<W::Reader>,
     out: &mut O,
     fault: &mut F,
 ) -> u8
-    requires sources { All (λ r. (W.Reader.told r).failed ≡ false) inputs.items }
+    requires sources { All (λ r. (W.Reader.told r).failed ≡ false) opened.inputs.items }
     ensures { WhereTold (W.disk world.old) (λ d. AreSources W.Reader.told W.Reader.file
-        (texts_asked d asked.now) (files_asked d asked.now) inputs.items
+        (texts_asked d asked.now) (files_asked d asked.now) opened.inputs.items
+        → opened.lists.items ≡ map d.file asked.now.lists
         → HadStatements (ghosts (W.Reader.told) (W.New.told)) d (W.disk world.new) asked.now
         (outputs (O.told out.old) (F.told fault.old)) (outputs (O.told out.new) (F.told fault.new))
         result) }
 {
+    let Opened { inputs, lists } = opened;
     let Some(name) = &asked.output else {
+        drop(lists);
         return print_totals(rt, alloc, asked, inputs, out, fault);
     };
-    match create_beside(world, name, &inputs, None) {
-        Ok(new) => replace_by_totals(rt, alloc, world, asked, inputs, name, new, fault),
+    let created = create_beside(alloc, world, name, &inputs, &lists);
+    drop(lists);
+    match created {
+        Ok((new, place)) => {
+            replace_by_totals(rt, alloc, world, asked, inputs, name, &place, new, fault)
+        }
         Err(error) => no_new_file(DSR_TOTALS, name, error, fault),
     }
 }

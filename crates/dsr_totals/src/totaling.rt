@@ -1,9 +1,9 @@
 //! The totals, and where they go.
-ghost use Rattle.std.specs.Prelude.{◌≡◌, false, List, All};
+ghost use Rattle.std.specs.Prelude.{◌≡◌, false, List, All, Some};
 ghost use Rattle.dsr_command.specs.Faults.{IsTold};
 ghost use Rattle.dsr_command.specs.Outputs.{outputs};
-ghost use Rattle.dsr_command.specs.World.{WhereTold};
-ghost use Rattle.dsr_totals.specs.Serving.{HadTotals, HadTotalsInto, ghosts};
+ghost use Rattle.dsr_command.specs.World.{WhereTold, ghosts, stands_for};
+ghost use Rattle.dsr_totals.specs.Serving.{HadTotals, HadTotalsInto};
 ghost use Rattle.dsr_totals.specs.Totaling.{IsAnswerTold, WroteTotals, error_line, error_status, given_count, name_at, name_in, other_name, refused_name, refused_other, status_after};
 
 use crate::command::Asked;
@@ -174,8 +174,8 @@ pub(crate) fn print_totals<R: Source + Drop, H: RandomSource, O: Outlet, F: Outl
     status_of(&write_totals(rt, alloc, asked, inputs, out), asked, fault)
 }
 
-/// Reads the statements and writes their totals to a new file, which is put in the place of the file of this name only if
-/// they are whole. Returns the exit status.
+/// Reads the statements and writes their totals to a new file, which is put in the place that this name stands for only if they
+/// are whole. Returns the exit status.
 pub(crate) fn replace_by_totals<H: RandomSource, W: StatementWorld, F: Outlet>(
     rt: &H,
     alloc: Global,
@@ -183,17 +183,18 @@ pub(crate) fn replace_by_totals<H: RandomSource, W: StatementWorld, F: Outlet>(
     asked: &Asked,
     inputs: Vec<W::Reader>,
     name: &Text,
+    place: &Text,
     new: W::New,
     fault: &mut F,
 ) -> u8
     requires sources { All (λ r. (W.Reader.told r).failed ≡ false) inputs.items }
-    ensures { WhereTold (W.disk world.old) (λ d. HadTotalsInto (ghosts (W.Reader.told) (W.New.told))
-        asked.now inputs.items new name.now d (W.disk world.new) (F.told fault.old)
-        (F.told fault.new) result) }
+    ensures { WhereTold (W.disk world.old) (λ d. stands_for d name.now ≡ Some place.now
+        → HadTotalsInto (ghosts (W.Reader.told) (W.New.told)) asked.now inputs.items new name.now
+        d (W.disk world.new) (F.told fault.old) (F.told fault.new) result) }
 {
     let mut new = new;
     let answer = write_totals(rt, alloc, asked, inputs, &mut new);
-    match settle(world, new, name, &answer) {
+    match settle(world, new, place, &answer) {
         Ok(()) => status_of(&answer, asked, fault),
         Err(Failed) => cannot_replace(DSR_TOTALS, name, fault),
     }

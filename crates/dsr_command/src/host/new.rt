@@ -2,54 +2,44 @@
 ghost use Rattle.std.specs.Prelude.{◌≡◌, false, IfOk};
 
 use crate::new_outlet::NewOutlet;
-use crate::world::CreateFault;
+use dsr_cells::Text;
 use dsr_file::Failed;
 use dsr_intake::{Outlet, ToWrite};
 use std::fs;
 use std::fs::File;
-use std::random::RandomSource;
 
-/// A new file, opened once more to be synced, its name, and that of the file whose place it takes.
+/// A new file, opened once more to be synced, and its name.
 #[derive(Drop)]
 pub struct HostNew {
     out: ToWrite<File>,
     pub(super) file: File,
-    pub(super) part: String,
-    pub(super) place: String,
+    pub(super) name: Text,
 }
 
 impl HostNew {
-    /// Creates it beside the file of this name, which is no link.
+    /// Creates the file of this name, which nothing has.
     ///
     /// # Errors
     ///
-    /// `Failed`: it cannot be created. `Memory`: out of memory.
-    pub(super) fn create(rt: HostRuntime, place: String) -> Result<HostNew, CreateFault>
+    /// `Failed`: it cannot be created.
+    pub(super) fn create(rt: HostRuntime, name: Text) -> Result<HostNew, Failed>
         ensures sound { IfOk result (λ n. (⟦<HostNew as Outlet>⟧.told n).failed ≡ false) }
         ensures empty { IfOk result (λ n. (⟦<HostNew as Outlet>⟧.told n).taken ≡ 0) }
+        ensures named { IfOk result (λ n. ⟦<HostNew as NewOutlet>⟧.name n ≡ name) }
     {
-        let mut digits = [0u8; 8];
-        if rt.fill_bytes(&mut digits).is_err() {
-            return Err(CreateFault::Failed);
-        }
-        let digits = u64::from_le_bytes(digits);
-        let Ok(part) = format!(in rt.alloc(); "{}.{:020}.part", place, digits) else {
-            return Err(CreateFault::Memory);
-        };
-        let Ok(out) = File::create_new(&rt, part.as_str()) else {
-            return Err(CreateFault::Failed);
+        let Ok(out) = File::create_new(&rt, name.as_str()) else {
+            return Err(Failed);
         };
         match out.try_clone() {
             Ok(file) => Ok(HostNew {
                 out: ToWrite::new(out),
                 file,
-                part,
-                place,
+                name,
             }),
             Err(_) => {
                 drop(out);
-                let _ = fs::remove_file(&rt, part.as_str());
-                Err(CreateFault::Failed)
+                let _ = fs::remove_file(&rt, name.as_str());
+                Err(Failed)
             }
         }
     }
@@ -72,5 +62,7 @@ impl Outlet for HostNew {
 }
 
 impl NewOutlet for HostNew {
+    ghost name = { λ n. n.name };
+
     ghost synced = { λ n. (⟦<ToWrite<File> as Outlet>⟧.told n.out).contents };
 }

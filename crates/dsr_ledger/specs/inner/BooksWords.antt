@@ -1,13 +1,12 @@
 -- The books, as a caller sees them, and books whose files have all ended.
-use Rattle.std.specs.Prelude.{◌≡◌, ℕ, ◌<◌, Bool, true, false, is_some, List, length, slice_get, map, option_map}
+use Rattle.std.specs.Prelude.{◌≡◌, ℕ, ◌<◌, Bool, true, false, is_some, List, length, slice_get}
 use Rattle.std.specs.Option.{option_map_or}
 use Rattle.dsr_ledger.specs.layer.Limits.{most_blocks}
 use Rattle.dsr_ledger.specs.declared.books.Books.{Books}
-use Rattle.dsr_ledger.specs.meaning.Files.{File, filed}
+use Rattle.dsr_ledger.specs.meaning.Files.{File}
 use Rattle.dsr_ledger.specs.declared.closed.ClosedBooks.{ClosedBooks}
 use Rattle.dsr_ledger.specs.meaning.Bookings.{bookings}
-use Rattle.dsr_ledger.specs.meaning.Findings.{differences, rejects}
-use Rattle.dsr_ledger.specs.meaning.Reports.{key_of, file_line, report_head, missing}
+use Rattle.dsr_ledger.specs.meaning.Reports.{report_of}
 use Rattle.dsr_ledger.specs.inner.Stands.{LedgerStands}
 use Rattle.dsr_ledger.specs.inner.Books as inner
 
@@ -51,11 +50,7 @@ pub record AllEnded (books : Books) : Type 0 where
   pub opened : opened_count books ≡ files_count books
   pub ended : (k : ℕ) → k < files_count books → ended_at books k ≡ true
 
--- closed books represent these files
+-- closed books represent these files: they have the report, but for the lines of its ledger, and the ledger
 pub record AreClosed (books : ClosedBooks) (files : List File) : Type 0 where
-  pub key : books.key ≡ option_map key_of (report_head files)
-  pub lines : books.files ≡ map file_line (filed files)
-  pub missing : books.missing ≡ missing files
-  pub differences : books.differences ≡ differences files
+  pub report : books.report ≡ record (report_of files) { ledger = books.report.ledger }
   pub ledger : LedgerStands books.ledger (bookings files)
-  pub rejects : books.rejects ≡ rejects files

@@ -114,11 +114,7 @@ whole_line from l = record l { parties = from.parties.items }
 abbrev pub most_left : LedgerView → ℕ
 most_left from = (length from.lines.items - from.given) + sum_by (λ x. 1 + length x.1.now.lines.items) (into_iter_items from.recordings)
 
--- this report is lent, and none of its ledger lines was given
+-- this report is lent; of its ledger's lines none was given, or it has them itself
 pub record IsViewOf (from : ReportView) (report : Report) : Type 0 where
-  pub key : from.key.now ≡ report.key
-  pub files : from.files.now ≡ report.files
-  pub missing : from.missing.now ≡ report.missing
-  pub differences : from.differences.now ≡ report.differences
-  pub ledger : AreGiven from.ledger report.ledger []
-  pub rejects : from.rejects.now ≡ report.rejects
+  pub others : from.report.now ≡ record report { ledger = from.report.now.ledger }
+  pub ledger : MatchOption from.ledger (from.report.now.ledger ≡ report.ledger) (λ lines. AreGiven lines report.ledger [])

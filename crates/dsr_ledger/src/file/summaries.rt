@@ -2,7 +2,7 @@
 ghost use Rattle.std.specs.Prelude.{◌≡◌, ℕ, List, [], ◌∷◌, option_map, length};
 ghost use Rattle.std.specs.List.{AllByRecursion};
 ghost use Rattle.std.specs.Option.{ForSome};
-ghost use Rattle.dsr_ledger.specs.inner.Summaries.{IsInRange, SumsFit, state_plus, nothing_found, state_at, state_with, StateFits};
+ghost use Rattle.dsr_ledger.specs.inner.Summaries.{IsInRange, nothing_found, state_at, state_with, StateFits};
 
 use crate::index::{Hints, Seeded};
 use crate::sums::{Sums, check_range};
@@ -20,27 +20,6 @@ struct SummaryState {
     /// The number of the key in the ledger.
     key: u32,
     sums: Sums,
-}
-
-impl SummaryState {
-    /// The state of a summary before any usage. Its key has this number.
-    fn new(key: u32) -> SummaryState
-        ensures { result ≡ nothing_found key }
-    {
-        SummaryState {
-            key,
-            sums: Sums::new(),
-        }
-    }
-
-    /// Adds a usage that names the summary.
-    fn count(&mut self, usage: &Usage)
-        requires { SumsFit 1 self.old.sums }
-        ensures states { self.new ≡ state_plus usage.now self.old }
-        ensures range { IsInRange usage.now }
-    {
-        self.sums.add(usage);
-    }
 }
 
 /// A file's summaries by their identifiers, numbered in file order.
@@ -162,9 +141,11 @@ impl Summaries {
         if self.states.contains_key(&summary.id) {
             return Ok(());
         }
-        let state = SummaryState::new(key);
+        let sums = Sums::new();
         let place = self.states.len();
-        let _none = self.states.insert(summary.id.copy(alloc)?, state)?;
+        let _none = self
+            .states
+            .insert(summary.id.copy(alloc)?, SummaryState { key, sums })?;
         self.hints.set(summary_group(&summary.id), place);
         Ok(())
     }
@@ -179,7 +160,7 @@ impl Summaries {
             (state_with q (usage.now ∷ [])) (state_at self.old q) }
     {
         let (_, state) = self.states.pair_mut(number);
-        state.count(usage);
+        state.sums.add(usage);
     }
 }
 

@@ -6,7 +6,7 @@ ghost use Rattle.std.specs.Str.{bytes_eq};
 ghost use Rattle.std.proofs.Props.{props};
 ghost use Rattle.dsr_ledger.specs.layer.Limits.{amount_bound};
 ghost use Rattle.dsr_ledger.specs.inner.Numbered.{AreIndexed, IsNumbered, AreApart, AreBelow};
-ghost use Rattle.dsr_ledger.specs.inner.Seated.{nothing_owed, owed_with, owed_kept, owed_at_place, owed_in, owed_plus, owed_for, part_seats, part_in, parts_size, PartsGrow, HaveSeats, HasPart, HaveParts, AreSeatsBelow};
+ghost use Rattle.dsr_ledger.specs.inner.Seated.{owed_with, owed_in, owed_plus, owed_for, part_seats, part_in, parts_size, PartsGrow, HaveSeats, HasPart, HaveParts, AreSeatsBelow};
 ghost use Rattle.dsr_ledger.specs.meaning.Ledger.{part_of};
 
 use crate::index::{Index, Seeded};
@@ -63,23 +63,6 @@ fn rising_seats(shares: &[SeatShare]) -> usize {
     rising
 }
 
-/// Adds an amount to the part at a place.
-fn add_part(parts: &mut [SeatPart], place: usize, amount: i128, spares: &mut Spares)
-    requires below { place < length parts.old }
-    requires fits { FitsSigned w128 ((owed_at_place parts.old (Some place)).amount +ℤ
-        amount) }
-    requires spare { 0 < spares.old }
-    ensures seats { part_seats parts.new ≡ part_seats parts.old }
-    ensures part { (place_of : List ℕ → Option ℕ) (party : List ℕ)
-        → IsNumbered place_of (length parts.old) → place_of party ≡ Some place
-        → (q : List ℕ) → owed_at_place parts.new (place_of q)
-        ≡ (if bytes_eq party q then owed_with amount (owed_at_place parts.old (place_of q))
-        else owed_at_place parts.old (place_of q)) }
-    ensures spares { spares.old ≤ spares.new + 1 }
-{
-    parts[place].add(amount, spares);
-}
-
 /// Adds the share of an amount to the part of its seat, and returns the place after that. The part at
 /// `hint` is tried first.
 fn add_share(
@@ -107,35 +90,8 @@ fn add_share(
     let Some(place) = index.find(parts, share.seat, hint) else {
         return hint;
     };
-    add_part(parts, place, share_of(amount.units(), share.share), spares);
+    parts[place].add(share_of(amount.units(), share.share), spares);
     place.wrapping_add(1)
-}
-
-/// Adds the shares of an amount, each to the part of its seat.
-fn add_parts(
-    parts: &mut [SeatPart],
-    index: &Index,
-    amount: Amount,
-    shares: &[SeatShare],
-    spares: &mut Spares,
-)
-    requires apart { AreApart (part_seats parts.old) }
-    requires indexed { AreIndexed (part_seats parts.old) index.now }
-    requires wide { HaveParts shares.now parts.old }
-    requires fits { (n : ℕ) × (seat : List ℕ → Option ℕ) × (es : List (List ℕ × ℕ))
-        × HaveSeats seat n shares.now es × (parts_size (map (part_of amount) es) ≤ amount_bound)
-        × ((q : List ℕ) → unsigned_abs (owed_in parts.old (seat q)).amount + amount_bound < 2 ^ 127) }
-    requires spare { length shares.now ≤ spares.old }
-    ensures seats { part_seats parts.new ≡ part_seats parts.old }
-    ensures owed { (n : ℕ) (seat : List ℕ → Option ℕ) (es : List (List ℕ × ℕ))
-        → HaveSeats seat n shares.now es → (q : List ℕ) → owed_in parts.new (seat q)
-        ≡ owed_plus (owed_in parts.old (seat q)) (owed_for q (map (part_of amount) es)) }
-    ensures spares { spares.old ≤ spares.new + length shares.now }
-{
-    let mut next = 0;
-    for share in shares {
-        next = add_share(parts, index, amount, share, next, spares);
-    }
 }
 
 impl Parts {
@@ -215,7 +171,11 @@ impl Parts {
         ensures spares { spares.old ≤ spares.new + length shares.now }
     {
         let parts = self.items.as_mut_slice();
-        add_parts(parts, &self.index, amount, shares, spares);
+        let index = &self.index;
+        let mut next = 0;
+        for share in shares {
+            next = add_share(parts, index, amount, share, next, spares);
+        }
     }
 }
 

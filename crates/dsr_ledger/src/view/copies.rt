@@ -7,7 +7,7 @@ ghost use Rattle.dsr_ledger.specs.inner.Stands.{AreOfSmall, LedgerStands};
 use crate::ledger::Ledger;
 use crate::report::{LedgerLine, LedgerLines, Parties, PartyLine, append};
 use crate::view::{LedgerView, LineView, PartyView};
-use dsr_cells::{NoMemory, Text};
+use dsr_cells::NoMemory;
 use dsr_texts::Items;
 use std::alloc::Global;
 
@@ -29,9 +29,13 @@ fn copy_parties(alloc: Global, view: &[PartyView<'_>]) -> Result<Parties, NoMemo
     Ok(parties)
 }
 
-/// Copies a line.
-fn copy_line(alloc: Global, view: &LineView<'_>) -> Result<LedgerLine, NoMemory>
-    ensures { IfOk result (λ line. line ≡ view.now) }
+/// Copies a line, with these parties.
+fn copy_line(
+    alloc: Global,
+    view: &LineView<'_>,
+    parties: &[PartyView<'_>],
+) -> Result<LedgerLine, NoMemory>
+    ensures { IfOk result (λ line. line ≡ record view.now { parties = parties.now }) }
 {
     Ok(LedgerLine {
         isrc: *view.isrc,
@@ -41,7 +45,7 @@ fn copy_line(alloc: Global, view: &LineView<'_>) -> Result<LedgerLine, NoMemory>
         usages: view.usages,
         amount: view.amount,
         unclaimed: view.unclaimed,
-        parties: copy_parties(alloc, view.parties)?,
+        parties: copy_parties(alloc, parties)?,
     })
 }
 
@@ -54,7 +58,7 @@ pub(crate) fn copied_lines(alloc: Global, books: &Ledger) -> Result<LedgerLines,
     let mut view = LedgerView::of(alloc, books)?;
     let mut lines = Items::new(alloc);
     while let Some(line) = view.next() {
-        let copy = copy_line(alloc, &view.whole(&line))?;
+        let copy = copy_line(alloc, &line, view.parties())?;
         append(&mut lines, copy)?;
     }
     Ok(lines)

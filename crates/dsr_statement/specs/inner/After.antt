@@ -1,6 +1,6 @@
--- What a reader keeps of the lines that it has read, and the tests by it.
-use Rattle.std.specs.Prelude.{◌≡◌, ℕ, suc, true, ◌&&◌, nat_le, Bool, if◌then◌else◌, List, [], ◌∷◌, length, reverse, Option, Some, None, ℤ, ◌-ℤ◌, Result, Err}
-use Rattle.dsr_ledger.specs.meaning.Bookings.{Key, key_eq}
+-- What a reader keeps of the lines that it has read.
+use Rattle.std.specs.Prelude.{◌≡◌, ℕ, suc, ◌+◌, Bool, true, false, List, [], ◌∷◌, length, reverse, ◌-ℤ◌, Result, Err}
+use Rattle.std.specs.Option.{option_or}
 use Rattle.dsr_statement.specs.declared.line.Line.{Line}
 use Rattle.dsr_statement.specs.declared.line.Line.TheVariants as lines
 use Rattle.dsr_statement.specs.declared.last.Last.{Last}
@@ -9,48 +9,46 @@ use Rattle.dsr_statement.specs.declared.fault.StatementFault.{StatementFault}
 use Rattle.dsr_statement.specs.declared.fault.ReadError.{ReadError}
 use Rattle.dsr_statement.specs.declared.fault.ReadError.TheVariants as errors
 use Rattle.dsr_statement.specs.declared.reader.StatementReader.{StatementReader}
-use Rattle.dsr_statement.specs.meaning.Order.{left_of, files_in, is_key_below, is_text_below}
-use Rattle.dsr_statement.specs.meaning.Status.{is_remark, first_remark}
+use Rattle.dsr_statement.specs.meaning.Order.{left_of, files_in, of_latest}
+use Rattle.dsr_statement.specs.meaning.Status.{first_remark}
 use Rattle.dsr_statement.specs.inner.Near.{is_key}
-use Rattle.dsr_statement.specs.inner.Lasts.{last_line, file_fits, missing_fits, summary_fits, ledger_fits, party_fits, unclaimed_fits, reject_fits, fits_reject, input_fits, end_fits, fits_start}
+
+-- what is kept of the last line
+abbrev pub last_line : Line → Last
+last_line (lines.Report key) = lasts.Report
+last_line lines.NoReport = lasts.Report
+last_line (lines.File place f) = lasts.File place
+last_line (lines.Missing number) = lasts.Missing number
+last_line (lines.Summary d) = lasts.Summary d.file
+last_line (lines.Ledger key usages amount) = lasts.Ledger
+last_line (lines.Party key p) = lasts.Party
+last_line (lines.Unclaimed key amount) = lasts.Unclaimed
+last_line (lines.Reject r) = lasts.Reject r.file r.position
+last_line (lines.Layout d) = lasts.Layout
+last_line (lines.Input place d) = lasts.Input place
+last_line (lines.End n s) = lasts.End
 
 -- the latest of these lines, which come latest first
 abbrev pub last_of : List Line → Last
 last_of [] = lasts.Start
 last_of (l ∷ before) = last_line l
 
--- after a ledger line or one of its others, this is its key
-abbrev pub IsKeyOf : Key → List Line → Type 0
-IsKeyOf k (lines.Ledger key usages amount ∷ before) = k ≡ key
-IsKeyOf k (lines.Party key p ∷ before) = k ≡ key
-IsKeyOf k (lines.Unclaimed key amount ∷ before) = k ≡ key
-IsKeyOf k _ = Unit {0}
+-- what is kept of the latest line settles a test of it, with this answer
+abbrev pub Settles : Last → (Line → Bool) → Bool → Type 0
+Settles last test answer = (before : List Line) → last ≡ last_of before → answer ≡ of_latest false test before
 
--- after a ledger line or one of its others, the cells of this key are spelled as in a report
-abbrev pub IsKeyAfter : Key → List Line → Type 0
-IsKeyAfter k (lines.Ledger key usages amount ∷ before) = is_key k ≡ true
-IsKeyAfter k (lines.Party key p ∷ before) = is_key k ≡ true
-IsKeyAfter k (lines.Unclaimed key amount ∷ before) = is_key k ≡ true
-IsKeyAfter k _ = Unit {0}
-
--- after the line of a party, this is its name
-abbrev pub IsPartyOf : List ℕ → List Line → Type 0
-IsPartyOf party (lines.Party key p ∷ before) = party ≡ p.party
-IsPartyOf party _ = Unit {0}
-
--- before an unclaimed amount, this is what is left
-abbrev pub IsLeftOf : ℤ → List Line → Type 0
-IsLeftOf left (lines.Ledger key usages amount ∷ before) = left ≡ amount
-IsLeftOf left (lines.Party key p ∷ before) = left ≡ left_of (lines.Party key p ∷ before)
-IsLeftOf left _ = Unit {0}
+-- of a ledger line and those below it, the key, what is left and the name of the party are kept
+abbrev pub KeepsLedger : StatementReader → List Line → Type 0
+KeepsLedger r (lines.Ledger key usages amount ∷ before) = (r.key ≡ key) × (is_key r.key ≡ true) × (r.left ≡ amount)
+KeepsLedger r (lines.Party key p ∷ before) =
+    (r.key ≡ key) × (is_key r.key ≡ true) × (r.left ≡ left_of (lines.Party key p ∷ before)) × (r.party ≡ p.party)
+KeepsLedger r (lines.Unclaimed key amount ∷ before) = r.key ≡ key
+KeepsLedger r _ = Unit {0}
 
 -- the reader has read these lines, the latest first
 pub record IsAfter (r : StatementReader) (before : List Line) : Type 0 where
   pub last : r.last ≡ last_of before
-  pub key : IsKeyOf r.key before
-  pub valid : IsKeyAfter r.key before
-  pub party : IsPartyOf r.party before
-  pub left : IsLeftOf r.left before
+  pub ledger : KeepsLedger r before
   pub next : r.next ≡ suc (length before)
   pub files : r.files ≡ files_in before
   pub remark : r.remark ≡ first_remark 1 (reverse before)
@@ -60,31 +58,9 @@ abbrev pub IsErrorOf : {A : Type 0} → ReadError → (Result A StatementFault �
 IsErrorOf (errors.Fault fault) Such = Such (Err fault)
 IsErrorOf errors.Memory Such = Unit {0}
 
--- a line may stand next, by what the reader keeps
-abbrev pub fits : StatementReader → Line → Bool
-fits r (lines.Report key) = fits_start r.last
-fits r lines.NoReport = fits_start r.last
-fits r (lines.File place f) = file_fits place r.last
-fits r (lines.Missing number) = missing_fits number r.last
-fits r (lines.Summary d) = summary_fits d.file r.last
-fits r (lines.Ledger key usages amount) = ledger_fits (is_key_below r.key key) r.last
-fits r (lines.Party key p) = party_fits (key_eq r.key key) (is_text_below r.party p.party) r.last
-fits r (lines.Unclaimed key amount) = unclaimed_fits (key_eq r.key key) r.last
-fits r (lines.Reject x) = reject_fits x.file x.position r.last
-fits r (lines.Layout d) = fits_reject r.last
-fits r (lines.Input place d) = input_fits place r.last && nat_le place r.files
-fits r (lines.End n s) = end_fits r.files r.last
-
--- the first value, or else the second
-abbrev pub either : {A : Type 0} → Option A → Option A → Option A
-either (Some x) o = Some x
-either None o = o
-
 -- the reader once it has noted a line with this number: whether it is of a file, and whether it is the first remark
 abbrev pub noted : ℕ → Line → StatementReader → StatementReader
-noted n (lines.File place f) r =
-    record r { files = suc r.files; remark = either r.remark (if is_remark (lines.File place f) then Some n else None) }
-noted n l r = record r { remark = either r.remark (if is_remark l then Some n else None) }
+noted n l r = record r { files = files_in (l ∷ []) + r.files; remark = option_or r.remark (first_remark n (l ∷ [])) }
 
 -- the reader once it has counted a line, and kept what the next line depends on of it
 abbrev pub kept : StatementReader → Line → StatementReader

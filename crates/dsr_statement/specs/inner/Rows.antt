@@ -7,8 +7,6 @@ use Rattle.dsr_ledger.specs.meaning.Laws.{key_of_line}
 use Rattle.dsr_ledger.specs.declared.report.FileLine.{FileLine}
 use Rattle.dsr_ledger.specs.declared.report.LedgerLine.{LedgerLine}
 use Rattle.dsr_ledger.specs.declared.report.PartyLine.{PartyLine}
-use Rattle.dsr_ledger.specs.declared.report.Difference.{Difference}
-use Rattle.dsr_ledger.specs.declared.report.Reject.{Reject}
 use Rattle.dsr_statement.specs.declared.line.Line.TheVariants as lines
 use Rattle.dsr_statement.specs.declared.line.LineKind.TheVariants as kinds
 use Rattle.dsr_statement.specs.meaning.Digests.{Digest}
@@ -46,13 +44,3 @@ unclaimed_bytes l = line_bytes (lines.Unclaimed (key_of_line l) l.unclaimed)
 
 abbrev pub ledger_bytes : LedgerLine → List ℕ
 ledger_bytes l = text_of (lines_of_ledger l)
-
--- the bytes of the other lines
-abbrev pub missing_bytes : ℕ → List ℕ
-missing_bytes n = line_bytes (lines.Missing n)
-
-abbrev pub difference_bytes : Difference → List ℕ
-difference_bytes d = line_bytes (lines.Summary d)
-
-abbrev pub reject_bytes : Reject → List ℕ
-reject_bytes r = line_bytes (lines.Reject r)

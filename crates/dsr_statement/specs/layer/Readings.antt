@@ -1,5 +1,5 @@
 -- What a whole text is read as.
-use Rattle.std.specs.Prelude.{ℕ, false, List, [], Result}
+use Rattle.std.specs.Prelude.{ℕ, false, List, Result}
 use Rattle.dsr_statement.specs.declared.line.Line.{Line}
 use Rattle.dsr_statement.specs.meaning.Readings.{Refusal, IsReadingOf}
 

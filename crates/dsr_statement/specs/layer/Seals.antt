@@ -1,5 +1,5 @@
 -- The seal of a report.
-use Rattle.std.specs.Prelude.{◌≡◌, ◌+◌, true, List, [], ◌++◌, length, Option}
+use Rattle.std.specs.Prelude.{◌≡◌, true, List, ◌++◌, length, Option}
 use Rattle.std.specs.List.{list_all}
 use Rattle.dsr_ledger.specs.declared.report.Report.{Report}
 use Rattle.dsr_statement.specs.declared.line.Line.{Line}

@@ -1,7 +1,8 @@
 -- What a reading has read of a statement, and what it adds to the totals.
-use Rattle.std.specs.Prelude.{◌≡◌, ◌⊎◌, ℕ, suc, ◌==◌, Bool, false, List, [], ◌∷◌, ◌++◌, length, map, reverse, All, Some, None, Result, Ok, Err}
+use Rattle.std.specs.Prelude.{◌≡◌, ◌⊎◌, ℕ, suc, ◌==◌, Bool, true, false, List, [], ◌∷◌, ◌++◌, length, map, reverse, All, Some, None, Result, Ok, Err}
 use Rattle.std.specs.List.{slice_split}
-use Rattle.std.specs.Io.KnownBytes.{Consumes}
+use Rattle.std.specs.Io.KnownBytes.{Consumes, IsAtEnd, Keeps}
+use Rattle.dsr_io.specs.declared.source.Failed.{Failed}
 use Rattle.dsr_io.specs.meaning.Told.{Told}
 use Rattle.dsr_statement.specs.declared.line.Line.{Line}
 use Rattle.dsr_statement.specs.declared.fault.StatementFault.{StatementFault}
@@ -111,3 +112,10 @@ pub record IsReading (before now : Told) (role : Role) (start totals : Totals) (
   pub lines : AreLinesOf [] bytes ls
   pub added : AddsLines role start totals ls
   pub short : HasNoLineFeed kept
+
+-- a read put these bytes of a source behind others, or failed
+abbrev pub ReadsBehind : Told → Told → List ℕ → List ℕ → Result ℕ Failed → Type 0
+ReadsBehind before now old new (Ok n) =
+    (piece : List ℕ) × (new ≡ old ++ piece) × Consumes before.remaining now.remaining piece × (n ≡ 0 → (piece ≡ []) × IsAtEnd now.remaining)
+    × (now.failed ≡ before.failed)
+ReadsBehind before now old new (Err failed) = (new ≡ old) × Keeps before.remaining now.remaining × (now.failed ≡ true)

@@ -1,8 +1,7 @@
 use Rattle.dsr_command.proofs.Worlds.{at_disk, where_told}
 use Rattle.dsr_command.specs.Outputs.{outputs}
-use Rattle.dsr_command.specs.World.{made}
+use Rattle.dsr_command.specs.World.{ghosts, made}
 use Rattle.dsr.proofs.Serving.{printed, stored, unstored}
-use Rattle.dsr.specs.Serving.{ghosts}
 use Rattle.dsr.proofs.program.read_files.Goals as goal
 
 pub returns-in_default : goal.returns-in_default
@@ -19,9 +18,10 @@ returns-in-Ok-create_beside g c =
     where_told (g.W.World.disk c.args.world.now) _ (λ d is at.
     let created = rw c.deref.ensures.value at (at_disk _ _ d is c.in-Ok-create_beside.ensures.created) in
     stored (ghosts g.W.Reader.Source.told g.W.New.Outlet.told) g.W.Reader.FileSource.file d between (g.W.World.disk c.run_into.new.world)
-    c.args.asked.now c.args.options.options.value c.args.options.layout c.args.options.seal c.in-Ok.inputs.items c.in-Some.name c.in-Ok-create_beside.new
+    c.args.asked.now c.args.options.options.value c.args.options.layout c.args.options.seal c.in-Ok.inputs.items c.in-Some.name
+    (c.in-Ok-create_beside.new, c.in-Ok-create_beside.place)
     (g.O.Outlet.told c.args.out) (g.F.Outlet.told c.args.fault.now) (g.F.Outlet.told c.run_into.new.fault) c.run_into.result
-    at.file at.seal (at_disk _ _ d is c.in-Ok.ensures.opened) c.in-Some.is created (at_disk between _ (made d) created.1 c.run_into.ensures))
+    at.file at.seal (at_disk _ _ d is c.in-Ok.ensures.opened) c.in-Some.is created (at_disk between _ (made d) created.1.1 c.run_into.ensures created.1.0))
 
 pub returns-in-Err-create_beside : goal.returns-in-Err-create_beside
 returns-in-Err-create_beside g c =

@@ -6,13 +6,13 @@ pub returns-in-Ok : goal.returns-in-Ok
 returns-in-Ok g c =
     let run = c.run_inputs-new in
     let ended = c.status_of in
-    where_told (g.W.World.disk c.args.world.now) _ (λ d is. (
+    where_told (g.W.World.disk c.args.world.now) _ (λ d is leads. (
       run.result.1,
       run.ensures.0,
       run.result.0,
       run.ensures.1,
       settled (g.W.New.Outlet.told run.result.0).contents c.args.name.now d (g.W.World.disk c.settle.new.world) (g.F.Outlet.told c.args.fault.now)
-          (g.F.Outlet.told ended.new.fault) ended.result run.result.1 tt (at_disk _ _ d is (rw c.in-Ok.is at c.settle.ensures)) ended.ensures.told
+          (g.F.Outlet.told ended.new.fault) ended.result run.result.1 tt (at_disk _ _ d is (rw c.in-Ok.is at c.settle.ensures) c.args.name.now leads) ended.ensures.told
           ended.ensures.status,
     ))
 
@@ -20,12 +20,12 @@ pub returns-in-Err : goal.returns-in-Err
 returns-in-Err g c =
     let run = c.run_inputs-new in
     let told = c.cannot_replace in
-    where_told (g.W.World.disk c.args.world.now) _ (λ d is. (
+    where_told (g.W.World.disk c.args.world.now) _ (λ d is leads. (
       run.result.1,
       run.ensures.0,
       run.result.0,
       run.ensures.1,
       unsettled (g.W.New.Outlet.told run.result.0).contents c.args.name.now d (g.W.World.disk c.settle.new.world) (g.F.Outlet.told c.args.fault.now)
-          (g.F.Outlet.told told.new.fault) told.result run.result.1 _ (at_disk _ _ d is (rw c.in-Err.is at c.settle.ensures)) told.ensures.told
+          (g.F.Outlet.told told.new.fault) told.result run.result.1 _ (at_disk _ _ d is (rw c.in-Err.is at c.settle.ensures) c.args.name.now leads) told.ensures.told
           told.ensures.status,
     ))

@@ -1,4 +1,4 @@
-use Rattle.dsr_statement.proofs.Common.{[], ◌∷◌, ◌++◌, ◌∙◌, ap, flat_map, append-nil}
+use Rattle.dsr_statement.proofs.Common.{[], ◌∷◌, ◌++◌, ◌∙◌, ap, flat_map}
 use Rattle.dsr_statement.specs.meaning.Statement.{lines_of_ledger}
 use Rattle.dsr_statement.specs.inner.Pieces.{nothing}
 use Rattle.dsr_statement.specs.inner.Rows.{ledger_bytes}
@@ -13,9 +13,8 @@ loop-line-preserved g c = record {
   ready = c.next.ensures.ready;
   put = λ all h.
       let so_far = c.loop-line.invariant.put all h in
-      let whole = c.whole.ensures in
-      let line = turn c.put_ledger.ensures (λ i. ledger_bytes (record (whole i) { parties = append-nil (whole i).parties i })) in
-      (so_far.0 ++ _ ∷ [], c.in-Some.ensures.line all so_far.0 so_far.1, one_more ledger_bytes so_far.0 _ so_far.2 line);
+      let line = turn c.put_ledger.ensures (λ i. ledger_bytes (record c.in-Some.line { parties = c.parties.ensures i })) in
+      (so_far.0 ++ _ ∷ [], c.in-Some.ensures.line all so_far.0 so_far.1, one_more [] ledger_bytes so_far.0 _ so_far.2 line);
 }
 
 pub returns : goal.returns

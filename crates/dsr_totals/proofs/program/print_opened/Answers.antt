@@ -1,24 +1,24 @@
 use Rattle.dsr_command.proofs.Worlds.{at_disk, where_told}
-use Rattle.dsr_command.specs.World.{made}
+use Rattle.dsr_command.specs.World.{ghosts, made}
 use Rattle.dsr_totals.proofs.Serving.{stored, unstored}
-use Rattle.dsr_totals.specs.Serving.{ghosts}
 use Rattle.dsr_totals.proofs.program.print_opened.Goals as goal
 
 pub returns-in-Ok : goal.returns-in-Ok
 returns-in-Ok g c =
-    let between = g.W.World.disk c.create_beside.new.world in
-    where_told (g.W.World.disk c.args.world.now) _ (λ d is opened.
-    let created = rw c.deref.ensures.value at (at_disk _ _ d is c.in-Ok.ensures.created) in
+    let between = g.W.World.disk c.create_beside-created.new.world in
+    where_told (g.W.World.disk c.args.world.now) _ (λ d is are lists_are.
+    let created = rw (c.deref.ensures.value, c.deref-2.ensures.value) at (at_disk _ _ d is c.in-Ok.ensures.created) in
     stored (ghosts g.W.Reader.Source.told g.W.New.Outlet.told) g.W.Reader.FileSource.file d between (g.W.World.disk c.replace_by_totals.new.world)
-    c.args.asked.now c.args.inputs.items c.in-Some.name c.in-Ok.new
+    c.args.asked.now c.args.opened.inputs.items c.args.opened.lists.items c.in-Some.name (c.in-Ok.new, c.in-Ok.place)
     (g.O.Outlet.told c.args.out.now) (g.F.Outlet.told c.args.fault.now) (g.F.Outlet.told c.replace_by_totals.new.fault) c.replace_by_totals.result
-    opened c.in-Some.is created (at_disk between _ (made d) created.1 c.replace_by_totals.ensures))
+    are lists_are c.in-Some.is created (at_disk between _ (made d) created.1.1 c.replace_by_totals.ensures created.1.0))
 
 pub returns-in-Err : goal.returns-in-Err
 returns-in-Err g c =
-    where_told (g.W.World.disk c.args.world.now) _ (λ d is opened.
-    unstored (ghosts g.W.Reader.Source.told g.W.New.Outlet.told) g.W.Reader.FileSource.file d (g.W.World.disk c.create_beside.new.world)
-    c.args.asked.now c.args.inputs.items c.in-Some.name c.in-Err.error
+    where_told (g.W.World.disk c.args.world.now) _ (λ d is are lists_are.
+    unstored (ghosts g.W.Reader.Source.told g.W.New.Outlet.told) g.W.Reader.FileSource.file d (g.W.World.disk c.create_beside-created.new.world)
+    c.args.asked.now c.args.opened.inputs.items c.args.opened.lists.items c.in-Some.name c.in-Err.error
     (g.O.Outlet.told c.args.out.now) (g.F.Outlet.told c.args.fault.now) (g.F.Outlet.told c.no_new_file.new.fault) c.no_new_file.result
-    opened c.in-Some.is
-    (rw c.deref.ensures.value at (at_disk _ _ d is c.in-Err.ensures.created)) c.no_new_file.ensures.told c.no_new_file.ensures.status)
+    are lists_are c.in-Some.is
+    (rw (c.deref.ensures.value, c.deref-2.ensures.value) at (at_disk _ _ d is c.in-Err.ensures.created))
+    c.no_new_file.ensures.told c.no_new_file.ensures.status)

@@ -5,4 +5,4 @@ pub returns : goal.returns
 unfolding report_of
 returns c = λ files h.
     let copied = c.in-Ok.ensures (bookings files) h.ledger in
-    λ i. record { key = h.key i; files = h.lines i; missing = h.missing i; differences = h.differences i; ledger = copied i; rejects = h.rejects i }
+    λ i. record (h.report i) { ledger = copied i }

@@ -1,70 +1,81 @@
-use Rattle.dsr_ledger.proofs.Common.{arith, common_steps, ◌≡◌, cond, ◌&&◌, refl, sym, ap, subst, ◌∙◌, length, Option, Some, map, option_and_then, position, bytes_eq, same_Some, bytes_eq-Decides, keys-with_value_at, Recording, SummaryKey, AreBelow, place_by, part_of, seat_numbers, summary_key_eq, summary_key_in, Tally, line_keys, lines_tally, IsWide, tally_with, TallyFits, party_number, key_number, seat_of, recording_tally}
-use Rattle.dsr_ledger.proofs.LedgerLemmas.{got, each_put, each_related, related, summary_keys_are_numbered, changed_tally, line_here, got_here}
-use Rattle.dsr_ledger.proofs.IndexMapLemmas.{key_is}
-use Rattle.dsr_ledger.proofs.TextLemmas.{text_itself}
+use Rattle.dsr_ledger.proofs.Common.{arith, common_steps, ◌≡◌, refl, sym, ap, subst, ◌∙◌, length, map, position, bytes_eq, keys-with_value_at, Line, AreBelow, place_in, place_by, option_and_then, part_of, seat_numbers, summary_key_eq, summary_key_in, Tally, line_keys, line_tally, tally_with, TallyFits, party_number, key_number, seat_of, recording_tally}
+use Rattle.dsr_ledger.proofs.LedgerLemmas.{changed_at, each_same, each_wide, recording_put, summary_keys_are_numbered, line_changed, line_here}
+use Rattle.dsr_ledger.proofs.NumberedLemmas.{numbers_kept}
+use Rattle.dsr_ledger.proofs.RecordingLemmas.{key_of, line_put, wide_written, wide_below, wide_here}
 use Rattle.dsr_ledger.proofs.ledger.Ledger.add.Goals as goal
 
-pub add-requires-clause-wide : goal.add-requires-clause-wide
-add-requires-clause-wide c =
-    let e = c.pair_mut-found.ensures in let p = c.requires.fits in let v = c.pair_mut-found.result.1.now in
-    p.3.wide v (got_here c.args.self.now.recordings c.args.recording _ v v e.unique e.value p.0 p.3.recording_is)
+pub index_mut-line-requires : goal.index_mut-line-requires
+index_mut-line-requires c =
+    let e = c.pair_mut-found.ensures in let p = c.requires.fits in let v = c.pair_mut-found.result.1.now in let ss = c.args.shares.now in
+    let h = line_here c.args.self.now c.args.recording _ v e.unique e.value p.0 p.2 ss p.1 c.args.line p.3 in
+    let below = wide_below ss v.lines.items c.args.line h.wide in grind (arith, common_steps)
 
 pub add-requires-clause-fits : goal.add-requires-clause-fits
 add-requires-clause-fits c =
-    let e = c.pair_mut-found.ensures in let l = c.args.self.now in let p = c.requires.fits in let v = c.pair_mut-found.result.1.now in
-    let found = got_here l.recordings c.args.recording _ v v e.unique e.value p.0 p.3.recording_is in
-    let h = line_here l p.0 p.1 p.2 c.args.recording c.args.line c.args.shares.now v p.3 found in
-    let fits = subst (TallyFits 1) (ap (recording_tally (party_number l) (key_number l p.1)) found ∙ ap (λ o. recording_tally (party_number l) o (Some v)) h.1)
-    p.4 in
-    (length (seat_numbers v.seats), seat_of (party_number l) v, p.2, h.0, h.3, h.2, fits, p.5)
+    let e = c.pair_mut-found.ensures in let p = c.requires.fits in let v = c.pair_mut-found.result.1.now in
+    let h = line_here c.args.self.now c.args.recording _ v e.unique e.value p.0 p.2 c.args.shares.now p.1 c.args.line p.3 in
+    let fits = subst (TallyFits 1) (h.tally c.index_mut-line.result.now c.index_mut-line.ensures.value) p.4 in
+    record { usages = fits.usages; amount = fits.amount }
+
+pub add-requires-2 : goal.add-requires-2
+add-requires-2 c =
+    let e = c.pair_mut-found.ensures in let p = c.requires.fits in let v = c.pair_mut-found.result.1.now in let ss = c.args.shares.now in
+    let h = line_here c.args.self.now c.args.recording _ v e.unique e.value p.0 p.2 ss p.1 c.args.line p.3 in
+    let fits = subst (TallyFits 1) (h.tally c.index_mut-line.result.now c.index_mut-line.ensures.value) p.4 in
+    record {
+      wide = wide_here ss v.lines.items c.args.line c.index_mut-line.result.now h.wide c.index_mut-line.ensures.value;
+      fits = (length (seat_numbers v.seats), seat_of (party_number c.args.self.now) v, p.2, h.have, p.5, fits.owed);
+      spare = omega (arith, c.requires.spare, c.add.ensures.spares);
+    }
+
+pub invariant_of-found : goal.invariant_of-found
+invariant_of-found c =
+    let e = c.pair_mut-found.ensures in let p = c.requires.fits in let v = c.pair_mut-found.result.1.now in let i = c.args.line in
+    let w : Line = record { sums = c.add.new.self; parts = c.add-2.new.self } in let ss = c.args.shares.now in
+    let h = line_here c.args.self.now c.args.recording _ v e.unique e.value p.0 p.2 ss p.1 i p.3 in
+    line_put v i c.index_mut-line.result.now w (wide_below ss v.lines.items i h.wide) c.index_mut-line.ensures.value (ap (λ s. s.key) c.add.ensures.sums)
+    (subst (AreBelow (length (seat_numbers v.seats))) (sym c.add-2.ensures.seats))
 
 pub invariant_of-self : goal.invariant_of-self
 invariant_of-self c =
-    let e = c.pair_mut-found.ensures in let l = c.args.self.now in let m = l.recordings in let k = c.pair_mut-found.result.0.now in
-    let v = c.pair_mut-found.result.1.now in let w = c.add.new.self in let at = got m c.args.recording k v w e.unique e.value in
-    let parties = length l.parties.keys in let keys = length l.summary_keys.keys in
-    record {
-      seated = each_put m _ k v w e.unique e.value (λ r. AreBelow parties (seat_numbers r.seats)) l.seated (rw c.add.ensures.seats (l.seated k v at));
-      keyed = each_put m _ k v w e.unique e.value (λ r. AreBelow keys (line_keys r.lines.items)) l.keyed (rw c.add.ensures.keys (l.keyed k v at));
-    }
+    let e = c.pair_mut-found.ensures in let l = c.args.self.now in let v = c.pair_mut-found.result.1.now in let x = c.index_mut-line.result.now in
+    let kept = numbers_kept key_of v.lines.items c.args.line x _ c.index_mut-line.ensures.value (ap (λ s. s.key) c.add.ensures.sums) in
+    recording_put l c.args.recording c.pair_mut-found.result.0.now v _ e.unique e.value (λ below. below)
+    (subst (AreBelow (length l.summary_keys.keys)) (sym kept))
 
 pub returns-clause-numbers : goal.returns-clause-numbers
 returns-clause-numbers c =
     let e = c.pair_mut-found.ensures in let l = c.args.self.now in let m = l.recordings in let k = c.pair_mut-found.result.0.now in
-    let v = c.pair_mut-found.result.1.now in let w = c.add.new.self in let same = c.add.ensures.seats in
+    let v = c.pair_mut-found.result.1.now in let ls = v.lines.items in let i = c.args.line in let p = c.requires.fits in let ss = c.args.shares.now in
+    let x = c.index_mut-line.result.now in let w : Line = record { sums = c.add.new.self; parts = c.add-2.new.self } in
+    let is = c.index_mut-line.ensures.value in
+    let h = line_here l c.args.recording k v e.unique e.value p.0 p.2 ss p.1 i p.3 in
     record {
       keys = refl;
-      recordings = λ isrc. ap (position (bytes_eq isrc)) (keys-with_value_at m c.args.recording w);
-      seats = λ isrc name. each_related m c.args.recording k v w e.unique e.value
-          (λ (a : Option Recording) b. option_and_then (λ r. seat_of (party_number l) r name) b ≡ option_and_then (λ r. seat_of (party_number l) r name) a)
-          (ap (λ ss. place_by (party_number l) (seat_numbers ss) name) same) (λ o. refl) isrc;
-      lines = λ isrc key. each_related m c.args.recording k v w e.unique e.value
-          (λ (a : Option Recording) b. option_and_then (λ r. place_by (key_number l) (line_keys r.lines.items) key) b
-          ≡ option_and_then (λ r. place_by (key_number l) (line_keys r.lines.items) key) a)
-          (ap (λ ks. place_by (key_number l) ks key) c.add.ensures.keys) (λ o. refl) isrc;
-      wide = λ isrc ss i. each_related m c.args.recording k v w e.unique e.value
-          (λ (a : Option Recording) b. ((r : Recording) → a ≡ Some r → IsWide ss r.lines.items i) → (r : Recording) → b ≡ Some r → IsWide ss r.lines.items i)
-          (λ h r is. subst (λ (x : Recording). IsWide ss x.lines.items i) (same_Some w r is) (c.add.ensures.wide ss i (h v refl))) (λ o h. h) isrc;
+      recordings = λ isrc. ap (position (bytes_eq isrc)) (keys-with_value_at m c.args.recording _);
+      seats = λ isrc name. each_same m c.args.recording k v _ e.unique e.value (option_and_then (λ r. seat_of (party_number l) r name)) refl isrc;
+      lines = λ isrc key. each_same m c.args.recording k v _ e.unique e.value (option_and_then (λ r. place_by (key_number l) (line_keys r.lines.items) key))
+          (ap (λ ks. place_by (key_number l) ks key) (numbers_kept key_of ls i x w is (ap (λ s. s.key) c.add.ensures.sums))) isrc;
+      wide = each_wide m c.args.recording k v _ e.unique e.value (wide_written ls i x w (wide_below ss ls i h.wide) is
+          (λ q j there. ap (λ ns. place_in ns q) c.add-2.ensures.seats ∙ there));
     }
 
 pub returns-clause-tally : goal.returns-clause-tally
 returns-clause-tally c = λ isrc key es is q.
     let e = c.pair_mut-found.ensures in let l = c.args.self.now in let m = l.recordings in let k = c.pair_mut-found.result.0.now in
-    let v = c.pair_mut-found.result.1.now in let w = c.add.new.self in let party = party_number l in let number = key_number l in
-    let f : Tally → Tally = tally_with c.args.usage.now (map (part_of c.args.usage.now.amount) es) in
-    let found = got_here m c.args.recording k v v e.unique e.value isrc is.recording_is in
-    let h = line_here l isrc key es c.args.recording c.args.line c.args.shares.now v is found in
-    let change = c.add.ensures.tally (length (seat_numbers v.seats)) (seat_of party v) es h.0 h.3 h.2 in
-    let seat : seat_of party w ≡ seat_of party v = ap (λ ss. place_by party (seat_numbers ss)) c.add.ensures.seats in
-    let own = key_is bytes_eq bytes_eq-Decides m c.args.recording k v e.value isrc is.recording_is in
-    related m c.args.recording k v w e.unique e.value (λ x (a : Option Recording) b. (sk : SummaryKey) → recording_tally party (number sk) b
-    ≡ cond (bytes_eq isrc x && summary_key_eq key sk) (f (recording_tally party (number sk) a)) (recording_tally party (number sk) a)) (λ sk.
-    changed_tally number (length l.summary_keys.keys) (summary_keys_are_numbered l.summary_keys.keys) party f v w key h.0 h.1
-    (λ j. ap (λ s. lines_tally s w.lines.items (Some j)) seat ∙ change j) sk
-    ∙ ap (λ b. cond (b && summary_key_eq key sk) (f (recording_tally party (number sk) (Some v))) (recording_tally party (number sk) (Some v)))
-    (sym (ap (bytes_eq isrc) own ∙ text_itself isrc)))
-    (λ x other o sk. ap (λ b. cond (b && summary_key_eq key sk) (f (recording_tally party (number sk) o)) (recording_tally party (number sk) o))
-    (sym (ap (λ y. bytes_eq y x) (sym own) ∙ other))) q.isrc (summary_key_in q)
+    let v = c.pair_mut-found.result.1.now in let party = party_number l in let number = key_number l in let seat = seat_of party v in
+    let f : Tally → Tally = tally_with c.args.usage.now (map (part_of c.args.usage.now.amount) es) in let sums = c.add.ensures.sums in
+    let h = line_here l c.args.recording k v e.unique e.value isrc es c.args.shares.now key c.args.line is in
+    let x = c.index_mut-line.result.now in let w : Line = record { sums = c.add.new.self; parts = c.add-2.new.self } in
+    let change : line_tally seat w ≡ f (line_tally seat x) = λ j. record {
+      is_booked = (sums j).is_booked;
+      usages = (sums j).usages;
+      amount = (sums j).amount;
+      owed = λ o. c.add-2.ensures.owed (length (seat_numbers v.seats)) seat es h.have o j;
+    } in
+    changed_at m c.args.recording k v _ e.unique e.value (recording_tally party (number (summary_key_in q))) (summary_key_eq key (summary_key_in q)) f isrc
+    is.recording_is (line_changed number (length l.summary_keys.keys) (summary_keys_are_numbered l.summary_keys.keys) seat f v.lines.items c.args.line x w key
+    c.index_mut-line.ensures.value (ap (λ s. s.key) sums) change h.place (summary_key_in q)) q.isrc
 
 pub pair_mut-found-requires : goal.pair_mut-found-requires
 pair_mut-found-requires c = grind (arith, common_steps)

@@ -6,16 +6,16 @@ use Rattle.dsr_ledger.proofs.ledger.recording.Recording.add_line.Goals as goal
 pub invariant_of-self : goal.invariant_of-self
 invariant_of-self c =
     let r = c.args.self.now in
-    rw c.reserve_line.ensures.items (record { apart = r.apart; indexed = r.indexed; within = r.within })
+    rw c.reserve.ensures.items (record { apart = r.apart; indexed = r.indexed; within = r.within })
 
 pub add-requires-clause-indexed : goal.add-requires-clause-indexed
-add-requires-clause-indexed c = rw (c.as_slice.ensures.value, c.reserve_line.ensures.items) c.args.self.now.indexed
+add-requires-clause-indexed c = rw (c.as_slice.ensures.value, c.reserve.ensures.items) c.args.self.now.indexed
 
 pub invariant_of-self-in-Break-branch-2 : goal.invariant_of-self-in-Break-branch-2
 invariant_of-self-in-Break-branch-2 c =
     let r = c.args.self.now in let there : c.as_slice.result.now ≡ r.lines.items = search rules in
     let indexed = subst (λ ls. AreIndexed (line_keys ls) c.add.new.self) there c.in_err-add.ensures.err in
-    rw c.reserve_line.ensures.items (record { apart = r.apart; indexed = indexed; within = r.within })
+    rw c.reserve.ensures.items (record { apart = r.apart; indexed = indexed; within = r.within })
 
 pub invariant_of-self-2 : goal.invariant_of-self-2
 invariant_of-self-2 c =
@@ -41,8 +41,8 @@ returns-clause-there c =
     let items : c.push.new.self.items ≡ ls ++ l ∷ [] = search rules in let long : length ls ≡ c.len-number.result = search rules in
     ap (line_in c.push.new.self.items) (sym c.new.ensures.key) ∙ ap (λ xs. line_in xs l.sums.key) items ∙ item_there key_of ls l none ∙ ap Some long
 
-pub returns-in_err-reserve_line-clause-grows : goal.returns-in_err-reserve_line-clause-grows
-returns-in_err-reserve_line-clause-grows c = grind (arith, common_steps)
+pub returns-in_err-reserve-clause-grows : goal.returns-in_err-reserve-clause-grows
+returns-in_err-reserve-clause-grows c = grind (arith, common_steps)
 
 pub returns-in_err-push-clause-grows : goal.returns-in_err-push-clause-grows
 returns-in_err-push-clause-grows c = grind (arith, common_steps)
