@@ -1,8 +1,6 @@
 -- Adding a record to a grammar.
-use Rattle.dsr_file.proofs.Common.{◌≡◌, ◌+◌, ◌∙◌, sym, ap, refl, subst, Bool, true, false, List, [], ◌∷◌, ◌++◌, length, count_by, Option, None, Some, add-zero, length-append, cond, option_and_then, if◌then◌else◌, option_to_list, Record, Head, Summary, Resource, Work, Usage, Foot, Skipped, FileFault, EventPart, Grammar, Reading, Holds, kept, records, is_skipped_line, is_skipped_record, closed, summaries, events_of, fault_if, fault_of, early_fault, count_fault, or_else, counts_fault, Stage, KeepsStage, IsMember, stage_after, given_by, foot_in, summary_count, block_count, Keeps, kept_count_fault, IsRecord}
+use Rattle.dsr_file.proofs.Common.{◌≡◌, ◌+◌, ◌∙◌, sym, ap, subst, Bool, true, false, List, [], ◌∷◌, ◌++◌, length, count_by, Option, None, Some, add-zero, length-append, cond, option_and_then, if◌then◌else◌, option_to_list, Record, FileFault, EventPart, Grammar, Reading, Holds, kept, records, is_skipped_line, is_skipped_record, closed, summaries, events_of, fault_of, early_fault, count_fault, or_else, counts_fault, Stage, KeepsStage, IsMember, stage_after, given_by, foot_in, summary_count, block_count, Keeps, kept_count_fault, IsRecord, arith, zero-add}
 use Rattle.std.proofs.lemmas.List.Sums.{sum_by-append}
-use Rattle.dsr_events.specs.declared.record.Foot as foot
-use Rattle.dsr_events.specs.declared.fault.FileFault.TheVariants as faults
 use Rattle.dsr_file.proofs.StepLemmas.{Steps, step_record, summaries-append}
 use Rattle.dsr_file.proofs.LineLemmas.{records-push, first_good}
 
@@ -18,62 +16,25 @@ pub record Adds (old new : Grammar) (item : Record) (part : Option EventPart) : 
   pub blocks : new.blocks ≡ old.blocks + block_count part
 
 summary_added : (item : Record) → length (summaries (item ∷ [])) ≡ summary_count item
-summary_added (Summary s) = refl
-summary_added (Head h) = refl
-summary_added (Resource r) = refl
-summary_added (Work w) = refl
-summary_added (Usage u) = refl
-summary_added (Foot f) = refl
-summary_added Skipped = refl
+summary_added item = grind arith
 
 -- a record that is not of a skipped type is kept
 kept_record : (item : Record) → IsRecord item → kept (Holds item) ≡ item ∷ []
-kept_record (Summary s) i = refl
-kept_record (Head h) i = refl
-kept_record (Resource r) i = refl
-kept_record (Work w) i = refl
-kept_record (Usage u) i = refl
-kept_record (Foot f) i = refl
-kept_record Skipped i = absurd i
+kept_record item i = grind arith
 
 unskipped : (item : Record) → IsRecord item → is_skipped_record (Holds item) ≡ false
-unskipped (Summary s) i = refl
-unskipped (Head h) i = refl
-unskipped (Resource r) i = refl
-unskipped (Work w) i = refl
-unskipped (Usage u) i = refl
-unskipped (Foot f) i = refl
-unskipped Skipped i = absurd i
+unskipped item i = grind arith
 
 -- the records after a line that holds the item
 pub with_item : (ls : List Reading) (item : Record) → IsRecord item → records (ls ++ Holds item ∷ []) ≡ records ls ++ item ∷ []
 with_item ls item i = records-push ls (Holds item) ∙ ap (λ rs. records ls ++ rs) (kept_record item i)
 
-pub count_by_push_no : {X : Type 0} (p : X → Bool) (xs : List X) (x : X) → p x ≡ false → count_by p (xs ++ x ∷ []) ≡ count_by p xs
-count_by_push_no p xs x e = sum_by-append (λ y. cond (p y) 1 0) xs (x ∷ []) ∙ rw e (add-zero _)
-
-pub count_by_push_yes : {X : Type 0} (p : X → Bool) (xs : List X) (x : X) → p x ≡ true → count_by p (xs ++ x ∷ []) ≡ count_by p xs + 1
-count_by_push_yes p xs x e = sum_by-append (λ y. cond (p y) 1 0) xs (x ∷ []) ∙ rw e refl
-
-some_same : (f g : FileFault) → Some f ≡ Some g → f ≡ g
-some_same f g e = cc
-
-one_of_three : (a b c : Bool) (f : FileFault) → or_else (fault_if a faults.FootLines) (or_else (fault_if b faults.FootSummaries) (fault_if c faults.FootBlocks))
-    ≡ Some f → counts_fault f ≡ true
-one_of_three true b c f e = ap counts_fault (some_same _ _ (sym e))
-one_of_three false true c f e = ap counts_fault (some_same _ _ (sym e))
-one_of_three false false true f e = ap counts_fault (some_same _ _ (sym e))
-one_of_three false false false f e = cc
+pub count_by_push : {X : Type 0} (p : X → Bool) (xs : List X) (x : X) → count_by p (xs ++ x ∷ []) ≡ count_by p xs + cond (p x) 1 0
+count_by_push p xs x = sum_by-append (λ y. cond (p y) 1 0) xs (x ∷ []) ∙ ap (λ n. count_by p xs + n) (zero-add _)
 
 -- a fault of the counts is one of the three
 count_faults : (g : Grammar) (item : Record) (f : FileFault) → option_and_then (kept_count_fault g) (foot_in item) ≡ Some f → counts_fault f ≡ true
-count_faults g (Foot t) f e = one_of_three _ _ _ f e
-count_faults g (Head h) f e = cc
-count_faults g (Summary s) f e = cc
-count_faults g (Resource r) f e = cc
-count_faults g (Work w) f e = cc
-count_faults g (Usage u) f e = cc
-count_faults g Skipped f e = cc
+count_faults g item f e = grind arith
 
 -- a work or a usage closes nothing, and no count but that of the records changes by it
 pub record Plain (stage : Stage) (item : Record) : Type 0 where
@@ -83,13 +44,7 @@ pub record Plain (stage : Stage) (item : Record) : Type 0 where
   pub foot : foot_in item ≡ None
 
 pub plain_member : (stage : Stage) (item : Record) → IsMember item → Plain stage item
-plain_member stage (Work w) m = record { given = refl; real = tt; summaries = refl; foot = refl }
-plain_member stage (Usage u) m = record { given = refl; real = tt; summaries = refl; foot = refl }
-plain_member stage (Head h) m = absurd m
-plain_member stage (Summary s) m = absurd m
-plain_member stage (Resource r) m = absurd m
-plain_member stage (Foot f) m = absurd m
-plain_member stage Skipped m = absurd m
+plain_member stage item m = grind arith
 
 module _ (old new : Grammar) (ls : List Reading) (item : Record) (part : Option EventPart) (k : Keeps old ls) (e : early_fault (records ls) item ≡ None)
     (i : IsRecord item) (a : Adds old new item part) where
@@ -107,28 +62,13 @@ module _ (old new : Grammar) (ls : List Reading) (item : Record) (part : Option 
   records_after : new.records ≡ length (records ls) + 1
   records_after = a.records ∙ ap (λ n. n + 1) k.records_are
 
-  -- the counts that the code compares are those of the records
-  foot_agrees : (f : foot.Foot) → item ≡ Foot f → count_fault (records ls) (count_by is_skipped_record ls) (count_by is_skipped_line ls) (Foot f)
-      ≡ kept_count_fault new f
-  foot_agrees f is =
-      let s0 : new.summaries ≡ length (summaries (records ls)) =
-      a.summaries ∙ ap (λ r. old.summaries + summary_count r) is ∙ add-zero old.summaries ∙ k.summaries_are in
-      let b0 : new.blocks ≡ length (closed (records ls ++ Foot f ∷ [])) = blocks_after ∙ ap (λ r. length (closed (records ls ++ r ∷ []))) is in
-      rw (records_after, a.skipped_records, a.skipped_lines, k.types_are, k.skipped_are, s0, b0) refl
-
   counts_agree : count_fault (records ls) (count_by is_skipped_record ls) (count_by is_skipped_line ls) item
       ≡ option_and_then (kept_count_fault new) (foot_in item)
-  counts_agree = by_kind item refl
-    where
-      by_kind : (r : Record) → item ≡ r → count_fault (records ls) (count_by is_skipped_record ls) (count_by is_skipped_line ls) r
-          ≡ option_and_then (kept_count_fault new) (foot_in r)
-      by_kind (Foot f) is = foot_agrees f is
-      by_kind (Head h) is = refl
-      by_kind (Summary s) is = refl
-      by_kind (Resource r) is = refl
-      by_kind (Work w) is = refl
-      by_kind (Usage u) is = refl
-      by_kind Skipped is = refl
+  counts_agree =
+      let s : new.summaries ≡ length (summaries (records ls)) + summary_count item = a.summaries ∙ ap (λ n. n + summary_count item) k.summaries_are in
+      let r = records_after in
+      let b = blocks_after in
+      grind arith
 
   fault_is : fault_of ls (Holds item) ≡ option_and_then (kept_count_fault new) (foot_in item)
   unfolding fault_of
@@ -146,8 +86,8 @@ module _ (old new : Grammar) (ls : List Reading) (item : Record) (part : Option 
       stage_is =
           subst (λ rs. KeepsStage new.stage rs) (sym (with_item ls item i)) (subst (λ st. KeepsStage st (records ls ++ item ∷ [])) (sym a.stage) step.keeps);
       lines_are = a.lines ∙ ap (λ n. n + 1) k.lines_are ∙ sym (length-append ls (Holds item ∷ []));
-      skipped_are = a.skipped_lines ∙ k.skipped_are ∙ sym (count_by_push_no is_skipped_line ls (Holds item) refl);
-      types_are = a.skipped_records ∙ k.types_are ∙ sym (count_by_push_no is_skipped_record ls (Holds item) (unskipped item i));
+      skipped_are = a.skipped_lines ∙ k.skipped_are ∙ sym (count_by_push is_skipped_line ls (Holds item) ∙ add-zero _);
+      types_are = a.skipped_records ∙ k.types_are ∙ sym (count_by_push is_skipped_record ls (Holds item) ∙ rw (unskipped item i) (add-zero _));
       records_are = records_after ∙ sym (ap length (with_item ls item i) ∙ length-append (records ls) (item ∷ []));
       summaries_are = summaries_after ∙ ap (λ rs. length (summaries rs)) (sym (with_item ls item i));
       blocks_are = blocks_after ∙ ap (λ rs. length (closed rs)) (sym (with_item ls item i));

@@ -42,7 +42,7 @@ pub use Rattle.dsr_file.specs.declared.reader.FileReader.{FileReader}
 pub use Rattle.dsr_file.specs.declared.stage.Stage.{Stage}
 pub use Rattle.dsr_file.specs.declared.stage.Stage.TheVariants.{Closed, Front, Open, Start}
 pub use Rattle.dsr_file.specs.inner.Stages.{event_at, block_count, foot_in, summary_count, IsFree, IsMember, IsNew, IsOpen, KeepsStage, block_length, column_at, given_by, part_given, records_of, stage_after, stage_fault}
-pub use Rattle.dsr_file.specs.inner.Standing.{AtAnswer, AtCut, AtEnd, AtLine, EndsAfter, IsDone, SameText, Stands, StandsAt, bytes_used, ending_told, events_left, first_ending}
+pub use Rattle.dsr_file.specs.inner.Standing.{AtAnswer, AtCut, AtLine, AtLines, EndsAfter, IsAt, IsDone, SameBut, Taken, phase_after, SameText, Stands, StandsAt, bytes_used, ending_told, events_left, first_ending}
 pub use Rattle.dsr_file.specs.inner.Cutting.{CutSteps, CutsTo, FitsCut, IsBetweenLines, IsSettled}
 pub use Rattle.dsr_file.specs.inner.ReaderSteps.{Fed, FedSome, Reads}
 pub use Rattle.dsr_file.specs.inner.Grammars.{IsRecord, Keeps, LineSteps, TakesMemory, kept_count_fault}

@@ -3,7 +3,7 @@ use Rattle.dsr_file.proofs.Common.{◌≡◌, ℕ, ◌+◌, ◌-◌, ◌≤◌, 
 use Rattle.dsr_events.specs.declared.fault.Ending.TheVariants as endings
 use Rattle.dsr_file.proofs.LawLemmas.{so_far_begins_lem, so_far_grows}
 use Rattle.dsr_file.proofs.RunLemmas.{cut_off_run, cut_off_later}
-use Rattle.dsr_file.proofs.StandLemmas.{stands_joined}
+use Rattle.dsr_file.proofs.StandLemmas.{stands_more}
 
 pub prefix_self : {A : Type 0} (xs : List A) → IsPrefix xs xs
 prefix_self xs = ([], append-nil xs)
@@ -62,11 +62,7 @@ pub fed_more : (layout : LayoutTable) (r : FileReader) (b piece : List ℕ) (es 
     → Stands layout r (b ++ take (m + n) piece) fs
 fed_more layout r b piece es fs m n place at o h is put s =
     subst (λ x. Stands layout r (b ++ take (m + n) piece) x) (sym (put ∙ ap (λ p. es ++ option_to_list (event_at p o)) is))
-    (stands_joined layout r b piece es m n (event_at place o) (event_at place o) h refl s)
-
--- the list only grows by what was put
-pub prefix_part : (xs ys zs : List Placed) (at : ℕ) (o : Option EventPart) → IsPrefix xs ys → zs ≡ ys ++ option_to_list (event_at at o) → IsPrefix xs zs
-prefix_part xs ys zs at o p is = prefix_more xs ys zs p (option_to_list (event_at at o), sym is)
+    (stands_more layout r b piece es m n _ _ h refl s)
 
 -- a call of `take_part` that closed nothing, after other calls
 pub fed_all : (layout : LayoutTable) (r : FileReader) (b piece : List ℕ) (es : List Placed) (m n place : ℕ) (o : Option EventPart) → m ≤ length piece
@@ -76,7 +72,7 @@ pub fed_all : (layout : LayoutTable) (r : FileReader) (b piece : List ℕ) (es :
     ((layout : LayoutTable) (c : List ℕ) (gs : List Placed) → Stands layout r c gs → HasEvents layout c None gs) → Fed layout r b piece es
 fed_all layout r b piece es m n place None h k is s w all =
     let now : Stands layout r (b ++ take (m + n) piece) es =
-    subst (λ x. Stands layout r (b ++ take (m + n) piece) x) (append-nil es) (stands_joined layout r b piece es m n None None h refl s) in
+    subst (λ x. Stands layout r (b ++ take (m + n) piece) x) (append-nil es) (stands_more layout r b piece es m n [] [] h refl s) in
     record {
       used = m + n;
       bound = omega (arith, simp (length-take, length-drop) at k);
@@ -97,7 +93,7 @@ fed_some layout r b piece es fs m n place at o e h k is refused s begins = recor
   bound = omega (arith, simp (length-take, length-drop) at k);
   begins =
       subst (λ x. BeginsEvents layout (b ++ take (m + n) piece) None (x ++ e ∷ [])) (sym refused.1)
-      (begins layout _ _ (stands_joined layout r b piece es m n (event_at place o) (Some e) h (ap (λ p. event_at p o) (sym is) ∙ refused.0) s));
+      (begins layout _ _ (stands_more layout r b piece es m n _ (e ∷ []) h (ap option_to_list (ap (λ p. event_at p o) (sym is) ∙ refused.0)) s));
 }
 
 -- the same at the end of a text

@@ -1,5 +1,5 @@
 -- What a source keeps of the bytes that it gave, over several reads.
-use Rattle.dsr_file.proofs.Common.{◌≡◌, ℕ, sym, subst, ◌∙◌, List, [], ◌++◌, Option, None, Some, append_assoc, append-nil, Consumes}
+use Rattle.dsr_file.proofs.Common.{◌≡◌, ℕ, sym, subst, List, [], ◌++◌, Option, Some, append_assoc, append-nil, Consumes, arith}
 use Rattle.std.proofs.lemmas.List.{append_cancel_right}
 use Rattle.std.specs.Io.KnownBytes.{Keeps}
 use Rattle.dsr_io.specs.meaning.Told.{Told, HoldsGiven}
@@ -7,12 +7,7 @@ use Rattle.dsr_file.proofs.ReadLemmas.{consumes_more, consumes_kept, consumes_se
 
 -- the bytes given are those that are left no more
 given_is : (old new : Option (List ℕ)) (x given rest : List ℕ) → Consumes old new x → old ≡ Some (given ++ rest) → new ≡ Some rest → x ≡ given
-given_is None new x given rest c before after = absurd (cc)
-given_is (Some a) None x given rest c before after = absurd (cc)
-given_is (Some a) (Some b) x given rest c before after =
-    let all : a ≡ given ++ rest = cc in
-    let left : b ≡ rest = cc in
-    append_cancel_right x given rest (subst (λ z. x ++ z ≡ given ++ rest) left (sym c ∙ all))
+given_is old new x given rest c before after = let all : x ++ rest ≡ given ++ rest = grind arith in append_cancel_right x given rest all
 
 module _ {S : Type 0} (told : S → Told) (holds : S → List ℕ → Type 0) (before : S) where
   -- some bytes were given, and what was kept of those before them is kept of these too

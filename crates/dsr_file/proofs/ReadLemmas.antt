@@ -1,5 +1,5 @@
 -- The results of reading a file.
-use Rattle.dsr_file.proofs.Common.{◌≡◌, ℕ, ◌+◌, ◌-◌, ◌<◌, ◌≤◌, ◌⊎◌, inl, inr, ◌∙◌, sym, ap, refl, subst, Bool, true, false, List, [], ◌∷◌, ◌++◌, length, take, drop, Option, None, Some, append_assoc, take-append-drop, length-append, take_all, arith, append-nil, IsPrefix, Consumes, IsAtEnd, LayoutTable, Ending, Outcome, EventPart, Ended, FileReader, Placed, has_ended, records, events_of, last_of, events_so_far, placed, readings, text_events, so_far, FileText, ended, BeginsEvents, HasEvents, IsCutOff, EndsWith, Answered, AddsRead, Stands, StandsAt, IsDone, Fed, FedSome, Reads}
+use Rattle.dsr_file.proofs.Common.{◌≡◌, ℕ, ◌+◌, ◌-◌, ◌<◌, ◌≤◌, ◌⊎◌, inl, inr, ◌∙◌, sym, ap, refl, subst, Bool, true, false, List, [], ◌∷◌, ◌++◌, length, take, drop, Option, None, Some, append_assoc, take-append-drop, length-append, take_all, arith, append-nil, IsPrefix, Consumes, IsAtEnd, LayoutTable, Ending, Outcome, EventPart, Ended, FileReader, Placed, has_ended, records, events_of, last_of, events_so_far, placed, readings, text_events, so_far, FileText, ended, BeginsEvents, HasEvents, IsCutOff, EndsWith, Answered, AddsRead, Stands, StandsAt, IsDone, Fed, FedSome, Reads, IfErr, IfErr-weaker, IfOk, IfOk-weaker, Result, length-take}
 use Rattle.std.proofs.Math.Seq.{take-append_seam, take-nil}
 use Rattle.std.specs.Io.KnownBytes.{Keeps}
 use Rattle.dsr_events.specs.declared.fault.Ending.TheVariants as endings
@@ -9,7 +9,8 @@ use Rattle.dsr_io.specs.declared.read_count.ReadCount.{ReadCount}
 use Rattle.dsr_file.specs.declared.phase.Phase.TheVariants as phases
 use Rattle.dsr_events.specs.layer.Names.{is_memory}
 use Rattle.dsr_io.specs.meaning.Told.{Told}
-use Rattle.dsr_file.specs.meaning.Sources.{Gave, before_last, Stopped}
+use Rattle.dsr_file.specs.meaning.Sources.{EndsAs, Gave, before_last, Stopped}
+use Rattle.dsr_file.specs.inner.ReaderSteps.{Finishes, FinishesSome}
 use Rattle.dsr_file.specs.layer.Sources.{HasEarlier, IsRead, IsRefused}
 use Rattle.dsr_file.proofs.LawLemmas.{fault_is_final_lem}
 use Rattle.dsr_file.proofs.RunLemmas.{cut_off_is, cut_off_later}
@@ -22,23 +23,16 @@ not_both : true ≡ false → ⊥
 not_both e = cc
 
 pub consumes_more : (old mid new : Option (List ℕ)) (x y : List ℕ) → Consumes old mid x → Consumes mid new y → Consumes old new (x ++ y)
-consumes_more None mid new x y p q = tt
-consumes_more (Some a) None new x y p q = absurd p
-consumes_more (Some a) (Some b) None x y p q = absurd q
-consumes_more (Some a) (Some b) (Some c) x y p q = p ∙ ap (λ z. x ++ z) q ∙ sym (append_assoc x y c)
+consumes_more old mid new x y p q = grind (arith, append_assoc)
 
 pub consumes_kept : (old mid new : Option (List ℕ)) (x : List ℕ) → Consumes old mid x → Keeps mid new → Consumes old new x
-consumes_kept None mid new x p q = tt
-consumes_kept (Some a) None new x p q = absurd p
-consumes_kept (Some a) (Some b) None x p q = absurd q
-consumes_kept (Some a) (Some b) (Some c) x p q = p ∙ ap (λ z. x ++ z) (sym q)
+consumes_kept old mid new x p q = grind arith
 
 pub consumes_none : (old mid new : Option (List ℕ)) (x : List ℕ) → Consumes old mid x → Consumes mid new [] → Consumes old new x
 consumes_none old mid new x p q = subst (Consumes old new) (append-nil x) (consumes_more old mid new x [] p q)
 
 pub consumes_self : (x : Option (List ℕ)) → Consumes x x []
-consumes_self None = tt
-consumes_self (Some a) = refl
+consumes_self x = grind arith
 
 -- without bytes there is no Ended
 nothing_ended : (layout : LayoutTable) → has_ended (so_far layout []) ≡ false
@@ -51,11 +45,6 @@ nothing_known layout = refl
 
 none_before : (reads : ReadCount) → before_last reads [] ≡ []
 none_before reads = take-nil (0 - reads.last)
-
--- the events of the bytes given before the last read stay at the front
-earlier_more : (layout : LayoutTable) (reads : ReadCount) (given : List ℕ) (es fs : List Placed)
-    → HasEarlier layout reads given es → IsPrefix es fs → HasEarlier layout reads given fs
-earlier_more layout reads given es fs h grows = prefix_more _ es fs h grows
 
 -- the last read gave nothing
 earlier_all : (layout : LayoutTable) (reads : ReadCount) (given : List ℕ) (es : List Placed)
@@ -87,18 +76,6 @@ no_reads layout told r es s = record {
   kept = refl;
 }
 
--- the text ends
-end_read : (layout : LayoutTable) (limit : ℕ) (before after : Told) (given : List ℕ) (ending : Ending) (es : List Placed)
-    → Stopped layout limit before after given (Some ending) → HasEarlier layout after.reads given es → HasEvents layout given (Some ending) es
-    → IsRead layout limit before after es
-end_read layout limit before after given ending es s first (inl h) = inl (record { bytes = given; ending = ending }, inl s, h)
-end_read layout limit before after given ending es s first (inr h) = inr (given, Some ending, s, h, first)
-
-end_refused : (layout : LayoutTable) (limit : ℕ) (before after : Told) (given : List ℕ) (ending : Ending) (es : List Placed) (e : Placed)
-    → Stopped layout limit before after given (Some ending) → HasEarlier layout after.reads given es
-    → BeginsEvents layout given (Some ending) (es ++ e ∷ []) → IsRefused layout limit before after es e
-end_refused layout limit before after given ending es e s first h = (given, Some ending, s, h, first)
-
 cut_off_ended : (layout : LayoutTable) (b : List ℕ) (es : List Placed) → HasEvents layout b None es → has_ended es ≡ false → es ≡ so_far layout b
 cut_off_ended layout b es (inl h) n = h
 cut_off_ended layout b es (inr c) n =
@@ -107,15 +84,19 @@ cut_off_ended layout b es (inr c) n =
     ∙ ended_last front (length front) (outcomes.Fault (length c.before + 1) faults.Memory)) ∙ n))
 
 ended_not : (b : Bool) → (b ≡ true → ⊥) → b ≡ false
-ended_not true n = absurd (n refl)
-ended_not false n = refl
+ended_not b n = grind arith
 
--- a read gave this piece, after `reads` reads that each gave bytes
+-- a read gave the first bytes of this buffer, after `reads` reads that each gave bytes
 module _ (layout : LayoutTable) (before mid after : Told) (reads limit : ℕ) (file new : FileReader) (es fs : List Placed)
-    (r : Reads layout before mid reads file es) (piece : List ℕ) (c : Consumes mid.remaining after.remaining piece)
-    (counts : AddsRead mid.reads after.reads (length piece))
-    (some : 0 < length piece) (few : length piece ≤ 4096)
+    (r : Reads layout before mid reads file es) (buf : List ℕ) (n : ℕ) (c : Consumes mid.remaining after.remaining (take n buf))
+    (counts : AddsRead mid.reads after.reads n) (some : 0 < n) (bound : n ≤ length buf) (size : length buf ≤ 4096)
     (kept : after.failed ≡ mid.failed) (less : reads < limit) where
+  abbrev piece : List ℕ
+  piece = take n buf
+
+  given_more : length (r.given ++ piece) ≡ length r.given + n
+  given_more = simp (length-append, length-take) (omega arith)
+
   consumed : Consumes before.remaining after.remaining (r.given ++ piece)
   consumed = consumes_more before.remaining mid.remaining after.remaining r.given piece r.consumed c
 
@@ -124,7 +105,7 @@ module _ (layout : LayoutTable) (before mid after : Told) (reads limit : ℕ) (f
       (counts.0.0, λ low. omega (arith, some, counts.0.1 (omega (arith, some))))
 
   small : after.reads.last ≤ 4096
-  small = omega (arith, counts.1, few)
+  small = omega (arith, counts.1, bound, size)
 
   abbrev gave : Gave limit before after (r.given ++ piece)
   gave = record {
@@ -133,15 +114,15 @@ module _ (layout : LayoutTable) (before mid after : Told) (reads limit : ℕ) (f
     answered = answered;
     consumed = consumed;
     limited = omega (arith, less);
-    least = simp length-append (omega (arith, r.few, some));
-    most = simp length-append (omega (arith, r.most, few));
+    least = omega (arith, given_more, r.few, some);
+    most = omega (arith, given_more, r.most, bound, size);
     last_small = λ _. small;
   }
 
   -- the bytes given before it
   before_it : before_last after.reads (r.given ++ piece) ≡ r.given
   before_it = ap (λ n. take (length (r.given ++ piece) - n) (r.given ++ piece)) counts.1
-      ∙ ap (λ n. take n (r.given ++ piece)) (simp length-append (omega arith))
+      ∙ ap (λ n. take n (r.given ++ piece)) (omega (arith, given_more))
       ∙ take-append_seam r.given piece
 
   stopped : before.failed ≡ false → Stopped layout limit before after (r.given ++ piece) None
@@ -192,12 +173,12 @@ module _ (layout : LayoutTable) (before mid after : Told) (reads limit : ℕ) (f
 
   -- the piece has no fault
   pub more_reads : IsPrefix es fs → Fed layout new r.given piece fs → (IsDone new → ⊥) → Reads layout before after (reads + 1) new fs
-  more_reads grows f n = record {
+  more_reads grows f going_on = record {
     given = r.given ++ piece;
     answered = answered;
     consumed = consumed;
-    few = simp length-append (omega (arith, r.few, some));
-    most = simp length-append (omega (arith, r.most, few));
+    few = omega (arith, given_more, r.few, some);
+    most = omega (arith, given_more, r.most, bound, size);
     last_small = λ _. small;
     stands = subst (λ x. Stands layout new (r.given ++ x) fs) (all f.whole) f.stands;
     known = subst (λ xs. IsPrefix xs fs) put (prefix_self fs);
@@ -208,10 +189,10 @@ module _ (layout : LayoutTable) (before mid after : Told) (reads limit : ℕ) (f
     where
       all : (f.used ≡ length piece) ⊎ IsDone new → take f.used piece ≡ piece
       all (inl e) = take_all f.used piece (omega (arith, e))
-      all (inr d) = absurd (n d)
+      all (inr d) = absurd (going_on d)
 
       going : has_ended fs ≡ false
-      going = ended_not (has_ended fs) (λ t. n ((done_ended layout new (r.given ++ take f.used piece) fs f.stands).1 t))
+      going = ended_not (has_ended fs) (λ t. going_on ((done_ended layout new (r.given ++ take f.used piece) fs f.stands).1 t))
 
       put : fs ≡ so_far layout (r.given ++ piece)
       put = cut_off_ended layout (r.given ++ piece) fs (subst (λ x. HasEvents layout (r.given ++ x) None fs) (all f.whole) f.all) going
@@ -228,75 +209,86 @@ module _ (layout : LayoutTable) (before mid after : Told) (reads limit : ℕ) (f
     earlier grows,
   )
 
+-- the reading has stopped at this ending: what the reader represents, and what the source gave
+abbrev pub Ends : LayoutTable → ℕ → Told → Told → FileReader → Ending → List Placed → List Placed → Type 0
+Ends layout limit before after file ending es fs =
+    (given : List ℕ) × Stands layout file given es × Stopped layout limit before after given (Some ending) × HasEarlier layout after.reads given fs
+
 -- a read gave nothing, after `reads` reads that each gave bytes: the source has nothing left, or it failed
-module _ (layout : LayoutTable) (before mid after : Told) (reads limit : ℕ) (file : FileReader) (es : List Placed) (r : Reads layout before mid reads file es)
-    (counts : AddsRead mid.reads after.reads 0) (less : reads < limit) (fs : List Placed) (grows : IsPrefix es fs) where
-  first : HasEarlier layout after.reads r.given fs
-  first = earlier_all layout after.reads r.given fs counts.1 (prefix_more _ es fs r.known grows)
+module _ (layout : LayoutTable) (before mid after : Told) (reads limit : ℕ) (file : FileReader) (es fs : List Placed)
+    (r : Reads layout before mid reads file es) (counts : AddsRead mid.reads after.reads 0) (less : reads < limit) (grows : IsPrefix es fs) where
+  none_ends : (ending : Ending) → Consumes before.remaining after.remaining r.given → EndsAs limit after (reads + 1) reads ending
+      → Ends layout limit before after file ending es fs
+  none_ends ending c e = (
+    r.given,
+    r.stands,
+    (
+      record {
+        reads = reads + 1;
+        filled = reads;
+        answered = (
+          λ low. omega (arith, r.answered.0 (omega arith), counts.0.0 (omega (arith, r.answered.0 (omega arith)))),
+          λ low. omega (arith, r.answered.1 low, counts.0.1 (omega (arith, r.answered.1 low))),
+        );
+        consumed = c;
+        limited = omega (arith, less);
+        least = r.few;
+        most = r.most;
+        last_small = λ _. omega (arith, counts.1);
+      },
+      e,
+      r.going,
+    ),
+    earlier_all layout after.reads r.given fs counts.1 (prefix_more _ es fs r.known grows),
+  )
 
-  abbrev gave_none : Consumes before.remaining after.remaining r.given → Gave limit before after r.given
-  gave_none c = record {
-    reads = reads + 1;
-    filled = reads;
-    answered = (
-      λ low. omega (arith, r.answered.0 (omega arith), counts.0.0 (omega (arith, r.answered.0 (omega arith)))),
-      λ low. omega (arith, r.answered.1 low, counts.0.1 (omega (arith, r.answered.1 low))),
-    );
-    consumed = c;
-    limited = omega (arith, less);
-    least = r.few;
-    most = r.most;
-    last_small = λ _. omega (arith, counts.1);
-  }
+  pub whole_ends : Consumes mid.remaining after.remaining [] → IsAtEnd after.remaining → before.failed ≡ false → after.failed ≡ mid.failed
+      → Ends layout limit before after file endings.Whole es fs
+  whole_ends c end unfailed k =
+      none_ends endings.Whole (consumes_none before.remaining mid.remaining after.remaining r.given r.consumed c) (refl, end, k ∙ r.kept ∙ unfailed)
 
-  abbrev ended_gave : Consumes mid.remaining after.remaining [] → Gave limit before after r.given
-  ended_gave c = gave_none (consumes_none before.remaining mid.remaining after.remaining r.given r.consumed c)
-
-  abbrev failed_gave : Keeps mid.remaining after.remaining → Gave limit before after r.given
-  failed_gave c = gave_none (consumes_kept before.remaining mid.remaining after.remaining r.given r.consumed c)
-
-  pub whole_read : Consumes mid.remaining after.remaining [] → IsAtEnd after.remaining → before.failed ≡ false → after.failed ≡ mid.failed
-      → HasEvents layout r.given (Some endings.Whole) fs
-      → IsRead layout limit before after fs
-  whole_read c e unfailed k h = end_read layout limit before after r.given endings.Whole fs
-      (ended_gave c, (refl, e, k ∙ r.kept ∙ unfailed), r.going) first h
-
-  pub whole_refused : (e : Placed) → Consumes mid.remaining after.remaining [] → IsAtEnd after.remaining → before.failed ≡ false
-      → after.failed ≡ mid.failed → BeginsEvents layout r.given (Some endings.Whole) (fs ++ e ∷ []) → IsRefused layout limit before after fs e
-  whole_refused e c end unfailed k h = end_refused layout limit before after r.given endings.Whole fs e
-      (ended_gave c, (refl, end, k ∙ r.kept ∙ unfailed), r.going) first h
-
-  pub failed_read : Keeps mid.remaining after.remaining → after.failed ≡ true → HasEvents layout r.given (Some endings.Read) fs
-      → IsRead layout limit before after fs
-  failed_read c f h = end_read layout limit before after r.given endings.Read fs (failed_gave c, (refl, f), r.going) first h
-
-  pub failed_refused : (e : Placed) → Keeps mid.remaining after.remaining → after.failed ≡ true
-      → BeginsEvents layout r.given (Some endings.Read) (fs ++ e ∷ []) → IsRefused layout limit before after fs e
-  failed_refused e c f h = end_refused layout limit before after r.given endings.Read fs e (failed_gave c, (refl, f), r.going) first h
+  pub failed_ends : Keeps mid.remaining after.remaining → after.failed ≡ true → Ends layout limit before after file endings.Read es fs
+  failed_ends c f = none_ends endings.Read (consumes_kept before.remaining mid.remaining after.remaining r.given r.consumed c) (refl, f)
 
 -- the limit on reads was reached
-module _ (layout : LayoutTable) (before after : Told) (limit : ℕ) (file : FileReader) (es fs : List Placed)
-    (r : Reads layout before after limit file es) (grows : IsPrefix es fs) where
-  abbrev all_gave : Gave limit before after r.given
-  all_gave = record {
-    reads = limit;
-    filled = limit;
-    answered = r.answered;
-    consumed = r.consumed;
-    limited = omega arith;
-    least = r.few;
-    most = r.most;
-    last_small = r.last_small;
-  }
+pub limit_ends : (layout : LayoutTable) (before after : Told) (reads limit : ℕ) (file : FileReader) (es fs : List Placed)
+    → Reads layout before after reads file es → reads ≡ limit → IsPrefix es fs → before.failed ≡ false
+    → Ends layout limit before after file endings.Reads es fs
+limit_ends layout before after reads limit file es fs r end grows unfailed = (
+  r.given,
+  r.stands,
+  (
+    record {
+      reads = reads;
+      filled = reads;
+      answered = r.answered;
+      consumed = r.consumed;
+      limited = omega (arith, end);
+      least = r.few;
+      most = r.most;
+      last_small = r.last_small;
+    },
+    (end, end, r.kept ∙ unfailed),
+    r.going,
+  ),
+  prefix_more _ es fs r.earlier grows,
+)
 
-  pub limit_read : before.failed ≡ false → HasEvents layout r.given (Some endings.Reads) fs → IsRead layout limit before after fs
-  limit_read unfailed h = end_read layout limit before after r.given endings.Reads fs (all_gave, (refl, refl, r.kept ∙ unfailed), r.going)
-      (earlier_more layout after.reads r.given es fs r.earlier grows) h
+-- what follows from the results of ending the text, which began with this reader and these events
+module _ (limit : ℕ) (before after : Told) (old file : FileReader) (ending : Ending) (gs es fs : List Placed) (result : Result Outcome Placed)
+    (ends : (layout : LayoutTable) → Stands layout old [] gs → Ends layout limit before after file ending es fs) where
+  pub all_ended : IfOk result (Finishes file ending es fs)
+      → IfOk result (λ o. (layout : LayoutTable) → Stands layout old [] gs → EndsWith fs o × IsRead layout limit before after fs)
+  all_ended = IfOk-weaker result _ _ (λ o h layout s.
+      let e = ends layout s in
+      let all = h layout e.0 e.1 in (
+        all.1,
+        elim all.0 [ inl is ↦ inl (record { bytes = e.0; ending = ending }, inl e.2, is) | inr cut ↦ inr (e.0, Some ending, e.2, cut, e.3) ],
+      ))
 
-  pub limit_refused : (e : Placed) → before.failed ≡ false → BeginsEvents layout r.given (Some endings.Reads) (fs ++ e ∷ [])
-      → IsRefused layout limit before after fs e
-  limit_refused e unfailed h = end_refused layout limit before after r.given endings.Reads fs e (all_gave, (refl, refl, r.kept ∙ unfailed), r.going)
-      (earlier_more layout after.reads r.given es fs r.earlier grows) h
+  pub some_ended : IfErr result (λ e. FinishesSome file ending es (fs ++ e ∷ []))
+      → IfErr result (λ e. (layout : LayoutTable) → Stands layout old [] gs → IsRefused layout limit before after fs e)
+  some_ended = IfErr-weaker result _ _ (λ x h layout s. let e = ends layout s in (e.0, Some ending, e.2, h layout e.0 e.1, e.3))
 
 pub not_done : {D : Type 0} (t : Bool) → (D → t ≡ true) → t ≡ false → D → ⊥
 not_done t back f d = not_both (sym (back d) ∙ f)

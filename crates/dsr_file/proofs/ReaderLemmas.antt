@@ -1,5 +1,5 @@
 -- The lines and events of bytes, with one more line.
-use Rattle.dsr_file.proofs.Common.{◌≡◌, ℕ, suc, ◌+◌, ◌<◌, ◌≤◌, ◌∙◌, sym, ap, refl, Bool, true, false, ◌&&◌, ◌||◌, ltb, List, [], ◌∷◌, ◌++◌, length, map, Some, add-zero, arith, if◌then◌else◌, append-nil, map-append, nat_tests, is_long, pieces, line_limit, LayoutTable, FileFault, Ending, EventPart, Ended, lines_among, Reading, reading, records, events_of, fault_of, AllGood, first_from, counts_fault, events_so_far, placed, readings}
+use Rattle.dsr_file.proofs.Common.{◌≡◌, ℕ, suc, ◌+◌, ◌<◌, ◌≤◌, ◌∙◌, sym, ap, refl, List, [], ◌∷◌, ◌++◌, length, map, Some, add-zero, arith, if◌then◌else◌, append-nil, map-append, nat_tests, pieces, line_limit, LayoutTable, FileFault, Ending, EventPart, Ended, lines_among, Reading, reading, records, events_of, fault_of, AllGood, first_from, counts_fault, events_so_far, placed, readings}
 use Rattle.dsr_events.specs.declared.fault.Ending.TheVariants as endings
 use Rattle.dsr_events.specs.declared.fault.Outcome.TheVariants as outcomes
 use Rattle.dsr_file.proofs.LineLemmas.{first_at}
@@ -19,20 +19,11 @@ lines_last ending [] k = refl
 lines_last ending (p ∷ []) k = refl
 lines_last ending (p ∷ q ∷ ps) k = ap (λ xs. p ∷ xs) (lines_last ending (q ∷ ps) k)
 
-and_false : (a : Bool) → (a && false) ≡ false
-and_false true = refl
-and_false false = refl
-
 pub no_last : (k : List ℕ) → length k ≤ line_limit → lines_among endings.Read (k ∷ []) ≡ []
-no_last k h = let e : is_long k ≡ false = grind (arith, nat_tests) in rw (e, and_false) refl
+no_last k h = grind (arith, nat_tests)
 
 pub long_last : (k : List ℕ) → line_limit < length k → (ending : Ending) → lines_among ending (k ∷ []) ≡ k ∷ []
-long_last k h ending = let e : is_long k ≡ true = grind (arith, nat_tests) in let s : ltb 0 (length k) ≡ true = grind (arith, nat_tests) in
-    rw (s, e, or_true) refl
-  where
-    or_true : (a : Bool) → (a || true) ≡ true
-    or_true true = refl
-    or_true false = refl
+long_last k h ending = grind (arith, nat_tests)
 
 -- the lines so far
 pub readings_short : (layout : LayoutTable) (b k : List ℕ) (ps : List (List ℕ)) → pieces b ≡ ps ++ k ∷ [] → length k ≤ line_limit

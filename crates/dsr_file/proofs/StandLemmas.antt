@@ -1,14 +1,14 @@
--- What a reader represents after one more line.
-use Rattle.dsr_file.proofs.Common.{◌≡◌, ℕ, ◌+◌, ◌≤◌, inl, inr, ◌∙◌, sym, ap, refl, subst, Bool, true, false, ◌||◌, List, [], ◌∷◌, ◌++◌, length, map, Option, None, Some, append_assoc, zero-add, length-append, length-take, take, drop, take-add, ◌-◌, arith, IsTrue, option_to_list, IfNone, nat_tests, append-nil, map-append, list_any-append, common_steps, list_any, is_long, Record, LayoutTable, FileFault, Ending, Outcome, EventPart, Ended, Step, Good, Faulty, NoMemory, Phase, FileReader, Placed, is_ended, has_ended, Reading, reading, records, events_of, fault_of, AllGood, first_from, events_so_far, placed, readings, so_far, ended, known_events, known_lines, BeginsEvents, IsCutOff, EndsWith, Keeps, LineSteps, TakesMemory, CutsTo, CutSteps, Stands, StandsAt, SameText, AtLine, AtAnswer, AtCut, EndsAfter, IsDone}
+-- What a reader represents after one more line or at the end of its text, and what follows from it.
+use Rattle.dsr_file.proofs.Common.{◌≡◌, ℕ, ◌+◌, ◌≤◌, inl, inr, ◌∙◌, sym, ap, refl, subst, Bool, true, false, ◌||◌, List, [], ◌∷◌, ◌++◌, length, map, Option, None, Some, append_assoc, zero-add, length-append, take, drop, take-add, ◌-◌, arith, IsTrue, option_to_list, IfNone, append-nil, map-append, list_any-append, common_steps, list_any, Record, LayoutTable, FileFault, Ending, Outcome, EventPart, Ended, Step, Good, Faulty, NoMemory, Phase, FileReader, Placed, is_ended, has_ended, Reading, reading, records, events_of, fault_of, AllGood, first_from, events_so_far, placed, so_far, ended, known_events, known_lines, BeginsEvents, IsCutOff, EndsWith, Keeps, LineSteps, TakesMemory, CutsTo, CutSteps, Stands, StandsAt, SameText, AtLine, AtAnswer, AtCut, EndsAfter, IsDone, IsAt, Taken, counts_fault, events, phase_after, unwrap_or, SameBut, if◌then◌else◌}
 use Rattle.dsr_events.specs.declared.fault.FileFault.TheVariants as faults
-use Rattle.dsr_events.specs.declared.fault.Ending.TheVariants as endings
 use Rattle.dsr_events.specs.declared.fault.Outcome.TheVariants as outcomes
 use Rattle.dsr_file.specs.declared.cutter.Cut.{Cut}
 use Rattle.dsr_file.specs.declared.cutter.Cut.TheVariants.{Long}
 use Rattle.dsr_file.specs.declared.phase.Phase.TheVariants as phases
-use Rattle.dsr_file.specs.meaning.Readings as of
-use Rattle.dsr_file.proofs.LawLemmas.{no_ended, ended_placed}
-use Rattle.dsr_file.proofs.ReaderLemmas.{placed-append, length-placed, readings_short, readings_long, fault_events, good_events}
+use Rattle.dsr_file.proofs.LineLemmas.{first_at}
+use Rattle.dsr_file.proofs.TestLemmas.{faulty_steps}
+use Rattle.dsr_file.proofs.LawLemmas.{no_ended, ended_placed, reading_long}
+use Rattle.dsr_file.proofs.ReaderLemmas.{placed-append, length-placed, readings_short, readings_long, good_events}
 
 not_both : false ≡ true → ⊥
 not_both e = cc
@@ -19,12 +19,11 @@ placed_more es xs ys n e h =
     let at : n ≡ 0 + length xs = h ∙ ap length e ∙ length-placed 0 xs ∙ sym (zero-add (length xs)) in
     ap (λ z. z ++ placed n ys) e ∙ ap (λ m. placed 0 xs ++ placed m ys) at ∙ sym (placed-append 0 xs ys)
 
-or_true : (a : Bool) → (a || true) ≡ true
-or_true true = refl
-or_true false = refl
-
 pub ended_last : (es : List Placed) (p : ℕ) (o : Outcome) → has_ended (es ++ ended p o ∷ []) ≡ true
 ended_last es p o = list_any-append (λ (e : Placed). is_ended e.part) es (ended p o ∷ []) ∙ or_true _
+  where
+    or_true : (a : Bool) → (a || true) ≡ true
+    or_true a = grind arith
 
 pub ends_has_ended : (es : List Placed) (o : Outcome) → EndsWith es o → has_ended es ≡ true
 ends_has_ended es o (before, is) = ap has_ended is ∙ ended_last before (length before) o
@@ -38,197 +37,148 @@ pub ends_next : (es : List Placed) (n : ℕ) (o : Outcome) (e : Placed) → e �
 ends_next es n o e is at = (es, ap (λ x. es ++ x ∷ []) (is ∙ ap (λ m. ended m o) at))
 
 -- an event, given its content
-pub ended_again : (place n : ℕ) (o : Outcome) (e : Placed) (part : EventPart) → record { place = n; part = part } ≡ e → e ≡ ended place o
-    → record { place = place; part = part } ≡ e
-ended_again place n o e part view is = ap (λ k. record { place = k; part = part }) (sym (ap (λ x. x.place) (view ∙ is))) ∙ view
+pub again : (place n : ℕ) (e : Placed) (part : EventPart) → record { place = n; part = part } ≡ e → e.place ≡ place → record { place = place; part = part } ≡ e
+again place n e part view at = ap (λ k. record { place = k; part = part }) (sym (ap (λ x. x.place) view ∙ at)) ∙ view
 
-pub given_again : (place n : ℕ) (told : Option EventPart) (o : Outcome) (e : Placed) (r : FileReader) (part : EventPart) → record { place = n; part = part } ≡ e
-    → EndsAfter place told o e r
-    → record { place = place; part = part } ≡ e
-given_again place n None o e r part view gives = ended_again place n o e part view gives.1
-given_again place n (Some q) o e r part view gives = ap (λ k. record { place = k; part = part }) (sym (ap (λ x. x.place) (view ∙ gives.1))) ∙ view
+-- one more event is given
+pub at_next : (layout : LayoutTable) (r new : FileReader) (b : List ℕ) (es : List Placed) (e : Placed) → IsAt layout r b es → SameText r new
+    → new.place ≡ r.place + 1 → IsAt layout new b (es ++ e ∷ [])
+at_next layout r new b es e at same p =
+    (same.layout ∙ at.0, same.given ∙ at.1, p ∙ ap (λ x. x + 1) at.2 ∙ sym (length-append es (e ∷ [])))
 
--- the event of the last line, if there is one, and then the outcome
-pub gives_stands : (layout : LayoutTable) (r new : FileReader) (b : List ℕ) (es : List Placed) (part : Option EventPart) (o : Outcome) (e : Placed)
-    → r.layout ≡ layout → r.given ≡ length b → r.place ≡ length es
-    → known_events layout b new.ending ≡ (es ++ placed r.place (option_to_list part)) ++ ended (length (es ++ placed r.place (option_to_list part))) o ∷ []
-    → has_ended (es ++ placed r.place (option_to_list part)) ≡ false → EndsAfter r.place part o e new → SameText r new → new.place ≡ r.place + 1
+-- the event of the last line, if there is one, and then the outcome: `rs` are the records whose events are given
+pub ends_stand : (layout : LayoutTable) (r new : FileReader) (b : List ℕ) (es : List Placed) (xs : List EventPart) (rs : List Record) (part : Option EventPart)
+    (o : Outcome) (e : Placed) → IsAt layout r b es → es ≡ placed 0 xs → events_of rs ≡ xs ++ option_to_list part
+    → known_events layout b new.ending ≡ placed 0 (events_of rs ++ Ended o ∷ []) → EndsAfter r.place part o e new → SameText r new → new.place ≡ r.place + 1
     → Stands layout new b (es ++ e ∷ [])
-gives_stands layout r new b es part o e la gi pl all none gives same p = record {
-  layout_is = same.layout ∙ la;
-  given_is = same.given ∙ gi;
-  place_is = p ∙ ap (λ x. x + 1) pl ∙ sym (length-append es (e ∷ []));
-  phase_is = by_part part all none gives;
-}
+ends_stand layout r new b es xs rs part o e at ev more known gives same p =
+    let so : es ++ placed r.place (option_to_list part) ≡ placed 0 (events_of rs) = placed_more es xs (option_to_list part) r.place ev at.2 ∙ ap (placed 0) (sym more) in
+    record {
+      at = at_next layout r new b es e at same p;
+      phase_is = subst (λ x. StandsAt layout x new b (es ++ e ∷ [])) (sym gives.0) (by_part part gives.1 (going_is _ _ rs so refl)
+          (known ∙ sym (placed_more (es ++ placed r.place (option_to_list part)) (events_of rs) (Ended o ∷ []) _ so refl)));
+    }
   where
-    by_part : (part : Option EventPart) → known_events layout b new.ending
+    by_part : (part : Option EventPart) → e ≡ record { place = r.place; part = unwrap_or part (Ended o) }
+        → has_ended (es ++ placed r.place (option_to_list part)) ≡ false → known_events layout b new.ending
         ≡ (es ++ placed r.place (option_to_list part)) ++ ended (length (es ++ placed r.place (option_to_list part))) o ∷ []
-        → has_ended (es ++ placed r.place (option_to_list part)) ≡ false → EndsAfter r.place part o e new → StandsAt layout new.phase new b (es ++ e ∷ [])
-    by_part None all none gives = subst (λ x. StandsAt layout x new b (es ++ e ∷ [])) (sym gives.0) (
-      inl (
-          ap (λ x. es ++ x ∷ []) gives.1
-          ∙ ap (λ m. es ++ ended m o ∷ []) pl
-          ∙ sym (ap (λ z. z ++ ended (length z) o ∷ []) (append-nil es))
-          ∙ sym all),
-      ends_next es r.place o e gives.1 pl,
+        → StandsAt layout (phase_after part o) new b (es ++ e ∷ [])
+    by_part None is none all = (
+      inl (ap (λ x. es ++ x ∷ []) is ∙ ap (λ m. es ++ ended m o ∷ []) at.2 ∙ sym (ap (λ z. z ++ ended (length z) o ∷ []) (append-nil es)) ∙ sym all),
+      ends_next es r.place o e is at.2,
     )
-    by_part (Some q) all none gives = subst (λ x. StandsAt layout x new b (es ++ e ∷ [])) (sym gives.0)
-        (all ∙ ap (λ x. (es ++ x ∷ []) ++ ended (length (es ++ x ∷ [])) o ∷ []) (sym gives.1), subst (λ x. has_ended (es ++ x ∷ []) ≡ false) (sym gives.1) none)
+    by_part (Some q) is none all = rw is (all, none)
 
--- memory was refused at the line after these
-pub memory_stands_at : (layout : LayoutTable) (r new : FileReader) (told : Option Ending) (b : List ℕ) (es : List Placed) (ls : List Reading) (l : Reading)
-    (number : ℕ) (e : Placed) → r.layout ≡ layout → r.given ≡ length b → r.place ≡ length es → r.ending ≡ told
-    → known_lines layout b told ≡ ls ++ l ∷ [] → first_from [] ls ≡ AllGood → TakesMemory ls l → es ≡ placed 0 (events_of (records ls)) → number ≡ length ls + 1
-    → e ≡ ended r.place (outcomes.Fault number faults.Memory) → new.phase ≡ phases.Done (outcomes.Fault number faults.Memory) → SameText r new
-    → new.place ≡ r.place + 1 → Stands layout new b (es ++ e ∷ [])
-memory_stands_at layout r new told b es ls l number e la gi pl en lines good t ev num is d same p =
-    let o = outcomes.Fault (length ls + 1) faults.Memory in
-    let cut : IsCutOff (known_lines layout b told) (es ++ e ∷ []) = record {
-      before = ls;
+-- the events known at the first fault, which is that of the last line
+fault_known : (layout : LayoutTable) (b : List ℕ) (told : Option Ending) (ls : List Reading) (l : Reading) (f : FileFault) → first_from [] ls ≡ AllGood
+    → known_lines layout b told ≡ ls ++ l ∷ [] → fault_of ls l ≡ Some f
+    → known_events layout b told ≡ placed 0 (events_of (records (if counts_fault f then ls ++ l ∷ [] else ls)) ++ Ended (outcomes.Fault (length ls + 1) f) ∷ [])
+unfolding events events_so_far
+fault_known layout b None ls l f g n e = ap (λ x. placed 0 (events_so_far x)) n ∙ rw (first_at ls l f [] g e) refl
+fault_known layout b (Some ending) ls l f g n e = ap (λ x. placed 0 (events x ending)) n ∙ rw (first_at ls l f [] g e) refl
+
+-- the last line has a fault
+pub faulty_stands : (layout : LayoutTable) (r new : FileReader) (told : Option Ending) (number : ℕ) (step : Step) (f : FileFault) (closed : Option EventPart)
+    (b : List ℕ) (es : List Placed) (e : Placed) → step ≡ Faulty f → AtAnswer layout r told number step closed b es → EndsAfter r.place closed (outcomes.Fault number f) e new
+    → SameText r new → new.place ≡ r.place + 1 → Stands layout new b (es ++ e ∷ [])
+faulty_stands layout r new told number step f closed b es e is a gives same p =
+    let d : LineSteps a.ls a.l (Faulty f) closed r.grammar = subst (λ x. LineSteps a.ls a.l x closed r.grammar) is a.steps in
+    let rs = records (if counts_fault f then a.ls ++ a.l ∷ [] else a.ls) in
+    ends_stand layout r new b es (events_of (records a.ls)) rs closed (outcomes.Fault number f) e a.at a.events_are d.1
+    (ap (known_events layout b) (same.ending ∙ a.told_is) ∙ fault_known layout b told a.ls a.l f a.good a.lines_are d.0
+    ∙ ap (λ n. placed 0 (events_of rs ++ Ended (outcomes.Fault n f) ∷ [])) (sym a.number_is)) gives same p
+
+-- memory was refused at the last line
+pub memory_stands : (layout : LayoutTable) (r new : FileReader) (told : Option Ending) (number : ℕ) (step : Step) (closed : Option EventPart)
+    (b : List ℕ) (es : List Placed) (e : Placed) → step ≡ NoMemory → AtAnswer layout r told number step closed b es → e ≡ ended r.place (outcomes.Fault number faults.Memory)
+    → new.phase ≡ phases.Done (outcomes.Fault number faults.Memory) → SameText r new → new.place ≡ r.place + 1 → Stands layout new b (es ++ e ∷ [])
+memory_stands layout r new told number step closed b es e refused a is d same p = let t : TakesMemory a.ls a.l = subst (λ x. LineSteps a.ls a.l x closed r.grammar) refused a.steps in record {
+  at = at_next layout r new b es e a.at same p;
+  phase_is = subst (λ x. StandsAt layout x new b (es ++ e ∷ [])) (sym d) (
+    inr (subst (λ x. IsCutOff (known_lines layout b x) (es ++ e ∷ [])) (sym (same.ending ∙ a.told_is)) (record {
+      before = a.ls;
       item = t.item;
       after = [];
-      lines_are = lines ∙ ap (λ x. ls ++ x ∷ []) t.held;
-      good = good;
+      lines_are = a.lines_are ∙ ap (λ x. a.ls ++ x ∷ []) t.held;
+      good = a.good;
       fits = t.fits;
       takes = t.takes;
       events_are =
-          ap (λ x. es ++ x ∷ []) (is ∙ ap (λ m. ended r.place (outcomes.Fault m faults.Memory)) num)
-          ∙ placed_more es (events_of (records ls)) (Ended o ∷ []) r.place ev pl;
-    } in
-    record {
-      layout_is = same.layout ∙ la;
-      given_is = same.given ∙ gi;
-      place_is = p ∙ ap (λ x. x + 1) pl ∙ sym (length-append es (e ∷ []));
-      phase_is =
-          subst (λ x. StandsAt layout x new b (es ++ e ∷ [])) (sym d)
-          (inr (subst (λ x. IsCutOff (known_lines layout b x) (es ++ e ∷ [])) (sym (same.ending ∙ en)) cut), ends_next es r.place _ e is pl);
-    }
-
-module _ (layout : LayoutTable) (r : FileReader) (number : ℕ) (step : Step) (closed : Option EventPart) (b : List ℕ) (es : List Placed)
-    (a : AtAnswer layout r number step closed b es) where
-  lines_more : map (reading layout) (a.whole ++ a.line ∷ []) ≡ map (reading layout) a.whole ++ reading layout a.line ∷ []
-  lines_more = map-append (reading layout) a.whole (a.line ∷ [])
-
-  readings_now : readings layout b endings.Read ≡ map (reading layout) a.whole ++ reading layout a.line ∷ []
-  readings_now = readings_short layout b [] (a.whole ++ a.line ∷ []) a.cuts.pieces_are (omega arith) ∙ lines_more
-
-  did : (s : Step) → step ≡ s → LineSteps (map (reading layout) a.whole) (reading layout a.line) s closed r.grammar
-  did s is = subst (λ x. LineSteps (map (reading layout) a.whole) (reading layout a.line) x closed r.grammar) is a.steps
-
-  pub good_stands : (new : FileReader) (more : List Placed) → step ≡ Good → more ≡ placed r.place (option_to_list closed) → new.layout ≡ r.layout
-      → new.given ≡ r.given → new.place ≡ r.place + length (option_to_list closed) → new.ending ≡ r.ending → new.cutter ≡ r.cutter → new.grammar ≡ r.grammar
-      → new.phase ≡ phases.Reading → Stands layout new b (es ++ more)
-  good_stands new more s m la g p n cut gr ph =
-      let d = did Good s in
-      record {
-        layout_is = la ∙ a.layout_is;
-        given_is = g ∙ a.given_is;
-        place_is =
-            p ∙ ap (λ x. x + length (option_to_list closed)) a.place_is
-            ∙ sym (length-append es more ∙ ap (λ x. length es + x) (ap length m ∙ length-placed r.place (option_to_list closed)));
-        phase_is = subst (λ x. StandsAt layout x new b (es ++ more)) (sym ph) (
-          a.whole ++ a.line ∷ [],
-          subst (λ x. CutsTo x.bytes.items x.fresh b (a.whole ++ a.line ∷ [])) (sym cut) (rw (a.cleared, a.settled) a.cuts),
-          subst (λ x. Keeps x (map (reading layout) (a.whole ++ a.line ∷ []))) (sym gr) (rw lines_more d.0),
-          ap (λ x. es ++ x) m ∙ placed_more es (events_of (records (map (reading layout) a.whole))) (option_to_list closed) r.place a.events_are a.place_is
-              ∙ ap (placed 0) (sym (ap (λ x. events_of (records x)) lines_more ∙ d.2)),
-          n ∙ a.open_is,
-        );
-      }
-
-  -- all events of the bytes so far
-  all_now : (f : FileFault) → step ≡ Faulty f → so_far layout b
-      ≡ (es ++ placed r.place (option_to_list closed)) ++ ended (length (es ++ placed r.place (option_to_list closed))) (outcomes.Fault number f) ∷ []
-  all_now f s =
-      let ls = map (reading layout) a.whole in
-      let d = did (Faulty f) s in
-      let events =
-      ap events_so_far readings_now ∙ fault_events ls (reading layout a.line) f a.good d.0
-      ∙ ap (λ x. x ++ Ended (outcomes.Fault (length ls + 1) f) ∷ []) d.1
-      ∙ ap (λ n. (events_of (records ls) ++ option_to_list closed) ++ Ended (outcomes.Fault n f) ∷ []) (sym a.number_is) in
-      let so = placed_more es (events_of (records ls)) (option_to_list closed) r.place a.events_are a.place_is in
-      ap (placed 0) events ∙ sym (placed_more (es ++ placed r.place (option_to_list closed)) _ (Ended (outcomes.Fault number f) ∷ []) _ so refl)
-
-  pub faulty_stands : (new : FileReader) (f : FileFault) (e : Placed) → step ≡ Faulty f → EndsAfter r.place closed (outcomes.Fault number f) e new
-      → SameText r new → new.place ≡ r.place + 1 → Stands layout new b (es ++ e ∷ [])
-  faulty_stands new f e s gives same p =
-      gives_stands layout r new b es closed (outcomes.Fault number f) e a.layout_is a.given_is a.place_is
-      (ap (known_events layout b) (same.ending ∙ a.open_is) ∙ all_now f s)
-      (going_is _ _ _ (placed_more es (events_of (records (map (reading layout) a.whole))) (option_to_list closed) r.place a.events_are a.place_is)
-      (sym (did (Faulty f) s).1)) gives same p
-
-  pub memory_stands : (new : FileReader) (e : Placed) → step ≡ NoMemory → e ≡ ended r.place (outcomes.Fault number faults.Memory)
-      → new.phase ≡ phases.Done (outcomes.Fault number faults.Memory) → SameText r new → new.place ≡ r.place + 1 → Stands layout new b (es ++ e ∷ [])
-  memory_stands new e s is d same p =
-      memory_stands_at layout r new None b es (map (reading layout) a.whole)
-      (reading layout a.line) number e a.layout_is a.given_is a.place_is a.open_is readings_now a.good (did NoMemory s) a.events_are a.number_is is d same p
-
--- a complete line, after the grammar has taken it
-pub line_taken : (layout : LayoutTable) (old new : FileReader) (b : List ℕ) (es : List Placed) (line : List ℕ) (step : Step) (closed : Option EventPart)
-    → AtLine layout old line b es → ((ls : List Reading) → Keeps old.grammar ls → LineSteps ls (reading old.layout line) step closed new.grammar)
-    → new.cutter.bytes.items ≡ [] → new.cutter.fresh ≡ false → new.layout ≡ old.layout → new.given ≡ old.given → new.place ≡ old.place → new.ending ≡ old.ending
-    → AtAnswer layout new (old.grammar.lines + 1) step closed b es
-line_taken layout old new b es line step closed a steps cleared settled la g p n = record {
-  whole = a.0;
-  line = line;
-  cuts = a.1;
-  good = a.2.keeps.good;
-  steps =
-      subst (λ x. LineSteps (map (reading layout) a.0) (reading x line) step closed new.grammar) a.2.layout_is (steps (map (reading layout) a.0) a.2.keeps);
-  cleared = cleared;
-  settled = settled;
-  number_is = ap (λ x. x + 1) a.2.keeps.lines_are;
-  events_are = a.2.events_are;
-  layout_is = la ∙ a.2.layout_is;
-  given_is = g ∙ a.2.given_is;
-  place_is = p ∙ a.2.place_is;
-  open_is = n ∙ a.2.ending_is;
+          ap (λ x. es ++ x ∷ []) (is ∙ ap (λ m. ended r.place (outcomes.Fault m faults.Memory)) a.number_is)
+          ∙ placed_more es (events_of (records a.ls)) (Ended (outcomes.Fault (length a.ls + 1) faults.Memory) ∷ []) r.place a.events_are a.at.2;
+    })),
+    ends_next es r.place _ e is a.at.2,
+  );
 }
 
--- after the cutter has returned
-pub at_cut : (layout : LayoutTable) (old new : FileReader) (cut : Cut) (b : List ℕ) (es : List Placed) (piece : List ℕ) (used : ℕ) → Stands layout old b es
-    → old.phase ≡ phases.Reading → used ≤ length piece
-    → ((b : List ℕ) (ps : List (List ℕ)) → CutsTo old.cutter.bytes.items old.cutter.fresh b ps → CutSteps b (take used piece) ps cut new.cutter)
-    → new.grammar ≡ old.grammar → new.layout ≡ old.layout → new.given ≡ old.given + used → new.place ≡ old.place → new.ending ≡ old.ending
-    → AtCut layout new cut b (take used piece) es
-at_cut layout old new cut b es piece used s r h cuts gr la g p n =
-    let at : StandsAt layout phases.Reading old b es = subst (λ x. StandsAt layout x old b es) r s.phase_is in (
-      at.0,
-      cuts b at.0 at.1,
-      record {
-        keeps = subst (λ x. Keeps x (map (reading layout) at.0)) (sym gr) at.2;
-        events_are = at.3;
-        layout_is = la ∙ s.layout_is;
-        given_is = g ∙ ap (λ x. x + used) s.given_is ∙ sym (simp (length-append, length-take) (omega arith));
-        place_is = p ∙ s.place_is;
-        ending_is = n ∙ at.4;
-      },
-    )
-
--- a line that is too long
-pub long_stands : (layout : LayoutTable) (r new : FileReader) (cut : Cut) (b used : List ℕ) (es : List Placed) (e : Placed) → AtCut layout r cut b used es
-    → cut ≡ Long → e ≡ ended r.place (outcomes.Fault (r.grammar.lines + 1) faults.LongLine) → SameText r new → new.place ≡ r.place + 1
-    → new.phase ≡ phases.Done (outcomes.Fault (r.grammar.lines + 1) faults.LongLine) → Stands layout new (b ++ used) (es ++ e ∷ [])
-unfolding fault_of reading
-long_stands layout r new cut b used es e a is ev same p d =
-    let ls = map (reading layout) a.0 in
-    let cuts : CutSteps b used a.0 Long r.cutter = subst (λ x. CutSteps b used a.0 x r.cutter) is a.1 in
-    let now = readings_long layout (b ++ used) cuts.0 a.0 cuts.2 cuts.1 in
-    let long : reading layout cuts.0 ≡ of.Faulty faults.LongLine =
-    (let t : is_long cuts.0 ≡ true = (let h = cuts.1 in grind (arith, nat_tests)) in rw t refl) in
-    let events = ap events_so_far (now ∙ ap (λ l. ls ++ l ∷ []) long) ∙ fault_events ls (of.Faulty faults.LongLine) faults.LongLine a.2.keeps.good refl in
-    let so = placed_more es (events_of (records ls)) (Ended (outcomes.Fault (length ls + 1) faults.LongLine) ∷ []) r.place a.2.events_are a.2.place_is in
+-- the last line is good, and more lines may come
+pub good_stands : (layout : LayoutTable) (r new : FileReader) (number : ℕ) (step : Step) (closed : Option EventPart) (b : List ℕ)
+    (es : List Placed) → step ≡ Good → AtLine layout r number step closed b es → SameBut r new → new.place ≡ r.place + length (option_to_list closed) → r.phase ≡ phases.Reading
+    → Stands layout new b (es ++ placed r.place (option_to_list closed))
+good_stands layout r new number step closed b es is (a, (whole, cuts)) same p reads =
+    let d : LineSteps a.ls a.l Good closed r.grammar = subst (λ x. LineSteps a.ls a.l x closed r.grammar) is a.steps in
+    let lines : a.ls ++ a.l ∷ [] ≡ map (reading layout) whole =
+    sym a.lines_are ∙ readings_short layout b r.cutter.bytes.items whole cuts.pieces_are r.cutter.short in
+    let at : IsAt layout new b (es ++ placed r.place (option_to_list closed)) = (
+      same.layout ∙ a.at.0,
+      same.given ∙ a.at.1,
+      p ∙ ap (λ x. x + length (option_to_list closed)) a.at.2
+          ∙ sym (length-append es _ ∙ ap (λ x. length es + x) (length-placed r.place (option_to_list closed))),
+    ) in
     record {
-      layout_is = same.layout ∙ a.2.layout_is;
-      given_is = same.given ∙ a.2.given_is;
-      place_is = p ∙ ap (λ x. x + 1) a.2.place_is ∙ sym (length-append es (e ∷ []));
-      phase_is = subst (λ x. StandsAt layout x new (b ++ used) (es ++ e ∷ [])) (sym d) (
-        inl (
-            ap (λ x. es ++ x ∷ []) (ev ∙ ap (λ m. ended r.place (outcomes.Fault (m + 1) faults.LongLine)) a.2.keeps.lines_are) ∙ so
-            ∙ sym (ap (placed 0) events) ∙ sym (ap (known_events layout (b ++ used)) (same.ending ∙ a.2.ending_is))),
-        ends_next es r.place _ e ev a.2.place_is,
+      at = at;
+      phase_is = subst (λ x. StandsAt layout x new b (es ++ placed r.place (option_to_list closed))) (sym (same.phase ∙ reads)) (
+        whole,
+        subst (λ c. CutsTo c.bytes.items c.fresh b whole) (sym same.cutter) cuts,
+        (
+          subst (λ g. Keeps g (map (reading layout) whole)) (sym same.grammar) (subst (Keeps r.grammar) lines d.0),
+          placed_more es (events_of (records a.ls)) (option_to_list closed) r.place a.events_are a.at.2
+              ∙ ap (placed 0) (sym d.2 ∙ ap (λ x. events_of (records x)) lines),
+          same.ending ∙ a.told_is,
+          at,
+        ),
       );
     }
+
+-- a complete line, after the grammar has taken it
+pub line_taken : (layout : LayoutTable) (old new : FileReader) (told : Option Ending) (ls : List Reading) (line c b : List ℕ) (es : List Placed) (step : Step)
+    (closed : Option EventPart) → Taken layout old ls told c es → known_lines layout b told ≡ ls ++ reading layout line ∷ []
+    → ((ls : List Reading) → Keeps old.grammar ls → LineSteps ls (reading old.layout line) step closed new.grammar) → IsAt layout new b es → new.ending ≡ told
+    → AtAnswer layout new told (old.grammar.lines + 1) step closed b es
+line_taken layout old new told ls line c b es step closed t lines steps at n = record {
+  ls = ls;
+  l = reading layout line;
+  lines_are = lines;
+  good = t.0.good;
+  steps = subst (λ x. LineSteps ls (reading x line) step closed new.grammar) t.3.0 (steps ls t.0);
+  number_is = ap (λ x. x + 1) t.0.lines_are;
+  events_are = t.1;
+  told_is = n;
+  at = at;
+}
+
+-- the same, and more lines may come
+pub line_read : (layout : LayoutTable) (old new : FileReader) (whole : List (List ℕ)) (line c b : List ℕ) (es : List Placed) (step : Step)
+    (closed : Option EventPart) → CutsTo [] false b (whole ++ line ∷ []) → Taken layout old (map (reading layout) whole) None c es
+    → ((ls : List Reading) → Keeps old.grammar ls → LineSteps ls (reading old.layout line) step closed new.grammar)
+    → (new.cutter.bytes.items ≡ []) × (new.cutter.fresh ≡ false) → IsAt layout new b es → new.ending ≡ None
+    → AtLine layout new (old.grammar.lines + 1) step closed b es
+line_read layout old new whole line c b es step closed cuts t steps clear at n = (
+  line_taken layout old new None (map (reading layout) whole) line c b es step closed t
+      (readings_short layout b [] (whole ++ line ∷ []) cuts.pieces_are (omega arith) ∙ map-append (reading layout) whole (line ∷ [])) steps at n,
+  (whole ++ line ∷ [], rw (clear.0, clear.1) cuts),
+)
+
+-- a line that is too long
+pub long_stands : (layout : LayoutTable) (r new : FileReader) (cut : Cut) (b used : List ℕ) (es : List Placed) → cut ≡ Long → AtCut layout r cut b used es
+    → new.phase ≡ phases.Done (outcomes.Fault (r.grammar.lines + 1) faults.LongLine) → SameText r new → new.place ≡ r.place + 1
+    → Stands layout new (b ++ used) (es ++ ended r.place (outcomes.Fault (r.grammar.lines + 1) faults.LongLine) ∷ [])
+long_stands layout r new cut b used es is (whole, cuts, t) d same p =
+    let long : CutSteps b used whole Long r.cutter = subst (λ x. CutSteps b used whole x r.cutter) is cuts in
+    faulty_stands layout r new None (r.grammar.lines + 1) (Faulty faults.LongLine) faults.LongLine None (b ++ used) es _ refl
+    (line_taken layout r r None (map (reading layout) whole) long.0 (b ++ used) (b ++ used) es (Faulty faults.LongLine) None t
+    (readings_long layout (b ++ used) long.0 whole long.2 long.1)
+    (λ ls k. rw (reading_long r.layout long.0 long.1) (faulty_steps r.grammar ls faults.LongLine refl)) t.3 t.2) (d, refl) same p
 
 pub pieces_joined : (b piece : List ℕ) (m n : ℕ) → m ≤ length piece
     → (b ++ take m piece) ++ take n (take (length piece - m) (drop m piece)) ≡ b ++ take (m + n) piece
@@ -242,11 +192,6 @@ stands_more layout r b piece es m n xs ys h e s =
     subst (λ x. Stands layout r x (es ++ ys)) (pieces_joined b piece m n h)
     (subst (λ x. Stands layout r ((b ++ take m piece) ++ take n (take (length piece - m) (drop m piece))) (es ++ x)) e s)
 
-pub stands_joined : (layout : LayoutTable) (r : FileReader) (b piece : List ℕ) (es : List Placed) (m n : ℕ) (o q : Option Placed) → m ≤ length piece → o ≡ q
-    → Stands layout r ((b ++ take m piece) ++ take n (take (length piece - m) (drop m piece))) (es ++ option_to_list o)
-    → Stands layout r (b ++ take (m + n) piece) (es ++ option_to_list q)
-stands_joined layout r b piece es m n o q h e s = stands_more layout r b piece es m n (option_to_list o) (option_to_list q) h (ap option_to_list e) s
-
 pub if_none : {A : Type 0} {P Q : Type 0} (o : Option A) → (P → Q) → IfNone o P → IfNone o Q
 if_none None f p = f p
 if_none (Some x) f p = p
@@ -255,8 +200,8 @@ if_none (Some x) f p = p
 pub all_read : (layout : LayoutTable) (r : FileReader) (b : List ℕ) (es : List Placed) → Stands layout r b es → r.phase ≡ phases.Reading → es ≡ so_far layout b
 all_read layout r b es s e =
     let at : StandsAt layout phases.Reading r b es = subst (λ x. StandsAt layout x r b es) e s.phase_is in
-    at.3 ∙ ap (placed 0) (sym (ap events_so_far (readings_short layout b r.cutter.bytes.items at.0 at.1.pieces_are r.cutter.short)
-    ∙ good_events (map (reading layout) at.0) at.2.good))
+    at.2.1 ∙ ap (placed 0) (sym (ap events_so_far (readings_short layout b r.cutter.bytes.items at.0 at.1.pieces_are r.cutter.short)
+    ∙ good_events (map (reading layout) at.0) at.2.0.good))
 
 -- the events given are the first
 pub first_given : (layout : LayoutTable) (r : FileReader) (b : List ℕ) (es : List Placed) (told : Option Ending) → Stands layout r b es → r.ending ≡ told
@@ -264,7 +209,7 @@ pub first_given : (layout : LayoutTable) (r : FileReader) (b : List ℕ) (es : L
 first_given layout r b es told s n = by_phase r.phase refl s.phase_is
   where
     by_phase : (p : Phase) → r.phase ≡ p → StandsAt layout p r b es → BeginsEvents layout b told es
-    by_phase phases.Reading e at = inl ([], append-nil es ∙ all_read layout r b es s e ∙ ap (known_events layout b) (sym at.4 ∙ n))
+    by_phase phases.Reading e at = inl ([], append-nil es ∙ all_read layout r b es s e ∙ ap (known_events layout b) (sym at.2.2 ∙ n))
     by_phase (phases.Waiting o) e at = inl (_, sym at.0 ∙ ap (known_events layout b) n)
     by_phase (phases.Done o) e (inl h, l) = inl ([], append-nil es ∙ h ∙ ap (known_events layout b) n)
     by_phase (phases.Done o) e (inr h, l) = inr (subst (λ x. IsCutOff (known_lines layout b x) es) n h)
@@ -275,7 +220,7 @@ pub done_ended : (layout : LayoutTable) (r : FileReader) (b : List ℕ) (es : Li
 done_ended layout r b es s = by_phase r.phase refl s.phase_is
   where
     by_phase : (p : Phase) → r.phase ≡ p → StandsAt layout p r b es → (IsDone r → has_ended es ≡ true) × (has_ended es ≡ true → IsDone r)
-    by_phase phases.Reading e at = ((λ d. absurd (not_both (rw e at d))), (λ h. absurd (not_both (sym (going_is es _ _ at.3 refl) ∙ h))))
+    by_phase phases.Reading e at = ((λ d. absurd (not_both (rw e at d))), (λ h. absurd (not_both (sym (going_is es _ _ at.2.1 refl) ∙ h))))
     by_phase (phases.Waiting o) e at = ((λ d. absurd (not_both (rw e at d))), (λ h. absurd (not_both (sym at.1 ∙ h))))
     by_phase (phases.Done o) e at = ((λ d. ends_has_ended es o at.1), (λ h. rw e refl))
 

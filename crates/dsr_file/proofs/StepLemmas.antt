@@ -1,5 +1,6 @@
 -- One more record: the stage changes as the records do, and gives their next event.
-use Rattle.dsr_file.proofs.Common.{◌≡◌, ◌≢◌, ℕ, suc, ◌+◌, ◌<◌, ◌≤◌, ◌∙◌, sym, ap, refl, Bool, true, false, not, ◌||◌, eqb, leb, List, [], ◌∷◌, ◌++◌, length, map, drop, Option, None, Some, arith, append_assoc, add-zero, length-append, if◌then◌else◌, option_to_list, option_map, nat_tests, length-map, map-append, append-nil, list_all-append, list_any-append, onto_first, filter_map, list_any, list_all, bytes_eq, id_of_record, kind_of_record, or_else, Kind, Record, BlockParts, FileFault, OpeningParts, Stage, Start, Front, Open, Closed, parts, opens, but_last, closed, block_limit, has_id, summaries, works, usages, works_then_usages, is_usage, block_of, opening_of, opened, events_of, column, place, fault_if, summary_fault, summary_limit, member_fault, early_fault, column_at, block_length, stage_fault, given_by, stage_after, records_of, IsFree, IsOpen, KeepsStage, IsRecord, block_count}
+use Rattle.dsr_file.proofs.Common.{◌≡◌, ◌≢◌, ℕ, ◌+◌, ◌<◌, ◌≤◌, ◌∙◌, sym, ap, refl, Bool, true, false, ◌||◌, eqb, leb, List, [], ◌∷◌, ◌++◌, length, map, drop, Option, None, Some, arith, append_assoc, add-zero, length-append, if◌then◌else◌, option_to_list, option_map, nat_tests, length-map, map-append, append-nil, list_all-append, list_any-append, onto_first, filter_map, list_any, list_all, bytes_eq, id_of_record, kind_of_record, or_else, Kind, Record, BlockParts, FileFault, OpeningParts, Stage, Start, Front, Open, Closed, parts, opens, but_last, closed, block_limit, has_id, summaries, works, usages, works_then_usages, is_usage, block_of, opening_of, opened, events_of, column, place, summary_fault, member_fault, early_fault, column_at, block_length, stage_fault, given_by, stage_after, records_of, IsFree, IsOpen, KeepsStage, IsRecord, block_count, subst}
+use Rattle.std.proofs.lemmas.List.{nil_from_length}
 use Rattle.std.proofs.lemmas.List.Elements.{filter_map-append}
 use Rattle.dsr_events.specs.declared.kinds.Kind.TheVariants as kinds
 use Rattle.dsr_events.specs.declared.record.Record.TheVariants as the
@@ -9,11 +10,10 @@ use Rattle.dsr_events.specs.declared.record.Usage as usage
 use Rattle.dsr_events.specs.declared.record.Head as head
 use Rattle.dsr_events.specs.declared.record.Foot as foot
 use Rattle.dsr_events.specs.declared.record.Resource as resource
-use Rattle.dsr_events.specs.declared.fault.FileFault.TheVariants as faults
 use Rattle.dsr_events.specs.declared.event.EventPart.TheVariants as tell
 use Rattle.dsr_file.specs.declared.stage.Before.TheVariants as columns
-use Rattle.dsr_file.proofs.StageLemmas.{column_kept, fault_agrees}
-use Rattle.dsr_file.proofs.PartLemmas.{onto_last, parts_open, parts_stay, but_last_push, last_of_push, onto_last_push, closed_stay, closed_open}
+use Rattle.dsr_file.proofs.StageLemmas.{column_kept, fault_agrees, summaries_map}
+use Rattle.dsr_file.proofs.PartLemmas.{parts_open, parts_stay, but_last_push, last_of_push, closed_stay, closed_open}
 
 -- how a record changes what a stage represents
 pub record Steps (stage : Stage) (rs : List Record) (r : Record) : Type 0 where
@@ -21,63 +21,29 @@ pub record Steps (stage : Stage) (rs : List Record) (r : Record) : Type 0 where
   pub events : events_of (rs ++ r ∷ []) ≡ events_of rs ++ option_to_list (given_by stage r)
   pub blocks : length (closed (rs ++ r ∷ [])) ≡ length (closed rs) + block_count (given_by stage r)
 
-fault_if_false : (b : Bool) (f : FileFault) → fault_if b f ≡ None → b ≡ false
-fault_if_false true f e = cc
-fault_if_false false f e = refl
-
-not_false : (b : Bool) → not b ≡ false → b ≡ true
-not_false true e = refl
-not_false false e = cc
-
 or_else_first : (f g : Option FileFault) → or_else f g ≡ None → f ≡ None
-or_else_first None g e = refl
-or_else_first (Some f) g e = cc
+or_else_first f g e = grind arith
 
 or_else_second : (f g : Option FileFault) → or_else f g ≡ None → g ≡ None
-or_else_second None g e = e
-or_else_second (Some f) g e = cc
+or_else_second f g e = grind arith
 
 -- a record of an open block without a fault has the block's identifier, and there is room for it
-member_ok : (part_id i : List ℕ) (n : ℕ) → member_fault part_id n i ≡ None → (bytes_eq i part_id ≡ true) × (leb block_limit n ≡ false)
-member_ok part_id i n e =
-    (not_false _ (fault_if_false _ _ (or_else_first _ _ e)), fault_if_false _ _ (or_else_second (fault_if (not (bytes_eq i part_id)) _) _ e))
+member_ok : (part_id i : List ℕ) (n : ℕ) → member_fault part_id n i ≡ None → (bytes_eq i part_id ≡ true) × (n < block_limit)
+member_ok part_id i n e = grind (arith, nat_tests)
 
 -- for a record without a fault there is room, and no summary has its identifier
 pub fault_free : (stage : Stage) (r : Record) → stage_fault stage (kind_of_record r) (id_of_record r) ≡ None → IsFree stage r
-fault_free (Front o) (the.Summary s) e =
-    fault_if_false (list_any (λ t. bytes_eq t.id s.id) o.summaries) faults.SummaryTwice
-    (or_else_first (fault_if (list_any (λ t. bytes_eq t.id s.id) o.summaries) faults.SummaryTwice)
-    (fault_if (leb summary_limit (length o.summaries)) faults.ManySummaries) e)
-fault_free (Open b) (the.Work w) e = let few = (member_ok b.id w.block_id (block_length b) (or_else_second (place (column_at (Open b)) kinds.Work) _ e)).1 in
-    grind (arith, nat_tests)
-fault_free (Open b) (the.Usage u) e = let few = (member_ok b.id u.block_id (block_length b) (or_else_second (place (column_at (Open b)) kinds.Usage) _ e)).1 in
-    grind (arith, nat_tests)
-fault_free Start (the.Summary s) e = tt
-fault_free Start (the.Work w) e = tt
-fault_free Start (the.Usage u) e = tt
-fault_free (Front o) (the.Work w) e = tt
-fault_free (Front o) (the.Usage u) e = tt
-fault_free (Open b) (the.Summary s) e = tt
-fault_free Closed (the.Summary s) e = tt
-fault_free Closed (the.Work w) e = tt
-fault_free Closed (the.Usage u) e = tt
-fault_free stage (the.Head h) e = tt
-fault_free stage (the.Resource r) e = tt
-fault_free stage (the.Foot f) e = tt
-fault_free stage the.Skipped e = tt
+fault_free stage r e = grind (arith, nat_tests)
 
 -- the columns of an open block
 unused : (b : Bool) (k : Kind) → place columns.Used k ≢ None → place (if b then columns.Open else columns.Used) k ≡ None → b ≡ true
-unused true k n e = refl
-unused false k n e = absurd (n e)
+unused b k n e = grind arith
 
 used : (b : Bool) (k : Kind) → place columns.Open k ≢ None → place (if b then columns.Open else columns.Used) k ≡ None → b ≡ false
-used true k n e = absurd (n e)
-used false k n e = refl
+used b k n e = grind arith
 
 neither : (b : Bool) (k : Kind) → place columns.Open k ≢ None → place columns.Used k ≢ None → place (if b then columns.Open else columns.Used) k ≡ None → ⊥
-neither true k m n e = m e
-neither false k m n e = n e
+neither b k m n e = grind arith
 
 no_opens : (ss : List summary.Summary) → list_any opens (map the.Summary ss) ≡ false
 no_opens [] = refl
@@ -87,26 +53,15 @@ one_part : (ss : List summary.Summary) → parts (map the.Summary ss) ≡ map th
 one_part [] = refl
 one_part (s ∷ ss) = ap (onto_first (the.Summary s)) (one_part ss)
 
-summaries_map : (ss : List summary.Summary) → summaries (map the.Summary ss) ≡ ss
-summaries_map [] = refl
-summaries_map (s ∷ ss) = ap (λ xs. s ∷ xs) (summaries_map ss)
-
 -- HEAD and summaries alone have no events
 pub front_events : (h : head.Head) (ss : List summary.Summary) → events_of (the.Head h ∷ map the.Summary ss) ≡ []
 unfolding events_of
 front_events h ss = rw (no_opens ss, one_part ss) refl
 
-nothing : events_of [] ≡ []
-unfolding events_of
-nothing = refl
-
-pub step_head : (stage : Stage) (rs : List Record) (h : head.Head) → KeepsStage stage rs → place (column_at stage) kinds.Head ≡ None
+step_head : (stage : Stage) (rs : List Record) (h : head.Head) → KeepsStage stage rs → place (column_at stage) kinds.Head ≡ None
     → Steps stage rs (the.Head h)
-step_head Start rs h k e = record {
-  keeps = ap (λ xs. xs ++ the.Head h ∷ []) k;
-  blocks = ap (λ xs. length (closed (xs ++ the.Head h ∷ []))) k ∙ ap (λ xs. length (closed xs)) (sym k) ∙ sym (add-zero _);
-  events = ap (λ xs. events_of (xs ++ the.Head h ∷ [])) k ∙ front_events h [] ∙ sym (append-nil (events_of rs) ∙ ap events_of k ∙ nothing);
-}
+unfolding events_of
+step_head Start rs h k e = subst (λ xs. Steps Start xs (the.Head h)) (sym k) (record { keeps = refl; events = refl; blocks = refl })
 step_head (Front o) rs h k e = cc
 step_head (Open b) rs h k e = absurd (neither _ kinds.Head (λ x. cc) (λ x. cc) e)
 step_head Closed rs h k e = cc
@@ -116,7 +71,7 @@ summary_events : (o : OpeningParts) (rs : List Record) (s : summary.Summary) →
     → rs ++ the.Summary s ∷ [] ≡ the.Head o.head ∷ map the.Summary (o.summaries ++ s ∷ [])
 summary_events o rs s k = ap (λ xs. xs ++ the.Summary s ∷ []) k ∙ ap (λ xs. the.Head o.head ∷ xs) (sym (map-append the.Summary o.summaries (s ∷ [])))
 
-pub step_summary : (stage : Stage) (rs : List Record) (s : summary.Summary) → KeepsStage stage rs → place (column_at stage) kinds.Summary ≡ None
+step_summary : (stage : Stage) (rs : List Record) (s : summary.Summary) → KeepsStage stage rs → place (column_at stage) kinds.Summary ≡ None
     → Steps stage rs (the.Summary s)
 step_summary Start rs s k e = cc
 step_summary (Front o) rs s k e = record {
@@ -135,13 +90,10 @@ front_parts o rs k = rw (k, one_part o.summaries) refl
 
 pub summaries-append : (rs ss : List Record) → summaries (rs ++ ss) ≡ summaries rs ++ summaries ss
 summaries-append [] ss = refl
-summaries-append (the.Summary s ∷ rs) ss = ap (λ xs. s ∷ xs) (summaries-append rs ss)
-summaries-append (the.Head h ∷ rs) ss = summaries-append rs ss
-summaries-append (the.Resource r ∷ rs) ss = summaries-append rs ss
-summaries-append (the.Work w ∷ rs) ss = summaries-append rs ss
-summaries-append (the.Usage u ∷ rs) ss = summaries-append rs ss
-summaries-append (the.Foot f ∷ rs) ss = summaries-append rs ss
-summaries-append (the.Skipped ∷ rs) ss = summaries-append rs ss
+summaries-append (r ∷ rs) ss = more r rs ss (summaries-append rs ss)
+  where
+    more : (r : Record) (rs ss : List Record) → summaries (rs ++ ss) ≡ summaries rs ++ summaries ss → summaries (r ∷ (rs ++ ss)) ≡ summaries (r ∷ rs) ++ summaries ss
+    more r rs ss e = grind arith
 
 summaries_same : (rs : List Record) (r : Record) → summaries (r ∷ []) ≡ [] → summaries (rs ++ r ∷ []) ≡ summaries rs
 summaries_same rs r none = summaries-append rs (r ∷ []) ∙ ap (λ ss. summaries rs ++ ss) none ∙ append-nil (summaries rs)
@@ -165,17 +117,6 @@ opened_stay rs r h rest none bs any =
     ∙ ap (λ ss. tell.Opened (record { head = h; summaries = ss }) ∷ []) (summaries_same rest r none)
     ∙ sym (opened_known rs h rest bs any)
 
--- a record that opens a part after HEAD and summaries
-front_opens : (o : OpeningParts) (rs : List Record) (r : Record) → opens r ≡ true → summaries (r ∷ []) ≡ [] → rs ≡ the.Head o.head ∷ map the.Summary o.summaries
-    → events_of (rs ++ r ∷ []) ≡ events_of rs ++ tell.Opened o ∷ []
-unfolding events_of
-front_opens o rs r op none k =
-    ap (λ ps. opened (rs ++ r ∷ []) ++ map tell.Block (filter_map block_of ps)) (closed_open rs r op ∙ ap (drop 1) (front_parts o rs k))
-    ∙ append-nil _
-    ∙ opened_known (rs ++ r ∷ []) o.head (map the.Summary o.summaries ++ r ∷ []) (ap (λ xs. xs ++ r ∷ []) k) (any_last rs r op)
-    ∙ ap (λ ss. tell.Opened (record { head = o.head; summaries = ss }) ∷ []) (summaries_same (map the.Summary o.summaries) r none ∙ summaries_map o.summaries)
-    ∙ ap (λ es. es ++ tell.Opened o ∷ []) (sym (ap events_of k ∙ front_events o.head o.summaries))
-
 works_then : (ws : List WorkParts) (us : List usage.Usage) → eqb (length us) 0 ≡ false → works_then_usages (map the.Work ws ++ map the.Usage us) ≡ true
 works_then [] [] e = cc
 works_then [] (u ∷ us) e = all_usages us
@@ -185,21 +126,10 @@ works_then [] (u ∷ us) e = all_usages us
     all_usages (u ∷ us) = all_usages us
 works_then (w ∷ ws) us e = works_then ws us e
 
-no_works : (us : List usage.Usage) → works (map the.Usage us) ≡ []
-no_works [] = refl
-no_works (u ∷ us) = no_works us
-
-works_kept : (ws : List WorkParts) (us : List usage.Usage) → works (map the.Work ws ++ map the.Usage us) ≡ ws
-works_kept [] us = no_works us
-works_kept (w ∷ ws) us = ap (λ xs. w ∷ xs) (works_kept ws us)
-
-all_usages_kept : (us : List usage.Usage) → usages (map the.Usage us) ≡ us
-all_usages_kept [] = refl
-all_usages_kept (u ∷ us) = ap (λ xs. u ∷ xs) (all_usages_kept us)
-
-usages_kept : (ws : List WorkParts) (us : List usage.Usage) → usages (map the.Work ws ++ map the.Usage us) ≡ us
-usages_kept [] us = all_usages_kept us
-usages_kept (w ∷ ws) us = usages_kept ws us
+parts_kept : (ws : List WorkParts) (us : List usage.Usage) → (works (map the.Work ws ++ map the.Usage us) ≡ ws) × (usages (map the.Work ws ++ map the.Usage us) ≡ us)
+parts_kept (w ∷ ws) us = let rest = parts_kept ws us in (ap (λ xs. w ∷ xs) rest.0, rest.1)
+parts_kept [] [] = (refl, refl)
+parts_kept [] (u ∷ us) = let rest = parts_kept [] us in (rest.0, ap (λ xs. u ∷ xs) rest.1)
 
 same_block : (b : BlockParts) (i : List ℕ) (ws : List WorkParts) (us : List usage.Usage) → i ≡ b.id → ws ≡ b.works → us ≡ b.usages
     → Some (record b { id = i; works = ws; usages = us }) ≡ Some b
@@ -212,7 +142,8 @@ few b h = let e : length (map the.Work b.works ++ map the.Usage b.usages) ≡ le
 -- an open block with a usage is complete
 block_complete : (b : BlockParts) (rs : List Record) → IsOpen b rs → eqb (length b.usages) 0 ≡ false → block_of (records_of b) ≡ Some b
 block_complete b rs k u =
-    rw (works_then b.works b.usages u, k.ids, few b k.short) (same_block b _ _ _ (sym k.id) (works_kept b.works b.usages) (usages_kept b.works b.usages))
+    let same = parts_kept b.works b.usages in
+    rw (works_then b.works b.usages u, k.ids, few b k.short) (same_block b _ _ _ (sym k.id) same.0 same.1)
 
 blocks_push : (ps : List (List Record)) (part : List Record) (b : BlockParts) → block_of part ≡ Some b
     → map tell.Block (filter_map block_of (ps ++ part ∷ [])) ≡ map tell.Block (filter_map block_of ps) ++ tell.Block b ∷ []
@@ -221,26 +152,38 @@ blocks_push ps part b h =
     ∙ map-append tell.Block (filter_map block_of ps) (filter_map block_of (part ∷ []))
     ∙ rw h refl
 
-closed_before : (b : BlockParts) (rs : List Record) (k : IsOpen b rs) → closed rs ≡ k.before
-closed_before b rs k = ap (λ ps. drop 1 (but_last ps)) k.parts ∙ ap (drop 1) (but_last_push (k.first ∷ k.before) (records_of b))
+-- a record that opens a part after HEAD and summaries
+front_steps : (o : OpeningParts) (rs : List Record) (r : Record) → opens r ≡ true → summaries (r ∷ []) ≡ [] → rs ≡ the.Head o.head ∷ map the.Summary o.summaries
+    → KeepsStage (stage_after (Front o) r) (rs ++ r ∷ []) → Steps (Front o) rs r
+unfolding events_of
+front_steps o rs r op none k keeps =
+    let none_before : closed (rs ++ r ∷ []) ≡ [] = closed_open rs r op ∙ ap (drop 1) (front_parts o rs k) in
+    record {
+      keeps = keeps;
+      events = rw op (ap (λ ps. opened (rs ++ r ∷ []) ++ map tell.Block (filter_map block_of ps)) none_before
+          ∙ append-nil _
+          ∙ opened_known (rs ++ r ∷ []) o.head (map the.Summary o.summaries ++ r ∷ []) (ap (λ xs. xs ++ r ∷ []) k) (any_last rs r op)
+          ∙ ap (λ ss. tell.Opened (record { head = o.head; summaries = ss }) ∷ []) (summaries_same (map the.Summary o.summaries) r none ∙ summaries_map o.summaries)
+          ∙ ap (λ es. es ++ tell.Opened o ∷ []) (sym (ap events_of k ∙ front_events o.head o.summaries)));
+      blocks = rw op (ap length none_before ∙ sym (add-zero _ ∙ ap (λ ps. length (drop 1 (but_last ps))) (front_parts o rs k)));
+    }
 
 -- a record that closes a block
-open_opens : (b : BlockParts) (rs : List Record) (r : Record) → opens r ≡ true → summaries (r ∷ []) ≡ [] → IsOpen b rs → eqb (length b.usages) 0 ≡ false
-    → events_of (rs ++ r ∷ []) ≡ events_of rs ++ tell.Block b ∷ []
+open_steps : (b : BlockParts) (rs : List Record) (r : Record) → opens r ≡ true → summaries (r ∷ []) ≡ [] → IsOpen b rs → eqb (length b.usages) 0 ≡ false
+    → KeepsStage (stage_after (Open b) r) (rs ++ r ∷ []) → Steps (Open b) rs r
 unfolding events_of
-open_opens b rs r op none k u =
-    ap (λ ps. opened (rs ++ r ∷ []) ++ map tell.Block (filter_map block_of ps)) (closed_open rs r op ∙ ap (drop 1) k.parts)
-    ∙ ap (λ es. opened (rs ++ r ∷ []) ++ es) (blocks_push k.before (records_of b) b (block_complete b rs k u))
-    ∙ ap (λ es. es ++ (map tell.Block (filter_map block_of k.before) ++ tell.Block b ∷ [])) (opened_stay rs r k.head k.rest none k.begins k.opened)
-    ∙ sym (append_assoc (opened rs) (map tell.Block (filter_map block_of k.before)) (tell.Block b ∷ []))
-    ∙ ap (λ ps. (opened rs ++ map tell.Block (filter_map block_of ps)) ++ tell.Block b ∷ []) (sym (closed_before b rs k))
-
-open_stays : (b : BlockParts) (rs : List Record) (r : Record) → opens r ≡ false → summaries (r ∷ []) ≡ [] → IsOpen b rs
-    → events_of (rs ++ r ∷ []) ≡ events_of rs
-unfolding events_of
-open_stays b rs r op none k =
-    ap (λ ps. opened (rs ++ r ∷ []) ++ map tell.Block (filter_map block_of ps)) (closed_stay rs r op)
-    ∙ ap (λ es. es ++ map tell.Block (filter_map block_of (closed rs))) (opened_stay rs r k.head k.rest none k.begins k.opened)
+open_steps b rs r op none k u keeps =
+    let before : closed rs ≡ k.before = ap (λ ps. drop 1 (but_last ps)) k.parts ∙ ap (drop 1) (but_last_push (k.first ∷ k.before) (records_of b)) in
+    let after : closed (rs ++ r ∷ []) ≡ k.before ++ records_of b ∷ [] = closed_open rs r op ∙ ap (drop 1) k.parts in
+    record {
+      keeps = keeps;
+      events = rw op (ap (λ ps. opened (rs ++ r ∷ []) ++ map tell.Block (filter_map block_of ps)) after
+          ∙ ap (λ es. opened (rs ++ r ∷ []) ++ es) (blocks_push k.before (records_of b) b (block_complete b rs k u))
+          ∙ ap (λ es. es ++ (map tell.Block (filter_map block_of k.before) ++ tell.Block b ∷ [])) (opened_stay rs r k.head k.rest none k.begins k.opened)
+          ∙ sym (append_assoc (opened rs) (map tell.Block (filter_map block_of k.before)) (tell.Block b ∷ []))
+          ∙ ap (λ ps. (opened rs ++ map tell.Block (filter_map block_of ps)) ++ tell.Block b ∷ []) (sym before));
+      blocks = rw op (ap length after ∙ length-append k.before (records_of b ∷ []) ∙ ap (λ ps. length ps + 1) (sym before));
+    }
 
 abbrev fresh : resource.Resource → BlockParts
 fresh r = record { id = r.block_id; resource = r; works = []; usages = [] }
@@ -262,78 +205,55 @@ new_part r rs h rest first before bs ps = record {
   short = omega arith;
 }
 
-front_blocks : (o : OpeningParts) (rs : List Record) (r : Record) → opens r ≡ true → rs ≡ the.Head o.head ∷ map the.Summary o.summaries
-    → length (closed (rs ++ r ∷ [])) ≡ length (closed rs) + 0
-front_blocks o rs r op k =
-    ap length (closed_open rs r op ∙ ap (drop 1) (front_parts o rs k)) ∙ sym (add-zero _ ∙ ap (λ ps. length (drop 1 (but_last ps))) (front_parts o rs k))
-
-open_blocks : (b : BlockParts) (rs : List Record) (r : Record) → opens r ≡ true → IsOpen b rs → length (closed (rs ++ r ∷ [])) ≡ length (closed rs) + 1
-open_blocks b rs r op k =
-    ap length (closed_open rs r op ∙ ap (drop 1) k.parts) ∙ length-append k.before (records_of b ∷ []) ∙ ap (λ ps. length ps + 1) (sym (closed_before b rs k))
-
-pub step_resource : (stage : Stage) (rs : List Record) (r : resource.Resource) → KeepsStage stage rs → place (column_at stage) kinds.Resource ≡ None
+step_resource : (stage : Stage) (rs : List Record) (r : resource.Resource) → KeepsStage stage rs → place (column_at stage) kinds.Resource ≡ None
     → Steps stage rs (the.Resource r)
 step_resource Start rs r k e = cc
-step_resource (Front o) rs r k e = record {
-  keeps = new_part r rs o.head (map the.Summary o.summaries) rs [] k (front_parts o rs k);
-  blocks = front_blocks o rs (the.Resource r) refl k;
-  events = front_opens o rs (the.Resource r) refl refl k;
-}
-step_resource (Open b) rs r k e = record {
-  keeps = new_part r rs k.head k.rest k.first (k.before ++ records_of b ∷ []) k.begins k.parts;
-  blocks = open_blocks b rs (the.Resource r) refl k;
-  events = open_opens b rs (the.Resource r) refl refl k (used _ kinds.Resource (λ x. cc) e);
-}
+step_resource (Front o) rs r k e = front_steps o rs (the.Resource r) refl refl k (new_part r rs o.head (map the.Summary o.summaries) rs [] k (front_parts o rs k))
+step_resource (Open b) rs r k e = open_steps b rs (the.Resource r) refl refl k (used _ kinds.Resource (λ x. cc) e)
+    (new_part r rs k.head k.rest k.first (k.before ++ records_of b ∷ []) k.begins k.parts)
 step_resource Closed rs r k e = cc
 
-pub step_foot : (stage : Stage) (rs : List Record) (f : foot.Foot) → KeepsStage stage rs → place (column_at stage) kinds.Foot ≡ None
+step_foot : (stage : Stage) (rs : List Record) (f : foot.Foot) → KeepsStage stage rs → place (column_at stage) kinds.Foot ≡ None
     → Steps stage rs (the.Foot f)
 step_foot Start rs f k e = cc
-step_foot (Front o) rs f k e = record {
-  keeps = ap column (last_of_push rs (the.Foot f));
-  blocks = front_blocks o rs (the.Foot f) refl k;
-  events = front_opens o rs (the.Foot f) refl refl k;
-}
-step_foot (Open b) rs f k e = record {
-  keeps = ap column (last_of_push rs (the.Foot f));
-  blocks = open_blocks b rs (the.Foot f) refl k;
-  events = open_opens b rs (the.Foot f) refl refl k (used _ kinds.Foot (λ x. cc) e);
-}
+step_foot (Front o) rs f k e = front_steps o rs (the.Foot f) refl refl k (ap column (last_of_push rs (the.Foot f)))
+step_foot (Open b) rs f k e =
+    open_steps b rs (the.Foot f) refl refl k (used _ kinds.Foot (λ x. cc) e) (ap column (last_of_push rs (the.Foot f)))
 step_foot Closed rs f k e = cc
 
 -- the open block with one more record
-more_part : (b c : BlockParts) (r : Record) (rs : List Record) → opens r ≡ false → IsOpen b rs → c.id ≡ b.id → c.resource ≡ b.resource
-    → records_of c ≡ records_of b ++ r ∷ [] → has_id b.resource.block_id r ≡ true → column (Some r) ≡ column_at (Open c) → block_length c ≤ block_limit
-    → IsOpen c (rs ++ r ∷ [])
-more_part b c r rs op k i res e h col short = record {
-  head = k.head;
-  rest = k.rest ++ r ∷ [];
-  first = k.first;
-  before = k.before;
-  begins = ap (λ xs. xs ++ r ∷ []) k.begins;
-  opened = any_push rs r k.opened;
-  column = ap column (last_of_push rs r) ∙ col;
-  parts =
-      parts_stay rs r op ∙ ap (onto_last r) k.parts ∙ onto_last_push (k.first ∷ k.before) (records_of b) r ∙ ap (λ p. k.first ∷ (k.before ++ p ∷ [])) (sym e);
-  id = i ∙ k.id ∙ ap (λ x. x.block_id) (sym res);
-  ids =
-      ap (λ x. list_all (has_id x.block_id) (map the.Work c.works ++ map the.Usage c.usages)) res
-      ∙ ap (λ xs. list_all (has_id b.resource.block_id) (drop 1 xs)) e
-      ∙ list_all-append (has_id b.resource.block_id) (map the.Work b.works ++ map the.Usage b.usages) (r ∷ [])
-      ∙ rw (k.ids, h) refl;
-  short = short;
+member_steps : (b c : BlockParts) (r : Record) (rs : List Record) → opens r ≡ false → summaries (r ∷ []) ≡ [] → stage_after (Open b) r ≡ Open c → IsOpen b rs
+    → c.id ≡ b.id → c.resource ≡ b.resource → records_of c ≡ records_of b ++ r ∷ [] → has_id b.resource.block_id r ≡ true → column (Some r) ≡ column_at (Open c)
+    → block_length c ≤ block_limit → Steps (Open b) rs r
+unfolding events_of
+member_steps b c r rs op none after k i res e h col short = record {
+  keeps = subst (λ s. KeepsStage s (rs ++ r ∷ [])) (sym after) (record {
+    head = k.head;
+    rest = k.rest ++ r ∷ [];
+    first = k.first;
+    before = k.before;
+    begins = ap (λ xs. xs ++ r ∷ []) k.begins;
+    opened = any_push rs r k.opened;
+    column = ap column (last_of_push rs r) ∙ col;
+    parts = parts_stay rs r (k.first ∷ k.before) (records_of b) op k.parts ∙ ap (λ p. k.first ∷ (k.before ++ p ∷ [])) (sym e);
+    id = i ∙ k.id ∙ ap (λ x. x.block_id) (sym res);
+    ids =
+        ap (λ x. list_all (has_id x.block_id) (map the.Work c.works ++ map the.Usage c.usages)) res
+        ∙ ap (λ xs. list_all (has_id b.resource.block_id) (drop 1 xs)) e
+        ∙ list_all-append (has_id b.resource.block_id) (map the.Work b.works ++ map the.Usage b.usages) (r ∷ [])
+        ∙ rw (k.ids, h) refl;
+    short = short;
+  });
+  events = rw op (ap (λ ps. opened (rs ++ r ∷ []) ++ map tell.Block (filter_map block_of ps)) (closed_stay rs r op)
+      ∙ ap (λ es. es ++ map tell.Block (filter_map block_of (closed rs))) (opened_stay rs r k.head k.rest none k.begins k.opened)
+      ∙ sym (append-nil (opened rs ++ map tell.Block (filter_map block_of (closed rs)))));
+  blocks = rw op (ap length (closed_stay rs r op) ∙ sym (add-zero _));
 }
-
-some_not_empty : (n : ℕ) → eqb (suc n) 0 ≡ true → ⊥
-some_not_empty n e = grind (arith, nat_tests)
-
-pub below_limit : (n : ℕ) → leb block_limit n ≡ false → n < block_limit
-below_limit n e = grind (arith, nat_tests)
 
 work_records : (ws : List WorkParts) (us : List usage.Usage) (w : WorkParts) → eqb (length us) 0 ≡ true
     → map the.Work (ws ++ w ∷ []) ++ map the.Usage us ≡ (map the.Work ws ++ map the.Usage us) ++ the.Work w ∷ []
-work_records ws [] w e = append-nil _ ∙ map-append the.Work ws (w ∷ []) ∙ ap (λ xs. xs ++ the.Work w ∷ []) (sym (append-nil (map the.Work ws)))
-work_records ws (u ∷ us) w e = absurd (some_not_empty (length us) e)
+work_records ws us w e = let none : length us ≡ 0 = grind (arith, nat_tests) in
+    rw (nil_from_length us none) (append-nil _ ∙ map-append the.Work ws (w ∷ []) ∙ ap (λ xs. xs ++ the.Work w ∷ []) (sym (append-nil (map the.Work ws))))
 
 usage_records : (ws : List WorkParts) (us : List usage.Usage) (u : usage.Usage)
     → map the.Work ws ++ map the.Usage (us ++ u ∷ []) ≡ (map the.Work ws ++ map the.Usage us) ++ the.Usage u ∷ []
@@ -343,42 +263,27 @@ usage_records ws us u =
 pushed_some : (us : List usage.Usage) (u : usage.Usage) → eqb (length (us ++ u ∷ [])) 0 ≡ false
 pushed_some us u = let e : length (us ++ u ∷ []) ≡ length us + 1 = simp length-append in rw e (grind (arith, nat_tests))
 
--- a record that opens no part gives no event
-stays : (b : BlockParts) (rs : List Record) (r : Record) → opens r ≡ false → summaries (r ∷ []) ≡ [] → IsOpen b rs
-    → events_of (rs ++ r ∷ []) ≡ events_of rs ++ []
-stays b rs r op none k = open_stays b rs r op none k ∙ sym (append-nil (events_of rs))
-
-pub step_work : (stage : Stage) (rs : List Record) (w : WorkParts) → KeepsStage stage rs → stage_fault stage kinds.Work (Some w.block_id) ≡ None
+step_work : (stage : Stage) (rs : List Record) (w : WorkParts) → KeepsStage stage rs → stage_fault stage kinds.Work (Some w.block_id) ≡ None
     → Steps stage rs (the.Work w)
 step_work Start rs w k e = cc
 step_work (Front o) rs w k e = cc
 step_work (Open b) rs w k e =
     let un = unused _ kinds.Work (λ x. cc) (or_else_first _ _ e) in
     let ok = member_ok b.id w.block_id _ (or_else_second (place (column_at (Open b)) kinds.Work) _ e) in
-    record {
-      keeps =
-          more_part b (record b { works = b.works ++ w ∷ [] }) (the.Work w) rs refl k refl refl
-          (ap (λ xs. the.Resource b.resource ∷ xs) (work_records b.works b.usages w un)) (rw (← k.id) ok.0) (rw un refl)
-          (let h : block_length b < block_limit = below_limit _ ok.1 in simp length-append (omega arith));
-      blocks = ap length (closed_stay rs (the.Work w) refl) ∙ sym (add-zero _);
-      events = stays b rs (the.Work w) refl refl k;
-    }
+    member_steps b (record b { works = b.works ++ w ∷ [] }) (the.Work w) rs refl refl refl k refl refl
+    (ap (λ xs. the.Resource b.resource ∷ xs) (work_records b.works b.usages w un)) (rw (← k.id) ok.0) (rw un refl)
+    (let h : block_length b < block_limit = ok.1 in simp length-append (omega arith))
 step_work Closed rs w k e = cc
 
-pub step_usage : (stage : Stage) (rs : List Record) (u : usage.Usage) → KeepsStage stage rs → stage_fault stage kinds.Usage (Some u.block_id) ≡ None
+step_usage : (stage : Stage) (rs : List Record) (u : usage.Usage) → KeepsStage stage rs → stage_fault stage kinds.Usage (Some u.block_id) ≡ None
     → Steps stage rs (the.Usage u)
 step_usage Start rs u k e = cc
 step_usage (Front o) rs u k e = cc
 step_usage (Open b) rs u k e =
     let ok = member_ok b.id u.block_id _ (or_else_second (place (column_at (Open b)) kinds.Usage) _ e) in
-    record {
-      keeps =
-          more_part b (record b { usages = b.usages ++ u ∷ [] }) (the.Usage u) rs refl k refl refl
-          (ap (λ xs. the.Resource b.resource ∷ xs) (usage_records b.works b.usages u)) (rw (← k.id) ok.0) (rw pushed_some refl)
-          (let h : block_length b < block_limit = below_limit _ ok.1 in simp length-append (omega arith));
-      blocks = ap length (closed_stay rs (the.Usage u) refl) ∙ sym (add-zero _);
-      events = stays b rs (the.Usage u) refl refl k;
-    }
+    member_steps b (record b { usages = b.usages ++ u ∷ [] }) (the.Usage u) rs refl refl refl k refl refl
+    (ap (λ xs. the.Resource b.resource ∷ xs) (usage_records b.works b.usages u)) (rw (← k.id) ok.0) (rw pushed_some refl)
+    (let h : block_length b < block_limit = ok.1 in simp length-append (omega arith))
 step_usage Closed rs u k e = cc
 
 -- a record with no early fault

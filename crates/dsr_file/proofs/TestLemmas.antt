@@ -1,18 +1,15 @@
 -- The results of testing a line.
-use Rattle.dsr_file.proofs.Common.{◌≡◌, ℕ, ◌+◌, ◌≤◌, ◌∙◌, sym, ap, refl, Bool, true, false, not, List, [], ◌∷◌, length, Option, None, Some, length-append, arith, rules, ◌-◌, ◌++◌, get_or, take, subst, inl, inr, Result, nat_le, list_any, is_utf8, IsUtf8, bytes_eq, cases_eq, cases_lt, le-ltb, lt-ltb, ne_eqb, append-nil, take_all, take_more, IsUtf8-append, IsUtf8-from_ascii, IsUtf8-from_is_utf8, nat_tests, line_limit, is_long, without_return, is_left_out, record_seen, id_of_record, kind_of_record, LayoutTable, or_else, record_of, Kind, Record, Head, Summary, Resource, Work, Usage, Foot, Skipped, FileFault, Grammar, Good, Faulty, Stage, Reading, Holds, SkippedLine, reading, of_text, of_utf8, of_record, records, is_skipped_line, is_skipped_record, file_fault, closed, summaries, events_of, last_of, fault_if, fault_of, early_fault, place, column, member_fault, in_part, summary_fault, summary_limit, last_part, first_id, counts_fault, stage_fault, Keeps, LineSteps, IsRecord}
+use Rattle.dsr_file.proofs.Common.{◌≡◌, ℕ, ◌+◌, ◌≤◌, ◌∙◌, sym, ap, refl, Bool, true, false, not, List, [], ◌∷◌, length, Option, None, Some, length-append, arith, rules, ◌-◌, ◌++◌, get_or, take, subst, inl, inr, Result, is_utf8, IsUtf8, cases_eq, cases_lt, le-ltb, lt-ltb, ne_eqb, append-nil, take_all, take_more, IsUtf8-append, IsUtf8-from_ascii, IsUtf8-from_is_utf8, nat_tests, line_limit, is_long, without_return, is_left_out, record_seen, id_of_record, kind_of_record, LayoutTable, or_else, record_of, Kind, Record, FileFault, Grammar, Good, Faulty, Reading, Holds, SkippedLine, reading, of_text, of_utf8, of_record, records, is_skipped_line, is_skipped_record, file_fault, events_of, fault_if, fault_of, early_fault, place, member_fault, summary_fault, counts_fault, stage_fault, Keeps, LineSteps, IsRecord, cond, kept}
 use Rattle.dsr_records.specs.declared.checked.CheckedLine.{CheckedLine}
 use Rattle.dsr_records.specs.declared.checked.CheckedLine.TheVariants as lines
-use Rattle.dsr_events.specs.declared.kinds.Kind.TheVariants as kinds
 use Rattle.dsr_records.specs.declared.fault.RecordFault.{RecordFault}
-use Rattle.dsr_records.specs.declared.fault.RecordFault.TheVariants as own
 use Rattle.dsr_events.specs.declared.record.Summary as summary
 use Rattle.dsr_events.specs.declared.fault.FileFault.TheVariants as faults
 use Rattle.dsr_file.specs.declared.stage.Before.{Before}
-use Rattle.dsr_file.specs.declared.stage.Before.TheVariants as columns
 use Rattle.dsr_file.specs.meaning.Readings as line
 use Rattle.dsr_file.proofs.StageLemmas.{fault_agrees}
 use Rattle.dsr_file.proofs.LineLemmas.{records-same, first_good}
-use Rattle.dsr_file.proofs.AddLemmas.{count_by_push_no, count_by_push_yes}
+use Rattle.dsr_file.proofs.AddLemmas.{count_by_push}
 
 -- no fault of the counts
 abbrev no_count : Option FileFault → Bool
@@ -28,74 +25,19 @@ no_count_if true f e = ap not e
 no_count_if false f e = refl
 
 no_count_place : (c : Before) (k : Kind) → no_count (place c k) ≡ true
-no_count_place columns.Nothing kinds.Head = refl
-no_count_place columns.Nothing kinds.Summary = refl
-no_count_place columns.Nothing kinds.Resource = refl
-no_count_place columns.Nothing kinds.Work = refl
-no_count_place columns.Nothing kinds.Usage = refl
-no_count_place columns.Nothing kinds.Foot = refl
-no_count_place columns.Nothing kinds.Skipped = refl
-no_count_place columns.Front kinds.Head = refl
-no_count_place columns.Front kinds.Summary = refl
-no_count_place columns.Front kinds.Resource = refl
-no_count_place columns.Front kinds.Work = refl
-no_count_place columns.Front kinds.Usage = refl
-no_count_place columns.Front kinds.Foot = refl
-no_count_place columns.Front kinds.Skipped = refl
-no_count_place columns.Open kinds.Head = refl
-no_count_place columns.Open kinds.Summary = refl
-no_count_place columns.Open kinds.Resource = refl
-no_count_place columns.Open kinds.Work = refl
-no_count_place columns.Open kinds.Usage = refl
-no_count_place columns.Open kinds.Foot = refl
-no_count_place columns.Open kinds.Skipped = refl
-no_count_place columns.Used kinds.Head = refl
-no_count_place columns.Used kinds.Summary = refl
-no_count_place columns.Used kinds.Resource = refl
-no_count_place columns.Used kinds.Work = refl
-no_count_place columns.Used kinds.Usage = refl
-no_count_place columns.Used kinds.Foot = refl
-no_count_place columns.Used kinds.Skipped = refl
-no_count_place columns.Closed kinds.Head = refl
-no_count_place columns.Closed kinds.Summary = refl
-no_count_place columns.Closed kinds.Resource = refl
-no_count_place columns.Closed kinds.Work = refl
-no_count_place columns.Closed kinds.Usage = refl
-no_count_place columns.Closed kinds.Foot = refl
-no_count_place columns.Closed kinds.Skipped = refl
+no_count_place c k = grind arith
 
 no_count_member : (part_id : List ℕ) (n : ℕ) (i : List ℕ) → no_count (member_fault part_id n i) ≡ true
-no_count_member part_id n i =
-    no_count_else (fault_if _ faults.BlockNumber) (fault_if _ faults.LongBlock) (no_count_if _ faults.BlockNumber refl) (no_count_if _ faults.LongBlock refl)
+no_count_member part_id n i = grind arith
 
 no_count_summary : (ss : List summary.Summary) (i : List ℕ) → no_count (summary_fault ss i) ≡ true
-no_count_summary ss i =
-    let twice = list_any (λ s. bytes_eq s.id i) ss in
-    let many = nat_le summary_limit (length ss) in
-    no_count_else (fault_if twice faults.SummaryTwice) (fault_if many faults.ManySummaries) (no_count_if twice faults.SummaryTwice refl)
-    (no_count_if many faults.ManySummaries refl)
+no_count_summary ss i = grind arith
 
 no_count_early : (rs : List Record) (r : Record) → no_count (early_fault rs r) ≡ true
-no_count_early rs (Head h) = no_count_place (column (last_of rs)) kinds.Head
-no_count_early rs (Summary s) =
-    no_count_else (place (column (last_of rs)) kinds.Summary) (summary_fault (summaries rs) s.id) (no_count_place (column (last_of rs)) kinds.Summary)
-    (no_count_summary (summaries rs) s.id)
-no_count_early rs (Resource r) = no_count_place (column (last_of rs)) kinds.Resource
-no_count_early rs (Work w) =
-    no_count_else (place (column (last_of rs)) kinds.Work) (in_part (last_part rs) w.block_id) (no_count_place (column (last_of rs)) kinds.Work)
-    (no_count_member (first_id (last_part rs)) (length (last_part rs)) w.block_id)
-no_count_early rs (Usage u) =
-    no_count_else (place (column (last_of rs)) kinds.Usage) (in_part (last_part rs) u.block_id) (no_count_place (column (last_of rs)) kinds.Usage)
-    (no_count_member (first_id (last_part rs)) (length (last_part rs)) u.block_id)
-no_count_early rs (Foot f) = no_count_place (column (last_of rs)) kinds.Foot
-no_count_early rs Skipped = refl
-
-not_true : (b : Bool) → not b ≡ true → b ≡ false
-not_true true e = cc
-not_true false e = refl
+no_count_early rs r = grind (arith, no_count_place, no_count_member, no_count_summary)
 
 pub early_not_count : (rs : List Record) (r : Record) (f : FileFault) → early_fault rs r ≡ Some f → counts_fault f ≡ false
-early_not_count rs r f e = not_true _ (sym (ap no_count e) ∙ no_count_early rs r)
+early_not_count rs r f e = let n : no_count (Some f) ≡ true = sym (ap no_count e) ∙ no_count_early rs r in grind arith
 
 -- a record with an early fault
 pub early_steps : (g h : Grammar) (ls : List Reading) (r : Record) (f : FileFault) → Keeps g ls
@@ -116,49 +58,27 @@ unfolding fault_of
 faulty_steps h ls f e = (refl, rw e (sym (append-nil (events_of (records ls)))))
 
 pub own_not_count : (f : RecordFault) → counts_fault (file_fault f) ≡ false
-own_not_count own.Many = refl
-own_not_count own.Unknown = refl
-own_not_count (own.Missing c) = refl
-own_not_count (own.Bad c) = refl
-own_not_count own.Uneven = refl
+own_not_count f = grind arith
 
-pub skip_line_steps : (g h : Grammar) (ls : List Reading) → Keeps g ls → h.stage ≡ g.stage → h.lines ≡ g.lines + 1 → h.skipped_lines ≡ g.skipped_lines + 1
-    → h.skipped_records ≡ g.skipped_records → h.records ≡ g.records → h.summaries ≡ g.summaries → h.blocks ≡ g.blocks → LineSteps ls SkippedLine Good None h
-unfolding fault_of
-skip_line_steps g h ls k s l a b r m n =
-    let same = records-same ls SkippedLine refl in (
+-- a line without a record and without a fault
+pub skip_steps : (g h : Grammar) (ls : List Reading) (l : Reading) → kept l ≡ [] → fault_of ls l ≡ None → Keeps g ls → h.stage ≡ g.stage
+    → h.lines ≡ g.lines + 1 → h.skipped_lines ≡ g.skipped_lines + cond (is_skipped_line l) 1 0
+    → h.skipped_records ≡ g.skipped_records + cond (is_skipped_record l) 1 0 → h.records ≡ g.records → h.summaries ≡ g.summaries → h.blocks ≡ g.blocks
+    → LineSteps ls l Good None h
+skip_steps g h ls l n f k s i a b r m o =
+    let same = records-same ls l n in (
       record {
-        good = first_good ls SkippedLine k.good refl;
+        good = first_good ls l k.good f;
         stage_is = rw (s, same) k.stage_is;
-        lines_are = l ∙ ap (λ n. n + 1) k.lines_are ∙ sym (length-append ls (SkippedLine ∷ []));
-        skipped_are = a ∙ ap (λ n. n + 1) k.skipped_are ∙ sym (count_by_push_yes is_skipped_line ls SkippedLine refl);
-        types_are = b ∙ k.types_are ∙ sym (count_by_push_no is_skipped_record ls SkippedLine refl);
-        records_are = r ∙ k.records_are ∙ ap length (sym same);
-        summaries_are = m ∙ k.summaries_are ∙ ap (λ rs. length (summaries rs)) (sym same);
-        blocks_are = n ∙ k.blocks_are ∙ ap (λ rs. length (closed rs)) (sym same);
+        lines_are = rw (i, k.lines_are) (sym (length-append ls (l ∷ [])));
+        skipped_are = rw (a, k.skipped_are) (sym (count_by_push is_skipped_line ls l));
+        types_are = rw (b, k.types_are) (sym (count_by_push is_skipped_record ls l));
+        records_are = rw (r, same) k.records_are;
+        summaries_are = rw (m, same) k.summaries_are;
+        blocks_are = rw (o, same) k.blocks_are;
       },
-      refl,
-      ap events_of same ∙ sym (append-nil (events_of (records ls))),
-    )
-
-pub skip_record_steps : (g h : Grammar) (ls : List Reading) → Keeps g ls → h.stage ≡ g.stage → h.lines ≡ g.lines + 1 → h.skipped_lines ≡ g.skipped_lines
-    → h.skipped_records ≡ g.skipped_records + 1 → h.records ≡ g.records → h.summaries ≡ g.summaries → h.blocks ≡ g.blocks
-    → LineSteps ls (Holds Skipped) Good None h
-unfolding fault_of
-skip_record_steps g h ls k s l a b r m n =
-    let same = records-same ls (Holds Skipped) refl in (
-      record {
-        good = first_good ls (Holds Skipped) k.good refl;
-        stage_is = rw (s, same) k.stage_is;
-        lines_are = l ∙ ap (λ n. n + 1) k.lines_are ∙ sym (length-append ls (Holds Skipped ∷ []));
-        skipped_are = a ∙ k.skipped_are ∙ sym (count_by_push_no is_skipped_line ls (Holds Skipped) refl);
-        types_are = b ∙ ap (λ n. n + 1) k.types_are ∙ sym (count_by_push_yes is_skipped_record ls (Holds Skipped) refl);
-        records_are = r ∙ k.records_are ∙ ap length (sym same);
-        summaries_are = m ∙ k.summaries_are ∙ ap (λ rs. length (summaries rs)) (sym same);
-        blocks_are = n ∙ k.blocks_are ∙ ap (λ rs. length (closed rs)) (sym same);
-      },
-      refl,
-      ap events_of same ∙ sym (append-nil (events_of (records ls))),
+      f,
+      rw same (sym (append-nil (events_of (records ls)))),
     )
 
 pub of_utf8_skipped : (layout : LayoutTable) (t : List ℕ) → is_left_out t ≡ true → of_utf8 layout t ≡ SkippedLine
@@ -200,15 +120,4 @@ utf8_false bs n = elim (is_utf8 bs) as (λ b. is_utf8 bs ≡ b → b ≡ false) 
 
 -- a line that is not of a skipped type
 pub real_record : (l : CheckedLine) → (l ≡ lines.Skipped → ⊥) → IsRecord (record_seen l)
-real_record lines.Skipped n = absurd (n refl)
-real_record (lines.Head h) n = tt
-real_record (lines.Summary h) n = tt
-real_record (lines.Resource h) n = tt
-real_record (lines.Work h) n = tt
-real_record (lines.Usage h) n = tt
-real_record (lines.Foot h) n = tt
-
--- the fault that the code finds is that of the record
-pub fault_found : (stage : Stage) (r : Record) (k : Kind) (i : Option (List ℕ)) (f g : Option FileFault) → f ≡ stage_fault stage k i → k ≡ kind_of_record r
-    → i ≡ id_of_record r → f ≡ g → stage_fault stage (kind_of_record r) (id_of_record r) ≡ g
-fault_found stage r k i f g e h j is = sym (ap (λ x. stage_fault stage x i) h ∙ ap (stage_fault stage (kind_of_record r)) j) ∙ sym e ∙ is
+real_record l n = grind arith

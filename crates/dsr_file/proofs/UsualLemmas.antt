@@ -1,10 +1,11 @@
 -- What a reader represents after a line of the usual form.
-use Rattle.dsr_file.proofs.Common.{◌≡◌, ℕ, ◌+◌, ◌-◌, ◌<◌, ◌∙◌, sym, ap, refl, subst, Bool, true, false, List, [], ◌∷◌, ◌++◌, length, Option, length-append, length-take, take, get_or, map, arith, eqb, suc, Ok, list_any, is_utf8, ne_eqb, lt-ltb, false≢true, get_or-take, is_utf8-from_IsUtf8, is_line_feed, without_return, Record, is_left_out, LayoutTable, record_of, EventPart, Placed, Step, FileReader, Reading, Holds, reading, of_utf8, CutsTo, IsBetweenLines, Keeps, LineSteps, Stands, StandsAt, AtAnswer}
+use Rattle.dsr_file.proofs.Common.{◌≡◌, ℕ, ◌+◌, ◌-◌, ◌<◌, ◌∙◌, sym, ap, refl, subst, Bool, true, false, List, [], ◌∷◌, ◌++◌, length, Option, length-append, length-take, take, get_or, arith, eqb, suc, Ok, list_any, is_utf8, ne_eqb, lt-ltb, false≢true, get_or-take, is_utf8-from_IsUtf8, is_line_feed, without_return, Record, is_left_out, LayoutTable, record_of, EventPart, Placed, Step, FileReader, Reading, Holds, reading, of_utf8, CutsTo, IsBetweenLines, Keeps, LineSteps, Stands, StandsAt, AtLine}
 use Rattle.std.proofs.lemmas.List.Elements.{All-get_or}
 use Rattle.std.proofs.lemmas.List.Sums.{AllPass-from_list_all}
 use Rattle.dsr_records.specs.inner.Usual.{BeginsWithLine, is_plain}
 use Rattle.dsr_file.specs.declared.phase.Phase.TheVariants as phases
 use Rattle.dsr_file.proofs.CutLemmas.{fed_line}
+use Rattle.dsr_file.proofs.StandLemmas.{line_read}
 use Rattle.dsr_file.proofs.TestLemmas.{of_utf8_record, reading_text}
 
 plain_inside : (b n : ℕ) → is_plain b ≡ true → is_plain n ≡ false → eqb b n ≡ false
@@ -51,25 +52,11 @@ module _ (page : List ℕ) (size : ℕ) (line : BeginsWithLine page size) where
       → Stands layout old b es → old.phase ≡ phases.Reading → IsBetweenLines old.cutter → record_of old.layout text ≡ Ok item
       → ((ls : List Reading) → Keeps old.grammar ls → LineSteps ls (Holds item) step closed new.grammar) → IsBetweenLines new.cutter
       → new.layout ≡ old.layout → new.given ≡ old.given + (size + 1) → new.place ≡ old.place → new.ending ≡ old.ending
-      → AtAnswer layout new (old.grammar.lines + 1) step closed (b ++ take (size + 1) page) es
+      → AtLine layout new (old.grammar.lines + 1) step closed (b ++ take (size + 1) page) es
   usual_taken layout old new b es item step closed s r between is steps after la g p n =
       let at : StandsAt layout phases.Reading old b es = subst (λ x. StandsAt layout x old b es) r s.phase_is in
       let cuts : CutsTo [] false b at.0 = subst (λ x. CutsTo [] x b at.0) between.1 (subst (λ x. CutsTo x old.cutter.fresh b at.0) between.0 at.1) in
       let used : length (take (size + 1) page) ≡ size + 1 = length-take (size + 1) page ∙ omega (arith, line.within) in
-      record {
-        whole = at.0;
-        line = text;
-        cuts = fed_line [] b page at.0 size cuts none line.within line.ends;
-        good = at.2.good;
-        steps =
-            subst (λ x. LineSteps (map (reading layout) at.0) x step closed new.grammar)
-            (sym (reading_usual layout item (ap (λ x. record_of x text) (sym s.layout_is) ∙ is))) (steps (map (reading layout) at.0) at.2);
-        cleared = after.0;
-        settled = after.1;
-        number_is = ap (λ x. x + 1) at.2.lines_are;
-        events_are = at.3;
-        layout_is = la ∙ s.layout_is;
-        given_is = g ∙ omega (arith, s.given_is, used, length-append b (take (size + 1) page));
-        place_is = p ∙ s.place_is;
-        open_is = n ∙ at.4;
-      }
+      line_read layout old new at.0 text b (b ++ take (size + 1) page) es step closed (fed_line [] b page at.0 size cuts none line.within line.ends) at.2
+      (λ ls k. subst (λ x. LineSteps ls x step closed new.grammar) (sym (reading_usual old.layout item is)) (steps ls k)) after
+      (la ∙ s.at.0, g ∙ omega (arith, s.at.1, used, length-append b (take (size + 1) page)), p ∙ s.at.2) (n ∙ at.2.2)

@@ -38,10 +38,7 @@ pub(crate) fn feed<S: Sink>(
             sink.note_bytes(piece.len());
             return Ok(());
         }
-        if part.exchange_into(place, sink) {
-            continue;
-        }
-        part.put_into(place, sink)?;
+        part.give_to(place, sink)?;
     }
 }
 

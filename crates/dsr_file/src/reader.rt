@@ -50,7 +50,7 @@ impl Drop for FileReader {
 
 impl FileReader {
     ghost use Rattle.dsr_file.specs.inner.ReaderSteps.{Advances, Gives, HasBegun, HasGivenAll, GivesBeforeItUses, StandsAs, UsesBytes, AppliesCut, AppliesStep, EndsText};
-    ghost use Rattle.dsr_file.specs.inner.Standing.{Stands, SameBut, SameText, AtEnd, EndsAfter, IsDone, bytes_used, events_left, ending_told, first_ending};
+    ghost use Rattle.dsr_file.specs.inner.Standing.{Stands, SameBut, SameText, AtLines, EndsAfter, IsDone, bytes_used, events_left, ending_told, first_ending};
     ghost use Rattle.dsr_file.specs.inner.Cutting.{FitsCut};
     ghost use Rattle.dsr_file.specs.declared.phase.Phase.TheVariants as phases;
 
@@ -417,7 +417,7 @@ impl FileReader {
         ensures ended { self.old.phase ≢ phases.Reading → StandsAs self.old self.new }
         ensures reading { self.old.phase ≡ phases.Reading
             → (layout : LayoutTable) (b : List ℕ) (es : List Placed)
-            → Stands layout self.old b es → AtEnd layout self.new ending b es }
+            → Stands layout self.old b es → AtLines layout self.new (Some ending) b es }
     {
         if self.ending.is_none() {
             self.ending = Some(ending);

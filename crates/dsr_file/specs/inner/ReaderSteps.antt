@@ -5,7 +5,7 @@ use Rattle.dsr_events.specs.declared.fault.Ending.{Ending}
 use Rattle.dsr_events.specs.meaning.Orderly.{Placed, has_ended}
 use Rattle.dsr_file.specs.declared.reader.FileReader.{FileReader}
 use Rattle.dsr_file.specs.layer.Runs.{BeginsEvents, HasEvents, EndsWith}
-use Rattle.dsr_file.specs.inner.Standing.{Stands, AtAnswer, AtCut, AtEnd, IsDone}
+use Rattle.dsr_file.specs.inner.Standing.{Stands, AtLine, AtLines, AtCut, IsDone}
 use Rattle.std.specs.Option.{option_to_list}
 use Rattle.dsr_file.specs.declared.cutter.Cut.{Cut}
 use Rattle.dsr_events.specs.declared.event.EventPart.{EventPart}
@@ -52,12 +52,12 @@ AppliesCut old new cut used part = (layout : LayoutTable) (b : List ℕ) (es : L
 
 -- the result of the line of this number, which closed this, is applied, and this event, if any, is given
 abbrev pub AppliesStep : FileReader → FileReader → ℕ → Step → Option EventPart → Option EventPart → Type 0
-AppliesStep old new number step closed part = (layout : LayoutTable) (b : List ℕ) (es : List Placed) → AtAnswer layout old number step closed b es
+AppliesStep old new number step closed part = (layout : LayoutTable) (b : List ℕ) (es : List Placed) → AtLine layout old number step closed b es
     → Stands layout new b (es ++ placed old.place (option_to_list part))
 
 -- the text is ended in this way, and this event is given
 abbrev pub EndsText : FileReader → FileReader → Ending → Placed → Type 0
-EndsText old new ending event = (layout : LayoutTable) (b : List ℕ) (es : List Placed) → AtEnd layout old ending b es
+EndsText old new ending event = (layout : LayoutTable) (b : List ℕ) (es : List Placed) → AtLines layout old (Some ending) b es
     → Stands layout new b (es ++ event ∷ [])
 
 -- the reader represents some bytes and these events

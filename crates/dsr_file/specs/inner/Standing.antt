@@ -4,31 +4,41 @@ use Rattle.dsr_records.specs.meaning.Records.{LayoutTable}
 use Rattle.dsr_events.specs.declared.fault.Ending.{Ending}
 use Rattle.dsr_events.specs.declared.fault.Outcome.{Outcome}
 use Rattle.dsr_events.specs.declared.event.EventPart.{EventPart}
+use Rattle.dsr_events.specs.declared.event.EventPart.TheVariants.{Ended}
 use Rattle.dsr_file.specs.declared.phase.Phase.{Phase}
-use Rattle.dsr_file.specs.declared.phase.Phase.TheVariants.{Reading, Waiting, Done}
+use Rattle.dsr_file.specs.declared.phase.Phase.TheVariants as phases
 use Rattle.dsr_file.specs.declared.reader.FileReader.{FileReader}
 use Rattle.dsr_events.specs.meaning.Orderly.{Placed, has_ended}
-use Rattle.dsr_file.specs.meaning.Readings.{reading, records, events_of}
+use Rattle.dsr_file.specs.meaning.Readings.{Reading, reading, records, events_of}
 use Rattle.dsr_file.specs.meaning.Texts.{AllGood, first_from, placed}
-use Rattle.dsr_file.specs.layer.Runs.{ended, known_events, HasEvents, EndsWith}
+use Rattle.dsr_file.specs.layer.Runs.{ended, known_events, known_lines, HasEvents, EndsWith}
 use Rattle.dsr_file.specs.inner.Cutting.{CutsTo, CutSteps}
 use Rattle.dsr_file.specs.declared.cutter.Cut.{Cut}
 use Rattle.dsr_file.specs.inner.Grammars.{Keeps, LineSteps}
 use Rattle.dsr_file.specs.declared.grammar.Step.{Step}
 use Rattle.dsr_file.specs.inner.Allowance.{has_given_all, left}
 
+-- the reader has this layout, and has used so many bytes and given so many events
+abbrev pub IsAt : LayoutTable → FileReader → List ℕ → List Placed → Type 0
+IsAt layout r bytes es = (r.layout ≡ layout) × (r.given ≡ length bytes) × (r.place ≡ length es)
+
+-- these good lines are taken, the events given are theirs, and the text has this ending, if any
+abbrev pub Taken : LayoutTable → FileReader → List Reading → Option Ending → List ℕ → List Placed → Type 0
+Taken layout r ls told bytes es = Keeps r.grammar ls × (es ≡ placed 0 (events_of (records ls))) × (r.ending ≡ told) × IsAt layout r bytes es
+
+-- all complete lines are taken, and the text has this ending, if any
+abbrev pub AtLines : LayoutTable → FileReader → Option Ending → List ℕ → List Placed → Type 0
+AtLines layout r told bytes es =
+    (whole : List (List ℕ)) × CutsTo r.cutter.bytes.items r.cutter.fresh bytes whole × Taken layout r (map (reading layout) whole) told bytes es
+
 abbrev pub StandsAt : LayoutTable → Phase → FileReader → List ℕ → List Placed → Type 0
-StandsAt layout Reading r bytes es =
-    (whole : List (List ℕ)) × CutsTo r.cutter.bytes.items r.cutter.fresh bytes whole × Keeps r.grammar (map (reading layout) whole)
-    × (es ≡ placed 0 (events_of (records (map (reading layout) whole)))) × (r.ending ≡ None)
-StandsAt layout (Waiting o) r bytes es = (known_events layout bytes r.ending ≡ es ++ ended (length es) o ∷ []) × (has_ended es ≡ false)
-StandsAt layout (Done o) r bytes es = HasEvents layout bytes r.ending es × EndsWith es o
+StandsAt layout phases.Reading r bytes es = AtLines layout r None bytes es
+StandsAt layout (phases.Waiting o) r bytes es = (known_events layout bytes r.ending ≡ es ++ ended (length es) o ∷ []) × (has_ended es ≡ false)
+StandsAt layout (phases.Done o) r bytes es = HasEvents layout bytes r.ending es × EndsWith es o
 
 -- the reader has this layout, and represents these bytes used and these events given
 pub record Stands (layout : LayoutTable) (r : FileReader) (bytes : List ℕ) (es : List Placed) : Type 0 where
-  pub layout_is : r.layout ≡ layout
-  pub given_is : r.given ≡ length bytes
-  pub place_is : r.place ≡ length es
+  pub at : IsAt layout r bytes es
   pub phase_is : StandsAt layout r.phase r bytes es
 
 -- Ended was given
@@ -65,46 +75,33 @@ pub record SameText (old new : FileReader) : Type 0 where
   pub given : new.given ≡ old.given
   pub ending : new.ending ≡ old.ending
 
--- the lines of these whole pieces are taken, the events given are theirs, and the text has this ending, if any
-pub record Taken (layout : LayoutTable) (r : FileReader) (whole : List (List ℕ)) (ending : Option Ending) (bytes : List ℕ) (es : List Placed) : Type 0 where
-  pub keeps : Keeps r.grammar (map (reading layout) whole)
-  pub events_are : es ≡ placed 0 (events_of (records (map (reading layout) whole)))
-  pub layout_is : r.layout ≡ layout
-  pub given_is : r.given ≡ length bytes
-  pub place_is : r.place ≡ length es
-  pub ending_is : r.ending ≡ ending
-
--- a line is complete and is not taken yet
-abbrev pub AtLine : LayoutTable → FileReader → List ℕ → List ℕ → List Placed → Type 0
-AtLine layout r line bytes es = (whole : List (List ℕ)) × CutsTo [] false bytes (whole ++ line ∷ []) × Taken layout r whole None bytes es
-
--- the last line had this result, and closed this
-pub record AtAnswer (layout : LayoutTable) (r : FileReader) (number : ℕ) (step : Step) (closed : Option EventPart) (bytes : List ℕ)
+-- the last line of the bytes had this result, and closed this
+pub record AtAnswer (layout : LayoutTable) (r : FileReader) (told : Option Ending) (number : ℕ) (step : Step) (closed : Option EventPart) (bytes : List ℕ)
     (es : List Placed) : Type 0 where
-  pub whole : List (List ℕ)
-  pub line : List ℕ
-  pub cuts : CutsTo [] false bytes (whole ++ line ∷ [])
-  pub good : first_from [] (map (reading layout) whole) ≡ AllGood
-  pub steps : LineSteps (map (reading layout) whole) (reading layout line) step closed r.grammar
-  pub cleared : r.cutter.bytes.items ≡ []
-  pub settled : r.cutter.fresh ≡ false
-  pub number_is : number ≡ length (map (reading layout) whole) + 1
-  pub events_are : es ≡ placed 0 (events_of (records (map (reading layout) whole)))
-  pub layout_is : r.layout ≡ layout
-  pub given_is : r.given ≡ length bytes
-  pub place_is : r.place ≡ length es
-  pub open_is : r.ending ≡ None
+  pub ls : List Reading
+  pub l : Reading
+  pub lines_are : known_lines layout bytes told ≡ ls ++ l ∷ []
+  pub good : first_from [] ls ≡ AllGood
+  pub steps : LineSteps ls l step closed r.grammar
+  pub number_is : number ≡ length ls + 1
+  pub events_are : es ≡ placed 0 (events_of (records ls))
+  pub told_is : r.ending ≡ told
+  pub at : IsAt layout r bytes es
+
+-- the same, and more lines may come
+abbrev pub AtLine : LayoutTable → FileReader → ℕ → Step → Option EventPart → List ℕ → List Placed → Type 0
+AtLine layout r number step closed bytes es = AtAnswer layout r None number step closed bytes es
+    × ((whole : List (List ℕ)) × CutsTo r.cutter.bytes.items r.cutter.fresh bytes whole)
+
+abbrev pub phase_after : Option EventPart → Outcome → Phase
+phase_after None o = phases.Done o
+phase_after (Some part) o = phases.Waiting o
 
 -- the event of the last line, if there is one; otherwise the outcome
 abbrev pub EndsAfter : ℕ → Option EventPart → Outcome → Placed → FileReader → Type 0
-EndsAfter place None o e r = (r.phase ≡ Done o) × (e ≡ ended place o)
-EndsAfter place (Some part) o e r = (r.phase ≡ Waiting o) × (e ≡ record { place = place; part = part })
+EndsAfter place part o e r = (r.phase ≡ phase_after part o) × (e ≡ record { place = place; part = unwrap_or part (Ended o) })
 
 -- the cutter has used these bytes and returned this
 abbrev pub AtCut : LayoutTable → FileReader → Cut → List ℕ → List ℕ → List Placed → Type 0
-AtCut layout r cut bytes used es = (whole : List (List ℕ)) × CutSteps bytes used whole cut r.cutter × Taken layout r whole None (bytes ++ used) es
-
--- all complete lines are taken, and the text ends
-abbrev pub AtEnd : LayoutTable → FileReader → Ending → List ℕ → List Placed → Type 0
-AtEnd layout r ending bytes es =
-    (whole : List (List ℕ)) × CutsTo r.cutter.bytes.items r.cutter.fresh bytes whole × Taken layout r whole (Some ending) bytes es
+AtCut layout r cut bytes used es =
+    (whole : List (List ℕ)) × CutSteps bytes used whole cut r.cutter × Taken layout r (map (reading layout) whole) None (bytes ++ used) es

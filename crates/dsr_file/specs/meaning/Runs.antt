@@ -1,5 +1,5 @@
 -- The prefixes of a text's events that a reader may give, and events cut off because memory was refused.
-use Rattle.std.specs.Prelude.{ℕ, List, []}
+use Rattle.std.specs.Prelude.{ℕ, List}
 use Rattle.dsr_records.specs.meaning.Records.{LayoutTable}
 use Rattle.dsr_events.specs.declared.fault.Ending.{Ending}
 use Rattle.dsr_events.specs.meaning.Orderly.{Placed}

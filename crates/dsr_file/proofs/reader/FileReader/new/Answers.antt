@@ -4,8 +4,6 @@ use Rattle.dsr_file.proofs.reader.FileReader.new.Goals as goal
 pub returns-clause-stands : goal.returns-clause-stands
 unfolding events_of
 returns-clause-stands c = record {
-  layout_is = c.copy.ensures;
-  given_is = refl;
-  place_is = refl;
-  phase_is = ([], c.in_ok-new.ensures.cuts, c.new-2.ensures, refl, refl);
+  at = (c.copy.ensures, refl, refl);
+  phase_is = ([], c.in_ok-new.ensures.cuts, (c.new-2.ensures, refl, refl, (c.copy.ensures, refl, refl)));
 }

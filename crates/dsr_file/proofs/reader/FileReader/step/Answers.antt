@@ -1,5 +1,4 @@
-use Rattle.dsr_file.proofs.Common.{◌∙◌, ap, refl, take, record_seen, record_of}
-use Rattle.dsr_file.proofs.StandLemmas.{at_cut}
+use Rattle.dsr_file.proofs.Common.{◌∙◌, ap, refl, subst, take, arith, length-append, length-take, record_seen, record_of, StandsAt}
 use Rattle.dsr_file.proofs.UsualLemmas.{usual_taken}
 use Rattle.dsr_file.proofs.reader.FileReader.step.Goals as goal
 
@@ -14,5 +13,18 @@ returns-in-Some-clause-stands c = λ layout b es s.
 
 pub returns-clause-stands : goal.returns-clause-stands
 returns-clause-stands c = λ layout b es s.
-    c.cut.ensures.stands layout b es (at_cut layout c.args.self.now _ c.take-used.result.1 b es c.args.piece.now c.take-used.result.0 s c.requires.reading
-    c.take-used.ensures.bound c.take-used.ensures.cut refl refl refl refl refl)
+    let at = subst (λ x. StandsAt layout x c.args.self.now b es) c.requires.reading s.phase_is in
+    c.cut.ensures.stands layout b es (
+      at.0,
+      c.take-used.ensures.cut b at.0 at.1,
+      (
+        at.2.0,
+        at.2.1,
+        at.2.2,
+        (
+          s.at.0,
+          simp (length-append, length-take) (omega (arith, s.at.1, c.take-used.ensures.bound)),
+          s.at.2,
+        ),
+      ),
+    )
