@@ -2,8 +2,8 @@ pub mod Common
 pub mod Values
 pub mod Records
 pub mod Files
-pub mod FilesOfTexts
 pub mod Orders
+pub mod Printed
 pub mod Lines
 pub mod Readable
 pub mod Given

@@ -1,11 +1,10 @@
 -- The seal of a run: its digests are spelled, and the lines before it are counted.
-use Rattle.dsr_laws.proofs.Common.{AllByRecursion, IsReadable, Line, List, None, Option, Report, ReportKey, Some, [], and_from, and_parts, ap, arith, each_append, eq-eqb, eqb, is_line, is_text, is_utf8, length, length-append, length-map, line_text, list_all, list_all-append, lt-ltb, map, not, refl, statement_lines, subst, suc, sym, true, zero, ℕ, ◌%◌, ◌++◌, ◌+◌, ◌/◌, ◌<◌, ◌^◌, ◌∙◌, ◌∷◌, ◌≡◌, ◌≤◌}
-use Rattle.std.specs.Prelude.{cond, nat_le, ◌&&◌, slice_index, Ok}
+use Rattle.dsr_laws.proofs.Common.{AllByRecursion, IsReadable, Line, List, None, Option, Report, ReportKey, Some, [], and_from, and_parts, ap, arith, each_append, eq-eqb, eqb, is_line, is_text, is_utf8, length, length-append, length-map, line_text, list_all, list_all-append, lt-ltb, map, nat_tests, refl, statement_lines, subst, suc, sym, true, zero, ℕ, ◌%◌, ◌++◌, ◌+◌, ◌/◌, ◌<◌, ◌^◌, ◌∙◌, ◌∷◌, ◌≡◌, ◌≤◌}
+use Rattle.std.specs.Prelude.{cond, nat_le, slice_index, Ok}
 use Rattle.dsr_statement.specs.meaning.Readings.{most_bytes}
 use Rattle.std.specs.Option.{option_map}
 use Rattle.std.specs.Int.{to_be_bytes, w32}
 use Rattle.std.proofs.lemmas.Grind.{flat_map-append}
-use Rattle.std.proofs.lemmas.Bool.{not-true}
 use Rattle.std.proofs.lemmas.List.Sums.{AllPass-from_list_all, sum_by-append, sum_by-cons}
 use Rattle.hex.specs.Hex.{encode_lower, lower_digits}
 unfoldable use Rattle.hex.specs.Hex.{encode_with}
@@ -18,7 +17,6 @@ use Rattle.dsr_seal.proofs.SealLines.{length-inputs_from, lines_within}
 use Rattle.dsr_statement.specs.declared.line.Line.TheVariants as lines
 use Rattle.dsr_statement.specs.layer.Readings.{IsReading}
 use Rattle.dsr_statement.specs.layer.Seals.{AreDigestsOf, seal_of, sealed_lines}
-use Rattle.dsr_statement.specs.layer.Statements.{has_no_feed}
 use Rattle.dsr_statement.specs.meaning.Digests.{Digest, is_sha256_text, is_small_hex}
 use Rattle.dsr_statement.specs.meaning.Lines.{line_bytes}
 use Rattle.dsr_statement.specs.meaning.Seals.{inputs_from, layout_lines, origin_lines, seal_lines}
@@ -58,18 +56,14 @@ feed b = cond (eqb b 10) 1 0
 
 no_feeds : (text : List ℕ) → lacks 10 text ≡ true → line_feeds text ≡ 0
 no_feeds [] h = refl
-no_feeds (b ∷ bs) h =
-    let two = and_parts (not (eqb b 10)) (lacks 10 bs) h in let other : feed b ≡ 0 = rw (not-true (eqb b 10) two.0) refl in
-    omega (arith, sum_by-cons feed b bs, no_feeds bs two.1)
+no_feeds (b ∷ bs) h = grind (arith, nat_tests, sum_by-cons feed b bs, no_feeds bs)
 
 feeds_counted : (ls : List Line) → list_all is_text ls ≡ true → line_feeds (text_of ls) ≡ length ls
 feeds_counted [] h = refl
 feeds_counted (l ∷ ls) h =
-    let two = and_parts (is_text l) (list_all is_text ls) h in
-    let text = line_text l in
-    let own = and_parts (is_utf8 text) (nat_le (length text) most_bytes && has_no_feed text) two.0 in
-    let none = no_feeds text (and_parts (nat_le (length text) most_bytes) (has_no_feed text) own.1).1 in
-    omega (arith, sum_by-append feed (line_bytes l) (text_of ls), sum_by-append feed text (10 ∷ []), none, feeds_counted ls two.1)
+    let text = line_text l in let (own, rest) = and_parts (is_text l) (list_all is_text ls) h in
+    let none = no_feeds text (and_parts (nat_le (length text) most_bytes) _ (and_parts (is_utf8 text) _ own).1).1 in
+    omega (arith, sum_by-append feed (line_bytes l) (text_of ls), sum_by-append feed text (10 ∷ []), none, feeds_counted ls rest)
 
 -- the lines of a seal are in their ranges
 layout_spelled : (layout : Option (List ℕ)) → ((bytes : List ℕ) → layout ≡ Some bytes → length bytes < 2 ^ 64)

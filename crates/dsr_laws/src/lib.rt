@@ -8,7 +8,7 @@
 //! refuses at its first line; and what it reads are the lines of the report of exactly the texts that the readers gave.
 //!
 //! **Where to begin.** `specs/layer/Again.antt` has what the laws say. `proofs/Records.antt` has what the record of a line has,
-//! `Files.antt` and `FilesOfTexts.antt` what the file of a text has, `Readable.antt` that the report of such files is readable.
+//! `Files.antt` what the file of a text has, `Readable.antt` that the report of such files is readable.
 #![tactic(auto)]
 
 pub mod laws;
