@@ -1,4 +1,4 @@
-#!/usr/bin/env python3
+#!/usr/bin/env -S python3 -B
 """Reads and writes the acceptance cases, each of which is one text in cases/.
 
   checks/case_files.py FOLDER    writes each case as a folder below FOLDER: its files, and args, status, expected, expected_stderr
@@ -28,23 +28,13 @@ import shutil
 import sys
 import tempfile
 
-TOP = os.path.dirname(os.path.dirname(os.path.abspath(__file__)))
+from running import TOP, content, put, text_of as text_in
+
 CASES = os.path.join(TOP, 'cases')
 COMMAND = re.compile(r"\$ (.*?)(?: < ([^ ']+))?")
 RUN = re.compile(r'(?<=\n=== status \d\n)(?=\$ )')
 HEADING = re.compile(r'^=== ((?:file|copy) [^\n]+|output|error|any error|status \d+)\n', re.M)
 ESCAPE = re.compile(rb'\\(?:x([0-9a-f]{2})|(\\)|\n)|\\')
-
-
-def content(*path):
-    """The bytes of a file of the repository."""
-    with open(os.path.join(TOP, *path), 'rb') as file:
-        return file.read()
-
-
-def put(path, text):
-    with open(path, 'wb') as out:
-        out.write(text)
 
 
 def plain(text):
@@ -146,7 +136,7 @@ def names():
 
 
 def text_of(name):
-    return content('cases', name).decode()
+    return text_in('cases', name)
 
 
 def read(name):
