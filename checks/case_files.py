@@ -1,4 +1,4 @@
-#!/usr/bin/env python3
+#!/usr/bin/env -S python3 -B
 """Reads and writes the acceptance cases, each of which is one text in cases/.
 
   checks/case_files.py FOLDER    writes each case as a folder below FOLDER: its files, and args, status, expected, expected_stderr
@@ -13,11 +13,14 @@ A case is what is typed, the files that it is typed beside, and what comes of it
     REPORT..
     === error                      the whole standard error; left out, it is empty; `=== any error` is one that is not empty
     === status 0                   the exit status
+    $ dsr --seal in1.tsv           behind that, other words for the program, beside the same files and more: another run, with what
+    === status 1                   comes of it
 
 What stands under a heading is its bytes as they are, but for what an editor would not show or keep: `\\xNN` is the byte with
 this number, `\\\\` a backslash, and a backslash at the end of a line takes away the line feed behind it.
 """
 import atexit
+import dataclasses
 import os
 import re
 import shlex
@@ -25,22 +28,13 @@ import shutil
 import sys
 import tempfile
 
-TOP = os.path.dirname(os.path.dirname(os.path.abspath(__file__)))
+from running import TOP, content, put, text_of as text_in
+
 CASES = os.path.join(TOP, 'cases')
 COMMAND = re.compile(r"\$ (.*?)(?: < ([^ ']+))?")
+RUN = re.compile(r'(?<=\n=== status \d\n)(?=\$ )')
 HEADING = re.compile(r'^=== ((?:file|copy) [^\n]+|output|error|any error|status \d+)\n', re.M)
 ESCAPE = re.compile(rb'\\(?:x([0-9a-f]{2})|(\\)|\n)|\\')
-
-
-def content(*path):
-    """The bytes of a file of the repository."""
-    with open(os.path.join(TOP, *path), 'rb') as file:
-        return file.read()
-
-
-def put(path, text):
-    with open(path, 'wb') as out:
-        out.write(text)
 
 
 def plain(text):
@@ -72,25 +66,32 @@ def shown(text):
     return ''.join(''.join(escaped(line)) + '\n' for line in lines) + (''.join(escaped(last)) + '\\\n' if last else '')
 
 
+@dataclasses.dataclass
 class Case:
-    """A case. `files` has the content of its files by name, also of the ones that it copies from the repository; `given` is the name
-    of the file on standard input, or None; `error` is None for any that is not empty."""
+    """A case, by its first run. `files` has the content of its files by name, also of the ones that it copies from the repository;
+    `given` is the name of the file on standard input, or None; `error` is None for any that is not empty; `more` are the other runs."""
+    program: str
+    words: list
+    given: str
+    files: dict
+    copies: list
+    output: bytes
+    error: bytes
+    status: int
+    more: list = dataclasses.field(default_factory=list)
 
-    def __init__(self, program, words, given, files, copies, output, error, status):
-        self.program = program
-        self.words = words
-        self.given = given
-        self.copies = copies
-        self.files = {**files, **{os.path.basename(path): content(path) for path in copies}}
-        self.output = output
-        self.error = error
-        self.status = status
+    def runs(self):
+        return [self, *self.more]
 
     def text(self):
         """The case as it stands in its file."""
+        return ''.join(run.own_text({} if run is self else self.files) for run in self.runs())
+
+    def own_text(self, there):
+        """The text of a run, without the files that are there already."""
         command = shlex.join([self.program, *self.words]) + (f' < {self.given}' if self.given else '')
         copied = {os.path.basename(path): path for path in self.copies}
-        parts = [(f'copy {copied[name]}', b'') if name in copied else (f'file {name}', text) for name, text in self.files.items()]
+        parts = [(f'copy {copied[name]}', b'') if name in copied else (f'file {name}', text) for name, text in self.files.items() if name not in there]
         parts += [('output', self.output)] if self.output else []
         parts += [('any error', b'')] if self.error is None else [('error', self.error)] if self.error else []
         parts.append((f'status {self.status}', b''))
@@ -107,19 +108,26 @@ class Case:
 
 def case_of(text):
     """The case that has this text."""
+    first, *more = RUN.split(text)
+    case = run_of(first, {})
+    case.more = [run_of(part, case.files) for part in more]
+    return case
+
+
+def run_of(text, there):
+    """The run that has this text, beside files that are there."""
     head, *parts = HEADING.split(text)
     command = COMMAND.fullmatch(head.rstrip('\n'))
     if not command:
         raise ValueError('no command after $ in the first line')
     program, *words = shlex.split(command[1])
     found = {heading: plain(part) for heading, part in zip(parts[::2], parts[1::2])}
-    files = {name[5:]: text for name, text in found.items() if name.startswith('file ')}
+    copies = [name[5:] for name in found if name.startswith('copy ')]
+    files = {**there, **{name[5:]: text for name, text in found.items() if name.startswith('file ')}, **{os.path.basename(path): content(path) for path in copies}}
     status = [int(name[7:]) for name in found if name.startswith('status ')]
     if len(status) != 1 or len(found) * 2 != len(parts):
         raise ValueError('not one status, or a heading twice')
-    copies = [name[5:] for name in found if name.startswith('copy ')]
-    return Case(program, words, command[2], files, copies, found.get('output', b''),
-                None if 'any error' in found else found.get('error', b''), status[0])
+    return Case(program, words, command[2], files, copies, found.get('output', b''), None if 'any error' in found else found.get('error', b''), status[0])
 
 
 def names():
@@ -128,7 +136,7 @@ def names():
 
 
 def text_of(name):
-    return content('cases', name).decode()
+    return text_in('cases', name)
 
 
 def read(name):

@@ -1,13 +1,19 @@
 """A hostile surrounding for a program: names, outputs, closed descriptors and limits. checks/outside and checks/output have it for
 dsr, checks/totals_outside for dsr_totals."""
 import os
+import random
 import resource
 import shutil
 import signal
+import stat
+import subprocess
+import tempfile
+import time
 
-from running import Count, Run, run
+from running import Count, Run, put, run
 
 NOBODY = 54_321
+OLD = b'what was there before\n'
 NAMES = ('a name with spaces.tsv', 'a\tTAB.tsv', 'caf\u00e9 \u65e5\u672c.tsv', 'a\nline feed.tsv', "'quoted'.tsv", '*.tsv')
 
 
@@ -32,9 +38,8 @@ class Outside:
         self.write('small.tsv', self.content)
         self.write('large.tsv', large[0])
 
-    def write(self, name, content):
-        with open(self.path(name), 'wb') as out:
-            out.write(content)
+    def write(self, name, text):
+        put(self.path(name), text)
         return name
 
     def read(self, name):
@@ -79,6 +84,13 @@ class Outside:
         """Checks that nothing is printed but this line on standard error."""
         self.wants(name, answer, status, b'', self.line(text))
 
+    def writes(self, name, answer, status, files, error=b''):
+        """Checks an answer with --output: nothing is printed, these files hold these texts then, and no new file is left."""
+        self.wants(name, answer, status, b'', error)
+        held = [f'{path} is left' for path in self.parts()]
+        held += [f'{file} holds {str(self.read(file))[:100]} instead of {str(text)[:100]}' for file, text in files.items() if self.read(file) != text]
+        self.count.check(f'{name}: the files', held)
+
     def prints(self, name, answer):
         """Checks that it prints what it prints of small.tsv."""
         self.wants(name, answer, 0, self.printed)
@@ -105,13 +117,16 @@ def names(o):
 def permission(o):
     o.write('closed.tsv', o.content)
     os.chmod(o.path('closed.tsv'), 0)
-    prepare = None
-    if os.geteuid() == 0:
-        if o.run('small.tsv', prepare=drop_privileges).status != 0:
-            o.count.skip('no permission', 'as root, and no other user can run the program here')
-            return
-        prepare = drop_privileges
-    o.refuses('no permission', o.run('closed.tsv', prepare=prepare), 2, 'cannot open closed.tsv')
+    if prepare := without_privileges(o, 'no permission'):
+        o.refuses('no permission', o.run('closed.tsv', prepare=prepare), 2, 'cannot open closed.tsv')
+
+
+def without_privileges(o, name):
+    """What a process does so that permissions hold for it; None, and the check is skipped, if the program cannot be run then."""
+    if os.geteuid() == 0 and o.run('small.tsv', prepare=drop_privileges).status != 0:
+        o.count.skip(name, 'as root, and no other user can run the program here')
+        return None
+    return drop_privileges if os.geteuid() == 0 else lambda: None
 
 
 def drop_privileges():
@@ -163,9 +178,9 @@ def closing_pipe(o):
         yield 'the bytes read are not the first of the output'
 
 
-def links(o, wants):
+def links(o):
     """--output by a link. One to an ordinary file is followed: what it leads to is replaced, and the link stays. Any other is refused,
-    and nothing is changed. `wants` checks an answer: its name, the answer, its status, its lines of error, and what files hold."""
+    and nothing is changed."""
     os.mkdir(o.path('links'))
     os.mkdir(o.path('links/aside'))
     os.mkfifo(o.path('links/fifo'))
@@ -179,17 +194,40 @@ def links(o, wants):
         before, at = there(o.path('links')), f'links/{name}'
         with open(o.path('said'), 'wb') as out:
             answer = o.run('--output', at, 'small.tsv', out=out)
-        wants(f'--output is a link: {name}', answer, status, error and o.line(error.replace('NAME', at)), {'said': b'', **files})
+        o.writes(f'--output is a link: {name}', answer, status, {'said': b'', **files}, error and o.line(error.replace('NAME', at)))
         changed = before ^ there(o.path('links'))
         o.count.check(f'links stay: {name}', [sorted(changed)] if changed else [])
     for name, file in (('plain', 'held'), ('absolute', 'held'), ('down', 'aside/other'), ('aside/up', 'held'), ('folder/up', 'held'),
                        ('folder/../plain', 'held'), ('first', 'held')):
-        o.write('links/' + file, b'what was there before\n')
+        o.write('links/' + file, OLD)
         answers(name, 0, b'', {'links/' + file: o.printed})
     for name in ('nothing', 'further', 'round', 'folder', 'device', 'to_fifo', 'descriptor', 'to_descriptor', 'plain/', 'folder/', 'nothing/'):
         answers(name, 2, 'cannot create NAME', {'links/held': o.printed, 'links/none': None})
     answers('read', 2, 'cannot write to NAME, which is read', {'small.tsv': o.content})
-    links_and_permission(o, wants)
+    links_and_permission(o)
+
+
+def killed(o):
+    """Killed 200 times at random moments: FILE holds what was there, or the whole text; both have to be seen."""
+    seed = random.randrange(2 ** 32)
+    draw = random.Random(seed)
+    took = max(o.run('--output', 'kill', 'large.tsv').seconds for _ in range(3))
+    seen, left, problems = {OLD: 0, o.whole: 0}, 0, []
+    for _ in range(200):
+        o.write('kill', OLD)
+        process = subprocess.Popen([o.program, '--output', 'kill', 'large.tsv'], cwd=o.folder, stdout=subprocess.PIPE)
+        time.sleep(draw.uniform(0, took * 1.3))
+        process.kill()
+        output, _ = process.communicate()
+        held = o.read('kill')
+        left += len(o.parts())
+        seen[held] = seen.get(held, 0) + 1
+        if len(seen) > 2 or output:
+            problems.append(f'seed {seed}: {len(held or b"")} bytes, standard output {output[:100]!r}')
+    told = f'{seen[OLD]} kills before the end, {seen[o.whole]} after it, {left} new files left'
+    print(told)
+    o.count.check('killed at random moments', problems)
+    o.count.check('the kills came before and after the end', [] if all(seen.values()) and left else [told])
 
 
 def there(folder):
@@ -198,22 +236,21 @@ def there(folder):
     return {(path, os.readlink(path) if os.path.islink(path) else '') for path in paths}
 
 
-def links_and_permission(o, wants):
+def links_and_permission(o):
     """The new file is made in the folder of what the link leads to: the link's own may be closed."""
     os.mkdir(o.path('links/ours'), 0o777)
     os.chmod(o.path('links/ours'), 0o777)
     os.mkdir(o.path('links/theirs'))
     for folder, other in ('ours', 'theirs'), ('theirs', 'ours'):
-        o.write(f'links/{folder}/held', b'what was there before\n')
+        o.write(f'links/{folder}/held', OLD)
         os.symlink(f'../{other}/held', o.path(f'links/{folder}/link'))
     os.chmod(o.path('links/theirs'), 0o555)
-    prepare = drop_privileges if os.geteuid() == 0 else None
-    if o.run('small.tsv', prepare=prepare).status != 0:
-        o.count.skip('links and permission', 'as root, and no other user can run the program here')
+    prepare = without_privileges(o, 'links and permission')
+    if not prepare:
         return
     answer = o.run('--output', 'links/ours/link', 'small.tsv', prepare=prepare)
-    wants('a link to a file in a closed folder', answer, 2, o.line('cannot create links/ours/link'), {'links/theirs/held': b'what was there before\n'})
-    wants('a link in a closed folder', o.run('--output', 'links/theirs/link', 'small.tsv', prepare=prepare), 0, b'', {'links/ours/held': o.printed})
+    o.writes('a link to a file in a closed folder', answer, 2, {'links/theirs/held': OLD}, o.line('cannot create links/ours/link'))
+    o.writes('a link in a closed folder', o.run('--output', 'links/theirs/link', 'small.tsv', prepare=prepare), 0, {'links/ours/held': o.printed})
     stay = all(os.path.islink(o.path(f'links/{folder}/link')) for folder in ('ours', 'theirs'))
     o.count.check('the links stay', [] if stay else ['one is gone'])
 
@@ -259,3 +296,13 @@ def memory(o, limits, given, right, refusals):
     print('limits of memory: ' + ', '.join(f'{times} with status {status} {error.decode().strip()!r}' for (status, error), times in ends.items()))
     seen = {status for status, _ in ends} == {right[0], 3}
     o.count.check('limits of memory', problems or ([] if seen else ['no limit was too low, or none high enough']))
+
+
+def run_parts(outside, *parts):
+    """Runs parts of a check in a folder of its own; `outside` makes the surrounding in it."""
+    with tempfile.TemporaryDirectory() as folder:
+        o = outside(folder)
+        for part in parts:
+            part(o)
+        os.chmod(folder, stat.S_IRWXU)
+    o.count.end()

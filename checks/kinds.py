@@ -42,109 +42,46 @@ class Writer:
         song = self.rng.randrange(many)
         return f'GB{OWNERS[song // 100_000 % 1000]}24{song % 100_000:05d}'
 
+    def scattered(self):
+        """A BlockId of its own."""
+        return f'{self.rng.randrange(10 ** 15):015d}'
+
     def end(self):
         self.put(f'FOOT\t{self.records + 1}\t{self.summaries}\t{self.blocks}')
 
 
-def ordinary(w):
-    while w.left > 0:
-        w.block(w.blocks, w.isrc())
-
-
-def line_feeds(w):
-    w.block(0, w.isrc())
-    while w.left > 0:
-        w.skipped(b'\n' * 65_536)
-
-
-def short_comments(w):
-    w.block(0, w.isrc())
-    while w.left > 0:
-        w.skipped(b'#\n' * 32_768)
-
-
-def long_comments(w):
-    w.block(0, w.isrc())
-    while w.left > 0:
-        w.skipped(b'#' + 'caf\u00e9 '.encode() * 1000 + b'\n')
-
-
-def one_identifier(w):
-    while w.left > 0:
-        w.block('X', w.isrc())
-
-
-def scattered_identifiers(w):
-    while w.left > 0:
-        w.block(f'{w.rng.randrange(10 ** 15):015d}', w.isrc())
-
-
-def scattered_recordings(w):
-    while w.left > 0:
-        w.block(w.blocks, w.isrc(100_000_000))
-
-
-def scattered_both(w):
-    while w.left > 0:
-        w.block(f'{w.rng.randrange(10 ** 15):015d}', w.isrc(100_000_000))
-
-
-def summaries_in_turn(w):
-    while w.left > 0:
-        w.block(w.blocks, w.isrc(), summary=3 * w.blocks)
-
-
-def usages_of_64(w):
-    while w.left > 0:
-        w.block(w.blocks, w.isrc(), usages=62)
-
-
-def works_of_64(w):
-    works = [(f'Ada Hart|Party {at}', '0.5|0.25') for at in range(62)]
-    while w.left > 0:
-        w.block(w.blocks, w.isrc(), works=works, usages=1)
-
-
-def many_parties(w):
-    works = [('|'.join(f'{at:03x}' for at in range(1300)), '|'.join(['0'] * 1300))]
-    while w.left > 0:
-        w.block(w.blocks, w.isrc(), works=works)
-
-
-def long_lists(w):
-    while w.left > 0:
-        w.block(w.blocks, w.isrc(), titles='|'.join('abcdefgh'[at % 8] for at in range(4000)))
-
-
-def wide(w):
-    """Blocks of 64 records, 62 of them works with 1,300 parties: the most memory for their bytes."""
-    works = [('|'.join('abcdefgh'[at % 8] for at in range(1300)), '|'.join(['0'] * 1300))] * 62
-    while w.left > 0:
-        w.block(w.blocks, w.isrc(), works=works, usages=1)
-
-
-# The name of each kind, how it is written, and how many summaries it has.
+# The name of each kind, how many summaries it has, and what is written until the file is large enough, beside a block.
+WORKS = [(f'Ada Hart|Party {at}', '0.5|0.25') for at in range(62)]
+PARTIES = [('|'.join(f'{at:03x}' for at in range(1300)), '|'.join(['0'] * 1300))]
 KINDS = [
-    ('ordinary', ordinary, 12),
-    ('line feeds', line_feeds, 12),
-    ('lines of # alone', short_comments, 12),
-    ('long comments', long_comments, 12),
-    ('one BlockId throughout', one_identifier, 12),
-    ('scattered BlockIds', scattered_identifiers, 12),
-    ('scattered ISRCs', scattered_recordings, 12),
-    ('scattered BlockIds and ISRCs', scattered_both, 12),
-    ('1,000 summaries in turn', summaries_in_turn, 1000),
-    ('blocks of 62 usages', usages_of_64, 12),
-    ('blocks of 62 works', works_of_64, 12),
-    ('works with 1,300 parties', many_parties, 12),
-    ('list cells of 4,000 values', long_lists, 12),
+    ('ordinary', 12, lambda w: w.block(w.blocks, w.isrc())),
+    ('line feeds', 12, lambda w: w.skipped(b'\n' * 65_536)),
+    ('lines of # alone', 12, lambda w: w.skipped(b'#\n' * 32_768)),
+    ('long comments', 12, lambda w: w.skipped(b'#' + 'caf\u00e9 '.encode() * 1000 + b'\n')),
+    ('one BlockId throughout', 12, lambda w: w.block('X', w.isrc())),
+    ('scattered BlockIds', 12, lambda w: w.block(w.scattered(), w.isrc())),
+    ('scattered ISRCs', 12, lambda w: w.block(w.blocks, w.isrc(100_000_000))),
+    ('scattered BlockIds and ISRCs', 12, lambda w: w.block(w.scattered(), w.isrc(100_000_000))),
+    ('1,000 summaries in turn', 1000, lambda w: w.block(w.blocks, w.isrc(), summary=3 * w.blocks)),
+    ('blocks of 62 usages', 12, lambda w: w.block(w.blocks, w.isrc(), usages=62)),
+    ('blocks of 62 works', 12, lambda w: w.block(w.blocks, w.isrc(), works=WORKS, usages=1)),
+    ('works with 1,300 parties', 12, lambda w: w.block(w.blocks, w.isrc(), works=PARTIES)),
+    ('list cells of 4,000 values', 12, lambda w: w.block(w.blocks, w.isrc(), titles='|'.join('abcdefgh'[at % 8] for at in range(4000)))),
 ]
+ORDINARY, SCATTERED = KINDS[0], KINDS[7]
+# blocks of 64 records, 62 of them works with 1,300 parties: the most memory for their bytes
+WIDE_WORKS = [('|'.join('abcdefgh'[at % 8] for at in range(1300)), '|'.join(['0'] * 1300))] * 62
+WIDE = 'wide', 12, lambda w: w.block(w.blocks, w.isrc(), works=WIDE_WORKS, usages=1)
 
 
-def write(path, size, kind, summaries=12):
+def write(path, size, kind):
     """Writes a report of this kind and about this size, and returns its size."""
+    _, summaries, step = kind
     with open(path, 'wb') as out:
         writer = Writer(out, size, summaries)
-        kind(writer)
+        while writer.left > 0:
+            step(writer)
+            if not writer.blocks:
+                writer.block(0, writer.isrc())
         writer.end()
         return out.tell()

@@ -1,4 +1,10 @@
-"""Runs a program with a time limit, and measures what it used."""
+"""What the checks share: the words of their call, files, counts, and runs of a program with a time limit, which measure what it used.
+
+The last line of each check is `N passed, M failed`; its exit status is 0 only if M is 0 and N is not.
+"""
+import argparse
+import dataclasses
+import itertools
 import os
 import signal
 import subprocess
@@ -6,6 +12,10 @@ import sys
 import tempfile
 import threading
 import time
+
+CHECKS = os.path.dirname(os.path.abspath(__file__))
+TOP = os.path.dirname(CHECKS)
+sys.path.append(os.path.join(CHECKS, 'plain'))
 
 # A small process between ours and the program: the peak memory of a new process starts at that of its parent.
 STARTER = '''
@@ -20,21 +30,20 @@ os.write(told, f'{status} {seconds} {used.ru_maxrss} {used.ru_utime + used.ru_st
 '''
 
 
+@dataclasses.dataclass
 class Answer:
     """How a run ended: its status (below zero: the signal that ended it), what it wrote, and what it used.
 
     The megabytes are the peak; they are known only without `prepare`, and are at least those of the process that
     started it, about 9. `processor` is the CPU time in seconds.
     """
-
-    def __init__(self, status, output, error, seconds, megabytes, processor, late):
-        self.status = status
-        self.output = output
-        self.error = error
-        self.seconds = seconds
-        self.megabytes = megabytes
-        self.processor = processor
-        self.late = late
+    status: int
+    output: bytes
+    error: bytes
+    seconds: float
+    megabytes: float
+    processor: float
+    late: bool
 
     def ending(self):
         return 'no end in time' if self.late else f'status {self.status}'
@@ -83,10 +92,10 @@ class Run:
             if len(words) == 4:
                 status, took, kilobytes, processor = int(words[0]), float(words[1]), int(words[2]), float(words[3])
         self.process.returncode = os.waitstatus_to_exitcode(status)
-        return Answer(self.process.returncode, *map(content, self.kept), took, kilobytes / 1024, processor, bool(late))
+        return Answer(self.process.returncode, *map(taken, self.kept), took, kilobytes / 1024, processor, bool(late))
 
 
-def content(file):
+def taken(file):
     """The bytes of a file that a program wrote; closes it."""
     if file is None:
         return b''
@@ -109,6 +118,45 @@ def write_to(pipe, feed):
         os.close(pipe)
 
 
+def content(*path):
+    """The bytes of a file, by its whole path or that in the repository."""
+    with open(os.path.join(TOP, *map(os.fsdecode, path)), 'rb') as file:
+        return file.read()
+
+
+def text_of(*path):
+    return content(*path).decode()
+
+
+def put(path, text):
+    """Writes a file of these bytes, or of this text, and returns its path."""
+    with open(path, 'wb') as out:
+        out.write(text if isinstance(text, bytes) else text.encode())
+    return path
+
+
+def asked(about, *programs, **options):
+    """The words of a check's call: programs, as whole paths (`?` at the end: it may be left out), and options by their standard values;
+    False stands for one without a value, a type for one that is None if it is left out."""
+    parser = argparse.ArgumentParser(description=about, formatter_class=argparse.RawDescriptionHelpFormatter)
+    for name, standard in options.items():
+        kind = {'type': standard} if isinstance(standard, type) else {'type': type(standard), 'default': standard}
+        parser.add_argument('--' + name, **({'action': 'store_true'} if standard is False else kind))
+    for name in programs:
+        parser.add_argument(name.rstrip('?'), type=os.path.abspath, nargs='?' if name.endswith('?') else None)
+    return parser.parse_args()
+
+
+def report(blocks, message='R1', file=1, files=1, days=('2024-01-01', '2024-01-31'), stated='0\t0', names=None):
+    """The bytes of a file with these blocks, each its ISRC, its parties and shares as cells, or none, and its usages with their amounts."""
+    lines = ['\t'.join(['HEAD', message, str(file), str(files), *days]), f'SY01\tS1\tGB\tStream\tGBP\t{stated}']
+    for name, (isrc, owned, usages) in zip(names or itertools.count(1), blocks):
+        lines.append(f'AS01\t{name}\t{isrc}\tSong')
+        lines += [f'MW01\t{name}\tW1\tSong\t{owned}'] if owned else []
+        lines += [f'SU01\t{name}\tS1\t{number}\t{amount}' for number, amount in usages]
+    return '\n'.join([*lines, f'FOOT\t{len(lines) + 1}\t1\t{len(blocks)}', '']).encode()
+
+
 class Count:
     """Counts checks, prints those that fail or are skipped, and ends the program."""
 
@@ -123,6 +171,9 @@ class Count:
         self.failed += bool(problems)
         for text in problems:
             print(f'{name}: {text}', flush=True)
+
+    def equal(self, name, wanted, found):
+        self.check(name, [] if wanted == found else [f'{found!r} instead of {wanted!r}'])
 
     def skip(self, name, why):
         print(f'skipped: {name}: {why}', flush=True)

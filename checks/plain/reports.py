@@ -3,6 +3,7 @@
 A report is built whole and valid, and is then spoilt a few times. The first cases of a run each apply one spoiling
 of the list, so that a short run meets all of them; the later ones draw several.
 """
+import dataclasses
 import random
 
 from statement import COLUMNS, STANDARD, amount
@@ -32,12 +33,7 @@ class Record:
     """A record: its role, its cells by column, cells that are added at its end, and how many are cut off there."""
 
     def __init__(self, role, **cells):
-        self.role = role
-        self.kind = None
-        self.cells = cells
-        self.more = []
-        self.cut = 0
-        self.before = []
+        self.role, self.cells, self.kind, self.more, self.cut, self.before = role, cells, None, [], 0, []
 
     def copy(self):
         other = Record(self.role, **self.cells)
@@ -103,10 +99,7 @@ class Text:
     """A file: its records, its lines, and last its bytes; the spoilings of each kind are applied between."""
 
     def __init__(self, records):
-        self.records = records
-        self.byte_spoils = []
-        self.line_spoils = []
-        self.ending = 'Whole'
+        self.records, self.byte_spoils, self.line_spoils, self.ending = records, [], [], 'Whole'
 
     def bytes(self, rng, layout):
         lines = [line for record in self.records for line in [*record.before, layout.line(record)]]
@@ -218,43 +211,54 @@ def foots(text):
     return [record for record in text.records if record.role == 'FOOT']
 
 
-def odd_cell(rng, text):
-    record = of_role(rng, text, *COLUMNS)
-    if record:
-        record.cells[rng.choice(COLUMNS[record.role])[0]] = rng.choice(ODD_CELLS)
+def of(roles, change):
+    """Changes a record of these roles, if there is one."""
+    def spoil(rng, text):
+        record = of_role(rng, text, *roles)
+        if record:
+            change(rng, text, record)
+    return spoil
+
+
+def with_column(name):
+    return [role for role, columns in COLUMNS.items() if name in dict(columns)]
 
 
 def odd_column(name, cell):
     """One column with this cell in some record that has it."""
-    def spoil(rng, text):
-        roles = [role for role, columns in COLUMNS.items() if name in dict(columns)]
-        record = of_role(rng, text, *roles)
-        if record:
-            record.cells[name] = cell
-    return spoil
+    return of(with_column(name), lambda rng, text, record: record.cells.update({name: cell}))
 
 
 def cut_at(name):
     """A record that ends before a column (where the columns stand in their order)."""
-    def spoil(rng, text):
-        roles = [role for role, columns in COLUMNS.items() if name in dict(columns)]
-        record = of_role(rng, text, *roles)
-        if record:
-            names = [column for column, _ in COLUMNS[record.role]]
-            record.cut = len(names) - names.index(name)
-    return spoil
+    def change(rng, text, record):
+        names = [column for column, _ in COLUMNS[record.role]]
+        record.cut = len(names) - names.index(name)
+    return of(with_column(name), change)
 
 
-def cut_record(rng, text):
-    record = of_role(rng, text, *COLUMNS)
-    if record:
-        record.cut = rng.randrange(1, 8)
+def odd_cell(rng, text, record):
+    record.cells[rng.choice(COLUMNS[record.role])[0]] = rng.choice(ODD_CELLS)
 
 
-def many_cells(rng, text):
-    record = of_role(rng, text, *COLUMNS, 'SKIP')
-    if record:
-        record.more += rng.choice(([''], ['x'])) * rng.choice((1, 30, 55, 56, 57, 58, 59, 60, 61, 62, 63, 64, 70))
+def cut_record(rng, text, record):
+    record.cut = rng.randrange(1, 8)
+
+
+def many_cells(rng, text, record):
+    record.more += rng.choice(([''], ['x'])) * rng.choice((1, 30, 55, 56, 57, 58, 59, 60, 61, 62, 63, 64, 70))
+
+
+def uneven(rng, text, record):
+    record.cells['Parties'], record.cells['Shares'] = rng.choice((('P1', ''), ('', '10'), ('P1|P2', '10'), ('|', '10'), ('a', '1|2')))
+
+
+def other_block(rng, text, record):
+    record.cells['BlockId'] = rng.choice(('1', '2', '01', '9', 'a'))
+
+
+def other_sums(rng, text, record):
+    record.cells[rng.choice(('Usages', 'Amount'))] = rng.choice(('1', '-7', '999999999999'))
 
 
 def unknown_record(rng, text):
@@ -262,28 +266,16 @@ def unknown_record(rng, text):
     record.kind = rng.choice(('SY02', 'head', 'AS01.01', '', 'X', ' HEAD', 'HEAD ', 'caf\u00e9', 'MW01', 'SU01', 'FOOT', 'RE01'))
 
 
-def uneven(rng, text):
-    record = of_role(rng, text, 'MW')
-    if record:
-        record.cells['Parties'], record.cells['Shares'] = rng.choice((('P1', ''), ('', '10'), ('P1|P2', '10'), ('|', '10'), ('a', '1|2')))
-
-
 def drop(*roles):
-    def spoil(rng, text):
-        record = of_role(rng, text, *roles)
-        if record:
-            text.records.remove(record)
-    return spoil
+    return of(roles, lambda rng, text, record: text.records.remove(record))
 
 
 def again(*roles):
     """A record once more: behind itself, or anywhere."""
-    def spoil(rng, text):
-        record = of_role(rng, text, *roles)
-        if record:
-            at = place(text, record) + 1 if rng.random() < 0.4 else rng.randrange(len(text.records) + 1)
-            text.records.insert(at, record.copy())
-    return spoil
+    def change(rng, text, record):
+        at = place(text, record) + 1 if rng.random() < 0.4 else rng.randrange(len(text.records) + 1)
+        text.records.insert(at, record.copy())
+    return of(roles, change)
 
 
 def swap(rng, text):
@@ -306,20 +298,9 @@ def behind(first, second):
     return spoil
 
 
-def other_block(rng, text):
-    record = of_role(rng, text, 'MW', 'SU', 'AS')
-    if record:
-        record.cells['BlockId'] = rng.choice(('1', '2', '01', '9', 'a'))
-
-
 def whole_block(change):
     """Changes all records of one block."""
-    def spoil(rng, text):
-        resource = of_role(rng, text, 'AS')
-        if resource:
-            name = resource.cells['BlockId']
-            change(rng, text, [record for record in text.records if record.cells.get('BlockId') == name])
-    return spoil
+    return of(['AS'], lambda rng, text, resource: change(rng, text, [record for record in text.records if record.cells.get('BlockId') == resource.cells['BlockId']]))
 
 
 def doubled_block(rng, text, records):
@@ -382,12 +363,6 @@ def other_count(name):
             was = foot.cells[name]
             foot.cells[name] = str(max(0, int(was) + rng.choice((-1, 1, 2, 5)))) if was.isdigit() else '3'
     return spoil
-
-
-def other_sums(rng, text):
-    record = of_role(rng, text, 'SY')
-    if record:
-        record.cells[rng.choice(('Usages', 'Amount'))] = rng.choice(('1', '-7', '999999999999'))
 
 
 def empty_file(rng, text):
@@ -461,12 +436,10 @@ def swapped_bytes(rng, content):
     return content[:first] + content[second:third] + content[first:second] + content[third:]
 
 
-def read_fails(rng, text):
-    text.ending = 'Read'
-
-
-def reads_end(rng, text):
-    text.ending = 'Reads'
+def ends(ending):
+    def spoil(rng, text):
+        text.ending = ending
+    return spoil
 
 
 def long_end(rng, text):
@@ -490,17 +463,17 @@ SPOILS = [
     *(cut_at(name) for name in dict.fromkeys(EACH_COLUMN)),
     *(odd_column(name, cell) for name, cells in BOUNDS.items() for cell in cells),
     odd_column('NumberOfFiles', '0'), odd_column('UsageEndDate', '1999-01-01'),
-    many_cells, unknown_record, uneven, drop('HEAD'), drop('SU'), drop('AS'), drop('FOOT'), again('HEAD'), again('SY'),
+    of([*COLUMNS, 'SKIP'], many_cells), unknown_record, of(['MW'], uneven), drop('HEAD'), drop('SU'), drop('AS'), drop('FOOT'), again('HEAD'), again('SY'),
     again('FOOT'), again('AS'), again('MW'), again('SU'), swap, behind('HEAD', 'MW'), behind('SY', 'SU'), behind('SU', 'MW'),
     behind('SU', 'SY'), behind('AS', 'SY'), behind('AS', 'AS'), behind('SU', 'HEAD'), behind('AS', 'FOOT'), behind('FOOT', 'SY'), behind('FOOT', 'SU'),
-    behind('HEAD', 'FOOT'), other_block, whole_block(doubled_block), whole_block(no_isrc), whole_block(bad_isrc),
+    behind('HEAD', 'FOOT'), of(['MW', 'SU', 'AS'], other_block), whole_block(doubled_block), whole_block(no_isrc), whole_block(bad_isrc),
     whole_block(unknown_summary), whole_block(share_over), whole_block(copied_block), long_block(64), long_block(65),
     many_summaries(1000), many_summaries(1001), other_count('NumberOfLinesInFile'), other_count('NumberOfSummaryRecords'),
-    other_count('NumberOfBlocksInFile'), other_sums, empty_file, comments_alone, first_lines, line_spoil(not_utf8), line_spoil(long_line),
+    other_count('NumberOfBlocksInFile'), of(['SY'], other_sums), empty_file, comments_alone, first_lines, line_spoil(not_utf8), line_spoil(long_line),
     line_spoil(last_long_line), line_spoil(odd_line), byte_spoil(cut_bytes), byte_spoil(other_byte), byte_spoil(swapped_bytes),
-    read_fails, reads_end, long_end, odd_cell, cut_record,
+    ends('Read'), ends('Reads'), long_end, of(COLUMNS, odd_cell), of(COLUMNS, cut_record),
 ]
-HEAVY = {SPOILS[at] for at, spoil in enumerate(SPOILS) if spoil.__qualname__.startswith('many_summaries')}
+HEAVY = {spoil for spoil in SPOILS if spoil.__qualname__.startswith('many_summaries')}
 
 
 # ------------------------------------------------------------ spoilings of a layout
@@ -577,14 +550,13 @@ LAYOUT_SPOILS = [large, lines_of(layout_role), lines_of(layout_type), lines_of(l
 
 # ------------------------------------------------------------ reports
 
+@dataclasses.dataclass
 class Case:
     """A report as it is handed to a program: a layout or None, the files with their endings, capacity and limit of reads."""
-
-    def __init__(self, layout, texts, capacity, max_reads):
-        self.layout = layout
-        self.texts = texts
-        self.capacity = capacity
-        self.max_reads = max_reads
+    layout: bytes
+    texts: list
+    capacity: int
+    max_reads: int
 
 
 def files_of(rng, layout):

@@ -1,4 +1,4 @@
-#!/usr/bin/env python3
+#!/usr/bin/env -S python3 -B
 """A second program: reads the files of a report and makes the statement, plainly and slowly.
 
   statement.py [--seal] [--layout LAYOUT] [--output FILE] [FILE]...

@@ -4,6 +4,7 @@ Most good statements are those of reports.py's reports, by statement.py; the oth
 and odd cells. Most are sealed. The first cases each apply one spoiling of the list to one statement, so that a short run meets
 all of them; half of the lines that were spoilt have an end that is theirs.
 """
+import dataclasses
 import random
 
 import reports
@@ -142,22 +143,28 @@ def of_kind(rng, lines, kind):
     return rng.choice(found) if found else None
 
 
+def of(kind, change):
+    """Changes a line of a kind, if there is one, by its place."""
+    def spoil(rng, lines):
+        at = of_kind(rng, lines, rng.choice(kind) if isinstance(kind, tuple) else kind)
+        if at is not None:
+            change(rng, lines, at)
+    return spoil
+
+
 def other_cell(kind, column):
     """A line of a kind with another cell in a column."""
-    def spoil(rng, lines):
-        at = of_kind(rng, lines, kind)
-        if at is not None and column < len(lines[at]):
+    def change(rng, lines, at):
+        if column < len(lines[at]):
             lines[at][column] = rng.choice(CELLS[kind][column - 1])
-    return spoil
+    return of(kind, change)
 
 
-def other_count(kind, change):
+def other_count(kind, by):
     """A line of a kind with some cells more or less."""
-    def spoil(rng, lines):
-        at = of_kind(rng, lines, kind)
-        if at is not None:
-            lines[at][len(lines[at]) + min(change, 0):] = [b'x'] * max(change, 0)
-    return spoil
+    def change(rng, lines, at):
+        lines[at][len(lines[at]) + min(by, 0):] = [b'x'] * max(by, 0)
+    return of(kind, change)
 
 
 def unknown_line(rng, lines):
@@ -171,19 +178,11 @@ def line_end(rng, lines):
 
 
 def drop_line(kind):
-    def spoil(rng, lines):
-        at = of_kind(rng, lines, kind)
-        if at is not None:
-            del lines[at]
-    return spoil
+    return of(kind, lambda rng, lines, at: lines.pop(at))
 
 
 def again(kind):
-    def spoil(rng, lines):
-        at = of_kind(rng, lines, kind)
-        if at is not None:
-            lines.insert(at + 1 if rng.random() < 0.5 else rng.randrange(len(lines) + 1), list(lines[at]))
-    return spoil
+    return of(kind, lambda rng, lines, at: lines.insert(at + 1 if rng.random() < 0.5 else rng.randrange(len(lines) + 1), list(lines[at])))
 
 
 def swap(rng, lines):
@@ -194,13 +193,11 @@ def swap(rng, lines):
 
 def other_sum(kind):
     """Another amount, by one unit or much, so that a ledger line's amounts no longer add up."""
-    def spoil(rng, lines):
-        at = of_kind(rng, lines, kind)
-        if at is not None:
-            sign, digits = lines[at][-1][:1] == b'-', lines[at][-1].lstrip(b'-').replace(b'.', b'')
-            if digits.isdigit():
-                lines[at][-1] = statement.written((-1 if sign else 1) * int(digits) + rng.choice((1, -1, 10 ** 10, -2 ** 64)))
-    return spoil
+    def change(rng, lines, at):
+        sign, digits = lines[at][-1][:1] == b'-', lines[at][-1].lstrip(b'-').replace(b'.', b'')
+        if digits.isdigit():
+            lines[at][-1] = statement.written((-1 if sign else 1) * int(digits) + rng.choice((1, -1, 10 ** 10, -2 ** 64)))
+    return of(kind, change)
 
 
 def wrapped_sum(rng, lines):
@@ -213,35 +210,27 @@ def wrapped_sum(rng, lines):
                     [b'UNCLAIMED', *key, b'0.0000000000']]
 
 
-def other_outcome(rng, lines):
+def other_outcome(rng, lines, at):
     """A file that ended by any fault, with or without a column."""
-    at = of_kind(rng, lines, 'FILE')
-    if at is not None:
-        column = [rng.choice(totals.NAMED['column']).encode()] if rng.random() < 0.7 else []
-        lines[at][5:] = [b'Fault', b'7', rng.choice(FAULTS).encode(), *column]
+    column = [rng.choice(totals.NAMED['column']).encode()] if rng.random() < 0.7 else []
+    lines[at][5:] = [b'Fault', b'7', rng.choice(FAULTS).encode(), *column]
 
 
-def other_period(rng, lines):
+def other_period(rng, lines, at):
     """A last day that is before the first, with the number of days that this gives."""
-    at = of_kind(rng, lines, 'REPORT')
-    if at is not None:
-        lines[at][3:] = rng.choice(([b'2024-01-02', b'2024-01-01', b'0'], [b'2024-03-01', b'2024-02-28', b'-1'], [b'2024-03-01', b'2024-02-29', b'0']))
+    lines[at][3:] = rng.choice(([b'2024-01-02', b'2024-01-01', b'0'], [b'2024-03-01', b'2024-02-28', b'-1'], [b'2024-03-01', b'2024-02-29', b'0']))
 
 
-def other_key(rng, lines):
+def other_key(rng, lines, at):
     """A line under a LEDGER line with one other cell of the key, which is spelled well."""
-    at = of_kind(rng, lines, rng.choice(('PARTY', 'UNCLAIMED')))
-    if at is not None:
-        column = rng.choice((1, 2, 3, 4))
-        lines[at][column] = (b'GBABC2400009', b'FR', b'PermanentDownload', b'USD')[column - 1]
+    column = rng.choice((1, 2, 3, 4))
+    lines[at][column] = (b'GBABC2400009', b'FR', b'PermanentDownload', b'USD')[column - 1]
 
 
-def ledger_again(rng, lines):
+def ledger_again(rng, lines, at):
     """A LEDGER line once more, with all that stands under it."""
-    at = of_kind(rng, lines, 'LEDGER')
-    if at is not None:
-        end = next((other for other in range(at + 1, len(lines)) if lines[other][0] == b'UNCLAIMED'), at) + 1
-        lines[end:end] = [list(cells) for cells in lines[at:end]]
+    end = next((other for other in range(at + 1, len(lines)) if lines[other][0] == b'UNCLAIMED'), at) + 1
+    lines[end:end] = [list(cells) for cells in lines[at:end]]
 
 
 def other_end(change):
@@ -307,12 +296,10 @@ def no_lines(rng, lines):
     lines.clear()
 
 
-def long_party(rng, lines):
+def long_party(rng, lines, at):
     """A line of exactly as many bytes as there may be, or of one more."""
-    at = of_kind(rng, lines, rng.choice(('PARTY', 'PARTY', 'UNCLAIMED')))
-    if at is not None:
-        cell = 5 if lines[at][0] == b'PARTY' else len(lines[at]) - 1
-        lines[at][cell] += b'~' * (rng.choice((16_384, 16_385, 20_000)) - len(b'\t'.join(lines[at])))
+    cell = 5 if lines[at][0] == b'PARTY' else len(lines[at]) - 1
+    lines[at][cell] += b'~' * (rng.choice((16_384, 16_385, 20_000)) - len(b'\t'.join(lines[at])))
 
 
 LINE_SPOILS = [
@@ -320,8 +307,8 @@ LINE_SPOILS = [
     *(other_count(kind, change) for kind in CELLS for change in (1, -1)), other_count('FILE', 2),
     *(drop_line(kind) for kind in CELLS), *(again(kind) for kind in CELLS), *(other_sum(kind) for kind in ('LEDGER', 'PARTY', 'UNCLAIMED')),
     unknown_line, line_end, swap, swap, wrapped_sum, no_report,
-    no_report_with_a_cell, no_report_below, other_outcome, other_outcome, other_period, other_key, other_key,
-    ledger_again, first_lines, header_alone, no_lines, long_party, long_party,
+    no_report_with_a_cell, no_report_below, *[of('FILE', other_outcome)] * 2, of('REPORT', other_period), *[of(('PARTY', 'UNCLAIMED'), other_key)] * 2,
+    of('LEDGER', ledger_again), first_lines, header_alone, no_lines, *[of(('PARTY', 'PARTY', 'UNCLAIMED'), long_party)] * 2,
     *(other_end(change) for change in (0, 1, -1)), behind_the_end, early_end, seal_line_elsewhere, file_of_no_line, no_seal,
 ]
 
@@ -352,14 +339,13 @@ ENDS = [spoil for spoil in LINE_SPOILS if spoil.__qualname__.startswith(('other_
 
 # ------------------------------------------------------------ cases
 
+@dataclasses.dataclass
 class Case:
     """Given and paid statements, each its bytes and how it ends (Whole, or Read), and what is let through."""
-
-    def __init__(self, given, paid, rules, words):
-        self.given = given
-        self.paid = paid
-        self.rules = rules
-        self.words = words
+    given: list
+    paid: list
+    rules: totals.Rules
+    words: float
 
 
 def good(rng, name):

@@ -1,4 +1,4 @@
-#!/usr/bin/env python3
+#!/usr/bin/env -S python3 -B
 """A second program for the totals of statements: reads statements strictly and adds them up, plainly and slowly.
 
   totals.py [--paid=STATEMENT]... [--paid-from LIST]... [--with-remarks] [--unsealed] [--same-message] [--output FILE] [STATEMENT]...
