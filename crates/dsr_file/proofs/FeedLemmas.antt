@@ -51,10 +51,6 @@ part_run layout r b es place at (Some part) is begins s =
 abbrev rest_of : List ℕ → ℕ → List ℕ
 rest_of piece m = take (length piece - m) (drop m piece)
 
-all_used : (m n : ℕ) (piece : List ℕ) (D : Type 0) → m ≤ length piece → (n ≡ length (rest_of piece m)) ⊎ D → (m + n ≡ length piece) ⊎ D
-all_used m n piece D h (inl e) = inl (omega (arith, simp (length-take, length-drop) at e))
-all_used m n piece D h (inr d) = inr d
-
 -- a call of `take_part` whose event, if there was one, was put
 pub fed_more : (layout : LayoutTable) (r : FileReader) (b piece : List ℕ) (es fs : List Placed) (m n place at : ℕ) (o : Option EventPart) → m ≤ length piece
     → at ≡ place → fs ≡ es ++ option_to_list (event_at at o)
@@ -76,7 +72,7 @@ fed_all layout r b piece es m n place None h k is s w all =
     record {
       used = m + n;
       bound = omega (arith, simp (length-take, length-drop) at k);
-      whole = all_used m n piece (IsDone r) h w;
+      whole = elim w [ inl e ↦ inl (omega (arith, simp (length-take, length-drop) at e)) | inr d ↦ inr d ];
       stands = now;
       all = all layout (b ++ take (m + n) piece) es now;
     }

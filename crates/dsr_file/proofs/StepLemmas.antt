@@ -1,5 +1,5 @@
 -- One more record: the stage changes as the records do, and gives their next event.
-use Rattle.dsr_file.proofs.Common.{◌≡◌, ◌≢◌, ℕ, ◌+◌, ◌<◌, ◌≤◌, ◌∙◌, sym, ap, refl, Bool, true, false, ◌||◌, eqb, leb, List, [], ◌∷◌, ◌++◌, length, map, drop, Option, None, Some, arith, append_assoc, add-zero, length-append, if◌then◌else◌, option_to_list, option_map, nat_tests, length-map, map-append, append-nil, list_all-append, list_any-append, onto_first, filter_map, list_any, list_all, bytes_eq, id_of_record, kind_of_record, or_else, Kind, Record, BlockParts, FileFault, OpeningParts, Stage, Start, Front, Open, Closed, parts, opens, but_last, closed, block_limit, has_id, summaries, works, usages, works_then_usages, is_usage, block_of, opening_of, opened, events_of, column, place, summary_fault, member_fault, early_fault, column_at, block_length, stage_fault, given_by, stage_after, records_of, IsFree, IsOpen, KeepsStage, IsRecord, block_count, subst}
+use Rattle.dsr_file.proofs.Common.{◌≡◌, ◌≢◌, ℕ, ◌+◌, ◌<◌, ◌≤◌, ◌∙◌, sym, ap, refl, Bool, true, false, ◌||◌, eqb, leb, List, [], ◌∷◌, ◌++◌, length, map, drop, Option, None, Some, arith, append_assoc, add-zero, length-append, if◌then◌else◌, option_to_list, option_map, nat_tests, length-map, map-append, append-nil, list_all-append, list_any-append, onto_first, filter_map, list_any, list_all, bytes_eq, id_of_record, kind_of_record, or_else, Kind, Record, BlockParts, FileFault, OpeningParts, Stage, Start, Front, Open, parts, opens, but_last, closed, block_limit, has_id, summaries, works, usages, works_then_usages, is_usage, block_of, opening_of, opened, events_of, column, place, member_fault, early_fault, column_at, block_length, stage_fault, given_by, stage_after, records_of, IsFree, IsOpen, KeepsStage, IsRecord, block_count, subst}
 use Rattle.std.proofs.lemmas.List.{nil_from_length}
 use Rattle.std.proofs.lemmas.List.Elements.{filter_map-append}
 use Rattle.dsr_events.specs.declared.kinds.Kind.TheVariants as kinds
@@ -8,11 +8,10 @@ use Rattle.dsr_events.specs.declared.record.Summary as summary
 use Rattle.dsr_events.specs.meaning.Works.{WorkParts}
 use Rattle.dsr_events.specs.declared.record.Usage as usage
 use Rattle.dsr_events.specs.declared.record.Head as head
-use Rattle.dsr_events.specs.declared.record.Foot as foot
 use Rattle.dsr_events.specs.declared.record.Resource as resource
 use Rattle.dsr_events.specs.declared.event.EventPart.TheVariants as tell
 use Rattle.dsr_file.specs.declared.stage.Before.TheVariants as columns
-use Rattle.dsr_file.proofs.StageLemmas.{column_kept, fault_agrees, summaries_map}
+use Rattle.dsr_file.proofs.StageLemmas.{fault_agrees, summaries_map}
 use Rattle.dsr_file.proofs.PartLemmas.{parts_open, parts_stay, but_last_push, last_of_push, closed_stay, closed_open}
 
 -- how a record changes what a stage represents
@@ -58,31 +57,10 @@ pub front_events : (h : head.Head) (ss : List summary.Summary) → events_of (th
 unfolding events_of
 front_events h ss = rw (no_opens ss, one_part ss) refl
 
-step_head : (stage : Stage) (rs : List Record) (h : head.Head) → KeepsStage stage rs → place (column_at stage) kinds.Head ≡ None
-    → Steps stage rs (the.Head h)
-unfolding events_of
-step_head Start rs h k e = subst (λ xs. Steps Start xs (the.Head h)) (sym k) (record { keeps = refl; events = refl; blocks = refl })
-step_head (Front o) rs h k e = cc
-step_head (Open b) rs h k e = absurd (neither _ kinds.Head (λ x. cc) (λ x. cc) e)
-step_head Closed rs h k e = cc
-
 -- a summary after a head and summaries is appended to the summaries
 summary_events : (o : OpeningParts) (rs : List Record) (s : summary.Summary) → rs ≡ the.Head o.head ∷ map the.Summary o.summaries
     → rs ++ the.Summary s ∷ [] ≡ the.Head o.head ∷ map the.Summary (o.summaries ++ s ∷ [])
 summary_events o rs s k = ap (λ xs. xs ++ the.Summary s ∷ []) k ∙ ap (λ xs. the.Head o.head ∷ xs) (sym (map-append the.Summary o.summaries (s ∷ [])))
-
-step_summary : (stage : Stage) (rs : List Record) (s : summary.Summary) → KeepsStage stage rs → place (column_at stage) kinds.Summary ≡ None
-    → Steps stage rs (the.Summary s)
-step_summary Start rs s k e = cc
-step_summary (Front o) rs s k e = record {
-  keeps = summary_events o rs s k;
-  blocks = ap length (closed_stay rs (the.Summary s) refl) ∙ sym (add-zero _);
-  events =
-      ap events_of (summary_events o rs s k) ∙ front_events o.head (o.summaries ++ s ∷ [])
-      ∙ sym (append-nil (events_of rs) ∙ ap events_of k ∙ front_events o.head o.summaries);
-}
-step_summary (Open b) rs s k e = absurd (neither _ kinds.Summary (λ x. cc) (λ x. cc) e)
-step_summary Closed rs s k e = cc
 
 -- the parts of HEAD and summaries
 front_parts : (o : OpeningParts) (rs : List Record) → rs ≡ the.Head o.head ∷ map the.Summary o.summaries → parts rs ≡ rs ∷ []
@@ -205,22 +183,6 @@ new_part r rs h rest first before bs ps = record {
   short = omega arith;
 }
 
-step_resource : (stage : Stage) (rs : List Record) (r : resource.Resource) → KeepsStage stage rs → place (column_at stage) kinds.Resource ≡ None
-    → Steps stage rs (the.Resource r)
-step_resource Start rs r k e = cc
-step_resource (Front o) rs r k e = front_steps o rs (the.Resource r) refl refl k (new_part r rs o.head (map the.Summary o.summaries) rs [] k (front_parts o rs k))
-step_resource (Open b) rs r k e = open_steps b rs (the.Resource r) refl refl k (used _ kinds.Resource (λ x. cc) e)
-    (new_part r rs k.head k.rest k.first (k.before ++ records_of b ∷ []) k.begins k.parts)
-step_resource Closed rs r k e = cc
-
-step_foot : (stage : Stage) (rs : List Record) (f : foot.Foot) → KeepsStage stage rs → place (column_at stage) kinds.Foot ≡ None
-    → Steps stage rs (the.Foot f)
-step_foot Start rs f k e = cc
-step_foot (Front o) rs f k e = front_steps o rs (the.Foot f) refl refl k (ap column (last_of_push rs (the.Foot f)))
-step_foot (Open b) rs f k e =
-    open_steps b rs (the.Foot f) refl refl k (used _ kinds.Foot (λ x. cc) e) (ap column (last_of_push rs (the.Foot f)))
-step_foot Closed rs f k e = cc
-
 -- the open block with one more record
 member_steps : (b c : BlockParts) (r : Record) (rs : List Record) → opens r ≡ false → summaries (r ∷ []) ≡ [] → stage_after (Open b) r ≡ Open c → IsOpen b rs
     → c.id ≡ b.id → c.resource ≡ b.resource → records_of c ≡ records_of b ++ r ∷ [] → has_id b.resource.block_id r ≡ true → column (Some r) ≡ column_at (Open c)
@@ -263,37 +225,41 @@ usage_records ws us u =
 pushed_some : (us : List usage.Usage) (u : usage.Usage) → eqb (length (us ++ u ∷ [])) 0 ≡ false
 pushed_some us u = let e : length (us ++ u ∷ []) ≡ length us + 1 = simp length-append in rw e (grind (arith, nat_tests))
 
-step_work : (stage : Stage) (rs : List Record) (w : WorkParts) → KeepsStage stage rs → stage_fault stage kinds.Work (Some w.block_id) ≡ None
-    → Steps stage rs (the.Work w)
-step_work Start rs w k e = cc
-step_work (Front o) rs w k e = cc
-step_work (Open b) rs w k e =
+-- a record in its place
+step_placed : (stage : Stage) (rs : List Record) (r : Record) → IsRecord r → KeepsStage stage rs → stage_fault stage (kind_of_record r) (id_of_record r) ≡ None
+    → Steps stage rs r
+unfolding events_of
+step_placed Start rs (the.Head h) i k e = subst (λ xs. Steps Start xs (the.Head h)) (sym k) (record { keeps = refl; events = refl; blocks = refl })
+step_placed (Front o) rs (the.Summary s) i k e = record {
+  keeps = summary_events o rs s k;
+  blocks = ap length (closed_stay rs (the.Summary s) refl) ∙ sym (add-zero _);
+  events =
+      ap events_of (summary_events o rs s k) ∙ front_events o.head (o.summaries ++ s ∷ [])
+      ∙ sym (append-nil (events_of rs) ∙ ap events_of k ∙ front_events o.head o.summaries);
+}
+step_placed (Front o) rs (the.Resource r) i k e =
+    front_steps o rs (the.Resource r) refl refl k (new_part r rs o.head (map the.Summary o.summaries) rs [] k (front_parts o rs k))
+step_placed (Front o) rs (the.Foot f) i k e = front_steps o rs (the.Foot f) refl refl k (ap column (last_of_push rs (the.Foot f)))
+step_placed (Open b) rs (the.Resource r) i k e = open_steps b rs (the.Resource r) refl refl k (used _ kinds.Resource (λ x. cc) (or_else_first _ _ e))
+    (new_part r rs k.head k.rest k.first (k.before ++ records_of b ∷ []) k.begins k.parts)
+step_placed (Open b) rs (the.Foot f) i k e =
+    open_steps b rs (the.Foot f) refl refl k (used _ kinds.Foot (λ x. cc) (or_else_first _ _ e)) (ap column (last_of_push rs (the.Foot f)))
+step_placed (Open b) rs (the.Work w) i k e =
     let un = unused _ kinds.Work (λ x. cc) (or_else_first _ _ e) in
     let ok = member_ok b.id w.block_id _ (or_else_second (place (column_at (Open b)) kinds.Work) _ e) in
     member_steps b (record b { works = b.works ++ w ∷ [] }) (the.Work w) rs refl refl refl k refl refl
     (ap (λ xs. the.Resource b.resource ∷ xs) (work_records b.works b.usages w un)) (rw (← k.id) ok.0) (rw un refl)
     (let h : block_length b < block_limit = ok.1 in simp length-append (omega arith))
-step_work Closed rs w k e = cc
-
-step_usage : (stage : Stage) (rs : List Record) (u : usage.Usage) → KeepsStage stage rs → stage_fault stage kinds.Usage (Some u.block_id) ≡ None
-    → Steps stage rs (the.Usage u)
-step_usage Start rs u k e = cc
-step_usage (Front o) rs u k e = cc
-step_usage (Open b) rs u k e =
+step_placed (Open b) rs (the.Usage u) i k e =
     let ok = member_ok b.id u.block_id _ (or_else_second (place (column_at (Open b)) kinds.Usage) _ e) in
     member_steps b (record b { usages = b.usages ++ u ∷ [] }) (the.Usage u) rs refl refl refl k refl refl
     (ap (λ xs. the.Resource b.resource ∷ xs) (usage_records b.works b.usages u)) (rw (← k.id) ok.0) (rw pushed_some refl)
     (let h : block_length b < block_limit = ok.1 in simp length-append (omega arith))
-step_usage Closed rs u k e = cc
+step_placed (Open b) rs (the.Head h) i k e = absurd (neither _ kinds.Head (λ x. cc) (λ x. cc) (or_else_first _ _ e))
+step_placed (Open b) rs (the.Summary s) i k e = absurd (neither _ kinds.Summary (λ x. cc) (λ x. cc) (or_else_first _ _ e))
+step_placed stage rs the.Skipped i k e = absurd i
+step_placed _ rs _ i k e = cc
 
 -- a record with no early fault
 pub step_record : (stage : Stage) (rs : List Record) (r : Record) → IsRecord r → KeepsStage stage rs → early_fault rs r ≡ None → Steps stage rs r
-step_record stage rs (the.Head h) i k e = step_head stage rs h k (sym (ap (λ c. place c kinds.Head) (column_kept stage rs k)) ∙ e)
-step_record stage rs (the.Summary s) i k e =
-    step_summary stage rs s k (or_else_first _ _ (sym (ap (λ c. or_else (place c kinds.Summary) (summary_fault (summaries rs) s.id)) (column_kept stage rs k))
-    ∙ e))
-step_record stage rs (the.Resource r) i k e = step_resource stage rs r k (sym (ap (λ c. place c kinds.Resource) (column_kept stage rs k)) ∙ e)
-step_record stage rs (the.Work w) i k e = step_work stage rs w k (fault_agrees stage rs (the.Work w) k ∙ e)
-step_record stage rs (the.Usage u) i k e = step_usage stage rs u k (fault_agrees stage rs (the.Usage u) k ∙ e)
-step_record stage rs (the.Foot f) i k e = step_foot stage rs f k (sym (ap (λ c. place c kinds.Foot) (column_kept stage rs k)) ∙ e)
-step_record stage rs the.Skipped i k e = absurd i
+step_record stage rs r i k e = step_placed stage rs r i k (fault_agrees stage rs r k ∙ e)

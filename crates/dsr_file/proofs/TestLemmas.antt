@@ -1,43 +1,16 @@
 -- The results of testing a line.
-use Rattle.dsr_file.proofs.Common.{◌≡◌, ℕ, ◌+◌, ◌≤◌, ◌∙◌, sym, ap, refl, Bool, true, false, not, List, [], ◌∷◌, length, Option, None, Some, length-append, arith, rules, ◌-◌, ◌++◌, get_or, take, subst, inl, inr, Result, is_utf8, IsUtf8, cases_eq, cases_lt, le-ltb, lt-ltb, ne_eqb, append-nil, take_all, take_more, IsUtf8-append, IsUtf8-from_ascii, IsUtf8-from_is_utf8, nat_tests, line_limit, is_long, without_return, is_left_out, record_seen, id_of_record, kind_of_record, LayoutTable, or_else, record_of, Kind, Record, FileFault, Grammar, Good, Faulty, Reading, Holds, SkippedLine, reading, of_text, of_utf8, of_record, records, is_skipped_line, is_skipped_record, file_fault, events_of, fault_if, fault_of, early_fault, place, member_fault, summary_fault, counts_fault, stage_fault, Keeps, LineSteps, IsRecord, cond, kept}
+use Rattle.dsr_file.proofs.Common.{◌≡◌, ℕ, ◌+◌, ◌≤◌, ◌∙◌, sym, ap, refl, true, false, List, [], ◌∷◌, length, None, Some, length-append, arith, rules, ◌-◌, ◌++◌, get_or, take, subst, inl, inr, Result, is_utf8, IsUtf8, cases_eq, cases_lt, le-ltb, lt-ltb, ne_eqb, append-nil, take_all, take_more, IsUtf8-append, IsUtf8-from_ascii, IsUtf8-from_is_utf8, nat_tests, line_limit, is_long, without_return, is_left_out, record_seen, id_of_record, kind_of_record, LayoutTable, record_of, Record, FileFault, Grammar, Good, Faulty, Reading, Holds, SkippedLine, reading, of_text, of_utf8, of_record, records, is_skipped_line, is_skipped_record, file_fault, events_of, fault_of, early_fault, counts_fault, stage_fault, Keeps, LineSteps, IsRecord, cond, kept}
 use Rattle.dsr_records.specs.declared.checked.CheckedLine.{CheckedLine}
 use Rattle.dsr_records.specs.declared.checked.CheckedLine.TheVariants as lines
 use Rattle.dsr_records.specs.declared.fault.RecordFault.{RecordFault}
-use Rattle.dsr_events.specs.declared.record.Summary as summary
 use Rattle.dsr_events.specs.declared.fault.FileFault.TheVariants as faults
-use Rattle.dsr_file.specs.declared.stage.Before.{Before}
 use Rattle.dsr_file.specs.meaning.Readings as line
 use Rattle.dsr_file.proofs.StageLemmas.{fault_agrees}
 use Rattle.dsr_file.proofs.LineLemmas.{records-same, first_good}
 use Rattle.dsr_file.proofs.AddLemmas.{count_by_push}
 
--- no fault of the counts
-abbrev no_count : Option FileFault → Bool
-no_count None = true
-no_count (Some f) = not (counts_fault f)
-
-no_count_else : (f g : Option FileFault) → no_count f ≡ true → no_count g ≡ true → no_count (or_else f g) ≡ true
-no_count_else None g p q = q
-no_count_else (Some f) g p q = p
-
-no_count_if : (b : Bool) (f : FileFault) → counts_fault f ≡ false → no_count (fault_if b f) ≡ true
-no_count_if true f e = ap not e
-no_count_if false f e = refl
-
-no_count_place : (c : Before) (k : Kind) → no_count (place c k) ≡ true
-no_count_place c k = grind arith
-
-no_count_member : (part_id : List ℕ) (n : ℕ) (i : List ℕ) → no_count (member_fault part_id n i) ≡ true
-no_count_member part_id n i = grind arith
-
-no_count_summary : (ss : List summary.Summary) (i : List ℕ) → no_count (summary_fault ss i) ≡ true
-no_count_summary ss i = grind arith
-
-no_count_early : (rs : List Record) (r : Record) → no_count (early_fault rs r) ≡ true
-no_count_early rs r = grind (arith, no_count_place, no_count_member, no_count_summary)
-
 pub early_not_count : (rs : List Record) (r : Record) (f : FileFault) → early_fault rs r ≡ Some f → counts_fault f ≡ false
-early_not_count rs r f e = let n : no_count (Some f) ≡ true = sym (ap no_count e) ∙ no_count_early rs r in grind arith
+early_not_count rs r f e = grind arith
 
 -- a record with an early fault
 pub early_steps : (g h : Grammar) (ls : List Reading) (r : Record) (f : FileFault) → Keeps g ls

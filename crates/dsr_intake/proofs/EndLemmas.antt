@@ -11,16 +11,8 @@ ends_clean_push (x ∷ []) e = refl
 ends_clean_push (x ∷ y ∷ xs) e = ends_clean_push (y ∷ xs) e
 
 pub has_ended_push : (xs : List Placed) (e : Placed) → has_ended (xs ++ e ∷ []) ≡ (has_ended xs || is_ended e.part)
-has_ended_push [] e = or_false (is_ended e.part)
-  where
-    or_false : (b : Bool) → (b || false) ≡ b
-    or_false true = refl
-    or_false false = refl
-has_ended_push (x ∷ xs) e = ap (λ b. is_ended x.part || b) (has_ended_push xs e) ∙ or_assoc (is_ended x.part) (has_ended xs) (is_ended e.part)
-  where
-    or_assoc : (a b c : Bool) → (a || (b || c)) ≡ ((a || b) || c)
-    or_assoc true b c = refl
-    or_assoc false b c = refl
+has_ended_push [] e = grind arith
+has_ended_push (x ∷ xs) e = grind (arith, has_ended_push xs e)
 
 clean_is_ended : (p : EventPart) → is_clean_end p ≡ true → is_ended p ≡ true
 clean_is_ended (Opened o) h = cc

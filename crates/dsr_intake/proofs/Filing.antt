@@ -1,5 +1,5 @@
 -- The file of a list of events, event by event.
-use Rattle.dsr_intake.proofs.Common.{◌≡◌, ℕ, zero, suc, ◌+◌, ◌<◌, ◌≤◌, ◌^◌, ◌||◌, true, false, List, [], ◌∷◌, ◌++◌, length, take, drop, get_or, Some, IsSome, refl, sym, ap, subst, ◌∙◌, arith, add-one, append_assoc, length-append, set, slice_get, filter_map, append-nil, set-set, set-get_or, take-append-drop, get_or_from_slice_get, filter_map-append, EventPart, Placed, is_ended, has_ended, MayStandAt, IsOrderly, orderly_front, Books, File, Stands, ends_clean, is_clean_end, opening_in, block_in, outcome_in, first, file_of, with_part, is_opening, IsGoing, Knows, Changes, IsFollowed, TakesAll}
+use Rattle.dsr_intake.proofs.Common.{◌≡◌, ℕ, zero, suc, ◌+◌, ◌<◌, ◌≤◌, ◌^◌, ◌||◌, true, false, List, [], ◌∷◌, ◌++◌, length, take, drop, get_or, Some, IsSome, refl, sym, ap, subst, ◌∙◌, arith, add-one, append_assoc, length-append, set, slice_get, filter_map, append-nil, set-set, set-get_or, take-append-drop, get_or_from_slice_get, filter_map-append, EventPart, Placed, is_ended, has_ended, MayStandAt, IsOrderly, orderly_front, Books, File, Stands, ends_clean, is_clean_end, opening_in, block_in, outcome_in, first, file_of, with_part, is_opening, IsGoing, Knows, Changes, IsFollowed, TakesAll, common_steps, gets, slice_get_within}
 use Rattle.std.proofs.Math.Seq.{take-suc}
 use Rattle.dsr_events.specs.declared.event.EventPart.TheVariants as part
 use Rattle.dsr_relay.proofs.Taking.{going_on}
@@ -10,15 +10,10 @@ event n p = record { place = n; part = p }
 
 -- the parts of one event, by what it is
 module _ (n : ℕ) where
-  none_at : (p : EventPart) (es : List Placed) → has_ended (event n p ∷ es) ≡ false → has_ended es ≡ false
-  none_at (part.Opened o) es h = h
-  none_at (part.Block b) es h = h
-  none_at (part.Ended o) es h = cc
-
-  no_outcome_at : (p : EventPart) (es : List Placed) → has_ended (event n p ∷ es) ≡ false → filter_map outcome_in es ≡ []
+  no_outcome_at : (p : EventPart) (es : List Placed) → has_ended (event n p ∷ es) ≡ false → (has_ended es ≡ false → filter_map outcome_in es ≡ [])
       → filter_map outcome_in (event n p ∷ es) ≡ []
-  no_outcome_at (part.Opened o) es h ih = ih
-  no_outcome_at (part.Block b) es h ih = ih
+  no_outcome_at (part.Opened o) es h ih = ih h
+  no_outcome_at (part.Block b) es h ih = ih h
   no_outcome_at (part.Ended o) es h ih = cc
 
   opened_at : (p : EventPart) (es : List Placed) → MayStandAt 0 p → has_ended (event n p ∷ es) ≡ false
@@ -47,7 +42,7 @@ module _ (n : ℕ) where
 -- an event that is no Ended has no outcome
 no_outcome : (es : List Placed) → has_ended es ≡ false → filter_map outcome_in es ≡ []
 no_outcome [] h = refl
-no_outcome (e ∷ es) h = no_outcome_at e.place e.part es h (no_outcome es (none_at e.place e.part es h))
+no_outcome (e ∷ es) h = no_outcome_at e.place e.part es h (no_outcome es)
 
 -- the first of an orderly list that has not ended is its opening
 opened_first : (es : List Placed) → IsOrderly es → 0 < length es → has_ended es ≡ false → IsSome (first (filter_map opening_in es))
@@ -59,8 +54,7 @@ blocks_le [] = omega arith
 blocks_le (e ∷ es) = blocks_at e.place e.part es (blocks_le es)
 
 pub get_end : {A : Type 0} (xs : List A) (x : A) → slice_get (xs ++ x ∷ []) (length xs) ≡ Some x
-get_end [] x = refl
-get_end (y ∷ xs) x = get_end xs x
+get_end xs x = grind (arith, common_steps, gets)
 
 -- the later event is no opening
 pub later_part : (es : List Placed) (e : Placed) → IsOrderly (es ++ e ∷ []) → 0 < length es → is_opening e.part ≡ false
@@ -77,9 +71,7 @@ going es o some h short =
     record { running = ap first (no_outcome es h); opened = opened_first es o some h; short = omega (arith, blocks_le es) }
 
 pub get_set_same : {A : Type 0} (xs : List A) (k : ℕ) (x y : A) → slice_get xs k ≡ Some x → slice_get (set xs k y) k ≡ Some y
-get_set_same [] k x y h = cc
-get_set_same (z ∷ xs) zero x y h = refl
-get_set_same (z ∷ xs) (suc k) x y h = get_set_same xs k x y h
+get_set_same xs k x y h = grind (arith, common_steps, gets, slice_get_within xs k x h)
 
 pub changes_more : (a b c : Books) (k : ℕ) (f g h : File) → Changes a b k f g → Changes b c k g h → Changes a c k f h
 changes_more a b c k f g h p q files stands at =

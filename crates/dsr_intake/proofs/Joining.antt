@@ -1,5 +1,6 @@
 -- What holds while the threads are started, and while they are joined.
 use Rattle.dsr_intake.proofs.Common.{◌≡◌, ℕ, false, List, [], ◌∷◌, ◌++◌, map, All, refl, sym, ap, subst, ◌∙◌, append_assoc, append-nil, map-append, All-head, All-tail, All-cons, All-append, All-nil, Placed, IsOrderly, FileText, events_of_text, Told, TapView, Options, ends_clean, IsDrained, IsGiven, GaveEach, file_of}
+use Rattle.std.proofs.lemmas.Simd.{map-map}
 use Rattle.dsr_file.specs.meaning.Sources.{GaveText}
 use Rattle.dsr_io.specs.meaning.Told.{HoldsGiven}
 use Rattle.dsr_relay.specs.declared.name.Name.{Name}
@@ -15,10 +16,7 @@ gave_more : {R : Type 0} (told : R → Told) (options : Options) (rs ss : List R
     → GaveEach told options (rs ++ r ∷ []) (ss ++ s ∷ []) (ts ++ t ∷ [])
 gave_more told options [] [] [] r s t h new = (new, tt)
 gave_more told options (x ∷ rs) (y ∷ ss) (z ∷ ts) r s t h new = (h.0, gave_more told options rs ss ts r s t h.1 new)
-gave_more told options [] [] (z ∷ ts) r s t h new = absurd h
-gave_more told options [] (y ∷ ss) ts r s t h new = absurd h
-gave_more told options (x ∷ rs) [] ts r s t h new = absurd h
-gave_more told options (x ∷ rs) (y ∷ ss) [] r s t h new = absurd h
+gave_more told options _ _ _ r s t h new = absurd h
 
 -- `H` is a handle of a thread; `reader`, `name` and `terms` give what the thread was given
 module _ {R H : Type 0} (told : R → Told) (options : Options) (reader : H → R) (name : H → Name) (terms : H → Options) where
@@ -99,8 +97,7 @@ module _ {R H : Type 0} (told : R → Told) (holds : R → List ℕ → Type 0) 
   hold_more : (rs ss : List R) (r s : R) → HoldEach told holds rs ss → HoldsGiven told holds r s → HoldEach told holds (rs ++ r ∷ []) (ss ++ s ∷ [])
   hold_more [] [] r s h new = (new, tt)
   hold_more (x ∷ rs) (y ∷ ss) r s h new = (h.0, hold_more rs ss r s h.1 new)
-  hold_more [] (y ∷ ss) r s h new = absurd h
-  hold_more (x ∷ rs) [] r s h new = absurd h
+  hold_more _ _ r s h new = absurd h
 
   -- the readers of the threads that are joined keep what they gave, and the other threads still run
   pub record Keeping (all : List R) (hs : List H) (news : List R) : Type 0 where
@@ -126,14 +123,8 @@ module _ {R H : Type 0} (told : R → Told) (holds : R → List ℕ → Type 0) 
 -- if the events taken are those of the texts, so are the files
 pub files_of : (layout : LayoutTable) (ts : List TapView) (texts : List FileText) → map (λ t. t.taken) ts ≡ map (events_of_text layout) texts
     → map (λ t. file_of t.taken) ts ≡ map (λ t. file_of (events_of_text layout t)) texts
-files_of layout [] [] h = refl
-files_of layout [] (x ∷ texts) h = cc
-files_of layout (t ∷ ts) [] h = cc
-files_of layout (t ∷ ts) (x ∷ texts) h =
-    let same : t.taken ≡ events_of_text layout x = cc in
-    let rest : map (λ u. u.taken) ts ≡ map (events_of_text layout) texts = cc in
-    let more = files_of layout ts texts rest in
-    rw (same, more) refl
+files_of layout ts texts h =
+    sym (map-map file_of (λ (t : TapView). t.taken) ts) ∙ ap (map file_of) h ∙ map-map file_of (events_of_text layout) texts
 
 -- one more thread is joined, and what it returned is kept
 pub joined_more : {F H : Type 0} (of : F → Name) (name : H → Name) (fs : List F) (h : H) (hs : List H) (f : F) (all : List Name)

@@ -1,5 +1,5 @@
 -- A thread's list of events, by the result of reading its file.
-use Rattle.dsr_intake.proofs.Common.{◌≡◌, ◌∙◌, Bool, true, false, sym, has_ended, List, [], ◌∷◌, ◌++◌, inl, inr, ap, refl, Result, Ok, Err, IfErr, IfOk, OnOk, Outcome, Placed, Told, run_orderly, Options, ends_clean, IsGiven}
+use Rattle.dsr_intake.proofs.Common.{arith, ◌≡◌, ◌∙◌, Bool, true, false, sym, has_ended, List, [], ◌∷◌, ◌++◌, inl, inr, ap, refl, Result, Ok, Err, IfErr, IfOk, OnOk, Outcome, Placed, Told, run_orderly, Options, ends_clean, IsGiven}
 use Rattle.dsr_file.specs.declared.reading.ReadFileError.{ReadFileError}
 use Rattle.dsr_file.specs.declared.reading.ReadFileError.TheVariants.{Memory, Refused}
 use Rattle.dsr_file.specs.layer.Sources.{IsRead, IsRefused, IsRefusal}
@@ -57,8 +57,7 @@ module _ (options : Options) (before after : Told) (sent : List Placed) where
       sym (ap (λ l. not (ends_clean l)) (same ∙ ends.1) ∙ ap not (ends_clean_push ends.0 _) ∙ not_not (is_memory o))
     where
       not_not : (b : Bool) → not (not b) ≡ b
-      not_not true = refl
-      not_not false = refl
+      not_not b = grind arith
   told_memory (Err Memory) last ends refused memory other ended = sym (ap not (memory refl))
   told_memory (Err (Refused e)) last ends refused memory other ended =
       let same : last ≡ sent = other (λ e. absurd (cc)) in

@@ -1,6 +1,8 @@
 -- What holds while the files are opened, and in a round.
-use Rattle.dsr_intake.proofs.Common.{◌≡◌, ℕ, zero, suc, ◌+◌, ◌<◌, ◌≤◌, Bool, true, false, ◌||◌, List, [], ◌∷◌, ◌++◌, map, take, set, length, get_or, All, Some, None, Result, Ok, Err, refl, sym, ap, subst, ◌∙◌, arith, length-take, add-one, ◌⊎◌, inl, inr, IsSome, is_some, slice_get, filter_map, OnOk, All-tail, map-append, length-map, map-set, slice_get-map, slice_get-get_or, get_or_from_slice_get, slice_get_within, slice_get_read, EventPart, Outcome, Placed, MayStandAt, has_ended, TapView, Books, File, opened, add_block, end_with, with_block, with_outcome, Stands, files_count, opened_count, CanBook, CanEnd, AllEnded, file_of, first, outcome_in, IsTapped, IsStoppedAt, IsFileAt, Changes, Opens, first_file, IsGoing, Knows, IsNext, HasMore, taken_count}
+use Rattle.dsr_intake.proofs.Common.{◌≡◌, ℕ, zero, suc, ◌+◌, ◌<◌, ◌≤◌, Bool, true, false, ◌||◌, List, [], ◌∷◌, ◌++◌, map, take, set, length, get_or, All, Some, None, Result, Ok, Err, refl, sym, ap, subst, ◌∙◌, arith, length-take, add-one, ◌⊎◌, inl, inr, IsSome, is_some, slice_get, filter_map, OnOk, All-tail, map-append, length-map, map-set, slice_get-map, slice_get-get_or, get_or_from_slice_get, slice_get_within, slice_get_read, EventPart, Outcome, Placed, MayStandAt, has_ended, TapView, Books, File, opened, add_block, end_with, with_block, with_outcome, Stands, files_count, opened_count, CanBook, CanEnd, AllEnded, file_of, first, outcome_in, IsTapped, IsStoppedAt, IsFileAt, Changes, Opens, first_file, IsGoing, Knows, IsNext, HasMore, taken_count, common_steps, gets, take_all}
+use Rattle.std.proofs.lemmas.Bool.{cases_eq}
 use Rattle.std.proofs.lemmas.List.Sums.{sum_by-set}
+use Rattle.dsr_ledger.specs.layer.Files.{with_file}
 use Rattle.std.specs.Option.{option_map}
 use Rattle.std.proofs.Math.Seq.{take-suc-set, map-set_same, set-append_seam}
 use Rattle.dsr_events.specs.meaning.Blocks.{BlockParts}
@@ -16,20 +18,15 @@ abbrev event : ℕ → EventPart → Placed
 event n p = record { place = n; part = p }
 
 -- the list with a file changed is the same by either definition
-pub block_is_set : (files : List File) (k : ℕ) (f : File) (b : BlockParts) → IsFileAt files k f → with_block files k b ≡ set files k (add_block b f)
-block_is_set [] k f b at = absurd (cc)
-block_is_set (g ∷ files) zero f b at = let e : g ≡ f = cc in ap (λ h. add_block b h ∷ files) e
-block_is_set (g ∷ files) (suc k) f b at = ap (λ l. g ∷ l) (block_is_set files k f b at)
-
-pub outcome_is_set : (files : List File) (k : ℕ) (f : File) (o : Outcome) → IsFileAt files k f → with_outcome files k o ≡ set files k (end_with o f)
-outcome_is_set [] k f o at = absurd (cc)
-outcome_is_set (g ∷ files) zero f o at = let e : g ≡ f = cc in ap (λ h. end_with o h ∷ files) e
-outcome_is_set (g ∷ files) (suc k) f o at = ap (λ l. g ∷ l) (outcome_is_set files k f o at)
+pub file_is_set : (g : File → File) (files : List File) (k : ℕ) (f : File) → IsFileAt files k f → with_file g files k ≡ set files k (g f)
+file_is_set g [] k f at = absurd (cc)
+file_is_set g (x ∷ files) zero f at = let e : x ≡ f = cc in ap (λ h. g h ∷ files) e
+file_is_set g (x ∷ files) (suc k) f at = ap (λ l. x ∷ l) (file_is_set g files k f at)
 
 -- ending a file changes it
 pub outcome_changes : (a c : Books) (k : ℕ) (o : Outcome) → ((files : List File) → Stands a files → Stands c (with_outcome files k o)) → (f : File)
     → Changes a c k f (end_with o f)
-outcome_changes a c k o h f files stands at = subst (Stands c) (outcome_is_set files k f o at) (h files stands)
+outcome_changes a c k o h f files stands at = subst (Stands c) (file_is_set (end_with o) files k f at) (h files stands)
 
 pub on_any : {A E P : Type 0} (answer : Result A E) → P → OnOk answer P
 on_any (Ok v) p = p
@@ -54,20 +51,10 @@ opens_ended a b c k o p q files stands len =
     let same : set (files ++ f ∷ []) k (end_with o f) ≡ files
     ++ end_with o f ∷ [] = subst (λ i. set (files ++ f ∷ []) i (end_with o f) ≡ files ++ end_with o f ∷ []) len
     (set-append_seam files f [] (end_with o f)) in
-    subst (Stands c) (outcome_is_set (files ++ f ∷ []) k f o at ∙ same) (q (files ++ f ∷ []) (p files stands len))
+    subst (Stands c) (file_is_set (end_with o) (files ++ f ∷ []) k f at ∙ same) (q (files ++ f ∷ []) (p files stands len))
 
 pub get_set_other : {A : Type 0} (xs : List A) (k j : ℕ) (y : A) → (j ≡ k → ⊥) → slice_get (set xs k y) j ≡ slice_get xs j
-get_set_other [] k j y h = refl
-get_set_other (x ∷ xs) zero zero y h = absurd (h refl)
-get_set_other (x ∷ xs) zero (suc j) y h = refl
-get_set_other (x ∷ xs) (suc k) zero y h = refl
-get_set_other (x ∷ xs) (suc k) (suc j) y h = get_set_other xs k j y (λ e. h (ap suc e))
-
-same_or_other : (j k : ℕ) → (j ≡ k) ⊎ (j ≡ k → ⊥)
-same_or_other zero zero = inl refl
-same_or_other zero (suc k) = inr (λ e. absurd (omega arith))
-same_or_other (suc j) zero = inr (λ e. absurd (omega arith))
-same_or_other (suc j) (suc k) = elim (same_or_other j k) [ inl e ↦ inl (ap suc e) | inr n ↦ inr (λ e. n (omega arith)) ]
+get_set_other xs k j y h = grind (arith, common_steps, gets, h)
 
 put_here : (now : List TapView) (k : ℕ) (t u x : TapView) → slice_get now k ≡ Some t → slice_get (set now k u) k ≡ Some x → u ≡ x
 put_here now k t u x at here = let e = get_set_same now k t u at in cc
@@ -75,12 +62,6 @@ put_here now k t u x at here = let e = get_set_same now k t u at in cc
 pub names_set : (now : List TapView) (k : ℕ) (t u : TapView) → slice_get now k ≡ Some t → u.name ≡ t.name → map (λ x. x.name) (set now k u)
     ≡ map (λ x. x.name) now
 names_set now k t u at name = map-set_same (λ x. x.name) now k u t (name ∙ ap (λ x. x.name) (sym (get_or_from_slice_get now k t t at)))
-
-take_whole : (k : ℕ) (ts : List TapView) → length ts ≤ k → take k ts ≡ ts
-take_whole zero [] h = refl
-take_whole zero (t ∷ ts) h = absurd (omega arith)
-take_whole (suc k) [] h = refl
-take_whole (suc k) (t ∷ ts) h = ap (λ l. t ∷ l) (take_whole k ts (omega arith))
 
 -- the files below k are opened, and no event of the others is taken
 pub record Opening (all now : List TapView) (k : ℕ) (books : Books) : Type 0 where
@@ -98,7 +79,7 @@ opening_more all now k books new t u o at name tapped opens =
     let grown : take (k + 1) (set now k u) ≡ take k now ++ u ∷ [] = rw add-one (take-suc-set now k u low) in
     record {
       names = names_set now k t u at name ∙ o.names;
-      tapped = λ j x below here. elim (same_or_other j k) [
+      tapped = λ j x below here. elim (cases_eq j k) [
         | inl e ↦ (let f : u ≡ x = put_here now k t u x at (subst (λ i. slice_get (set now k u) i ≡ Some x) e here) in subst IsTapped f tapped)
         | inr n ↦ o.tapped j x (omega arith) (sym (get_set_other now k j u n) ∙ here)
       ];
@@ -110,7 +91,7 @@ pub opening_done : (all now : List TapView) (k : ℕ) (books : Books) → Openin
     × Stands books (map (λ t. file_of t.taken) now)
 opening_done all now k books o h = (
   λ j d low. o.tapped j (get_or now j d) (omega arith) (slice_get-get_or now j d low),
-  rw (take_whole k now h) at o.stands,
+  rw (take_all k now h) at o.stands,
 )
 
 -- the books know the file of the tap that is looked at
@@ -198,7 +179,7 @@ more_taken old now k t u any one at was new =
       omega (arith, was.0, new.0),
       (
         (λ e. absurd (cc)),
-        (λ more. elim (same_or_other n m) [ inl e ↦ was.1.1 (omega (arith, e, more, sum)) | inr other ↦ new.1.1 (omega (arith, other, new.0)) ]),
+        (λ more. elim (cases_eq n m) [ inl e ↦ was.1.1 (omega (arith, e, more, sum)) | inr other ↦ new.1.1 (omega (arith, other, new.0)) ]),
       ),
     )
 

@@ -1,16 +1,16 @@
 -- The report's parts made of the files' states are those of the files that they represent.
-use Rattle.dsr_ledger.proofs.Common.{◌≡◌, ℕ, List, [], ◌∷◌, ◌++◌, true, sym, ◌∙◌, ap, arith, Bool, ◌+◌, append_assoc, false, refl, not, ◌&&◌, ◌||◌, Option, option_map, None, Some, map, ℤ, filter, if◌then◌else◌, list_any, flat_map, range_with_len, bytes_eq, map-id, list_any-append, Summary, key_of, outcome_of, file_line, report_head, report_of, missing, first_head, summaries_of, File, Filed, filed, found_in, sums_at, openings_of, FileBooks, Summaries, tally_at, FileStands, Stands, Usage, usages_in, is_ours, ended_whole, naming, difference, differs, differences_in, differences, has_number, is_there, missing_for, rejects_in, rejects, BTreeSet, contains, nat_cmp, filter_of_map_range_with_len_more, Kept, int_sum_by, line_kept, is_number_kept, not_in, sums_or_zeros, difference_to, differences_to, differences_kept, Head}
+use Rattle.dsr_ledger.proofs.Common.{◌≡◌, ℕ, List, [], ◌∷◌, ◌++◌, true, sym, ◌∙◌, ap, arith, Bool, ◌+◌, append_assoc, false, refl, not, ◌&&◌, ◌||◌, Option, option_map, None, Some, map, ℤ, filter, if◌then◌else◌, list_any, flat_map, range_with_len, bytes_eq, map-id, list_any-append, Summary, key_of, outcome_of, file_line, report_head, report_of, missing, first_head, summaries_of, File, Filed, filed, found_in, sums_at, openings_of, FileBooks, Summaries, tally_at, FileStands, Stands, Usage, usages_in, is_ours, ended_whole, naming, difference, differs, differences_in, differences, has_number, is_there, missing_for, rejects_in, rejects, filter_of_map_range_with_len_more, Kept, int_sum_by, line_kept, is_number_kept, missing_kept, sums_or_zeros, difference_to, differences_to, differences_kept, Head}
 use Rattle.dsr_ledger.proofs.TextLemmas.{text_itself}
 use Rattle.dsr_ledger.proofs.EachLemmas.{zero-add}
 use Rattle.dsr_ledger.proofs.FilesLemmas.{openings_are, zip_folds, zip_maps}
 use Rattle.dsr_ledger.specs.declared.closed.ClosedBooks.{ClosedBooks}
 use Rattle.dsr_ledger.specs.inner.BooksWords.{AreClosed}
 
--- the numbers that are not in a set of the numbers that are there
-pub not_in_is : (head : Option Head) (numbers : BTreeSet ℕ) (ds : List Filed) → ((n : ℕ) → contains nat_cmp numbers n ≡ is_there n ds)
-    → not_in (option_map key_of head) numbers ≡ missing_for head ds
-not_in_is None numbers ds is = refl
-not_in_is (Some head) numbers ds is = λ i. filter (λ n. not (is n i)) (range_with_len 1 head.number_of_files)
+-- the numbers that no file has
+missing_is : (head : Option Head) (fs : List FileBooks) (ds : List Filed) → ((n : ℕ) → list_any (is_number_kept n) fs ≡ is_there n ds)
+    → missing_kept head fs ≡ missing_for head ds
+missing_is None fs ds is = refl
+missing_is (Some head) fs ds is = λ i. filter (λ n. not (is n i)) (range_with_len 1 head.number_of_files)
 
 -- the numbers from 1 that pass a test, up to the next one
 pub filter_range_more : (p : ℕ → Bool) (n : ℕ) → filter p (range_with_len 1 (n + 1)) ≡ filter p (range_with_len 1 n) ++ filter p ((n + 1) ∷ [])
@@ -53,26 +53,25 @@ differences_stand f d s =
     ∙ both_or_none (is_ours d.standing) (ended_whole d.file.outcome) differs (map (difference d.place us) ss)
 
 -- closed books, as they were made of the states
-pub record Assembled (kept : Kept) (numbers : BTreeSet ℕ) (c : ClosedBooks) : Type 0 where
+pub record Assembled (kept : Kept) (c : ClosedBooks) : Type 0 where
   pub key : c.report.key ≡ option_map key_of (first_head (openings_of kept.files.items))
   pub lines : c.report.files ≡ map line_kept kept.files.items
-  pub own : (n : ℕ) → contains nat_cmp numbers n ≡ list_any (is_number_kept n) kept.files.items
-  pub missing : c.report.missing ≡ not_in c.report.key numbers
+  pub missing : c.report.missing ≡ missing_kept (first_head (openings_of kept.files.items)) kept.files.items
   pub differences : c.report.differences ≡ flat_map differences_kept kept.files.items
   pub ledger : c.ledger ≡ kept.ledger
   pub rejects : c.report.rejects ≡ flat_map (λ f. f.rejects.items) kept.files.items
 
-pub closed_is : (kept : Kept) (numbers : BTreeSet ℕ) (c : ClosedBooks) → Assembled kept numbers c → (files : List File) → Stands kept files → AreClosed c files
+pub closed_is : (kept : Kept) (c : ClosedBooks) → Assembled kept c → (files : List File) → Stands kept files → AreClosed c files
 unfolding missing differences rejects report_of
-closed_is kept numbers c a files h =
-    let fs = kept.files.items in let key = a.key ∙ ap (λ os. option_map key_of (first_head os)) (openings_are 1 [] fs files h.each) in
-    let there : (n : ℕ) → contains nat_cmp numbers n ≡ is_there n (filed files) =
-    λ n. a.own n ∙ zip_folds FileStands (is_number_kept n) _ ◌||◌ (list_any (is_number_kept n)) (is_there n)
+closed_is kept c a files h =
+    let fs = kept.files.items in let head = ap first_head (openings_are 1 [] fs files h.each) in let key = a.key ∙ ap (option_map key_of) head in
+    let there : (n : ℕ) → list_any (is_number_kept n) fs ≡ is_there n (filed files) =
+    λ n. zip_folds FileStands (is_number_kept n) _ ◌||◌ (list_any (is_number_kept n)) (is_there n)
     (λ f d s i. is_ours (s.standing i) && has_number n (s.opening i)) refl (λ _ _. refl) (λ _ _. refl) fs (filed files) h.each in
     let lines = a.lines ∙ zip_maps FileStands line_kept file_line (λ f d s.
     let number = ap (option_map (λ o. o.head.file_number)) s.opening in
     λ i. record { number = number i; standing = s.standing i; blocks = s.blocks i; outcome = outcome_of (s.outcome i) }) fs (filed files) h.each in
-    let missing_ = a.missing ∙ ap (λ k. not_in k numbers) key ∙ not_in_is (report_head files) numbers (filed files) there in
+    let missing_ = a.missing ∙ ap (λ o. missing_kept o fs) head ∙ missing_is (report_head files) fs (filed files) there in
     let differences_ = a.differences ∙ zip_folds FileStands differences_kept differences_in ◌++◌ (flat_map differences_kept) (flat_map differences_in)
     differences_stand refl (λ _ _. refl) (λ _ _. refl) fs (filed files) h.each in
     let rejects_ = a.rejects ∙ zip_folds FileStands (λ f. f.rejects.items) rejects_in ◌++◌ (flat_map (λ f. f.rejects.items)) (flat_map rejects_in)

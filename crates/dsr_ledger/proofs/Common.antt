@@ -29,7 +29,6 @@ pub use Rattle.std.proofs.lemmas.Result.{IfOk-weaker, MatchResult-from_err, on_e
 pub use Rattle.std.proofs.lemmas.Simd.{map-map}
 pub use Rattle.std.proofs.lemmas.Slice.Eq.{bytes_eq-Decides}
 pub use Rattle.std.proofs.lemmas.Slice.Zip.{AllZip-left, AllZip-long, all_zipped_more, get_or-zip, length-zip}
-pub use Rattle.std.specs.BTreeSet.{BTreeSet, contains}
 pub use Rattle.std.specs.Bool.{Decides}
 pub use Rattle.std.specs.Cmp.{Equal-is, IsEquivalence, IsTotalOrder, both_tied, on_total, then_total, tied_itself}
 pub use Rattle.std.specs.Cmp.Lexicographic.{nat_list_cmp_total, nat_list_eq_equiv, texts_ties}
@@ -80,7 +79,7 @@ pub use Rattle.dsr_ledger.specs.declared.verdict.Standing.{Standing}
 pub use Rattle.dsr_ledger.specs.declared.verdict.Verdict.{Verdict}
 pub use Rattle.dsr_ledger.specs.declared.verdict.Verdict.TheVariants.{Booked, Rejected}
 pub use Rattle.dsr_ledger.specs.declared.view.LedgerView.{LedgerView}
-pub use Rattle.dsr_ledger.specs.inner.Assembly.{difference_to, differences_kept, differences_to, is_number_kept, line_kept, not_in, sums_or_zeros}
+pub use Rattle.dsr_ledger.specs.inner.Assembly.{difference_to, differences_kept, differences_to, is_number_kept, line_kept, missing_kept, sums_or_zeros}
 pub use Rattle.dsr_ledger.specs.inner.Books.{IsReached, IsSmallFile, Stands, blocks_in, ended_in, has_opening_in}
 pub use Rattle.dsr_ledger.specs.inner.FileSteps.{IsBlockInRange, IsNumberedFile, IsSameFile, TakesBlock, AreLined, IsLined, IsPlanned}
 pub use Rattle.dsr_ledger.specs.inner.Ids.{is_between, is_in}

@@ -1,9 +1,15 @@
 -- The opening of files, and the numbers of their summary keys.
-use Rattle.dsr_ledger.proofs.Common.{◌≡◌, ℕ, ◌<◌, List, [], ◌∷◌, ◌++◌, length, get_or, true, sym, ◌∙◌, ap, arith, Bool, cond, Option, option_map, None, Some, find, list_any, bytes_eq, bytes_eq-Decides, nat_tests, get_or-map, length-map, find-append, list_any_at, option_or, Summary, SummaryState, is_same_report, has_same_number, summaries_of, found_in, no_sums, nothing_found, state_at, number_at, AreNumbered, named, openings_of, FileBooks, Summaries, Ledger, SummaryKey, summary_key_of, summary_key_named, IsNumberedFile, Grows, key_number, summary_key_eq, position, Head}
+use Rattle.dsr_ledger.proofs.Common.{◌≡◌, refl, ℕ, ◌<◌, List, [], ◌∷◌, ◌++◌, length, get_or, true, sym, ◌∙◌, ap, arith, Bool, cond, Option, option_map, None, Some, find, list_any, bytes_eq, bytes_eq-Decides, nat_tests, get_or-map, length-map, find-append, list_any_at, option_or, Summary, SummaryState, is_same_report, has_same_number, summaries_of, found_in, no_sums, nothing_found, state_at, number_at, AreNumbered, named, openings_of, OpeningParts, first_head, FileBooks, Summaries, Ledger, SummaryKey, summary_key_of, summary_key_named, IsNumberedFile, Grows, key_number, summary_key_eq, position, Head}
 use Rattle.dsr_ledger.proofs.SortedLemmas.{mapped}
 
 pub same_report-itself : (h : Head) → is_same_report h h ≡ true
 same_report-itself h = grind (arith, nat_tests, bytes_eq-Decides h.message_id h.message_id)
+
+-- the first head, with one more opening
+pub first_more : (os : List (Option OpeningParts)) (o : OpeningParts) → first_head (os ++ Some o ∷ []) ≡ option_or (first_head os) (Some o.head)
+first_more [] o = refl
+first_more (None ∷ os) o = first_more os o
+first_more (Some x ∷ os) o = refl
 
 -- one more summary
 pub found_in-push : (id : List ℕ) (os : List Summary) (s : Summary)

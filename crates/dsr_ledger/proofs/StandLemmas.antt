@@ -1,5 +1,5 @@
 -- The state of a file represents it after a block too.
-use Rattle.dsr_ledger.proofs.Common.{◌≡◌, ℕ, List, [], ◌∷◌, ◌++◌, length, true, sym, ◌∙◌, ap, arith, Bool, cond, ◌+◌, length-append, option_map, find, is_some, bytes_eq, flat_map_more, list_any-append, Summary, summaries_of, Filed, found_in, no_sums, state_at, sums_with, is_known, FileBooks, BlockParts, Ledger, Verdict, verdict_bookings, IsSameFile, TakesBlock, tally_at, FileStands, Took, Usage, has_id, is_summary, verdict_of, verdict_by, usages_in, rejects_from, is_in, tally_plus, key_tally}
+use Rattle.dsr_ledger.proofs.Common.{◌≡◌, ℕ, List, [], ◌∷◌, ◌++◌, length, true, sym, ◌∙◌, ap, arith, Bool, cond, ◌+◌, length-append, option_map, find, is_some, bytes_eq, flat_map_more, list_any-append, Summary, summaries_of, Filed, found_in, no_sums, state_at, sums_with, is_known, FileBooks, Ids, BlockParts, Ledger, Verdict, verdict_bookings, IsSameFile, TakesBlock, tally_at, FileStands, Took, Usage, has_id, is_summary, verdict_of, verdict_by, usages_in, rejects_from, is_in, tally_plus, key_tally}
 use Rattle.dsr_ledger.proofs.StateLemmas.{sums_with-append, sums_after, is_some_state, is_some-map}
 use Rattle.dsr_ledger.proofs.JudgedLemmas.{rejects_more}
 
@@ -18,14 +18,15 @@ found_more : (os : List Summary) (us vs : List Usage) (id : List ℕ) → option
 found_more os us vs id = grind (arith, sums_with-append id us vs no_sums)
 
 -- a block was taken, and its identifier noted
-pub took : (d : Filed) (f g : FileBooks) (b : BlockParts) (v : Verdict) (seen : Bool) (old new : Ledger) → FileStands f d
-    → verdict_by f.standing seen (is_known f.summaries) b ≡ v → seen ≡ is_in f.ids b.id → TakesBlock f g old new b v
+pub took : (d : Filed) (f g : FileBooks) (was is : Ids) (b : BlockParts) (v : Verdict) (seen : Bool) (old new : Ledger) → FileStands f d
+    → verdict_by f.standing seen (is_known f.summaries) b ≡ v → seen ≡ is_in f.ids b.id
+    → TakesBlock (record f { ids = was }) (record g { ids = is }) old new b v
     → ((id : List ℕ) → is_in g.ids id ≡ cond (bytes_eq b.id id) true (is_in f.ids id)) → Took d b v g old new
-took d f g b v seen old new h judged_so same t ids =
-    let is = sym judged_so ∙ ap (λ s. verdict_by f.standing s (is_known f.summaries) b) same ∙ verdict_is f d b h in let os = summaries_of d.file.opening in
+took d f g was is b v seen old new h judged_so same t ids =
+    let judgment = sym judged_so ∙ ap (λ s. verdict_by f.standing s (is_known f.summaries) b) same ∙ verdict_is f d b h in let os = summaries_of d.file.opening in
     let position : f.blocks + 1 ≡ 1 + length d.file.blocks = let e = h.blocks in omega arith in
     record {
-      is_verdict = is;
+      is_verdict = judgment;
       stands = record {
         place = t.place ∙ h.place;
         opening = t.opening ∙ h.opening;
@@ -36,7 +37,7 @@ took d f g b v seen old new h judged_so same t ids =
             ap (option_map (λ s. s.sums)) (t.summaries id) ∙ sums_after id b.usages (state_at f.summaries id)
             ∙ ap (option_map (sums_with id b.usages)) (h.summaries id) ∙ found_more os (usages_in d.file.blocks) b.usages id
             ∙ ap (λ us. found_in os us id) (flat_map_more (λ x. x.usages) [] d.file.blocks b);
-        rejects = t.rejects ∙ (λ i. h.rejects i ++ rejects_from (h.place i) (position i) ((b, is i) ∷ [])) ∙ sym (rejects_more d b);
+        rejects = t.rejects ∙ (λ i. h.rejects i ++ rejects_from (h.place i) (position i) ((b, judgment i) ∷ [])) ∙ sym (rejects_more d b);
         outcome = t.outcome ∙ h.outcome;
       };
       tallies = λ q. t.tallies q ∙ (λ i. tally_plus (tally_at old q) (key_tally (verdict_bookings (summaries_of (h.opening i)) (b, v)) q));

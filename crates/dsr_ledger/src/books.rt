@@ -235,8 +235,8 @@ impl Books {
         ClosedBooks::of(alloc, kept)
     }
 
-    /// The report of the files, which have all ended. The texts of its key and its rejects are moved
-    /// out of the books, its other texts are copied.
+    /// The report of the files, which have all ended. The texts of its rejects are moved out of the books, its other texts
+    /// are copied.
     ///
     /// # Errors
     ///

@@ -132,7 +132,7 @@ impl FileBooks {
         ensures ok { IfOk result (λ v. TakesBlock self.old self.new ledger.old ledger.new block.now
             v) }
     {
-        let hint = ledger.expected_isrc(plan.recording);
+        let hint = ledger.expected(plan.recording).map(|(_, isrc)| isrc);
         match judge(
             self.standing,
             seen,

@@ -1,29 +1,27 @@
-//! What a report says of its files: their lines, the missing numbers, the differences, and the key with the rejected blocks.
-ghost use Rattle.std.specs.Prelude.{◌≡◌, IfOk, map, ◌||◌, ◌++◌, ◌∷◌, [], ℕ, not, filter, OnOk, ◌&&◌, option_map};
+//! What a report says of its files: its key, their lines, the missing numbers, the differences, and the rejected blocks.
+ghost use Rattle.std.specs.Prelude.{◌≡◌, IfOk, map, ◌++◌, ◌∷◌, [], not, filter, OnOk, ◌&&◌, option_map};
 ghost use Rattle.std.specs.List.{list_any, range_with_len, flat_map};
-ghost use Rattle.std.specs.BTreeSet.{contains};
-ghost use Rattle.std.specs.Ordering.{nat_cmp, int_eq};
-ghost use Rattle.std.specs.Option.{option_or};
+ghost use Rattle.std.specs.Ordering.{int_eq};
 ghost use Rattle.dsr_ledger.specs.meaning.Findings.{differs};
 ghost use Rattle.dsr_ledger.specs.meaning.Files.{first_head};
 ghost use Rattle.dsr_ledger.specs.meaning.Reports.{key_of};
-ghost use Rattle.dsr_ledger.specs.inner.Assembly.{line_kept, is_number_kept, not_in, sums_or_zeros, difference_to, differences_to, differences_kept};
+ghost use Rattle.dsr_ledger.specs.inner.Assembly.{line_kept, is_number_kept, missing_kept, sums_or_zeros, difference_to, differences_to, differences_kept};
 ghost use Rattle.dsr_ledger.specs.inner.Summaries.{sums_at};
 ghost use Rattle.dsr_ledger.specs.inner.Stands.{openings_of};
 
 use crate::file::FileBooks;
+use crate::file::open::first_head;
 use crate::file::summaries::Summaries;
 use crate::report::{
-    Difference, Differences, FileLine, FileLines, Numbers, Reject, Rejects, ReportKey, append,
+    Difference, Differences, FileLine, FileLines, Numbers, Reject, Rejects, Report, ReportKey,
+    append,
 };
 use crate::sums::Sums;
 use crate::verdict::Standing;
 use dsr_cells::NoMemory;
-use dsr_events::{Head, Opening, Outcome, Summary};
+use dsr_events::{Outcome, Summary};
 use dsr_texts::Items;
 use std::alloc::Global;
-use std::collections::BTreeSet;
-use std::mem;
 
 /// The line of a file that ended. (Whole stands in for the outcome of one that has not; no report is made of such a file.)
 fn file_line(file: &FileBooks) -> FileLine
@@ -41,7 +39,7 @@ fn file_line(file: &FileBooks) -> FileLine
 }
 
 /// The lines of the files, in their order.
-pub(crate) fn file_lines(alloc: Global, files: &[FileBooks]) -> Result<FileLines, NoMemory>
+fn file_lines(alloc: Global, files: &[FileBooks]) -> Result<FileLines, NoMemory>
     ensures { IfOk result (λ lines. lines ≡ map line_kept files.now) }
 {
     let mut lines = Items::new(alloc);
@@ -51,63 +49,53 @@ pub(crate) fn file_lines(alloc: Global, files: &[FileBooks]) -> Result<FileLines
     Ok(lines)
 }
 
-/// Adds the number of a file if its standing is Ours.
-fn add_number(numbers: &mut BTreeSet<u32>, file: &FileBooks) -> Result<(), NoMemory>
-    ensures { OnOk result ((n : ℕ) → contains nat_cmp numbers.new n
-        ≡ (contains nat_cmp numbers.old n || is_number_kept n file.now)) }
+/// Whether a file whose standing is Ours has this number.
+fn has_number(file: &FileBooks, number: u32) -> bool
+    ensures { result ≡ is_number_kept number file.now }
 {
-    if let (Standing::Ours, Some(opening)) = (file.standing, &file.opening) {
-        numbers.insert(opening.head.file_number)?;
+    match (file.standing, &file.opening) {
+        (Standing::Ours, Some(opening)) => number == opening.head.file_number,
+        _ => false,
     }
-    Ok(())
 }
 
-/// The numbers of the files whose standing is Ours.
-pub(crate) fn own_numbers(alloc: Global, files: &[FileBooks]) -> Result<BTreeSet<u32>, NoMemory>
-    ensures { IfOk result (λ s. (n : ℕ) → contains nat_cmp s n ≡ list_any
-        (is_number_kept n) files.now) }
+/// Whether one of the files whose standing is Ours has this number.
+fn is_there(files: &[FileBooks], number: u32) -> bool
+    ensures { result ≡ list_any (is_number_kept number) files.now }
 {
-    let mut numbers = BTreeSet::new(alloc);
-    for file in files {
-        add_number(&mut numbers, file)?;
-    }
-    Ok(numbers)
+    files.iter().any(|file| has_number(file, number))
 }
 
-/// Adds a number to `absent`, unless it is in the set.
-fn add_absent(absent: &mut Numbers, number: u32, numbers: &BTreeSet<u32>) -> Result<(), NoMemory>
+/// Adds a number to `absent`, unless one of the files whose standing is Ours has it.
+fn add_absent(absent: &mut Numbers, number: u32, files: &[FileBooks]) -> Result<(), NoMemory>
     ensures { OnOk result (absent.new ≡ absent.old ++ filter
-        (λ n. not (contains nat_cmp numbers.now n)) (number ∷ [])) }
+        (λ n. not (list_any (is_number_kept n) files.now)) (number ∷ [])) }
 {
-    if numbers.contains(&number) {
+    if is_there(files, number) {
         return Ok(());
     }
     append(absent, number)
 }
 
-/// The numbers from 1 to `last`, inclusive, that are not in the set, ascending.
+/// The numbers from 1 to `last`, inclusive, that no file with the standing Ours has, ascending.
 #[tactic(auto, using(crate::proofs::ClosedLemmas::filter_range_more))]
-fn absent_numbers(alloc: Global, last: u32, numbers: &BTreeSet<u32>) -> Result<Numbers, NoMemory>
-    ensures { IfOk result (λ l. l ≡ filter (λ n. not (contains nat_cmp numbers.now n))
+fn absent_numbers(alloc: Global, last: u32, files: &[FileBooks]) -> Result<Numbers, NoMemory>
+    ensures { IfOk result (λ l. l ≡ filter (λ n. not (list_any (is_number_kept n) files.now))
         (range_with_len 1 last)) }
 {
     let mut absent = Items::new(alloc);
     for before in 0..last {
-        add_absent(&mut absent, before + 1, numbers)?;
+        add_absent(&mut absent, before + 1, files)?;
     }
     Ok(absent)
 }
 
-/// The missing numbers of a report, ascending; none if it has no key.
-pub(crate) fn missing_numbers(
-    alloc: Global,
-    key: &Option<ReportKey>,
-    numbers: &BTreeSet<u32>,
-) -> Result<Numbers, NoMemory>
-    ensures { IfOk result (λ l. l ≡ not_in key.now numbers.now) }
+/// The missing numbers of a report, ascending; none if no file has an opening.
+fn missing_numbers(alloc: Global, files: &[FileBooks]) -> Result<Numbers, NoMemory>
+    ensures { IfOk result (λ l. l ≡ missing_kept (first_head (openings_of files.now)) files.now) }
 {
-    match key {
-        Some(key) => absent_numbers(alloc, key.number_of_files, numbers),
+    match first_head(files) {
+        Some(head) => absent_numbers(alloc, head.number_of_files, files),
         None => Ok(Items::new(alloc)),
     }
 }
@@ -208,7 +196,7 @@ fn add_file_differences(
 }
 
 /// The differences of the files, by file and then in file order.
-pub(crate) fn differences_of(alloc: Global, files: &[FileBooks]) -> Result<Differences, NoMemory>
+fn differences_of(alloc: Global, files: &[FileBooks]) -> Result<Differences, NoMemory>
     ensures { IfOk result (λ l. l ≡ flat_map differences_kept files.now) }
 {
     let mut differences = Items::new(alloc);
@@ -218,27 +206,37 @@ pub(crate) fn differences_of(alloc: Global, files: &[FileBooks]) -> Result<Diffe
     Ok(differences)
 }
 
-/// The report key of a head. Its MessageId is moved out of the head.
-fn key_of(head: &mut Head) -> ReportKey
-    ensures { result ≡ key_of head.old }
+/// The key of a report: that of the first file that has an opening.
+fn key_for(alloc: Global, files: &[FileBooks]) -> Result<Option<ReportKey>, NoMemory>
+    ensures { IfOk result (λ key. key ≡ option_map key_of (first_head (openings_of files.now))) }
 {
-    ReportKey {
-        message_id: mem::take(&mut head.message_id),
+    let Some(head) = first_head(files) else {
+        return Ok(None);
+    };
+    Ok(Some(ReportKey {
+        message_id: head.message_id.copy(alloc)?,
         number_of_files: head.number_of_files,
         first_day: head.first_day,
         last_day: head.last_day,
-    }
+    }))
 }
 
-/// The key of a report after one more file, whose earlier files gave this key or none.
-fn key_after(key: Option<ReportKey>, opening: Option<Opening>) -> Option<ReportKey>
-    ensures { result ≡ option_or key (option_map (λ o. key_of o.head) opening) }
+/// The report of these files, but for the lines of its ledger and its rejected blocks.
+pub(crate) fn found_in(alloc: Global, files: &[FileBooks]) -> Result<Report, NoMemory>
+    ensures key { IfOk result (λ r. r.key ≡ option_map key_of (first_head (openings_of files.now))) }
+    ensures lines { IfOk result (λ r. r.files ≡ map line_kept files.now) }
+    ensures missing { IfOk result (λ r. r.missing
+        ≡ missing_kept (first_head (openings_of files.now)) files.now) }
+    ensures differences { IfOk result (λ r. r.differences ≡ flat_map differences_kept files.now) }
 {
-    match (key, opening) {
-        (Some(key), _) => Some(key),
-        (None, Some(mut opening)) => Some(key_of(&mut opening.head)),
-        (None, None) => None,
-    }
+    Ok(Report {
+        key: key_for(alloc, files)?,
+        files: file_lines(alloc, files)?,
+        missing: missing_numbers(alloc, files)?,
+        differences: differences_of(alloc, files)?,
+        ledger: Items::new(alloc),
+        rejects: Items::new(alloc),
+    })
 }
 
 /// Appends rejected blocks.
@@ -251,33 +249,13 @@ fn add_rejects(rejects: &mut Rejects, more: Vec<Reject>) -> Result<(), NoMemory>
     Ok(())
 }
 
-/// The key of the first file that has an opening, and the rejected blocks by file and then in file order.
-pub(crate) fn key_and_rejects(
-    alloc: Global,
-    files: Vec<FileBooks>,
-) -> Result<(Option<ReportKey>, Rejects), NoMemory>
-    ensures key { IfOk result (λ p. p.0 ≡ option_map key_of
-        (first_head (openings_of files.items))) }
-    ensures rejects { IfOk result (λ p. p.1 ≡ flat_map (λ f. f.rejects.items) files.items) }
+/// The rejected blocks, by file and then in file order.
+pub(crate) fn rejects_of(alloc: Global, files: Vec<FileBooks>) -> Result<Rejects, NoMemory>
+    ensures { IfOk result (λ l. l ≡ flat_map (λ f. f.rejects.items) files.items) }
 {
-    let mut key = None;
     let mut rejects = Items::new(alloc);
     for file in files {
-        let FileBooks {
-            opening,
-            ids,
-            summaries,
-            rejects: more,
-            ..
-        } = file;
-        drop(ids);
-        drop(summaries);
-        key = key_after(key, opening);
-        let Ok(()) = add_rejects(&mut rejects, more) else {
-            drop(key);
-            drop(rejects);
-            return Err(NoMemory);
-        };
+        add_rejects(&mut rejects, file.rejects)?;
     }
-    Ok((key, rejects))
+    Ok(rejects)
 }

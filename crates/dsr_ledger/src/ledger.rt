@@ -59,8 +59,9 @@ impl Ledger {
         }
     }
 
-    /// The recording whose block came after one of recording `last` before, by its number and its ISRC.
-    fn expected(&self, last: usize) -> Option<(usize, Isrc)>
+    /// The recording whose block came after one of recording `last` before, by its number and its ISRC. It is mostly that of
+    /// the next block.
+    pub(crate) fn expected(&self, last: usize) -> Option<(usize, Isrc)>
         ensures { IfSome result (λ e. recording_number self.now e.1 ≡ Some e.0) }
     {
         let recordings = self.recordings.as_slice();
@@ -68,12 +69,6 @@ impl Ledger {
         let next = found.next as usize;
         let (isrc, _) = recordings.get_index(next)?;
         Some((next, *isrc))
-    }
-
-    /// The ISRC whose block came after one of recording `last` before, which is mostly that of the next block.
-    pub(crate) fn expected_isrc(&self, last: usize) -> Option<Isrc> {
-        let (_, isrc) = self.expected(last)?;
-        Some(isrc)
     }
 
     /// The number of a recording, if it is the one expected after recording `last`.
@@ -134,13 +129,8 @@ impl Ledger {
         }
         let number = self.recordings.len();
         let made = Recording::with_room(alloc, lines)?;
-        match self.recordings.insert(isrc, made) {
-            Ok(former) => {
-                drop(former);
-                Ok(number)
-            }
-            Err(error) => Err(error.into()),
-        }
+        let _none = self.recordings.insert(isrc, made)?;
+        Ok(number)
     }
 
     /// The number of a party, which is given one if it has none. A number past 32 bits is reported as `NoMemory`.
@@ -203,13 +193,9 @@ impl Ledger {
         ensures there { IfOk result (λ number. key_number self.new key ≡ Some number) }
     {
         if let Some(number) = self.summary_keys.get_index_of(&key) {
-            drop(key);
             return to_u32(number);
         }
-        let Ok(number) = to_u32(self.summary_keys.len()) else {
-            drop(key);
-            return Err(NoMemory);
-        };
+        let number = to_u32(self.summary_keys.len())?;
         self.summary_keys.insert(key)?;
         Ok(number)
     }

@@ -145,11 +145,8 @@ pub(crate) fn append<T: Drop>(items: &mut Items<T>, item: T) -> Result<(), NoMem
     ensures { MatchResult result (λ _. items.new ≡ items.old ++ item ∷ [])
         (λ _. items.new ≡ items.old) }
 {
-    match items.push(item) {
-        Ok(()) => Ok(()),
-        Err(refused) => {
-            drop(refused);
-            Err(NoMemory)
-        }
-    }
+    let Ok(()) = items.push(item) else {
+        return Err(NoMemory);
+    };
+    Ok(())
 }

@@ -1,13 +1,11 @@
 -- The parts of the report that are made of the files' states.
 use Rattle.std.specs.Prelude.{ℕ, Bool, not, ◌&&◌, Option, None, Some, List, [], filter, map, option_map, if◌then◌else◌}
-use Rattle.std.specs.List.{range_with_len}
-use Rattle.std.specs.BTreeSet.{BTreeSet, contains}
-use Rattle.std.specs.Ordering.{nat_cmp}
+use Rattle.std.specs.List.{list_any, range_with_len}
+use Rattle.dsr_events.specs.declared.record.Head.{Head}
 use Rattle.dsr_events.specs.declared.record.Summary.{Summary}
 use Rattle.dsr_ledger.specs.declared.sums.Sums.{Sums}
 use Rattle.dsr_ledger.specs.declared.file.summaries.Summaries.{Summaries}
 use Rattle.dsr_ledger.specs.declared.file.FileBooks.{FileBooks}
-use Rattle.dsr_ledger.specs.declared.report.ReportKey.{ReportKey}
 use Rattle.dsr_ledger.specs.declared.report.FileLine.{FileLine}
 use Rattle.dsr_ledger.specs.declared.report.Difference.{Difference}
 use Rattle.dsr_ledger.specs.meaning.Files.{summaries_of}
@@ -28,10 +26,10 @@ line_kept f = record {
 abbrev pub is_number_kept : ℕ → FileBooks → Bool
 is_number_kept n f = is_ours f.standing && has_number n f.opening
 
--- the file numbers from 1 to the report's number of files, inclusive, that are not in the set
-abbrev pub not_in : Option ReportKey → BTreeSet ℕ → List ℕ
-not_in None numbers = []
-not_in (Some key) numbers = filter (λ n. not (contains nat_cmp numbers n)) (range_with_len 1 key.number_of_files)
+-- the file numbers from 1 to the report's number of files, inclusive, that no file with the standing Ours has
+abbrev pub missing_kept : Option Head → List FileBooks → List ℕ
+missing_kept None fs = []
+missing_kept (Some head) fs = filter (λ n. not (list_any (is_number_kept n) fs)) (range_with_len 1 head.number_of_files)
 
 -- the sums of a summary's state; zeros if there is none
 abbrev pub sums_or_zeros : Option Sums → Sums

@@ -1,5 +1,5 @@
 -- The limits of a report and of its numbers.
-use Rattle.std.specs.Prelude.{ℕ, ◌^◌, []}
+use Rattle.std.specs.Prelude.{ℕ, ◌^◌}
 
 -- the most files of a report
 abbrev pub most_files : ℕ

@@ -1,5 +1,5 @@
 -- The verdict of the next block.
-use Rattle.std.specs.Prelude.{ℕ, List, [], Option, None, Some, slice_get}
+use Rattle.std.specs.Prelude.{ℕ, List, Option, None, Some, slice_get}
 use Rattle.dsr_events.specs.meaning.Blocks.{BlockParts}
 use Rattle.dsr_ledger.specs.meaning.Files.{File, Filed, filed, summaries_of}
 use Rattle.dsr_ledger.specs.declared.verdict.Verdict.{Verdict}

@@ -1,5 +1,5 @@
 //! Opening a file.
-ghost use Rattle.std.specs.Prelude.{◌≡◌, ◌+◌, ◌<◌, List, [], ◌∷◌, ◌++◌, ℕ, Some, IfOk, length};
+ghost use Rattle.std.specs.Prelude.{◌≡◌, ◌+◌, ◌<◌, List, [], ◌∷◌, ◌++◌, ℕ, Some, IfOk, length, option_map};
 ghost use Rattle.std.specs.List.{list_any};
 ghost use Rattle.dsr_ledger.specs.layer.Limits.{most_files};
 ghost use Rattle.dsr_ledger.specs.meaning.Files.{is_same_report, has_same_number, is_of_report, first_head, standing, summaries_of};
@@ -31,17 +31,27 @@ fn same_report(a: &Head, b: &Head) -> bool
         && a.last_day == b.last_day
 }
 
+/// The head of the first file that has an opening.
+pub(crate) fn first_head(files: &[FileBooks]) -> Option<&Head>
+    ensures { option_map (λ head. head.now) result ≡ first_head (openings_of files.now) }
+{
+    for file in files {
+        if let Some(opening) = &file.opening {
+            return Some(&opening.head);
+        }
+    }
+    None
+}
+
 /// Whether the opening has the key of the report of these files and itself.
 fn is_of_their_report(files: &[FileBooks], opening: &Opening) -> bool
     ensures { result ≡ is_of_report (first_head (openings_of files.now ++ Some opening.now ∷ []))
         opening.now.head }
 {
-    for file in files {
-        if let Some(first) = &file.opening {
-            return same_report(&first.head, &opening.head);
-        }
+    match first_head(files) {
+        Some(first) => same_report(first, &opening.head),
+        None => true,
     }
-    true
 }
 
 /// Whether a file is of the same report as the head and has its file number.
@@ -117,22 +127,13 @@ fn states_of(
     Ok(summaries)
 }
 
-/// The same, for a file that may have no opening.
-fn states_for(
-    ledger: &mut Ledger,
-    alloc: Global,
-    seeded: Seeded,
-    opening: &Option<Opening>,
-) -> Result<Summaries, NoMemory>
-    ensures keeps { KeepsKeys ledger.old ledger.new }
-    ensures sums { IfOk result (λ m. (id : List ℕ)
-        → sums_at m id ≡ found_in (summaries_of opening.now) [] id) }
-    ensures numbers { IfOk result (λ m.
-        AreNumbered ledger.new (summary_key_named (summaries_of opening.now)) m) }
+/// The summaries of a file that may have no opening.
+fn summaries_of(opening: &Option<Opening>) -> &[Summary]
+    ensures { result.now ≡ summaries_of opening.now }
 {
     match opening {
-        Some(opening) => states_of(ledger, alloc, seeded, opening.summaries.as_slice()),
-        None => Ok(Summaries::new(alloc, seeded)),
+        Some(opening) => opening.summaries.as_slice(),
+        None => &[],
     }
 }
 
@@ -156,7 +157,7 @@ pub(crate) fn open_after(
         })) }
 {
     let standing = standing_after(files, &opening);
-    let summaries = states_for(ledger, alloc, seeded, &opening)?;
+    let summaries = states_of(ledger, alloc, seeded, summaries_of(&opening))?;
     Ok(FileBooks {
         place: files.len() as u32 + 1,
         opening,

@@ -44,16 +44,6 @@ impl Summaries {
     ghost use Rattle.indexmap.specs.IndexMap.{index_map_len};
     ghost use Rattle.dsr_ledger.specs.inner.Summaries.{sums_at, number_at, index_at, named};
 
-    /// No summaries.
-    pub(crate) fn new(alloc: Global, seeded: Seeded) -> Summaries
-        ensures { (q : List ℕ) → state_at result q ≡ None }
-    {
-        Summaries {
-            states: IndexMap::with_hasher(alloc, seeded),
-            hints: Hints::new(),
-        }
-    }
-
     /// No summaries, with room for `many`.
     pub(crate) fn with_room(
         alloc: Global,

@@ -21,10 +21,9 @@ fn copy_parties(alloc: Global, view: &[PartyView<'_>]) -> Result<Parties, NoMemo
             party: party.party.copy(alloc)?,
             amount: party.amount,
         };
-        if let Err(refused) = parties.push(line) {
-            drop(refused);
+        let Ok(()) = parties.push(line) else {
             return Err(NoMemory);
-        }
+        };
     }
     Ok(parties)
 }

@@ -1,4 +1,4 @@
-use Rattle.dsr_file.proofs.Common.{◌∙◌, sym, subst, arith, length-drop, common_steps, err_from_is_err_and, Fed}
+use Rattle.dsr_file.proofs.Common.{◌∙◌, sym, subst, arith, length-drop, err_from_is_err_and, Fed}
 use Rattle.dsr_file.proofs.FeedLemmas.{prefix_more, part_run, fed_more, fed_all, fed_some}
 use Rattle.dsr_file.proofs.feeding.feed.Goals as goal
 
@@ -39,9 +39,3 @@ returns-in_err-give_to-clause-refused g c =
     c.loop-sink.used c.take_part-used.result c.loop-sink.file.place c.place-place.result c.take_part-used.new.part c.in_err-give_to.field-0.0
     c.loop-sink.invariant.bound c.take_part-used.ensures.bound c.place-place.ensures.place c.in_err-give_to.ensures.refused
     (c.take_part-used.ensures.stands layout _ _ (c.loop-sink.invariant.stands layout b s)) c.take_part-used.ensures.begins)
-
-pub loop-sink-init : goal.loop-sink-init
-loop-sink-init g c = grind (arith, common_steps)
-
-pub returns-then-not-is_some-clause-name : goal.returns-then-not-is_some-clause-name
-returns-then-not-is_some-clause-name g c = grind (arith, common_steps)

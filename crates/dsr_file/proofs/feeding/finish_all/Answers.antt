@@ -1,4 +1,4 @@
-use Rattle.dsr_file.proofs.Common.{Some, arith, common_steps, err_from_is_err_and, first_ending}
+use Rattle.dsr_file.proofs.Common.{Some, err_from_is_err_and, first_ending}
 use Rattle.dsr_file.proofs.FeedLemmas.{event_run, end_some}
 use Rattle.dsr_file.proofs.feeding.finish_all.Goals as goal
 
@@ -16,6 +16,3 @@ returns-in_err-put-in-Some-clause-refused g c =
     end_some layout c.finish.new.self b (first_ending c.loop-event.file c.args.ending) c.args.ending (g.S.Sink.list c.loop-event.sink)
     (g.S.Sink.list c.put.new.self) c.finish.result c.in_err-put-in-Some.field-0.0 c.in-Some.event c.loop-event.invariant.ending c.in-Some.is
     c.in_err-put-in-Some.ensures.refused c.finish.ensures.begins (c.finish.ensures.stands layout b _ (c.loop-event.invariant.stands layout b s)))
-
-pub loop-event-preserved : goal.loop-event-preserved
-loop-event-preserved g c = grind (arith, common_steps)

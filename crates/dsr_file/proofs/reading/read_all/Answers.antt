@@ -1,4 +1,4 @@
-use Rattle.dsr_file.proofs.Common.{◌≤◌, ◌∙◌, [], refl, subst, arith, take, length, length-take, common_steps, err_from_is_err_and, Consumes, LayoutTable, Stands, AddsRead}
+use Rattle.dsr_file.proofs.Common.{◌≤◌, ◌∙◌, [], refl, subst, arith, take, length, length-take, err_from_is_err_and, Consumes, LayoutTable, Stands, AddsRead}
 use Rattle.dsr_events.specs.declared.fault.Ending.TheVariants.{Whole, Read, Reads}
 use Rattle.dsr_file.proofs.ReadLemmas.{done_ends, no_reads, whole_ends, failed_ends, limit_ends, all_ended, some_ended, fault_read, more_reads, piece_refused, not_done}
 use Rattle.dsr_file.proofs.HoldLemmas.{holding_none, holding_more, holding_kept, holding_given}
@@ -107,9 +107,6 @@ loop-preserved g c =
       held = holding_more told g.R.Source.holds c.args.reader.now c.loop.reader c.read.new.self (take c.in-Ok.n c.read.new.piece) c.loop.invariant.held
           c.in-Ok.ensures.bytes.0 c.in-Ok.ensures.held;
     }
-
-pub returns-in_err-feed-in-Ok-clause-name : goal.returns-in_err-feed-in-Ok-clause-name
-returns-in_err-feed-in-Ok-clause-name g c = grind (arith, common_steps)
 
 pub returns-in_err-feed-in-Ok-clause-held : goal.returns-in_err-feed-in-Ok-clause-held
 returns-in_err-feed-in-Ok-clause-held g c =

@@ -1,4 +1,3 @@
-use Rattle.dsr_file.proofs.Common.{arith, common_steps}
 use Rattle.dsr_file.proofs.ReadLemmas.{fed_done}
 use Rattle.dsr_file.proofs.whole.give_all.Goals as goal
 
@@ -6,6 +5,3 @@ pub returns-then-done : goal.returns-then-done
 returns-then-done g c =
     λ layout b s. fed_done layout c.feed.new.file b c.args.bytes.now (g.S.Sink.list c.feed.new.sink) c.outcome.result c.args.ending
     (c.in_ok-feed.ensures.fed layout b s) c.outcome.ensures
-
-pub returns : goal.returns
-returns g c = grind (arith, common_steps)

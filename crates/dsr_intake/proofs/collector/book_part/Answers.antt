@@ -1,10 +1,10 @@
-use Rattle.dsr_intake.proofs.Common.{subst, Stands}
-use Rattle.dsr_intake.proofs.Rounds.{block_is_set, outcome_changes, on_any, going_books, going_ends}
+use Rattle.dsr_intake.proofs.Common.{add_block, subst, Stands}
+use Rattle.dsr_intake.proofs.Rounds.{file_is_set, outcome_changes, on_any, going_books, going_ends}
 use Rattle.dsr_intake.proofs.collector.book_part.Goals as goal
 
 pub returns-in_ok-book-in-Block-clause-booked : goal.returns-in_ok-book-in-Block-clause-booked
 returns-in_ok-book-in-Block-clause-booked c f files stands at =
-    rw c.in-Block.is (subst (Stands c.book.new.self) (block_is_set files c.args.k f c.in-Block.block at)
+    rw c.in-Block.is (subst (Stands c.book.new.self) (file_is_set (add_block c.in-Block.block) files c.args.k f at)
     (c.in_ok-book-in-Block.ensures.stands files stands).1)
 
 pub returns-else-is_memory-clause-booked : goal.returns-else-is_memory-clause-booked

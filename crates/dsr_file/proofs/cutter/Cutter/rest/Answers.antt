@@ -1,4 +1,4 @@
-use Rattle.dsr_file.proofs.Common.{◌≡◌, ◌++◌, ◌∷◌, [], false, ◌+◌, ◌∙◌, sym, subst, arith, take, take_all, length-append, length-take, common_steps, CutsTo}
+use Rattle.dsr_file.proofs.Common.{◌≡◌, ◌++◌, ◌∷◌, [], false, ◌+◌, ◌∙◌, sym, subst, arith, take, take_all, length-append, length-take, CutsTo}
 use Rattle.dsr_file.proofs.CutLemmas.{more_bytes, none_before, feed_there, fed_line, here_line, within, empty_is}
 use Rattle.dsr_file.proofs.cutter.Cutter.rest.Goals as goal
 
@@ -34,6 +34,3 @@ returns-clause-cut c = λ b ps k.
     let none = none_before c.args.piece.now _ c.line_end-end.ensures.value in
     let there = feed_there c.args.piece.now _ c.line_end-end.ensures.value short in
     rw c.append-2.ensures.bytes (fed_line c.args.self.now.bytes.items b c.args.piece.now ps c.line_end-end.result k none short there)
-
-pub returns-then-is_empty-clause-fits : goal.returns-then-is_empty-clause-fits
-returns-then-is_empty-clause-fits c = grind (arith, common_steps)

@@ -1,4 +1,4 @@
-use Rattle.dsr_file.proofs.Common.{◌+◌, ◌∙◌, sym, ap, refl, option_and_then, record_seen, kept_count_fault}
+use Rattle.dsr_file.proofs.Common.{None, ap, refl, option_and_then, record_seen, kept_count_fault, arith}
 use Rattle.dsr_file.proofs.AddLemmas.{added_good, plain_member}
 use Rattle.dsr_file.proofs.StepLemmas.{fault_free}
 use Rattle.dsr_file.proofs.TestLemmas.{early_steps, early_none}
@@ -26,13 +26,4 @@ returns-clause-steps c = λ ls k.
     let item = record_seen c.args.line in
     let plain = plain_member c.args.self.now.stage item c.requires.member in
     let fits = early_none c.args.self.now ls item k (cc) in
-    added_good c.args.self.now c.count.new.self ls item _ k fits plain.real (record {
-      stage = c.count.ensures.stage ∙ c.in-Ok.ensures.next;
-      given = plain.given;
-      lines = c.count.ensures.lines;
-      records = c.count.ensures.records;
-      skipped_lines = c.count.ensures.skipped_lines;
-      skipped_records = c.count.ensures.skipped_records;
-      summaries = c.count.ensures.summaries ∙ ap (λ n. c.args.self.now.summaries + n) (sym plain.summaries);
-      blocks = c.count.ensures.blocks;
-    }) (ap (option_and_then (kept_count_fault c.count.new.self)) plain.foot)
+    added_good c.args.self.now c.count.new.self ls item None k fits plain.real (grind arith) (ap (option_and_then (kept_count_fault c.count.new.self)) plain.foot)

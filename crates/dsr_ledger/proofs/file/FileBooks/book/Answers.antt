@@ -9,18 +9,8 @@ returns-then-not-seen-clause-ok c = λ d h.
     let noted = λ (q : List ℕ).
     c.add.ensures q ∙ ap (λ x. cond (bytes_eq x q) true (is_in c.take.new.self.ids q)) (c.in_ok-id.ensures ∙ at)
     ∙ ap (cond (bytes_eq b.id q) true) (ap (λ x. is_in x q) c.take.ensures.ids ∙ c.reserve.ensures.same q) in
-    took d f _ b c.in_ok-verdict.verdict c.has-seen.result c.args.ledger.now c.take.new.ledger h c.in_ok-verdict.ensures.verdict
-    (c.has-seen.ensures ∙ ap (is_in f.ids) at) (record {
-      place = t.place;
-      opening = t.opening;
-      standing = t.standing;
-      blocks = t.blocks;
-      summaries = t.summaries;
-      rejects = t.rejects;
-      outcome = t.outcome;
-      tallies = t.tallies;
-      range = t.range;
-    }) noted
+    took d f _ _ _ b c.in_ok-verdict.verdict c.has-seen.result c.args.ledger.now c.take.new.ledger h c.in_ok-verdict.ensures.verdict
+    (c.has-seen.ensures ∙ ap (is_in f.ids) at) t noted
 
 pub returns-else-not-seen-clause-ok : goal.returns-else-not-seen-clause-ok
 returns-else-not-seen-clause-ok c = λ d h.
@@ -29,14 +19,4 @@ returns-else-not-seen-clause-ok c = λ d h.
     let noted = λ (q : List ℕ).
     ap (λ x. is_in x q) c.take.ensures.ids ∙ c.reserve.ensures.same q
     ∙ grind (arith, there, λ (s : bytes_eq b.id q ≡ true). ap (is_in f.ids) (same_text b.id q s)) in
-    took d f c.take.new.self b c.in_ok-verdict.verdict c.has-seen.result c.args.ledger.now c.take.new.ledger h c.in_ok-verdict.ensures.verdict seen (record {
-      place = t.place;
-      opening = t.opening;
-      standing = t.standing;
-      blocks = t.blocks;
-      summaries = t.summaries;
-      rejects = t.rejects;
-      outcome = t.outcome;
-      tallies = t.tallies;
-      range = t.range;
-    }) noted
+    took d f c.take.new.self _ _ b c.in_ok-verdict.verdict c.has-seen.result c.args.ledger.now c.take.new.ledger h c.in_ok-verdict.ensures.verdict seen t noted

@@ -19,12 +19,12 @@ invariant_of-self c =
           (subst (λ ls. AreBelow k (line_keys ls)) (sym c.in_ok-made.ensures.lines) (λ p i e. absurd (cc)));
     }
 
-pub returns-in-Ok-clause-there : goal.returns-in-Ok-clause-there
-returns-in-Ok-clause-there c =
+pub returns-clause-there : goal.returns-clause-there
+returns-clause-there c =
     let m = c.args.self.now.recordings in let isrc = c.args.isrc in let none : index_of bytes_eq m isrc ≡ None = search rules in
     let absent : get bytes_eq m isrc ≡ None = search rules in let long : length m.entries ≡ c.len-number.result = search rules in
     let all : keys c.insert.new.self ≡ keys m ++ isrc ∷ [] =
-    ap (λ es. keys_of es) (c.in-Ok.ensures.entries ∙ insert_entry-new bytes_eq m isrc c.in_ok-made.made absent)
+    ap (λ es. keys_of es) (c.in_ok-_none.ensures.entries ∙ insert_entry-new bytes_eq m isrc c.in_ok-made.made absent)
     ∙ map-append (λ (e : List ℕ × Recording). e.0) m.entries ((isrc, c.in_ok-made.made) ∷ []) in
     ap (position (bytes_eq isrc)) all ∙ place_more bytes_eq bytes_eq-Decides (keys m) isrc isrc none
     ∙ ap (λ b. cond b (Some (length (keys m))) (index_of bytes_eq m isrc)) (text_itself isrc)

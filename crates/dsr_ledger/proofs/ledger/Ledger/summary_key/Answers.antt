@@ -8,7 +8,7 @@ use Rattle.dsr_ledger.proofs.ledger.Ledger.summary_key.Goals as goal
 pub returns-clause-there : goal.returns-clause-there
 returns-clause-there c =
     let l = c.args.self.now in let ks = l.summary_keys.keys in let key = c.args.key in let none : key_number l key ≡ None = search rules in
-    let all : c.insert.new.self.keys ≡ ks ++ key ∷ [] = search rules in let long : length ks ≡ c.in-Ok.number = search rules in
+    let all : c.insert.new.self.keys ≡ ks ++ key ∷ [] = search rules in let long : length ks ≡ c.in_ok-number.number = search rules in
     ap (position (summary_key_eq key)) all ∙ place_more summary_key_eq same_summary_key ks key key none
     ∙ ap (λ b. cond b (Some (length ks)) (key_number l key)) ((same_summary_key key key).1 refl) ∙ ap Some long
 
@@ -27,5 +27,5 @@ returns-clause-keeps c =
 pub returns-in-Some-clause-keeps : goal.returns-in-Some-clause-keeps
 returns-in-Some-clause-keeps c = keys_stay c.args.self.now
 
-pub returns-in_default-to_u32-clause-keeps : goal.returns-in_default-to_u32-clause-keeps
-returns-in_default-to_u32-clause-keeps c = keys_stay c.args.self.now
+pub returns-in_err-number-clause-keeps : goal.returns-in_err-number-clause-keeps
+returns-in_err-number-clause-keeps c = keys_stay c.args.self.now
