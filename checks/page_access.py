@@ -7,7 +7,8 @@ import subprocess
 import time
 
 from page_screen import same, statement_of
-from page_tools import sealed, sealed_lines, written
+from page_tools import sealed, sealed_lines
+from running import put
 
 LINES = 3000
 # What Tab reaches of the example: the links, the box of all decimals, and of each table its search, its button and its grid.
@@ -158,7 +159,7 @@ def booked(lines):
 
 def follow_keys(count, viewer):
     """The keys of the ledger, in a table of which few rows are there at once."""
-    path = written(os.path.join(viewer.room, 'statement.tsv'), sealed_lines(statement_of(booked(LINES))))
+    path = put(os.path.join(viewer.room, 'statement.tsv'), sealed_lines(statement_of(booked(LINES))))
     viewer.open([path])
     browser, run = viewer.browser, viewer.browser.run
     run("document.querySelector('#ledger input').focus()")
@@ -262,7 +263,7 @@ def follow_narrow(count, viewer):
     viewer.search('ledger', 'ada')
     same(count, 'a search at 390 pixels', [it for it in viewer.browser.run(NARROW) if not shas.match(it)], [])
     same(count, 'names and roles at 390 pixels', viewer.browser.run(RULES), [])
-    path = written(os.path.join(viewer.room, 'statement.tsv'), sealed_lines(statement_of(booked(LINES))))
+    path = put(os.path.join(viewer.room, 'statement.tsv'), sealed_lines(statement_of(booked(LINES))))
     viewer.open([path])
     rows = "document.querySelectorAll('#ledger .body .row').length"
     same(count, 'the first lines at 390 pixels', [viewer.browser.run(rows), viewer.text('#ledger .next')], [50, 'Show more of 2 950 lines'])
@@ -274,7 +275,7 @@ def follow_narrow(count, viewer):
 def follow_print(count, viewer):
     """On paper: the names of the columns on each page, the lines that the screen shows or how many are left out, and for what was searched."""
     browser, run = viewer.browser, viewer.browser.run
-    path = written(os.path.join(viewer.room, 'statement.tsv'), sealed_lines(statement_of(booked(LINES))))
+    path = put(os.path.join(viewer.room, 'statement.tsv'), sealed_lines(statement_of(booked(LINES))))
     viewer.open([path])
     rows = "(dispatchEvent(new Event('beforeprint')), document.querySelectorAll('#ledger .body .row').length)"
     same(count, 'the rows for the printer', [run(rows), run("document.querySelector('#ledger .more').textContent")],
@@ -300,7 +301,7 @@ def follow_paper(count, viewer):
     """Lines with many cells, or long ones, are on the paper as a whole."""
     cells = '\t'.join(f'cell{at}' for at in range(67))
     text = f'HEAD\tR1\t1\t1\t2024-01-01\t2024-01-31\t{"Sender " * 30}\t{"x" * 400}\nSY01\tS1\tGB\tStream\tGBP\t2\t2\nAS01\t{cells}\n'
-    viewer.open(['-', written(os.path.join(viewer.room, 'in1.tsv'), text)], given=sealed([text.encode()]).encode())
+    viewer.open(['-', put(os.path.join(viewer.room, 'in1.tsv'), text)], given=sealed([text.encode()]).encode())
     viewer.browser.show(718, media='print')
     wide = "[document.documentElement.scrollWidth, [...document.querySelectorAll('td, th')].filter(it => it.getBoundingClientRect().right > 719).length]"
     same(count, 'lines on paper', viewer.browser.run(wide), [718, 0])
@@ -312,7 +313,7 @@ def printed(viewer):
     content = base64.b64decode(viewer.browser.ask('Page.printToPDF')['data'])
     if not shutil.which('pdftotext'):
         return None
-    path = written(os.path.join(viewer.room, 'page.pdf'), content)
+    path = put(os.path.join(viewer.room, 'page.pdf'), content)
     return subprocess.run(['pdftotext', '-layout', path, '-'], capture_output=True, check=True).stdout.decode()
 
 

@@ -6,7 +6,8 @@ import os
 import re
 import time
 
-from page_tools import HERE, content_of, of_page, sealed
+from page_tools import EXAMPLE, content_of, example, of_page, sealed
+from running import TOP, put
 
 REPORT = ['REPORT', 'R1', '1', '2024-01-01', '2024-01-31', '31']
 HOSTILE = ['<img src=x onerror=alert(1)>', '</script><script>window.hurt = 1</script>', '<!-- <script>', '&lt;b&gt; &amp; "quoted"',
@@ -30,7 +31,7 @@ class Viewer:
         self.tools = tools
         self.room = room
 
-    def open(self, words, folder=HERE, given=None):
+    def open(self, words, folder=TOP, given=None):
         """Makes a page and opens it; answers the seconds that the opening took."""
         path = os.path.join(self.room, 'page.html')
         with open(path, 'wb') as out:
@@ -40,9 +41,7 @@ class Viewer:
         return self.browser.open(path)
 
     def open_example(self):
-        folder = os.path.join(HERE, 'examples/report')
-        statement = sealed([content_of(os.path.join(folder, f'{at}.tsv')) for at in (1, 2, 3)])
-        self.open(['-', '1.tsv', '2.tsv', '3.tsv'], folder, statement.encode())
+        self.open(['-', '1.tsv', '2.tsv', '3.tsv'], EXAMPLE, example().encode())
 
     def text(self, selector):
         return self.browser.run(f'[...document.querySelectorAll({selector!r})].map(it => it.innerText.replace(/\\s+/g, " ").trim()).join("\\n")')
@@ -88,7 +87,7 @@ class Viewer:
 
 
 def same(count, name, found, wanted):
-    count.check(name, [] if found == wanted else [f'{found!r} instead of {wanted!r}'])
+    count.equal(name, wanted, found)
 
 
 def statement_of(booked, files=('FILE\t1\t1\tOurs\t1\tWhole',), rejects=()):
@@ -198,8 +197,7 @@ def follow_hostile(count, viewer):
              'AS01\t2\tGBABC2400001\t=Song|<i>x</i>\tBand', f'MW01\t2\tW1\tSong\t{parties}\t{"|".join(str(at % 5) for at in range(len(HOSTILE)))}',
              'SU01\t2\tS1\t1\t1', 'FOOT\t9\t1\t2']
     text = ('\n'.join(lines) + '\n').encode()
-    with open(os.path.join(viewer.room, name), 'wb') as out:
-        out.write(text)
+    put(os.path.join(viewer.room, name), text)
     viewer.browser.show(height=1600)
     viewer.open(['-', name], viewer.room, sealed([text]).encode())
     run = viewer.browser.run

@@ -7,7 +7,8 @@ import subprocess
 import tempfile
 
 import case_files
-from page_tools import HERE, content_of, of_page, reports, sealed, second, text_of, written
+from page_tools import EXAMPLE, content_of, example, of_page, reports, sealed, second
+from running import TOP, content, put, text_of
 
 CASES = case_files.placed()
 REPORTS = 400
@@ -96,22 +97,22 @@ def follow_cases(count, tools):
             count.check(name, problems)
 
 
+def has(count, name, text, *wanted):
+    """Checks that a text has these."""
+    count.check(name, [f'no {it!r} in {text}' for it in wanted if it not in text])
+
+
 def follow_marks(count, tools):
     """The line of a fault with its cell in brackets, and its entry."""
-    def told(name, *words):
-        _, folder, rest, statement = next(it for it in cases() if it[0] == name)
-        return tools.run('dsr_explain', [*words, *rest], folder, statement.encode())[1]
-    text = told('space_before_a_number')
-    wanted = ['     5  SU01    1        S1               10      [<U+0020>0.5]', '  Meaning: A cell is not spelled as its column says']
-    count.check('the marked cell', [f'no {line!r} in {text}' for line in wanted if line not in text])
-    text = told('latin_1')
-    count.check('a byte that is not UTF-8', [] if '[Caf\\xe9]' in text else [text])
-    text = told('cut_after_record_type')
-    count.check('a missing cell', [] if '6  AS01    [BlockId is missing]' in text else [text])
-    count.check('a file that was cut off', [] if 'it may have been cut off here' in text else [text])
+    def told(name):
+        _, folder, words, statement = next(it for it in cases() if it[0] == name)
+        return tools.run('dsr_explain', words, folder, statement.encode())[1]
+    has(count, 'the marked cell', told('space_before_a_number'), '     5  SU01    1        S1               10      [<U+0020>0.5]', '  Meaning: A cell is not spelled as its column says')
+    has(count, 'a byte that is not UTF-8', told('latin_1'), '[Caf\\xe9]')
+    has(count, 'a missing cell of a file that was cut off', told('cut_after_record_type'), '6  AS01    [BlockId is missing]', 'it may have been cut off here')
     text = told('shares_without_parties')
-    count.check('a file that was not cut off', [] if 'cut off here' not in text and '2 parties, 1 shares' in text else [text])
-    count.check('each party beside its share', [] if '                50  P1\n                 ?  P2\n' in text else [text])
+    has(count, 'each party beside its share', text, '2 parties, 1 shares', '                50  P1\n                 ?  P2\n')
+    count.check('a file that was not cut off', [text] if 'cut off here' in text else [])
 
 
 # ------------------------------------------------------------ refusals
@@ -141,22 +142,27 @@ def spoilt_statements(whole):
         yield f'cut in line {at + 1}', ''.join(lines[:at]) + lines[at][:len(lines[at]) // 2], cut
 
 
+def refusal(tools, tool, words, wanted, folder=TOP, given=None):
+    """What is wrong if a tool does not refuse these words with a line that has this expression."""
+    status, told, error = tools.run(tool, words, folder, given)
+    right = status == 1 and not told and re.match(f'{tool}: ', error) and re.search(wanted, error)
+    return [] if right else [f'status {status}, {told[:80]!r}, {error!r}']
+
+
 def follow_refusals(count, tools):
     folder = os.path.join(CASES, 'clean_report')
     whole = sealed([content_of(os.path.join(folder, 'in1.tsv'))])
 
     def refused(thing):
         tool, name, text, wanted = thing
-        status, told, error = tools.run(tool, ['-', 'in1.tsv'], folder, text.encode())
-        right = status == 1 and not told and re.match(f'{tool}: ', error) and re.search(wanted, error)
-        return f'{tool}: a statement {name}', [] if right else [f'status {status}, {told[:80]!r}, {error!r}']
+        return f'{tool}: a statement {name}', refusal(tools, tool, ['-', 'in1.tsv'], wanted, folder, text.encode())
     things = [(tool, *spoilt) for spoilt in spoilt_statements(whole) for tool in ('dsr_page', 'dsr_explain')]
     for name, problems in at_once(refused, things):
         count.check(name, problems)
     status, told, error = tools.run('dsr_page', ['--unsealed', '-', 'in1.tsv'], folder, ''.join(whole.splitlines(True)[:8]).encode())
     count.check('--unsealed', [] if status == 0 and 'Without a seal' in told else [error])
-    status, told, error = tools.run('dsr_explain', ['--unsealed', '-', 'in1.tsv'], folder, ''.join(whole.splitlines(True)[:9]).encode())
-    count.check('--unsealed does not take what is cut in its seal', [] if status == 1 and re.search('cut off|Cut', error) else [error])
+    cut = refusal(tools, 'dsr_explain', ['--unsealed', '-', 'in1.tsv'], 'cut off|Cut', folder, ''.join(whole.splitlines(True)[:9]).encode())
+    count.check('--unsealed does not take what is cut in its seal', cut)
 
 
 def follow_files(count, tools):
@@ -164,10 +170,10 @@ def follow_files(count, tools):
     block = b'AS01\t9\tGBABC2400009\tNew\tBand\nSU01\t9\tS1\t1\t1\n'
     with tempfile.TemporaryDirectory() as room:
         texts = [content_of(os.path.join(CASES, 'missing_and_doubled_files', f'in{at}.tsv'))[0] for at in (1, 2, 3)]
-        paths = [written(os.path.join(room, f'{at}.tsv'), text) for at, text in enumerate(texts, 1)]
+        paths = [put(os.path.join(room, f'{at}.tsv'), text) for at, text in enumerate(texts, 1)]
         statement = sealed(texts).encode()
-        inserted = written(os.path.join(room, 'inserted.tsv'), texts[0].replace(b'FOOT', block + b'FOOT'))
-        longer = written(os.path.join(room, 'longer.tsv'), texts[1] + b'\n')
+        inserted = put(os.path.join(room, 'inserted.tsv'), texts[0].replace(b'FOOT', block + b'FOOT'))
+        longer = put(os.path.join(room, 'longer.tsv'), texts[1] + b'\n')
         for name, files, wanted in (
                 ('a block that was inserted after the run', [inserted, *paths[1:]], r'inserted\.tsv: these are not the bytes of file 1.*[0-9a-f]{64}'),
                 ('a line feed more at the end', [paths[0], longer, paths[2]], r'longer\.tsv: these are not the bytes of file 2'),
@@ -175,19 +181,17 @@ def follow_files(count, tools):
                 ('a file that is not there', [*paths[:2], os.path.join(room, 'none.tsv')], r'cannot read .*none\.tsv'),
                 ('one file of three', paths[:1], 'the statement has 3 files, but 1 are named')):
             for tool in ('dsr_page', 'dsr_explain'):
-                status, told, error = tools.run(tool, ['-', *files], given=statement)
-                count.check(f'{tool}: {name}', [] if status == 1 and not told and re.search(wanted, error) else [f'status {status}, {error!r}'])
-        layout = content_of(os.path.join(HERE, 'examples', 'layout.tsv'))[0]
-        other = written(os.path.join(room, 'layout.tsv'), layout + b'# another\n')
+                count.check(f'{tool}: {name}', refusal(tools, tool, ['-', *files], wanted, given=statement))
+        layout = content_of(os.path.join(TOP, 'examples', 'layout.tsv'))[0]
+        other = put(os.path.join(room, 'layout.tsv'), layout + b'# another\n')
         laid = sealed(texts, layout).encode()
         for name, words, given, wanted in (
                 ('without its layout', [], laid, 'give it by --layout'),
                 ('with another layout', ['--layout', other], laid, 'not the bytes of the layout'),
                 ('with a layout that was not given', ['--layout', other], statement, 'read without a layout')):
-            status, told, error = tools.run('dsr_explain', [*words, '-', *paths], given=given)
-            count.check(name, [] if status == 1 and not told and wanted in error else [f'status {status}, {error!r}'])
+            count.check(name, refusal(tools, 'dsr_explain', [*words, '-', *paths], wanted, given=given))
         faulty = b'HEAD\tR1\n' + b'#' * 5000
-        path = written(os.path.join(room, 'faulty.tsv'), faulty + b'changed behind what was read')
+        path = put(os.path.join(room, 'faulty.tsv'), faulty + b'changed behind what was read')
         status, told, error = tools.run('dsr_explain', ['-', path], given=sealed([faulty]).encode())
         count.check('bytes behind what was read of a file with a fault', [] if status == 0 else [error])
 
@@ -198,9 +202,8 @@ def follow_unsealed(count, tools):
     for files, wanted in ((['in2.tsv', 'in1.tsv', 'in3.tsv'], 'name the files that dsr was given, in their order'),
                           (['in1.tsv'], 'the statement has 3 files, but 1 are named'),
                           (['in1.tsv', 'in2.tsv', 'none.tsv'], 'cannot read none.tsv'),
-                          (['in1.tsv', 'in2.tsv', '../foreign_file/in1.tsv'], 'File 3 (../foreign_file/in1.tsv)')):
-        status, told, error = tools.run('dsr_page', ['--unsealed', 'expected', *files], folder)
-        count.check(f'files without a seal {files}', [] if status == 1 and not told and wanted in error else [f'status {status}, {error!r}'])
+                          (['in1.tsv', 'in2.tsv', '../foreign_file/in1.tsv'], r'File 3 \(../foreign_file/in1.tsv\)')):
+        count.check(f'files without a seal {files}', refusal(tools, 'dsr_page', ['--unsealed', 'expected', *files], wanted, folder))
 
 
 # ------------------------------------------------------------ what is told of a report
@@ -215,7 +218,7 @@ def read_here(texts, layout, room):
         else:
             found.take(*raw[:-1].decode().split('\t'))
     found.seal.end(found, False)
-    names = [written(os.path.join(room, f'{at}.tsv'), text) for at, text in enumerate(texts, 1)]
+    names = [put(os.path.join(room, f'{at}.tsv'), text) for at, text in enumerate(texts, 1)]
     report = report_of.Report(found, names, layouts.Layout(layout))
     for file in report.files:
         report.read_file(file, lambda *block: None)
@@ -262,7 +265,7 @@ def compare_report(number, room):
             yield f'report {number}, file {file.line.place}: {reasons}'
 
 
-def follow_reports(count):
+def follow_reports(count, tools):
     """Generated reports: their first faults, their reasons and what was left out, as the second program has them."""
     with tempfile.TemporaryDirectory() as room:
         problems = [text for number in range(REPORTS) for text in compare_report(number, room)]
@@ -274,7 +277,7 @@ def follow_all(count, tools):
     text = HEAD + ('AS01\t1\tGBABC2400001\tSong\tBand\nSU01\t1\tS1\t1\t1,5\nAS01\t2\tGB-ABC-24-1\tSong\tBand\nSU01\t2\tS1\t1.5\t2\n'
                    'AS01\t3\tGBABC24-0003\tSong\tBand\nSU01\t3\tS1\t3\t3\nSY01\tS2\tGB\tStream\tEUR\t1\t1\nFOOT\t9\t1\t7\n')
     with tempfile.TemporaryDirectory() as room:
-        path = written(os.path.join(room, 'in1.tsv'), text)
+        path = put(os.path.join(room, 'in1.tsv'), text)
         statement = sealed([text.encode()]).encode()
         told = tools.run('dsr_explain', ['--all', '-', path], given=statement)[1]
         letter = tools.run('dsr_explain', ['--letters', '-', path], given=statement)[1]
@@ -285,7 +288,7 @@ def follow_all(count, tools):
     count.check('what follows is a guess', [] if 'What follows is a guess' in told and 'after its first fault' not in plain else [told])
     wanted = ['In file number 1 of 1 (which we have as in1.tsv, ', 'Line 4, column Amount (cell 5 of the line): 1,5', 'a point and at most ten digits', 'A guess: It looks as if the number has a decimal comma.',
               '3 recordings with 3 usages and GBP 3.00, as far as the lines can be read', 'As a guess, also line 6, column Usages']
-    count.check('the letter has them', [f'no {it!r} in {letter}' for it in wanted if it not in letter])
+    has(count, 'the letter has them', letter, *wanted)
 
 
 def follow_left(count, tools):
@@ -293,7 +296,7 @@ def follow_left(count, tools):
     blocks = ''.join(f'AS01\t{at}\t\tSong\tBand\nSU01\t{at}\tS1\t2\t10\n' for at in range(5000))
     text = f'{HEAD}{blocks}FOOT\t10003\t1\t5000\n'
     with tempfile.TemporaryDirectory() as room:
-        path = written(os.path.join(room, 'in1.tsv'), text)
+        path = put(os.path.join(room, 'in1.tsv'), text)
         statement = sealed([text.encode()]).encode()
         page = tools.run('dsr_page', ['-', path], given=statement)[1]
         told = tools.run('dsr_explain', ['-', path], given=statement)[1]
@@ -305,9 +308,7 @@ def follow_left(count, tools):
 
 def follow_letter(count, tools):
     """The letter on a file of the example, as it is."""
-    folder = os.path.join(HERE, 'examples/report')
-    statement = sealed([content_of(os.path.join(folder, f'{at}.tsv')) for at in (1, 2, 3)])
-    letters = tools.run('dsr_explain', ['--letters', '-', '1.tsv', '2.tsv', '3.tsv'], folder, statement.encode())[1].split(f'\n{"-" * 72}\n\n')
+    letters = tools.run('dsr_explain', ['--letters', '-', '1.tsv', '2.tsv', '3.tsv'], EXAMPLE, example().encode())[1].split(f'\n{"-" * 72}\n\n')
     wanted = """1. Line 6, column Isrc (cell 3 of the line): it is empty (recording 2, BlockId 2)
    Expected: an ISRC of twelve characters without hyphens: two capital letters, three capital letters or digits, seven digits, such as GBAYE0601498
    What waits for it: 1 recording with 10 usages and GBP 7.10.
@@ -332,7 +333,7 @@ def follow_terminal(count, tools):
         f'AS01\t1\t{hostile}\tSong\tBand\nMW01\t1\tW\t{hostile}\t{parties}\t40|30|20|10\nSU01\t1\tS1\t1\t1\n'
         f'AS01\t2\tGBABC2400001\tSong\tBand\nMW01\t2\tW\tT\t{parties}\t40|30|20|10\nSU01\t2\tS1\t1\t1\nFOOT\t9\t1\t2\n{hostile}\n')
     with tempfile.TemporaryDirectory() as room:
-        written(os.path.join(room, name), text)
+        put(os.path.join(room, name), text)
         statement = sealed([text.encode()]).encode()
         runs = [tools.run('dsr_explain', words, room, statement) for words in (['--all', '-', name], ['--letters', '-', name], ['-', name])]
         runs += [tools.run(tool, words, room, statement[:-3]) for tool in ('dsr_explain', 'dsr_page') for words in (
@@ -343,10 +344,10 @@ def follow_terminal(count, tools):
     told = runs[0][1]
     wanted = ['[<U+001B>[2J<U+202E>GB<U+009B><U+007F><U+200B><U+2066>]', '(a<U+001B>[2J<U+202E><U+200B>.tsv)', '        40  Ada<U+00A0>  (looks like another',
               '        30  \u05d0\u05d1\u05d2\n', '        10  Ada  (looks like another', 'Parties that look alike, and are paid each by itself: [Ada], [Ada<U+00A0>]']
-    count.check('characters that are written out', [f'no {it!r} in {told}' for it in wanted if it not in told])
+    has(count, 'characters that are written out', told, *wanted)
 
 
-def follow_alike(count):
+def follow_alike(count, tools):
     """Names that look alike."""
     names = of_page('names')
     groups = [['Ada Hart', '\u0410da Hart', 'Ada\u200b Hart', 'Ada  Hart', 'Ada Hart\xa0', 'ADA HART'], ['O\u2019Neil', "O'Neil"], ['Zo\xeb', 'Zoe\u0308'],
@@ -357,32 +358,32 @@ def follow_alike(count):
 
 def follow_program(count, tools, program):
     """From the files of a report to its page and its letters by the programs alone; and nothing of files that have changed since."""
-    for title, layout in (('with the standard layout', []), ('with a layout', ['--layout', os.path.join(HERE, 'examples/layout.tsv')])):
+    names = [f'{at}.tsv' for at in (1, 2, 3)]
+    layout = os.path.join(TOP, 'examples/layout.tsv')
+    for title, words in (('with the standard layout', []), ('with a layout', ['--layout', layout])):
         with tempfile.TemporaryDirectory() as room:
-            names = [f'{at}.tsv' for at in (1, 2, 3)]
             for name in names:
-                written(os.path.join(room, name), content_of(os.path.join(HERE, 'examples/report', name))[0])
-            run = subprocess.run([program, '--seal', '--output', 'statement.tsv', *layout, *names], cwd=room, capture_output=True)
-            wanted = sealed([content_of(os.path.join(room, name)) for name in names], content_of(layout[1])[0] if layout else None)
-            found = content_of(os.path.join(room, 'statement.tsv'))[0].decode()
+                put(os.path.join(room, name), content(EXAMPLE, name))
+            run = subprocess.run([program, '--seal', '--output', 'statement.tsv', *words, *names], cwd=room, capture_output=True)
+            wanted = sealed([content(EXAMPLE, name) for name in names], content(layout) if words else None)
+            found = text_of(room, 'statement.tsv')
             count.check(f'a sealed statement {title}', [] if run.returncode == 1 and found == wanted else [run.stderr, found])
-            status, page, error = tools.run('dsr_page', [*layout, 'statement.tsv', *names], room)
+            status, page, error = tools.run('dsr_page', [*words, 'statement.tsv', *names], room)
             count.check(f'its page {title}', [] if status == 0 and 'Without a seal' not in page and page.endswith('</html>\n') else [error])
-            status, letters, error = tools.run('dsr_explain', ['--letters', *layout, 'statement.tsv', *names], room)
+            status, letters, error = tools.run('dsr_explain', ['--letters', *words, 'statement.tsv', *names], room)
             count.check(f'its letters {title}', [] if status == 0 and 'Line 6, column Isrc' in letters else [error, letters])
-            written(os.path.join(room, '2.tsv'), content_of(os.path.join(room, '2.tsv'))[0].replace(b'Band', b'Bond', 1) + b'#\n')
+            put(os.path.join(room, '2.tsv'), content(room, '2.tsv').replace(b'Band', b'Bond', 1) + b'#\n')
             for tool in ('dsr_page', 'dsr_explain'):
-                status, told, error = tools.run(tool, [*layout, 'statement.tsv', *names], room)
-                count.check(f'{tool}: a file that has changed {title}', [] if status == 1 and not told and '2.tsv: these are not the bytes of' in error else [error])
-    status, told, error = tools.run('dsr_page', ['--layout', layout[1], '-'], given=b'')
-    count.check('nothing at all', [] if status == 1 and not told else [error])
+                changed = refusal(tools, tool, [*words, 'statement.tsv', *names], '2.tsv: these are not the bytes of', room)
+                count.check(f'{tool}: a file that has changed {title}', changed)
+    count.check('nothing at all', refusal(tools, 'dsr_page', ['--layout', layout, '-'], '', given=b''))
 
 
 def follow_broken(count, tools):
     """An output that takes only a part, though Python has no buffer, is no page; what is closed, or no layout, is named in a line."""
     with tempfile.TemporaryDirectory() as room:
-        path = written(os.path.join(room, 'statement.tsv'), sealed([content_of(os.path.join(HERE, 'examples/report/1.tsv'))[0]]))
-        bad = written(os.path.join(room, 'layout.tsv'), 'HEAD\tHEAD\tone\n')
+        path = put(os.path.join(room, 'statement.tsv'), sealed([content(EXAMPLE, '1.tsv')]))
+        bad = put(os.path.join(room, 'layout.tsv'), 'HEAD\tHEAD\tone\n')
         for tool in ('dsr_page', 'dsr_explain'):
             for title, words, told in (
                     *([('a disk that takes a part', f'ulimit -f 20; "$0" {path} > {room}/out', 'File too large')] if tool == 'dsr_page' else []),
@@ -391,22 +392,13 @@ def follow_broken(count, tools):
                     ('a closed input', '"$0" - <&-', 'standard input is closed'),
                     ('a bad layout', f'"$0" --layout {bad} {path}', f'{bad} is not a layout: `dsr --layout` says which line is wrong'),
                     ('a layout that is not there', f'"$0" --layout {room}/none {path}', f'{room}/none: No such file or directory')):
-                run = subprocess.run(['bash', '-c', words, os.path.join(HERE, 'page', tool)], capture_output=True, text=True, timeout=60,
+                run = subprocess.run(['bash', '-c', words, os.path.join(TOP, 'page', tool)], capture_output=True, text=True, timeout=60,
                                      env={**tools.environment, 'PYTHONUNBUFFERED': '1'})
                 ends = (run.returncode, run.stderr) == (1, f'{tool}: {told}\n')
                 count.check(f'{tool}: {title}', [] if ends else [run.returncode, run.stderr])
 
 
 def follow_texts(count, tools):
-    follow_broken(count, tools)
-    follow_cases(count, tools)
-    follow_marks(count, tools)
-    follow_refusals(count, tools)
-    follow_files(count, tools)
-    follow_unsealed(count, tools)
-    follow_reports(count)
-    follow_all(count, tools)
-    follow_left(count, tools)
-    follow_letter(count, tools)
-    follow_terminal(count, tools)
-    follow_alike(count)
+    for follow in (follow_broken, follow_cases, follow_marks, follow_refusals, follow_files, follow_unsealed, follow_reports, follow_all, follow_left, follow_letter,
+                   follow_terminal, follow_alike):
+        follow(count, tools)

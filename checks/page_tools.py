@@ -5,23 +5,15 @@ import subprocess
 import sys
 import tempfile
 
-HERE = os.path.dirname(os.path.dirname(os.path.abspath(__file__)))
-PAGE = os.path.join(HERE, 'page')
-PLAIN = os.path.join(HERE, 'checks', 'plain')
+from running import TOP, content
+
+PAGE = os.path.join(TOP, 'page')
 PIECE = 4096
-
-
-def second_program():
-    """The modules of the second program, which have names that those of the page have too."""
-    sys.path.insert(0, PLAIN)
-    found = importlib.import_module('statement'), importlib.import_module('reports')
-    sys.path.remove(PLAIN)
-    for name in ('statement', 'files', 'totals'):
-        sys.modules.pop(name, None)
-    return found
-
-
-second, reports = second_program()
+EXAMPLE = os.path.join(TOP, 'examples', 'report')
+# the modules of the second program, which have names that those of the page have too
+second, reports = importlib.import_module('statement'), importlib.import_module('reports')
+for name in ('statement', 'files', 'totals'):
+    sys.modules.pop(name, None)
 
 
 def of_page(name):
@@ -39,25 +31,19 @@ class Tools:
         os.symlink(os.path.abspath(totals), os.path.join(self.room.name, 'dsr_totals'))
         self.environment = {**os.environ, 'PATH': f'{self.room.name}:{os.environ["PATH"]}'}
 
-    def run(self, tool, words, folder=HERE, given=None, out=subprocess.PIPE):
+    def run(self, tool, words, folder=TOP, given=None, out=subprocess.PIPE):
         """The status, output and standard error of a program of the page."""
         run = subprocess.run([os.path.join(PAGE, tool), *words], cwd=folder, input=given, stdout=out, stderr=subprocess.PIPE,
                              timeout=900, env=self.environment)
         return run.returncode, (run.stdout or b'').decode(), run.stderr.decode()
 
 
-def text_of(path):
-    with open(path, encoding='utf-8') as file:
-        return file.read()
-
-
 def content_of(path, most=None):
     """The bytes of a file and how it ends for a program with this limit of reads."""
     if os.path.isdir(path):
         return b'', 'Read'
-    with open(path, 'rb') as file:
-        content = file.read()
-    return (content[:PIECE * most], 'Reads') if most and len(content) > PIECE * (most - 1) else (content, 'Whole')
+    text = content(path)
+    return (text[:PIECE * most], 'Reads') if most and len(text) > PIECE * (most - 1) else (text, 'Whole')
 
 
 def sealed(texts, layout=None):
@@ -74,8 +60,6 @@ def sealed_lines(lines):
     return f'{text}INPUT\t1\t0\t{nothing}\nEND\t{count + 1}\t{status}\n'
 
 
-def written(path, content):
-    """The path of a file with this content."""
-    with open(path, 'wb') as out:
-        out.write(content if isinstance(content, bytes) else content.encode())
-    return path
+def example():
+    """The sealed statement of the files of examples/report."""
+    return sealed([content(EXAMPLE, f'{at}.tsv') for at in (1, 2, 3)])

@@ -147,6 +147,11 @@ def asked(about, *programs, **options):
     return parser.parse_args()
 
 
+def built(crate):
+    """The path of a crate's program, or of its tests, as checks/built finds or builds it."""
+    return subprocess.run([os.path.join(CHECKS, 'built'), crate], stdout=subprocess.PIPE, check=True, text=True).stdout.strip()
+
+
 def report(blocks, message='R1', file=1, files=1, days=('2024-01-01', '2024-01-31'), stated='0\t0', names=None):
     """The bytes of a file with these blocks, each its ISRC, its parties and shares as cells, or none, and its usages with their amounts."""
     lines = ['\t'.join(['HEAD', message, str(file), str(files), *days]), f'SY01\tS1\tGB\tStream\tGBP\t{stated}']

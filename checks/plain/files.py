@@ -4,15 +4,14 @@ import io
 import os
 import secrets
 import sys
+from dataclasses import dataclass
 
 
+@dataclass
 class Answered(Exception):
     """The program's answer is an exit status and a line on standard error."""
-
-    def __init__(self, status, line):
-        super().__init__(status, line)
-        self.status = status
-        self.line = line
+    status: int
+    line: bytes
 
 
 class Folder(io.RawIOBase):

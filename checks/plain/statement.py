@@ -13,6 +13,7 @@ import hashlib
 import os
 import re
 import sys
+from dataclasses import dataclass
 
 from files import Answered, ending_with, inputs_named, open_input, opened, print_to
 
@@ -40,22 +41,18 @@ COLUMNS = {
 }
 
 
+@dataclass
 class Fault(Exception):
     """A fault of a file: its name, and the column after MissingCell and BadCell."""
-
-    def __init__(self, name, column=None):
-        super().__init__(name, column)
-        self.name = name
-        self.column = column
+    name: str
+    column: str = None
 
 
+@dataclass
 class LayoutFault(Exception):
     """A fault of a layout, at a line."""
-
-    def __init__(self, line, name):
-        super().__init__(line, name)
-        self.line = line
-        self.name = name
+    line: int
+    name: str
 
 
 class Bad(Exception):
@@ -219,9 +216,7 @@ class Layout:
     """The role of each record type, the positions of each role's columns, and the types that are skipped."""
 
     def __init__(self, content):
-        self.roles = {}
-        self.positions = {}
-        self.skipped = set()
+        self.roles, self.positions, self.skipped = {}, {}, set()
         if len(content) > MOST_LAYOUT:
             raise LayoutFault(1, 'Large')
         lines = cut(content, True)
@@ -313,10 +308,7 @@ AFTER = {'HEAD': 1, 'SY': 1, 'AS': 2, 'MW': 2, 'SU': 3, 'FOOT': 4}
 
 class Block:
     def __init__(self, resource):
-        self.id = resource['BlockId']
-        self.isrc = resource['Isrc']
-        self.works = []
-        self.usages = []
+        self.id, self.isrc, self.works, self.usages = resource['BlockId'], resource['Isrc'], [], []
 
     def records(self):
         return 1 + len(self.works) + len(self.usages)
@@ -327,17 +319,9 @@ class File:
     was read of it."""
 
     def __init__(self, layout, content, ending):
-        self.layout = layout
-        self.was_read = content
-        self.head = None
-        self.summaries = []
-        self.opened = False
-        self.blocks = []
-        self.block = None
-        self.place = 0
-        self.records = 0
-        self.skipped_lines = 0
-        self.fault = None
+        self.layout, self.was_read, self.head, self.block, self.fault = layout, content, None, None, None
+        self.summaries, self.blocks, self.opened = [], [], False
+        self.place = self.records = self.skipped_lines = 0
         lines = cut(content, ending == 'Whole')
         for at, line in enumerate(lines, 1):
             try:

@@ -35,17 +35,11 @@ NAMED = {
 }
 
 
+@dataclass
 class Refused(Exception):
     """A statement is refused: the line and the fault."""
-
-    def __init__(self, line, fault):
-        super().__init__(line, fault)
-        self.line = line
-        self.fault = fault
-
-
-class OutOfRange(Exception):
-    """A total leaves the range of 128 bits."""
+    line: int
+    fault: str
 
 
 # ------------------------------------------------------------ spellings
@@ -159,15 +153,10 @@ class Reader:
     """Reads one statement, and hands each line of its ledger to `add`, as its kind and its values."""
 
     def __init__(self, rules, add):
-        self.rules = rules
-        self.add = add
-        self.lines = 0
-        self.kind = None
+        self.rules, self.add = rules, add
+        self.lines = self.rest = 0
+        self.kind = self.ledger = self.report = self.remark = None
         self.last = {}
-        self.ledger = None
-        self.rest = 0
-        self.report = None
-        self.remark = None
 
     def read(self, file):
         while line := next_line(file, self.lines + 1):
@@ -270,10 +259,7 @@ class Totals:
     """The running sums: of each currency usages, amount, claimed and unclaimed; of each market; of each party."""
 
     def __init__(self):
-        self.currencies = {}
-        self.markets = {}
-        self.parties = {}
-        self.out_of_range = False
+        self.currencies, self.markets, self.parties, self.out_of_range = {}, {}, {}, False
 
     def adder(self, sign):
         """Adds a line of a ledger, or subtracts it."""

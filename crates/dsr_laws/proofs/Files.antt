@@ -1,5 +1,5 @@
 -- What the file of a text has: its opening, its blocks and its outcome.
-use Rattle.dsr_laws.proofs.Common.{AllByRecursion, AllGood, AreFew, At, BlockParts, Bool, Ending, Err, EventPart, FileFault, First, Holds, IsUtf8-from_is_utf8, Kind, LayoutTable, List, None, Ok, OpeningParts, Option, Outcome, Reading, Record, RecordFault, Result, SkippedLine, Some, [], and_parts, arith, block_limit, block_of, but_last, closed, column, cond_both, cons_option, count_by, count_by-le-length, count_fault, counts_fault, drop, each_append, each_map, each_weaker, early_fault, events, events_of, fault_if, filter_map, first_from, first_if, has_id, is_identifier_text, is_left_out, is_line_feed, is_long, is_skipped_line, is_skipped_record, is_utf8, kept, last_is_line, last_of, leb-true, length, length-append, length-drop, length-slice_split, length-take, lines, lines_among, list_all, list_any, ltb-false, map, of_record, of_text, of_utf8, onto_first, opened, opening_of, opens, option_to_list, or_else, outcome, outcome_at, parts, pieces, place, reading, record_of, records, refl, suc, summaries, take, taken, true, usages, without_mark, without_return, works, works_then_usages, zero, ℕ, ◌&&◌, ◌++◌, ◌+◌, ◌-◌, ◌<◌, ◌^◌, ◌∷◌, ◌≡◌, ◌≤◌}
+use Rattle.dsr_laws.proofs.Common.{AllByRecursion, AllGood, AreFew, At, BlockParts, Bool, Ending, Err, EventPart, FileFault, First, Holds, IsUtf8-from_is_utf8, Kind, LayoutTable, List, None, Ok, OpeningParts, Option, Outcome, Reading, Record, RecordFault, Result, SkippedLine, Some, [], and_parts, arith, block_limit, block_of, but_last, closed, column, cond_both, cons_option, count_by, count_by-le-length, count_fault, counts_fault, drop, each_append, each_map, each_weaker, early_fault, events, events_of, fault_if, filter_map, first_from, first_if, has_id, is_identifier_text, is_left_out, is_line_feed, is_long, is_skipped_line, is_skipped_record, is_utf8, kept, lacks, last_is_line, last_of, leb-true, length, length-append, length-drop, length-slice_split, length-take, lines, lines_among, list_all, list_any, ltb-false, map, of_record, of_text, of_utf8, onto_first, opened, opening_of, opens, option_to_list, or_else, outcome, outcome_at, parts, pieces, place, reading, record_of, records, refl, suc, summaries, take, taken, true, usages, without_mark, without_return, works, works_then_usages, zero, ℕ, ◌&&◌, ◌++◌, ◌+◌, ◌-◌, ◌<◌, ◌^◌, ◌∷◌, ◌≡◌, ◌≤◌}
 use Rattle.std.specs.Prelude.{nat_le}
 use Rattle.std.specs.Option.{option_map}
 use Rattle.dsr_events.specs.declared.event.EventPart.TheVariants as part
@@ -11,7 +11,7 @@ use Rattle.dsr_events.specs.declared.record.Record.TheVariants as of
 use Rattle.dsr_records.specs.declared.fault.RecordFault.TheVariants as record_faults
 unfoldable use Rattle.dsr_file.specs.meaning.Faults.{fault_of}
 use Rattle.dsr_file.specs.meaning.Readings.{Faulty}
-use Rattle.dsr_laws.proofs.Values.{IsText, lacks, pieces_lack, plain}
+use Rattle.dsr_laws.proofs.Values.{IsText, pieces_lack, plain}
 use Rattle.dsr_laws.proofs.Records.{IsHead, IsSummary, IsUsage, IsRecord, IfRecord, record_spelled}
 use Rattle.dsr_laws.proofs.Common.{nat_tests, is_printed_fault, Placed, File, FileText, block_in, events_of_text, file_of, first, length-map, opening_in, outcome_in, placed, readings, pieces, without_mark}
 
@@ -87,7 +87,6 @@ early_named rs of.Skipped = refl
 
 count_named : (rs : List Record) (m n : ℕ) (r : Record) → named (count_fault rs m n r) ≡ true
 count_named rs m n (of.Foot f) = grind arith
-count_named rs m n of.Skipped = refl
 count_named rs m n _ = refl
 
 line_named : (before : List Reading) (l : Reading) → IsReading l → named (fault_of before l) ≡ true
@@ -123,7 +122,6 @@ records_few [] h = (omega arith, tt)
 records_few (l ∷ ls) h = let all = few_append IsRecord 1 (length ls) (kept l) (records ls) (own l h.0) (records_few ls h.1) in (omega (arith, all.0), all.1)
   where
     own : (l : Reading) → IsReading l → AreFew IsRecord 1 (kept l)
-    own (Holds (of.Head r)) h = (omega arith, (h, tt))
     own (Holds of.Skipped) h = (omega arith, tt)
     own (Holds _) h = (omega arith, (h, tt))
     own _ h = (omega arith, tt)
@@ -188,7 +186,6 @@ members (r ∷ rs) h = add r h.0 (members rs h.1)
     add (of.Work w) k m = record { works_ = (k, m.works_); usages_ = m.usages_; few = omega (arith, m.few); summaries_ = m.summaries_ }
     add (of.Usage u) k m = record { works_ = m.works_; usages_ = (k, m.usages_); few = omega (arith, m.few); summaries_ = m.summaries_ }
     add (of.Summary s) k m = record { works_ = m.works_; usages_ = m.usages_; few = omega (arith, m.few); summaries_ = (k, m.summaries_) }
-    add of.Skipped k m = record { works_ = m.works_; usages_ = m.usages_; few = omega (arith, m.few); summaries_ = m.summaries_ }
     add _ k m = record { works_ = m.works_; usages_ = m.usages_; few = omega (arith, m.few); summaries_ = m.summaries_ }
 
 abbrev pub IfSome : {X : Type 0} → (X → Type 0) → Option X → Type 0
@@ -205,13 +202,11 @@ block_spelled (of.Resource r ∷ rs) h =
       usages = m.usages_;
       few = omega (arith, m.few, leb-true (length rs + 1) 64 (and_parts _ _ e).1);
     }) (λ e. tt)
-block_spelled (of.Skipped ∷ rs) h = tt
 block_spelled (_ ∷ rs) h = tt
 
 opening_spelled : (rs : List Record) → AreRecords rs → IfSome IsOpening (opening_of rs)
 opening_spelled [] h = tt
 opening_spelled (of.Head r ∷ rs) h = record { head = h.0; summaries = (members rs h.1).summaries_ }
-opening_spelled (of.Skipped ∷ rs) h = tt
 opening_spelled (_ ∷ rs) h = tt
 
 -- an event of a text
@@ -248,8 +243,7 @@ ended_named last endings.Read line low = (low, refl)
 ended_named last endings.Reads line low = (low, refl)
 ended_named (Some (of.Foot x)) endings.Whole line low = tt
 ended_named None endings.Whole line low = (low, refl)
-ended_named (Some of.Skipped) endings.Whole line low = (low, refl)
-ended_named (Some _) endings.Whole line low = (low, refl)
+ended_named _ endings.Whole line low = (low, refl)
 
 outcome_named : (ls : List Reading) (ending : Ending) (first : First) → length ls < 2 ^ 63 → IsFirst (length ls) first → IsOutcome (outcome ls ending first)
 outcome_named ls ending AllGood low f = ended_named (last_of (records ls)) ending (length ls + 1) (omega arith)

@@ -43,9 +43,8 @@ files_few layout texts h =
 
 -- how the bytes of a source ended: no more reads gave some than were allowed
 filled_few : (limit : ℕ) (after : Told) (reads filled : ℕ) (ending : Ending) → reads ≤ limit → EndsAs limit after reads filled ending → filled ≤ limit
-filled_few limit after reads filled endings.Whole few h = omega (arith, h.0)
-filled_few limit after reads filled endings.Read few h = omega (arith, h.0)
 filled_few limit after reads filled endings.Reads few h = omega (arith, h.1)
+filled_few limit after reads filled _ few h = omega (arith, h.0)
 
 given_file : (layout : LayoutTable) (limit : ℕ) (before after : Told) (text : FileText) → limit ≤ 16777216 → GaveText layout limit before after text
     → IsFile (file_by layout text)
@@ -69,10 +68,7 @@ module _ {R : Type 0} (told : R → Told) (options : Options) (low : options.max
   given_files (r ∷ rs) (s ∷ ss) (t ∷ ts) h =
       let rest = given_files rs ss ts h.1 in
       ((given_file options.layout options.max_reads (told r) (told s) t low h.0, rest.0), ap suc rest.1)
-  given_files [] [] (t ∷ ts) h = absurd h
-  given_files [] (s ∷ ss) texts h = absurd h
-  given_files (r ∷ rs) [] texts h = absurd h
-  given_files (r ∷ rs) (s ∷ ss) [] h = absurd h
+  given_files _ _ _ h = absurd h
 
 pub run_again : {R : Type 0} (told : R → Told) (options : Options) (readers left : List R) (texts : List FileText) → refusal_of (length readers) options ≡ None
     → GaveEach told options readers left texts

@@ -3,7 +3,6 @@ pub mod Values
 pub mod Records
 pub mod Files
 pub mod Orders
-pub mod Printed
 pub mod Lines
 pub mod Readable
 pub mod Given

@@ -1,9 +1,8 @@
 -- The text of a line is UTF-8, at most 16,384 bytes long and without a line feed.
-use Rattle.dsr_laws.proofs.Common.{AllByRecursion, Cell, Column, IsAscii, IsUtf8, IsUtf8-append, IsUtf8-from_ascii, Line, List, None, Option, Outcome, PartyName, Some, [], all_weaker, and_from, and_parts, arith, cell_text, column_cells, column_named, eqb, is_cell, is_line, is_text, is_utf8-from_IsUtf8, join_with_byte, le-leb, length, length-append, line_cells, line_text, list_all, list_all-append, map, nat_tests, not, outcome_cells, refl, rules, suc, true, zero, ℕ, ◌+◌, ◌∙◌, ◌∷◌, ◌≡◌, ◌≤◌}
+use Rattle.dsr_laws.proofs.Common.{AllByRecursion, Cell, Column, IsAscii, IsUtf8, IsUtf8-append, IsUtf8-from_ascii, Line, List, None, Option, Outcome, PartyName, Some, [], all_weaker, and_from, and_parts, arith, cell_fits, cell_text, column_cells, column_named, eqb, fits, is_cell, is_line, is_text, is_utf8-from_IsUtf8, join_with_byte, lacks, le-leb, length, length-append, line_cells, line_text, list_all, list_all-append, map, most_of, nat_tests, not, outcome_cells, refl, rules, shown, suc, true, zero, ℕ, ◌+◌, ◌∙◌, ◌∷◌, ◌≡◌, ◌≤◌}
 use Rattle.dsr_events.specs.declared.fault.Outcome.TheVariants as outcomes
 use Rattle.dsr_statement.specs.declared.line.Line.TheVariants as lines
-use Rattle.dsr_laws.proofs.Printed.{cell_fits, fits, most_of, shown}
-use Rattle.dsr_laws.proofs.Values.{IsText, lacks, plain}
+use Rattle.dsr_laws.proofs.Values.{IsText, plain}
 
 -- UTF-8, without a line feed and of so many bytes at most
 record IsFine (most : ℕ) (text : List ℕ) : Type 0 where

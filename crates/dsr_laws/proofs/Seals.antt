@@ -1,5 +1,5 @@
 -- The seal of a run: its digests are spelled, and the lines before it are counted.
-use Rattle.dsr_laws.proofs.Common.{AllByRecursion, IsReadable, Line, List, None, Option, Report, ReportKey, Some, [], and_from, and_parts, ap, arith, each_append, eq-eqb, eqb, is_line, is_text, is_utf8, length, length-append, length-map, line_text, list_all, list_all-append, lt-ltb, map, nat_tests, refl, statement_lines, subst, suc, sym, true, zero, ℕ, ◌%◌, ◌++◌, ◌+◌, ◌/◌, ◌<◌, ◌^◌, ◌∙◌, ◌∷◌, ◌≡◌, ◌≤◌}
+use Rattle.dsr_laws.proofs.Common.{AllByRecursion, IsReadable, Line, List, None, Option, Report, ReportKey, Some, [], and_from, and_parts, ap, arith, each_append, eq-eqb, eqb, is_line, is_text, is_utf8, lacks, length, length-append, length-map, line_text, list_all, list_all-append, lt-ltb, map, nat_tests, refl, statement_lines, subst, suc, sym, true, zero, ℕ, ◌%◌, ◌++◌, ◌+◌, ◌/◌, ◌<◌, ◌^◌, ◌∙◌, ◌∷◌, ◌≡◌, ◌≤◌}
 use Rattle.std.specs.Prelude.{cond, nat_le, slice_index, Ok}
 use Rattle.dsr_statement.specs.meaning.Readings.{most_bytes}
 use Rattle.std.specs.Option.{option_map}
@@ -25,7 +25,6 @@ use Rattle.dsr_statement.specs.meaning.Statement.{text_of}
 use Rattle.dsr_statement.specs.meaning.Status.{status_of}
 use Rattle.dsr_statement.proofs.SealedAgain.{is_sealed_statement, sealed_again}
 use Rattle.dsr_laws.specs.layer.Again.{AreSealable, IsReadSealed, sealed_text}
-use Rattle.dsr_laws.proofs.Values.{lacks}
 
 -- the text of a SHA-256
 digest_small : (h : List ℕ) (n : ℕ) → AllByRecursion (λ b. b < 256) (digest_bytes h n)

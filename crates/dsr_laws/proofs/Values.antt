@@ -1,15 +1,16 @@
 -- The cells of a line, the parts of a list cell, and their values: as texts they keep what the line has.
-use Rattle.std.proofs.Common.{arith, rules, List, [], ◌∷◌, ◌++◌, ◌≡◌, ◌∙◌, ◌<◌, ◌≤◌, ◌+◌, ◌/◌, ℕ, Bool, true, false, refl, sym, subst, length, get_or, suc, zero, map, append_assoc, length-append, eqb, not, ◌&&◌, inl, inr}
+use Rattle.std.proofs.Common.{arith, rules, List, [], ◌∷◌, ◌++◌, ◌≡◌, ◌∙◌, ◌<◌, ◌≤◌, ◌+◌, ◌/◌, ℕ, Bool, true, refl, sym, subst, length, get_or, suc, zero, map, append_assoc, length-append, eqb, not, ◌&&◌}
 use Rattle.std.specs.Prelude.{replicate}
 use Rattle.std.proofs.Math.Seq.{get_or-append_seam, take-append_seam, drop-append-add}
-use Rattle.std.proofs.lemmas.Bool.{and_from, cases_Bool, cond_both, eqb-true}
+use Rattle.std.proofs.lemmas.Bool.{and_from, and_parts, cond_both, eqb-true}
 use Rattle.std.proofs.lemmas.List.{length-replicate}
 use Rattle.std.proofs.lemmas.Bool.Decides.{nat_tests}
 use Rattle.std.proofs.lemmas.List.Folds.{list_all-append}
-use Rattle.std.proofs.lemmas.List.Splits.{join_with_byte-slice_split, slice_split-cons_no, slice_split-cons_yes}
+use Rattle.std.proofs.lemmas.List.Splits.{join_with_byte-slice_split}
 use Rattle.std.proofs.lemmas.Str.{IsCharBoundary-after_ascii, IsCharBoundary-before_ascii, IsUtf8-append, IsUtf8-drop, IsUtf8-take}
 use Rattle.std.specs.List.{AllByRecursion, join_with_byte, list_all, onto_first, slice_split}
 use Rattle.std.specs.Str.{IsUtf8}
+use Rattle.dsr_statement.proofs.Plain.{lacks, pieces_lack as no_piece_has}
 use Rattle.dsr_cells.specs.meaning.Cells.{parts_after, raw_parts, value_after, value_of}
 
 -- the parts of a cell, joined by pipes, are the cell
@@ -44,21 +45,12 @@ module _ (P : List ℕ → Type 0) (cut : (front : List ℕ) (c : ℕ) (rest : L
   each_part (c ∷ cs) h = each_joined 124 (omega arith) (parts_after 0 (c ∷ cs)) (subst P (sym (parts_joined 0 (c ∷ cs)).0) h)
 
 -- no piece has the byte between pieces
-abbrev pub lacks : ℕ → List ℕ → Bool
-lacks c text = list_all (λ b. not (eqb b c)) text
+each_true : {X : Type 0} (p : X → Bool) (xs : List X) → list_all p xs ≡ true → AllByRecursion (λ x. p x ≡ true) xs
+each_true p [] h = tt
+each_true p (x ∷ xs) h = let two = and_parts (p x) (list_all p xs) h in (two.0, each_true p xs two.1)
 
 pub pieces_lack : (c : ℕ) (text : List ℕ) → AllByRecursion (λ p. lacks c p ≡ true) (slice_split (λ b. eqb b c) text)
-pieces_lack c [] = (refl, tt)
-pieces_lack c (b ∷ bs) =
-    let Each : List (List ℕ) → Type 0 = AllByRecursion (λ p. lacks c p ≡ true) in
-    elim (cases_Bool (eqb b c)) [
-      | inl same ↦ subst Each (sym (slice_split-cons_yes (λ x. eqb x c) b bs same)) (refl, pieces_lack c bs)
-      | inr other ↦ subst Each (sym (slice_split-cons_no (λ x. eqb x c) b bs other)) (onto other (slice_split (λ x. eqb x c) bs) (pieces_lack c bs))
-    ]
-  where
-    onto : eqb b c ≡ false → (ps : List (List ℕ)) → AllByRecursion (λ p. lacks c p ≡ true) ps → AllByRecursion (λ p. lacks c p ≡ true) (onto_first b ps)
-    onto other [] h = (rw other refl, tt)
-    onto other (p ∷ ps) h = (rw other h.0, h.1)
+pieces_lack c text = each_true (lacks c) (slice_split (λ b. eqb b c) text) (no_piece_has c text)
 
 -- UTF-8 of at most 8,192 bytes, each of which passes: a text of a line without a line feed, and of a cell without a TAB too
 pub record IsText (passes : ℕ → Bool) (text : List ℕ) : Type 0 where

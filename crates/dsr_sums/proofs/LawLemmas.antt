@@ -16,7 +16,7 @@ use Rattle.dsr_ledger.specs.declared.report.ReportKey.{ReportKey}
 use Rattle.dsr_statement.proofs.ReadLines.{are_in_place}
 use Rattle.dsr_statement.specs.declared.line.Line.{Line}
 use Rattle.dsr_statement.specs.declared.line.Line.TheVariants as lines
-use Rattle.dsr_statement.specs.meaning.Order.{adds_up, files_in, follows, is_placed, is_sealed, left_of, may_end, of_latest, party_follows, placed, seals, unclaimed_follows}
+use Rattle.dsr_statement.specs.meaning.Order.{adds_up, files_in, follows, is_first, is_placed, is_sealed, left_of, may_end, of_latest, party_follows, placed, seals, unclaimed_follows}
 use Rattle.dsr_statement.specs.meaning.Readings.{Refusal, IsReadingOf}
 use Rattle.dsr_statement.specs.layer.Statements.{AreInPlace}
 use Rattle.dsr_statement.specs.meaning.Status.{first_remark}
@@ -48,25 +48,19 @@ nothing_lacks a b c e = omega (arith, ints)
 
 -- what a line of a statement with this role lacks
 of_ledger : (role : Role) (usages amount : ℤ) → lack (signed_sums role (numbers usages amount)) ≡ signed role amount
-of_ledger Given usages amount = omega (arith, ints)
-of_ledger Paid usages amount = omega (arith, ints)
+of_ledger role usages amount = grind (arith, ints)
 
 of_party : (role : Role) (amount : ℤ) → lack (signed_sums role (claimed amount)) ≡ signed role (pos 0 -ℤ amount)
-of_party Given amount = omega (arith, ints)
-of_party Paid amount = omega (arith, ints)
+of_party role amount = grind (arith, ints)
 
 of_unclaimed : (role : Role) (amount : ℤ) → lack (signed_sums role (unclaimed amount)) ≡ signed role (pos 0 -ℤ amount)
-of_unclaimed Given amount = omega (arith, ints)
-of_unclaimed Paid amount = omega (arith, ints)
+of_unclaimed role amount = grind (arith, ints)
 
 none_of : (role : Role) → pos 0 ≡ signed role (pos 0 -ℤ pos 0)
-none_of Given = refl
-none_of Paid = refl
+none_of role = grind (arith, ints)
 
 if_own : (b : Bool) (role : Role) (d : ℤ) → cond b (signed role d) (pos 0) ≡ signed role (cond b d (pos 0))
-if_own true role d = refl
-if_own false Given d = refl
-if_own false Paid d = refl
+if_own b role d = grind (arith, ints)
 
 -- what is left before a line and after it
 moves : (role : Role) (d o n : ℤ) → n ≡ o +ℤ d → signed role d +ℤ signed role (pos 0 -ℤ n) ≡ signed role (pos 0 -ℤ o)
@@ -74,19 +68,15 @@ moves Given d o n e = omega (arith, ints)
 moves Paid d o n e = omega (arith, ints)
 
 less : (b : Bool) (x y : ℤ) → cond b (x -ℤ y) (pos 0) ≡ cond b x (pos 0) +ℤ cond b (pos 0 -ℤ y) (pos 0)
-less true x y = omega (arith, ints)
-less false x y = refl
+less b x y = grind (arith, ints)
 
 all_taken : (b : Bool) (x y : ℤ) → y ≡ x → pos 0 ≡ cond b x (pos 0) +ℤ cond b (pos 0 -ℤ y) (pos 0)
-all_taken true x y e = omega (arith, ints)
-all_taken false x y e = refl
+all_taken b x y e = grind (arith, ints)
 
 -- a line that is placed passes its tests
 passes : {A E : Type 0} (p a s n : Bool) (x : A) (e f g k : E)
     → (if not p then Err e else if not a then Err f else if not s then Err g else if n then Err k else Ok x) ≡ Ok x → (p ≡ true) × (a ≡ true)
-passes true true s n x e f g k h = (refl, refl)
-passes true false s n x e f g k h = absurd cc
-passes false a s n x e f g k h = absurd cc
+passes p a s n x e f g k h = grind arith
 
 module _ (account : Account) where
   -- what an account's postings lack
@@ -178,33 +168,6 @@ module _ (account : Account) where
     closes : (before ls : List Line) → AreInPlace before ls → gap (posted ls) ≡ signed role (pos 0 -ℤ due before)
     closes before [] h =
         none_of role ∙ ap (λ n. signed role (pos 0 -ℤ n)) (sym (closed may_end (λ k u a. refl) (λ k p. refl) false before h))
-    closes before (lines.Report key ∷ ls) h =
-        let l = lines.Report key in
-        stays l before ls refl (closed (follows (files_in before) l) (λ k u a. refl) (λ k p. refl) true before (tested before l h.0).0) refl (closes (l ∷ before) ls h.1)
-    closes before (lines.NoReport ∷ ls) h =
-        let l = lines.NoReport in
-        stays l before ls refl (closed (follows (files_in before) l) (λ k u a. refl) (λ k p. refl) true before (tested before l h.0).0) refl (closes (l ∷ before) ls h.1)
-    closes before (lines.File place f ∷ ls) h =
-        let l = lines.File place f in
-        stays l before ls refl (closed (follows (files_in before) l) (λ k u a. refl) (λ k p. refl) false before (tested before l h.0).0) refl (closes (l ∷ before) ls h.1)
-    closes before (lines.Missing number ∷ ls) h =
-        let l = lines.Missing number in
-        stays l before ls refl (closed (follows (files_in before) l) (λ k u a. refl) (λ k p. refl) false before (tested before l h.0).0) refl (closes (l ∷ before) ls h.1)
-    closes before (lines.Summary d ∷ ls) h =
-        let l = lines.Summary d in
-        stays l before ls refl (closed (follows (files_in before) l) (λ k u a. refl) (λ k p. refl) false before (tested before l h.0).0) refl (closes (l ∷ before) ls h.1)
-    closes before (lines.Reject r ∷ ls) h =
-        let l = lines.Reject r in
-        stays l before ls refl (closed (follows (files_in before) l) (λ k u a. refl) (λ k p. refl) false before (tested before l h.0).0) refl (closes (l ∷ before) ls h.1)
-    closes before (lines.Layout digest ∷ ls) h =
-        let l = lines.Layout digest in
-        stays l before ls refl (closed (follows (files_in before) l) (λ k u a. refl) (λ k p. refl) false before (tested before l h.0).0) refl (closes (l ∷ before) ls h.1)
-    closes before (lines.Input place digest ∷ ls) h =
-        let l = lines.Input place digest in
-        stays l before ls refl (closed (follows (files_in before) l) (λ k u a. refl) (λ k p. refl) false before (tested before l h.0).0) refl (closes (l ∷ before) ls h.1)
-    closes before (lines.End count status ∷ ls) h =
-        let l = lines.End count status in
-        stays l before ls refl (closed (follows (files_in before) l) (λ k u a. refl) (λ k p. refl) false before (tested before l h.0).0) refl (closes (l ∷ before) ls h.1)
     closes before (lines.Ledger key usages amount ∷ ls) h =
         let l = lines.Ledger key usages amount in
         let none = closed (follows (files_in before) l) (λ k u a. refl) (λ k p. refl) false before (tested before l h.0).0 in
@@ -223,6 +186,9 @@ module _ (account : Account) where
         adds l key (unclaimed amount) (pos 0 -ℤ amount) before ls refl (of_unclaimed role amount)
         (all_taken (account_eq account (currency_account key.currency)) (left_of before) amount ((Decides-int_eq amount (left_of before)).0 both.1)
         ∙ ap (λ n. n +ℤ in_currency key (pos 0 -ℤ amount)) (sym before_it))
+        (closes (l ∷ before) ls h.1)
+    closes before (l ∷ ls) h =
+        stays l before ls refl (closed (follows (files_in before) l) (λ k u a. refl) (λ k p. refl) (is_first l) before (tested before l h.0).0) refl
         (closes (l ∷ before) ls h.1)
 
   -- the lines of each statement lack nothing

@@ -1,4 +1,5 @@
 -- Statements that are read one after another.
+use Rattle.std.proofs.Math.Seq.{get_or-append_seam}
 use Rattle.std.proofs.Common.{◌≡◌, ℕ, suc, ◌+◌, ◌<◌, ◌≤◌, ap, sym, ◌∙◌, refl, subst, Bool, List, [], ◌∷◌, ◌++◌, append_assoc, append-nil, length, length-append, get_or, set, arith, Ok, Err, Result}
 use Rattle.std.proofs.lemmas.Grind.{flat_map-append}
 use Rattle.std.proofs.lemmas.List.{map-append}
@@ -49,27 +50,19 @@ module _ {R : Type 0} (told : R → Told) (given : ℕ) where
   pub gave-append : (place : ℕ) (xs ys us vs : List R) (ts ws : List StatementText) → GaveEach told given place xs ys ts → length ts ≡ length xs
       → GaveEach told given (place + length xs) us vs ws → GaveEach told given place (xs ++ us) (ys ++ vs) (ts ++ ws)
   gave-append place [] [] us vs [] ws h e more = subst (λ p. GaveEach told given p us vs ws) (omega arith) more
-  gave-append place [] [] us vs (t ∷ ts) ws h e more = absurd h
-  gave-append place [] (y ∷ ys) us vs ts ws h e more = absurd h
-  gave-append place (x ∷ xs) [] us vs ts ws h e more = absurd h
   gave-append place (x ∷ xs) (y ∷ ys) us vs [] ws h e more = absurd (omega arith)
   gave-append place (x ∷ xs) (y ∷ ys) us vs (t ∷ ts) ws h e more =
       (h.0, h.1, gave-append (suc place) xs ys us vs ts ws h.2 (omega arith) (subst (λ p. GaveEach told given p us vs ws) (omega arith) more))
+  gave-append place _ _ us vs _ ws h e more = absurd h
 
   pub gave-length : (place : ℕ) (xs ys : List R) (ts : List StatementText) → GaveEach told given place xs ys ts → length ys ≡ length xs
   gave-length place [] [] [] h = refl
-  gave-length place [] [] (t ∷ ts) h = absurd h
-  gave-length place [] (y ∷ ys) ts h = absurd h
-  gave-length place (x ∷ xs) [] ts h = absurd h
   gave-length place (x ∷ xs) (y ∷ ys) [] h = ap suc (gave-length (suc place) xs ys [] h.1)
   gave-length place (x ∷ xs) (y ∷ ys) (t ∷ ts) h = ap suc (gave-length (suc place) xs ys ts h.2)
+  gave-length place _ _ _ h = absurd h
 
--- the item after a list
-pub get_mid : {X : Type 0} (xs ys : List X) (x d : X) → get_or (xs ++ x ∷ ys) (length xs) d ≡ x
-get_mid [] ys x d = refl
-get_mid (z ∷ xs) ys x d = get_mid xs ys x d
-
-pub set_mid : {X : Type 0} (xs ys : List X) (x q : X) → set (xs ++ x ∷ ys) (length xs) q ≡ xs ++ q ∷ ys
+-- the item after a list is set
+set_mid : {X : Type 0} (xs ys : List X) (x q : X) → set (xs ++ x ∷ ys) (length xs) q ≡ xs ++ q ∷ ys
 set_mid [] ys x q = refl
 set_mid (z ∷ xs) ys x q = ap (λ l. z ∷ l) (set_mid xs ys x q)
 
@@ -82,8 +75,7 @@ text_is t rs ss sorted e i =
     ++ (flat_map currency_line (sorted.currencies i) ++ (flat_map market_line (sorted.markets i) ++ flat_map party_line (sorted.parties i)))
 
 no_fault : (o : Option Refusal) → None ≡ option_map line_and_fault o → o ≡ None
-no_fault None e = refl
-no_fault (Some r) e = absurd (cc)
+no_fault o e = grind arith
 
 -- a statement that was read and has no fault after the earlier ones
 pub next_read : (old new : Totaling) (rules : Rules) (role : Role) (before left : Told) (report : StatementReport) (ss : List Statement) → HoldsStatements old ss
@@ -155,28 +147,19 @@ module _ {R : Type 0} (told : R → Told) (given : ℕ) (rules : Rules) where
     changed_length = gave-length told given 0 w.front w.changed w.texts w.gave ∙ w.places
 
     -- all sources were read
-    pub all_read : length now ≤ place → (text : List ℕ) → totals_of (Ok w.ss) ≡ Ok text → HasTotals told given rules before now text
-    all_read done text e =
+    all_given : length now ≤ place → GaveEach told given 0 before now w.texts × (length w.texts ≡ length before)
+    all_given done =
         let none : w.rest ≡ [] = none_left w.rest (omega (arith, ap length w.is, length-append w.changed w.rest, changed_length)) in
         let was : w.front ≡ before = sym (w.was ∙ ap (λ l. w.front ++ l) none ∙ append-nil w.front) in
-        let is : w.changed ≡ now = sym (w.is ∙ ap (λ l. w.changed ++ l) none ∙ append-nil w.changed) in (
-          w.texts,
-          subst (λ b. GaveEach told given 0 b now w.texts) was (subst (λ a. GaveEach told given 0 w.front a w.texts) is w.gave),
-          w.many ∙ sym w.places ∙ ap length was,
-          ap totals_of w.read ∙ e,
-        )
+        let is : w.changed ≡ now = sym (w.is ∙ ap (λ l. w.changed ++ l) none ∙ append-nil w.changed) in
+        (subst (λ b. GaveEach told given 0 b now w.texts) was (subst (λ a. GaveEach told given 0 w.front a w.texts) is w.gave), w.many ∙ sym w.places ∙ ap length was)
+
+    pub all_read : length now ≤ place → (text : List ℕ) → totals_of (Ok w.ss) ≡ Ok text → HasTotals told given rules before now text
+    all_read done text e = let all = all_given done in (w.texts, all.0, all.1, ap totals_of w.read ∙ e)
 
     pub all_out : length now ≤ place → (e : TotalsError) → IsNoTextOf w.ss e → HasNoTotals told given rules before now e
     all_out done (Refused p l f) h = absurd h
-    all_out done OutOfRange h =
-        let none : w.rest ≡ [] = none_left w.rest (omega (arith, ap length w.is, length-append w.changed w.rest, changed_length)) in
-        let was : w.front ≡ before = sym (w.was ∙ ap (λ l. w.front ++ l) none ∙ append-nil w.front) in
-        let is : w.changed ≡ now = sym (w.is ∙ ap (λ l. w.changed ++ l) none ∙ append-nil w.changed) in (
-          w.texts,
-          subst (λ b. GaveEach told given 0 b now w.texts) was (subst (λ a. GaveEach told given 0 w.front a w.texts) is w.gave),
-          w.many ∙ sym w.places ∙ ap length was,
-          ap totals_of w.read ∙ h,
-        )
+    all_out done OutOfRange h = let all = all_given done in (w.texts, all.0, all.1, ap totals_of w.read ∙ h)
     all_out done Memory h = tt
 
     module _ (below : place < length now) where
@@ -190,14 +173,14 @@ module _ {R : Type 0} (told : R → Told) (given : ℕ) (rules : Rules) where
       before_is = w.was ∙ ap (λ l. w.front ++ l) next.2
 
       got : (d : R) → get_or now place d ≡ next.0
-      got d = (λ i. get_or (now_is i) (sym changed_length i) d) ∙ get_mid w.changed next.1 next.0 d
+      got d = (λ i. get_or (now_is i) (sym changed_length i) d) ∙ get_or-append_seam w.changed next.0 next.1 d
 
       set_is : (q : R) → set now place q ≡ w.changed ++ q ∷ next.1
       set_is q = (λ i. set (now_is i) (sym changed_length i) q) ∙ set_mid w.changed next.1 next.0 q
 
       -- the next source is as it was
       pub same_at : (d : R) → get_or before place d ≡ get_or now place d
-      same_at d = (λ i. get_or (before_is i) (sym w.places i) d) ∙ get_mid w.front next.1 next.0 d ∙ sym (got d)
+      same_at d = (λ i. get_or (before_is i) (sym w.places i) d) ∙ get_or-append_seam w.front next.0 next.1 d ∙ sym (got d)
 
       pub before_below : place < length before
       before_below = omega (arith, ap length before_is, length-append w.front (next.0 ∷ next.1), w.places)
