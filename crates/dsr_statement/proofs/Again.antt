@@ -24,9 +24,8 @@ use Rattle.dsr_statement.specs.meaning.Cells.{Cell, Faulty, FileNumber, Number64
 use Rattle.dsr_statement.specs.meaning.Lines.{line_cells, cell_texts, line_text, is_line, column_cells, outcome_cells}
 use Rattle.dsr_statement.specs.meaning.Faults.{named, kinds_in_order, kind_in, has_cells, has_file_cells, shape_fault, count_fault}
 use Rattle.dsr_statement.specs.meaning.Readings.{Spells, fault_of, or_spelling}
-use Rattle.dsr_statement.specs.inner.Checks.{HasPlainParty}
 use Rattle.dsr_statement.specs.inner.Lenient.{ReadsKind, kind_of}
-use Rattle.dsr_statement.proofs.Plain.{cell_plain, cells_again, cells_no_tab, nth_no_tab}
+use Rattle.dsr_statement.proofs.Plain.{cell_plain, cells_again}
 
 -- the cells of a line
 pub all_plain : (cs : List Cell) → list_all is_cell cs ≡ true → list_all has_no_tab (map cell_text cs) ≡ true
@@ -187,19 +186,13 @@ not_both b p q = cc
 pub not_none : {A B : Type 0} (o : Option A) (x : A) → o ≡ Some x → o ≡ None → B
 not_none o x p q = cc
 
--- the text of a row that is that of a line, whose party has no TAB
+-- the text of a row that is that of a line
 pub own_text : (text : List ℕ) (row : List (List ℕ)) (o : Option Line) → row ≡ take 10 (cells text) → IfSome o (λ l. row ≡ cell_texts l)
-    → IfSome o (λ l. (line_text l ≡ text) × HasPlainParty l)
+    → IfSome o (λ l. line_text l ≡ text)
 own_text text row None e h = tt
 own_text text row (Some l) e h =
     let few : length (cells text) ≤ 10 = omega (arith, length-take 10 (cells text), ap length e, ap length h, (long l).1) in
-    let same : cell_texts l ≡ cells text = sym h ∙ e ∙ take_all 10 (cells text) few in
-    (ap (join_with_byte 9) same ∙ join_with_byte-slice_split 9 text, plain l (ap (list_all has_no_tab) same ∙ cells_no_tab text))
-  where
-    plain : (l : Line) → list_all has_no_tab (cell_texts l) ≡ true → HasPlainParty l
-    plain (lines.Party key p) h = nth_no_tab (cell_texts (lines.Party key p)) 5 h
-    plain (lines.Report key) h = tt
-    plain _ h = tt
+    ap (join_with_byte 9) (sym h ∙ e ∙ take_all 10 (cells text) few) ∙ join_with_byte-slice_split 9 text
 
 -- a kind is found by its own name
 kind_text_of : (all : List LineKind) (text : List ℕ) (kind : LineKind) → named kind_name all text ≡ Some kind → text ≡ kind_name kind

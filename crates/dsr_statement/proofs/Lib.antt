@@ -1,7 +1,7 @@
 pub mod Common
 pub mod Sending
-pub mod LineLemmas
 pub mod Puts
+pub mod LineLemmas
 pub mod Digits
 pub mod Signs
 pub mod Numbers

@@ -13,6 +13,7 @@ use Rattle.dsr_statement.specs.meaning.Lines.{line_bytes}
 use Rattle.dsr_statement.specs.meaning.Statement.{files_from, head_of, lines_of_ledger, statement_lines, text_of}
 use Rattle.dsr_statement.specs.inner.Pieces.{both_put}
 use Rattle.dsr_statement.specs.inner.Rows.{sums_bytes, party_bytes, unclaimed_bytes}
+use Rattle.dsr_statement.proofs.Puts.{flat_more}
 
 pub then : {W : Type 0} {told : W → Written} {p q r : Pieces W} {xs ys : List ℕ} → Puts told p q xs → Puts told q r ys → Puts told p r (xs ++ ys)
 then {W} {told} {p} {q} {r} {xs} {ys} first second = both_put told p q r xs ys first second
@@ -32,8 +33,7 @@ pub more : {W : Type 0} {told : W → Written} {p q r : Pieces W} {X : Type 0} (
     → i < length xs → x ≡ get_or xs i d → Puts told p q (front ++ flat_map f (take i xs)) → Puts told q r (f x)
     → Puts told p r (front ++ flat_map f (take (i + 1) xs))
 more front f xs i x d less is before now =
-    let first : take (i + 1) xs ≡ take i xs ++ x ∷ [] = take_more xs i d less ∙ ap (λ y. take i xs ++ y ∷ []) (sym is) in
-    turn (one_more front f (take i xs) x before now) (ap (λ l. front ++ l) (sym (ap (flat_map f) first)))
+    turn (then before now) (append_assoc front (flat_map f (take i xs)) (f x) ∙ ap (λ l. front ++ l) (flat_more f xs i x d less is))
 
 -- the lines of all items
 pub all : {W : Type 0} {told : W → Written} {p q : Pieces W} {X : Type 0} (front : List ℕ) (f : X → List ℕ) (xs : List X) (i : ℕ) → length xs ≤ i

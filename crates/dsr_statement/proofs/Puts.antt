@@ -1,20 +1,13 @@
 -- What is put, cell by cell and line by line.
-use Rattle.std.proofs.Common.{rules, arith, ◌≡◌, ℕ, ◌-◌, ◌≤◌, List, [], ◌∷◌, ◌++◌, length, take, drop, refl, ap, subst, ◌∙◌, append_assoc, length-append, length-drop, map, replicate, Option}
-use Rattle.std.specs.List.{join_with_byte}
+use Rattle.std.proofs.Common.{arith, ◌≡◌, ℕ, ◌+◌, ◌-◌, ◌<◌, ◌≤◌, List, [], ◌∷◌, ◌++◌, length, take, drop, get_or, ap, sym, subst, ◌∙◌, append-nil, length-append, length-drop, map, replicate}
+use Rattle.std.specs.List.{flat_map, join_with_byte}
 use Rattle.std.proofs.Math.Seq.{take-append_seam}
 use Rattle.std.specs.Fmt.{decimal}
-use Rattle.std.proofs.lemmas.List.{take-replicate}
+use Rattle.std.proofs.lemmas.Grind.{flat_map-append}
+use Rattle.std.proofs.lemmas.List.{take-replicate, take_more}
+use Rattle.std.proofs.lemmas.List.Concat.{flat_map-cons}
 use Rattle.dsr_cells.specs.meaning.Written.{padded_number}
-use Rattle.dsr_events.specs.meaning.Names.{column_named}
-use Rattle.dsr_events.specs.declared.kinds.Column.{Column}
-use Rattle.dsr_events.specs.declared.fault.FileFault.{FileFault}
-use Rattle.dsr_events.specs.declared.fault.Outcome.{Outcome}
-use Rattle.dsr_events.specs.declared.fault.Outcome.TheVariants as outcomes
-use Rattle.dsr_ledger.specs.declared.report.FileLine.{FileLine}
-use Rattle.dsr_statement.specs.declared.line.Line.TheVariants as lines
-use Rattle.dsr_statement.specs.meaning.Cells.{Faulty, Number64, FaultName, cell_text}
-use Rattle.dsr_statement.specs.meaning.Lines.{column_cells, outcome_cells, line_text}
-use Rattle.dsr_statement.specs.inner.Rows.{tabbed, outcome_text, file_head}
+use Rattle.dsr_statement.specs.meaning.Cells.{Cell, cell_text}
 
 -- the same bytes, in another form
 pub turn : {A : Type 0} (took : A → List ℕ → A → Type 0) {a b : A} {x y : List ℕ} → took a x b → x ≡ y → took a y b
@@ -27,17 +20,6 @@ before_last room text start last long less e =
     let n : 63 - start ≡ length text = omega (arith, ap length e, length-append text (last ∷ []), length-drop start room) in
     ap (take (63 - start)) e ∙ ap (λ k. take k (text ++ last ∷ [])) n ∙ take-append_seam text (last ∷ [])
 
-pub fault_text : (o : Outcome) (at : ℕ) (f : FileFault) (c : Option Column) → o ≡ outcomes.Fault at f → column_named f ≡ c
-    → outcome_text o ≡ tabbed (Faulty ∷ Number64 at ∷ FaultName f ∷ column_cells c)
-fault_text o at f c e h = ap outcome_text e ∙ ap (λ x. tabbed (Faulty ∷ Number64 at ∷ FaultName f ∷ column_cells x)) h
-
-before_outcome : (cell : List ℕ) (o : Outcome) → join_with_byte 9 (cell ∷ map cell_text (outcome_cells o)) ≡ cell ++ outcome_text o
-before_outcome cell outcomes.Whole = refl
-before_outcome cell (outcomes.Fault at f) = refl
-
-pub file_text : (place : ℕ) (f : FileLine) → file_head place f ++ outcome_text f.outcome ≡ line_text (lines.File place f)
-file_text place f = let last = before_outcome (decimal f.blocks) f.outcome in rw last (search (rules, append_assoc))
-
 -- zeros before the digits of a number
 pub padded : (zeros pad digits : List ℕ) (k n : ℕ) → zeros ≡ replicate (length zeros) 48 → digits ≡ decimal n → k ≡ length zeros - length digits
     → pad ≡ take k zeros → pad ++ digits ≡ padded_number (length zeros) n
@@ -48,3 +30,16 @@ padded zeros pad digits k n z d less p =
     let cut : take k zeros ≡ replicate m 48 =
     ap (λ i. take i zeros) at ∙ ap (take m) z ∙ take-replicate m (length zeros) 48 within in
     ap (λ t. t ++ digits) (p ∙ cut) ∙ ap (λ t. replicate m 48 ++ t) d
+
+-- what the first items of a list give, and one more
+pub flat_more : {X : Type 0} (f : X → List ℕ) (xs : List X) (i : ℕ) (x d : X) → i < length xs → x ≡ get_or xs i d
+    → flat_map f (take i xs) ++ f x ≡ flat_map f (take (i + 1) xs)
+flat_more f xs i x d less is =
+    let first : take (i + 1) xs ≡ take i xs ++ x ∷ [] = take_more xs i d less ∙ ap (λ y. take i xs ++ y ∷ []) (sym is) in
+    sym (ap (flat_map f) first ∙ flat_map-append f (take i xs) (x ∷ []) ∙ ap (λ l. flat_map f (take i xs) ++ l) (append-nil (f x)))
+
+-- the texts of cells behind another, a TAB before each
+pub joined_cells : (name : List ℕ) (cells : List Cell) → name ++ flat_map (λ c. 9 ∷ cell_text c) cells ≡ join_with_byte 9 (name ∷ map cell_text cells)
+joined_cells name [] = append-nil name
+joined_cells name (c ∷ cs) =
+    ap (λ t. name ++ t) (flat_map-cons (λ x. 9 ∷ cell_text x) c cs ∙ ap (λ t. 9 ∷ t) (joined_cells (cell_text c) cs))

@@ -25,7 +25,7 @@ use Rattle.dsr_ledger.specs.meaning.Bookings.{Key}
 use Rattle.dsr_statement.specs.declared.verdict.Status.{Status}
 use Rattle.dsr_statement.specs.declared.verdict.Status.TheVariants as statuses
 use Rattle.dsr_statement.specs.meaning.Names.{standing_name, reason_name, status_name}
-use Rattle.dsr_statement.specs.meaning.Cells.{Cell, Number64, Number32, FileNumber, Usages, Amount, OnDay, Stands, Why, Whole, StatusName, cell_text, is_cell, is_printed_fault, are_days, amount_cell}
+use Rattle.dsr_statement.specs.meaning.Cells.{Cell, Number64, Number32, FileNumber, Usages, Amount, OnDay, Stands, Why, Whole, StatusName, cell_text, is_cell, is_printed_fault, amount_cell}
 use Rattle.dsr_statement.specs.meaning.Lines.{line_cells, cell_texts, is_line, column_cells}
 use Rattle.dsr_statement.specs.meaning.Faults.{named}
 use Rattle.dsr_statement.specs.inner.Numbers.{number_in, usages_in, amount_in}
@@ -146,10 +146,6 @@ outcome_read row line fault result long number name found (outcomes.Fault at f) 
     let two = and_parts (is_printed_fault f) (list_all is_cell (column_cells (column_named f))) one.1 in
     found at f (number at one.0 (sym (get_or-drop 5 row 1 []) ∙ ap (λ r. get_or r 1 []) e)) (name f two.0 (sym (drop-drop 2 5 row) ∙ ap (drop 2) e))
 
--- the same days, in another form
-pub days_read : (found : Bool) (y z : ℤ) → found ≡ are_days y → y ≡ z → found ≡ are_days z
-days_read found y z e same = e ∙ ap are_days same
-
 -- a row of seven cells
 seven : (row : List (List ℕ)) → length row ≡ 7
     → row ≡ slice_index_or row 0 [] ∷ slice_index_or row 1 [] ∷ slice_index_or row 2 [] ∷ slice_index_or row 3 [] ∷ slice_index_or row 4 []
@@ -168,33 +164,6 @@ ledger_own row key (Some x) None (Some l) n name k u a is = absurd is
 ledger_own row key (Some x) (Some y) (Some l) n name k u a is =
     let line : l ≡ lines.Ledger (key_at row) x y = is ∙ ap (λ (q : Key). lines.Ledger q x y) k in
     seven row n ∙ rw (name, u, a) refl ∙ ap cell_texts (sym line)
-
-pub party_own : (row : List (List ℕ)) (key : Key) (party : List ℕ) (amount : Option ℤ) (result : Option Line) → length row ≡ 7
-    → slice_index_or row 0 [] ≡ codes "PARTY" → key ≡ key_at row → party ≡ slice_index_or row 5 []
-    → IfSome amount (λ a. slice_index_or row 6 [] ≡ amount_cell a)
-    → IfSome result (λ l. IsSome amount (λ a. l ≡ lines.Party key (record { party = party; amount = a }))) → IfSome result (λ l. row ≡ cell_texts l)
-party_own row key party amount None n name k p a is = tt
-party_own row key party None (Some l) n name k p a is = absurd is
-party_own row key party (Some y) (Some l) n name k p a is =
-    let line : l ≡ lines.Party (key_at row) (record { party = slice_index_or row 5 []; amount = y }) =
-    is ∙ ap (λ (q : Key). lines.Party q (record { party = party; amount = y })) k
-    ∙ ap (λ (t : List ℕ). lines.Party (key_at row) (record { party = t; amount = y })) p in
-    seven row n ∙ rw (name, a) refl ∙ ap cell_texts (sym line)
-
-six : (row : List (List ℕ)) → length row ≡ 6
-    → row ≡ slice_index_or row 0 [] ∷ slice_index_or row 1 [] ∷ slice_index_or row 2 [] ∷ slice_index_or row 3 [] ∷ slice_index_or row 4 []
-    ∷ slice_index_or row 5 [] ∷ []
-six (a ∷ b ∷ c ∷ d ∷ e ∷ f ∷ []) n = refl
-six _ n = absurd (omega arith)
-
-pub unclaimed_own : (row : List (List ℕ)) (key : Key) (amount : Option ℤ) (result : Option Line) → length row ≡ 6
-    → slice_index_or row 0 [] ≡ codes "UNCLAIMED" → key ≡ key_at row → IfSome amount (λ a. slice_index_or row 5 [] ≡ amount_cell a)
-    → IfSome result (λ l. IsSome amount (λ a. l ≡ lines.Unclaimed key a)) → IfSome result (λ l. row ≡ cell_texts l)
-unclaimed_own row key amount None n name k a is = tt
-unclaimed_own row key None (Some l) n name k a is = absurd is
-unclaimed_own row key (Some y) (Some l) n name k a is =
-    let line : l ≡ lines.Unclaimed (key_at row) y = is ∙ ap (λ (q : Key). lines.Unclaimed q y) k in
-    six row n ∙ rw (name, a) refl ∙ ap cell_texts (sym line)
 
 -- the text of a cell
 pub own_at : {A : Type 0} (print : A → List ℕ) (o : Option A) (text at : List ℕ) → text ≡ at → IfSome o (λ x. text ≡ print x)

@@ -5,6 +5,5 @@ pub mod Pieces
 pub mod Numbers
 pub mod Cuts
 pub mod Lenient
-pub mod Checks
 pub mod Near
 pub mod After

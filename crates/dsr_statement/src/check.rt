@@ -1,17 +1,16 @@
 //! Whether a line is one that a statement may have: whether each cell is spelled as in a report and in its range.
-ghost use Rattle.std.specs.Prelude.{true, ◌≡◌, ◌^◌, ◌&&◌, nat_lt};
+ghost use Rattle.std.specs.Prelude.{◌≡◌, ◌^◌, nat_lt};
 ghost use Rattle.std.specs.List.{list_all};
 ghost use Rattle.dsr_cells.specs.meaning.Texts.{is_isrc_text};
-ghost use Rattle.dsr_statement.specs.declared.verdict.Status.{Status as StatusValue};
 ghost use Rattle.dsr_statement.specs.meaning.Digests.{is_small_hex, is_sha256_text};
-ghost use Rattle.dsr_statement.specs.meaning.Cells.{Cell, FileNumber, OnDay, DaysIn, has_no_tab, is_cell, is_amount, are_usages, is_printed_fault, are_days};
+ghost use Rattle.dsr_statement.specs.meaning.Cells.{FileNumber, OnDay, DaysIn, has_no_tab, is_cell, is_amount, are_usages, is_printed_fault, are_days};
 ghost use Rattle.dsr_statement.specs.meaning.Lines.{is_line};
-ghost use Rattle.dsr_statement.specs.inner.Checks.{HasPlainParty, is_outcome};
 
-use crate::line::{DifferenceRef, DigestRef, KeyRef, Line, PartyRef, RejectRef, ReportRef};
+use crate::cell::{Cell, days_in};
+use crate::line::{KeyRef, Line, LineKind};
+use crate::table::{Row, give};
 use dsr_cells::{Day, Isrc, is_currency, is_identifier, is_territory, is_use_type};
-use dsr_events::{FileFault, Outcome};
-use dsr_ledger::FileLine;
+use dsr_events::FileFault;
 
 /// Whether a number has 64 bits: it does.
 #[inline(always)]
@@ -51,15 +50,6 @@ fn has_no_tab(text: &str) -> bool
     text.as_bytes().iter().all(|byte| *byte != b'\t')
 }
 
-/// The same of the name of a party, which is not looked at if it is a cell of a row.
-#[inline(always)]
-fn is_party_name(text: &str, is_cell: bool) -> bool
-    requires { is_cell ≡ true → has_no_tab text.now ≡ true }
-    ensures { result ≡ has_no_tab text.now }
-{
-    is_cell || has_no_tab(text)
-}
-
 /// Whether a text is an ISRC.
 fn is_isrc(text: &str) -> bool
     ensures { result ≡ is_isrc_text text.now }
@@ -81,18 +71,7 @@ fn are_some(days: i128) -> bool
 fn are_days(first: Day, last: Day) -> bool
     ensures { result ≡ is_cell (DaysIn first last) }
 {
-    are_some(i128::from(last.number()) - i128::from(first.number()) + 1)
-}
-
-/// Whether the parts of a report's line are spelled as in a report.
-fn is_report(key: &ReportRef<'_>) -> bool
-    ensures { result ≡ is_line (Line.Report key.now) }
-{
-    is_identifier(key.message_id, 64)
-        && is_u32(key.number_of_files)
-        && is_day(key.first_day)
-        && is_day(key.last_day)
-        && are_days(key.first_day, key.last_day)
+    are_some(days_in(first, last))
 }
 
 /// Whether a day is one of the calendar: it is.
@@ -122,48 +101,6 @@ fn is_printed(fault: FileFault) -> bool
     !matches!(fault, FileFault::Memory)
 }
 
-/// Whether a file may have ended so.
-fn is_outcome(outcome: Outcome) -> bool
-    ensures { result ≡ is_outcome outcome }
-{
-    match outcome {
-        Outcome::Whole => true,
-        Outcome::Fault { line, fault } => is_u64(line) && is_printed(fault),
-    }
-}
-
-/// Whether the parts of a file's line are in their ranges.
-fn is_file(place: u64, file: &FileLine) -> bool
-    ensures { result ≡ is_line (Line.File place file.now) }
-{
-    is_u64(place) && is_file_number(file.number) && is_u64(file.blocks) && is_outcome(file.outcome)
-}
-
-/// Whether the parts of a difference's line are spelled as in a report and in their ranges.
-fn is_difference(difference: &DifferenceRef<'_>) -> bool
-    ensures { result ≡ is_line (Line.Summary difference.now) }
-{
-    is_u64(difference.file)
-        && is_identifier(difference.summary_id, 32)
-        && are_usages(difference.stated_usages)
-        && are_usages(difference.found_usages)
-        && is_amount(difference.stated_amount)
-        && is_amount(difference.found_amount)
-}
-
-/// Whether the parts of a party's line are spelled as in a report and in their ranges.
-fn is_party(key: &KeyRef<'_>, part: &PartyRef<'_>, is_row: bool) -> bool
-    requires { is_row ≡ true → has_no_tab part.now.party ≡ true }
-    ensures { result ≡ is_line (Line.Party key.now part.now) }
-{
-    is_isrc(key.isrc)
-        && is_territory(key.territory)
-        && is_use_type(key.use_type)
-        && is_currency(key.currency)
-        && is_party_name(part.party, is_row)
-        && is_amount(part.amount)
-}
-
 /// Whether the parts of a ledger line are spelled as in a report and in their ranges.
 fn is_ledger(key: &KeyRef<'_>, usages: i128, amount: i128) -> bool
     ensures { result ≡ is_line (Line.Ledger key.now usages amount) }
@@ -174,24 +111,6 @@ fn is_ledger(key: &KeyRef<'_>, usages: i128, amount: i128) -> bool
         && is_currency(key.currency)
         && are_usages(usages)
         && is_amount(amount)
-}
-
-/// Whether the parts of an unclaimed amount's line are spelled as in a report and in their ranges.
-fn is_unclaimed(key: &KeyRef<'_>, amount: i128) -> bool
-    ensures { result ≡ is_line (Line.Unclaimed key.now amount) }
-{
-    is_isrc(key.isrc)
-        && is_territory(key.territory)
-        && is_use_type(key.use_type)
-        && is_currency(key.currency)
-        && is_amount(amount)
-}
-
-/// Whether the parts of a rejected block's line are spelled as in a report and in their ranges.
-fn is_reject(reject: &RejectRef<'_>) -> bool
-    ensures { result ≡ is_line (Line.Reject reject.now) }
-{
-    is_u64(reject.file) && is_u64(reject.position) && is_identifier(reject.block_id, 32)
 }
 
 /// Whether a byte is a digit or a small letter a to f.
@@ -215,44 +134,64 @@ fn is_sha256(text: &str) -> bool
     all_small_hex(text.as_bytes()) && text.len() == 64
 }
 
-/// Whether the parts of the layout's line are spelled as in a seal.
-fn is_layout(digest: &DigestRef<'_>) -> bool
-    ensures { result ≡ is_line (Line.Layout digest.now) }
+/// Whether a cell is spelled as in a report and in its range.
+fn is_cell(cell: &Cell<'_>) -> bool
+    ensures { result ≡ is_cell cell.now }
 {
-    is_u64(digest.bytes) && is_sha256(digest.sha256)
+    match cell {
+        Cell::Number64(number) => is_u64(*number),
+        Cell::Number32(number) => is_u32(*number),
+        Cell::FileNumber(number) => is_file_number(*number),
+        Cell::Usages(usages) => are_usages(*usages),
+        Cell::Amount(amount) => is_amount(*amount),
+        Cell::OnDay(day) => is_day(*day),
+        Cell::DaysIn(first, last) => are_days(*first, *last),
+        Cell::Identifier(most, word) => is_identifier(word.text, *most),
+        Cell::Isrc(word) => is_isrc(word.text),
+        Cell::Territory(word) => is_territory(word.text),
+        Cell::UseType(word) => is_use_type(word.text),
+        Cell::Currency(word) => is_currency(word.text),
+        Cell::PartyName(word) => has_no_tab(word.text),
+        Cell::FaultName(fault) => is_printed(*fault),
+        Cell::Sha256(word) => is_sha256(word.text),
+        _ => true,
+    }
 }
 
-/// Whether the parts of the line of a file's bytes are spelled as in a seal.
-fn is_input(place: u64, digest: &DigestRef<'_>) -> bool
-    ensures { result ≡ is_line (Line.Input place digest.now) }
+/// Whether each of these cells is.
+fn are_cells(cells: &[Cell<'_>]) -> bool
+    ensures { result ≡ list_all is_cell cells.now }
 {
-    is_u64(place) && is_u64(digest.bytes) && is_sha256(digest.sha256)
+    for cell in cells {
+        if !is_cell(cell) {
+            return false;
+        }
+    }
+    true
 }
 
-/// Whether the parts of the last line of a sealed statement are in their ranges: they are.
-fn is_end(count: u64) -> bool
-    ensures { (status : StatusValue) → result ≡ is_line (Line.End count status) }
-{
-    is_u64(count)
+/// Whether the cells of a line were all spelled as in a report and in their ranges.
+#[derive(Drop)]
+struct Check {
+    passed: bool,
 }
 
-/// Whether a line is one that a statement may have. The party of one that is read from a row (`is_row`) has no TAB.
-pub(crate) fn is_line(line: &Line<'_>, is_row: bool) -> bool
-    requires { is_row ≡ true → HasPlainParty line.now }
+impl Row for Check {
+    ghost gave = { λ old cells new. new.passed ≡ list_all is_cell cells };
+
+    fn take(&mut self, _kind: LineKind, cells: &[Cell<'_>]) {
+        self.passed = are_cells(cells);
+    }
+}
+
+/// Whether a line is one that a statement may have. That of a ledger line, of which there are many, is told without a table.
+pub(crate) fn is_line(line: &Line<'_>) -> bool
     ensures { result ≡ is_line line.now }
 {
-    match line {
-        Line::Report(key) => is_report(key),
-        Line::NoReport => true,
-        Line::File(place, file) => is_file(*place, file),
-        Line::Missing(number) => is_u32(*number),
-        Line::Summary(difference) => is_difference(difference),
-        Line::Ledger(key, usages, amount) => is_ledger(key, *usages, *amount),
-        Line::Party(key, part) => is_party(key, part, is_row),
-        Line::Unclaimed(key, amount) => is_unclaimed(key, *amount),
-        Line::Reject(reject) => is_reject(reject),
-        Line::Layout(digest) => is_layout(digest),
-        Line::Input(place, digest) => is_input(*place, digest),
-        Line::End(count, _) => is_end(*count),
+    if let Line::Ledger(key, usages, amount) = line {
+        return is_ledger(key, *usages, *amount);
     }
+    let mut check = Check { passed: false };
+    give(&mut check, line);
+    check.passed
 }

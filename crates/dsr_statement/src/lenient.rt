@@ -156,10 +156,8 @@ pub(crate) fn party_of<'l>(
 
 /// The line of a party.
 pub(crate) fn read_party<'l>(row: &FirstCells<'l>) -> Option<Line<'l>>
-    requires count { length row.now ≡ 7 }
-    requires name { slice_index_or row.now 0 [] ≡ kind_name LineKind.Party }
-    ensures again { ReadsKind LineKind.Party row.now result }
-    ensures own { IfSome result (λ l. row.now ≡ cell_texts l) }
+    requires { length row.now ≡ 7 }
+    ensures { ReadsKind LineKind.Party row.now result }
 {
     party_of(key_of(row), row.at(5), read_amount(row.at(6)))
 }
@@ -175,10 +173,8 @@ pub(crate) fn unclaimed_of<'l>(key: KeyRef<'l>, amount: Option<i128>) -> Option<
 
 /// The line of an unclaimed amount.
 pub(crate) fn read_unclaimed<'l>(row: &FirstCells<'l>) -> Option<Line<'l>>
-    requires count { length row.now ≡ 6 }
-    requires name { slice_index_or row.now 0 [] ≡ kind_name LineKind.Unclaimed }
-    ensures again { ReadsKind LineKind.Unclaimed row.now result }
-    ensures own { IfSome result (λ l. row.now ≡ cell_texts l) }
+    requires { length row.now ≡ 6 }
+    ensures { ReadsKind LineKind.Unclaimed row.now result }
 {
     unclaimed_of(key_of(row), read_amount(row.at(5)))
 }

@@ -1,11 +1,11 @@
 //! The statement of a report: its lines and those of its seal, their bytes, how they are written and read, and whether it has
 //! remarks.
 //!
-//! 1. `line`: the lines, which borrow their texts. `specs/meaning/Cells.antt` and `Lines.antt` have the table of their cells.
-//! 2. [`put`] puts the text of a line into a [`Sink`] (`sink`), cell by cell (`cells`, `names`): into bytes to be written, or
+//! 1. `line`: the lines, which borrow their texts. `table` gives the cells (`cell`) of a line.
+//! 2. [`put`] puts them into a [`Sink`] (`sink`), one after another (`putting`, `cells`, `names`): into bytes to be written, or
 //!    against a text that has to be the same.
 //! 3. [`read`] reads the line whose text it is given: leniently (`number` and `cut`, `lenient`, `file`, `seal`), then it tests
-//!    that the line is one that a statement may have (`check`), and that this is its text.
+//!    that each of its cells is one that a statement may have (`check`), and that this is its text.
 //! 4. `reader` reads the lines of a statement one after another: it keeps of them what the next one depends on (`last`,
 //!    `left`), tests that it may stand there and that the amounts of a ledger line add up, and says why not (`fault`). A line
 //!    of a party or of an unclaimed amount is read by the key of its ledger line (`near`), whose cells are not read again.
@@ -53,6 +53,7 @@
 //! reads one, `src/write.rt` and `src/reader.rt` have the whole.
 #![tactic(auto)]
 
+mod cell;
 mod cells;
 mod check;
 mod cut;
@@ -77,6 +78,7 @@ mod room;
 mod seal;
 mod sink;
 mod slice_buffer;
+mod table;
 mod verdict;
 mod write;
 

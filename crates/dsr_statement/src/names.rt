@@ -1,7 +1,7 @@
 //! The names of kinds, standings, reasons, statuses, columns and faults, in both directions.
 ghost use Rattle.std.specs.Prelude.{◌≡◌};
 ghost use Rattle.dsr_events.specs.meaning.Names.{column_name, name_of};
-ghost use Rattle.dsr_statement.specs.meaning.Names.{standing_name, reason_name, status_name};
+ghost use Rattle.dsr_statement.specs.meaning.Names.{kind_name, standing_name, reason_name, status_name};
 ghost use Rattle.dsr_statement.specs.meaning.Faults.{named, kind_in};
 ghost use Rattle.dsr_statement.specs.inner.Lenient.{standings_in_order, reasons_in_order, statuses_in_order, columns_in_order, plain_faults};
 
@@ -9,6 +9,26 @@ use crate::line::LineKind;
 use crate::verdict::Status;
 use dsr_events::{Column, FileFault};
 use dsr_ledger::{Reason, Standing};
+
+/// The name of a kind of line.
+pub(crate) fn kind_name(kind: LineKind) -> &'static str
+    ensures { result.now ≡ kind_name kind }
+{
+    match kind {
+        LineKind::Report => "REPORT",
+        LineKind::NoReport => "NOREPORT",
+        LineKind::File => "FILE",
+        LineKind::Missing => "MISSING",
+        LineKind::Summary => "SUMMARY",
+        LineKind::Ledger => "LEDGER",
+        LineKind::Party => "PARTY",
+        LineKind::Unclaimed => "UNCLAIMED",
+        LineKind::Reject => "REJECT",
+        LineKind::Layout => "LAYOUT",
+        LineKind::Input => "INPUT",
+        LineKind::End => "END",
+    }
+}
 
 /// The name of a standing.
 #[tactic(auto, unfolding(crate::specs::meaning::Names::standing_name))]

@@ -7,7 +7,6 @@ ghost use Rattle.dsr_statement.specs.meaning.Lines.{cell_texts, line_text};
 ghost use Rattle.dsr_statement.specs.meaning.Faults.{has_cells, has_file_cells, kind_in};
 ghost use Rattle.dsr_statement.specs.meaning.Readings.{Spells, fault_of, IsLineOf};
 ghost use Rattle.dsr_statement.specs.inner.Lenient.{ReadsKind, is_hot};
-ghost use Rattle.dsr_statement.specs.inner.Checks.{HasPlainParty};
 
 use crate::check::is_line;
 use crate::fault::StatementFault;
@@ -36,14 +35,12 @@ fn has_text(line: &Line<'_>, text: &str) -> bool
     rest.is_done()
 }
 
-/// Whether the cells of a line of this kind are compared with what they are read as, one by one.
+/// Whether the cells of a line of this kind are compared with what they are read as, one by one: those of ledger lines, of
+/// which there are many.
 fn is_hot(kind: LineKind) -> bool
     ensures { result ≡ is_hot kind }
 {
-    matches!(
-        kind,
-        LineKind::Ledger | LineKind::Party | LineKind::Unclaimed
-    )
+    matches!(kind, LineKind::Ledger)
 }
 
 /// A line, if it is one that a statement may have, and has exactly this text. One that is read from its own row (`is_same`) is
@@ -53,13 +50,13 @@ fn if_spelled<'l>(
     text: &str,
     is_same: bool,
 ) -> Result<Line<'l>, StatementFault>
-    requires { is_same ≡ true → IfSome line (λ l. (line_text l ≡ text.now) × HasPlainParty l) }
+    requires { is_same ≡ true → IfSome line (λ l. line_text l ≡ text.now) }
     ensures found { IfOk result (λ l. Spells text.now l) }
     ensures only { (l : LineValue) → Spells text.now l → line.entry ≡ Some l → result ≡ Ok l }
     ensures fault { IfErr result (λ f. f ≡ StatementFault.Spelling) }
 {
     match line {
-        Some(line) if is_line(&line, is_same) && (is_same || has_text(&line, text)) => Ok(line),
+        Some(line) if is_line(&line) && (is_same || has_text(&line, text)) => Ok(line),
         _ => Err(StatementFault::Spelling),
     }
 }

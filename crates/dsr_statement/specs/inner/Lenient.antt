@@ -105,9 +105,7 @@ abbrev pub IsSome : {A : Type 0} → Option A → (A → Type 0) → Type 0
 IsSome None such = ⊥
 IsSome (Some x) such = such x
 
--- the kinds of the lines of which there are many
+-- the kind of the lines of which there are many
 abbrev pub is_hot : LineKind → Bool
 is_hot kinds.Ledger = true
-is_hot kinds.Party = true
-is_hot kinds.Unclaimed = true
 is_hot _ = false

@@ -1,17 +1,13 @@
 -- Parts of the texts of lines, and the lines of a ledger line.
 use Rattle.std.specs.Prelude.{ℕ, List, [], ◌∷◌, map}
 use Rattle.std.specs.List.{join_with_byte}
-use Rattle.dsr_events.specs.declared.fault.Outcome.{Outcome}
 use Rattle.dsr_ledger.specs.meaning.Bookings.{Key}
 use Rattle.dsr_ledger.specs.meaning.Laws.{key_of_line}
-use Rattle.dsr_ledger.specs.declared.report.FileLine.{FileLine}
 use Rattle.dsr_ledger.specs.declared.report.LedgerLine.{LedgerLine}
 use Rattle.dsr_ledger.specs.declared.report.PartyLine.{PartyLine}
 use Rattle.dsr_statement.specs.declared.line.Line.TheVariants as lines
-use Rattle.dsr_statement.specs.declared.line.LineKind.TheVariants as kinds
-use Rattle.dsr_statement.specs.meaning.Digests.{Digest}
-use Rattle.dsr_statement.specs.meaning.Cells.{Cell, Name, Number64, FileNumber, Stands, cell_text}
-use Rattle.dsr_statement.specs.meaning.Lines.{key_cells, outcome_cells, digest_cells, line_bytes}
+use Rattle.dsr_statement.specs.meaning.Cells.{Cell, cell_text}
+use Rattle.dsr_statement.specs.meaning.Lines.{key_cells, line_bytes}
 use Rattle.dsr_statement.specs.meaning.Statement.{lines_of_ledger, text_of}
 
 -- what cells print, each after a tab
@@ -20,17 +16,6 @@ tabbed cells = 9 ∷ join_with_byte 9 (map cell_text cells)
 
 abbrev pub key_text : Key → List ℕ
 key_text key = tabbed (key_cells key [])
-
-abbrev pub outcome_text : Outcome → List ℕ
-outcome_text o = tabbed (outcome_cells o)
-
-abbrev pub digest_text : Digest → List ℕ
-digest_text digest = tabbed (digest_cells digest)
-
--- a FILE line up to its outcome
-abbrev pub file_head : ℕ → FileLine → List ℕ
-file_head place f =
-    join_with_byte 9 (map cell_text (Name kinds.File ∷ Number64 place ∷ FileNumber f.number ∷ Stands f.standing ∷ Number64 f.blocks ∷ []))
 
 -- the bytes of the lines of a ledger line
 abbrev pub sums_bytes : LedgerLine → List ℕ

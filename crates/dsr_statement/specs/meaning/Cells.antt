@@ -6,44 +6,12 @@ use Rattle.dsr_cells.specs.meaning.Days.{CivilDay, day_number, is_civil_day}
 use Rattle.dsr_cells.specs.meaning.Texts.{is_identifier_text, is_territory_text, is_use_type_text, is_currency_text, is_isrc_text}
 use Rattle.dsr_cells.specs.meaning.Written.{written, written_day}
 use Rattle.dsr_events.specs.meaning.Names.{column_name, name_of}
-use Rattle.dsr_events.specs.declared.kinds.Column.{Column}
 use Rattle.dsr_events.specs.declared.fault.FileFault.{FileFault}
 use Rattle.dsr_events.specs.declared.fault.FileFault.TheVariants as faults
-use Rattle.dsr_statement.specs.declared.line.LineKind.{LineKind}
-use Rattle.dsr_ledger.specs.declared.verdict.Standing.{Standing}
-use Rattle.dsr_ledger.specs.declared.verdict.Reason.{Reason}
-use Rattle.dsr_statement.specs.declared.verdict.Status.{Status}
+pub use Rattle.dsr_statement.specs.declared.cell.Cell.{Cell}
+pub use Rattle.dsr_statement.specs.declared.cell.Cell.TheVariants.{Name, Number64, Number32, FileNumber, Usages, Amount, OnDay, DaysIn, Identifier, Isrc, Territory, UseType, Currency, PartyName, Stands, Why, Whole, Faulty, FaultName, ColumnName, Sha256, StatusName}
 use Rattle.dsr_statement.specs.meaning.Digests.{is_sha256_text}
 use Rattle.dsr_statement.specs.meaning.Names.{kind_name, standing_name, reason_name, status_name}
-
-pub data Cell : Type 0 where
-  Name : LineKind → Cell
-  -- a number of 64 bits, and of 32
-  Number64 : ℕ → Cell
-  Number32 : ℕ → Cell
-  -- the number of a file, or a hyphen
-  FileNumber : Option ℕ → Cell
-  Usages : ℤ → Cell
-  -- units of 10 ^ -10
-  Amount : ℤ → Cell
-  OnDay : CivilDay → Cell
-  -- how many days there are from the first to the last, inclusive
-  DaysIn : CivilDay → CivilDay → Cell
-  -- a text of at most so many bytes
-  Identifier : ℕ → List ℕ → Cell
-  Isrc : List ℕ → Cell
-  Territory : List ℕ → Cell
-  UseType : List ℕ → Cell
-  Currency : List ℕ → Cell
-  PartyName : List ℕ → Cell
-  Stands : Standing → Cell
-  Why : Reason → Cell
-  Whole : Cell
-  Faulty : Cell
-  FaultName : FileFault → Cell
-  ColumnName : Column → Cell
-  Sha256 : List ℕ → Cell
-  StatusName : Status → Cell
 
 -- the number of days from the first to the last, inclusive
 abbrev pub days_in : CivilDay → CivilDay → ℤ

@@ -1,8 +1,0 @@
-use Rattle.std.proofs.Common.{rules, append_assoc}
-use Rattle.dsr_statement.proofs.Puts.{turn}
-use Rattle.dsr_statement.proofs.putting.put_file_head.Goals as goal
-
-pub returns : goal.returns
-returns g c =
-    let both = g.met.S.Sink.both in
-    turn g.S.Sink.took (both _ _ _ _ _ c.put.ensures (both _ _ _ _ _ c.put_number.ensures (both _ _ _ _ _ c.put_file_number.ensures (both _ _ _ _ _ c.put_text.ensures (c.put_number-2.ensures))))) (search (rules, append_assoc))

@@ -1,8 +1,0 @@
-use Rattle.std.proofs.Common.{rules, append_assoc}
-use Rattle.dsr_statement.proofs.Puts.{turn}
-use Rattle.dsr_statement.proofs.putting.put_key.Goals as goal
-
-pub returns : goal.returns
-returns g c =
-    let both = g.met.S.Sink.both in
-    turn g.S.Sink.took (both _ _ _ _ _ c.put_text.ensures (both _ _ _ _ _ c.put_text-2.ensures (both _ _ _ _ _ c.put_text-3.ensures (c.put_text-4.ensures)))) (search (rules, append_assoc))

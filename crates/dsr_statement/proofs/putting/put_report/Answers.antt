@@ -1,8 +1,0 @@
-use Rattle.std.proofs.Common.{rules, append_assoc}
-use Rattle.dsr_statement.proofs.Puts.{turn}
-use Rattle.dsr_statement.proofs.putting.put_report.Goals as goal
-
-pub returns : goal.returns
-returns g c =
-    let both = g.met.S.Sink.both in
-    turn g.S.Sink.took (both _ _ _ _ _ c.put.ensures (both _ _ _ _ _ c.put_text.ensures (both _ _ _ _ _ c.put_number.ensures (both _ _ _ _ _ c.put_day.ensures (both _ _ _ _ _ c.put_day-2.ensures (c.put_signed.ensures)))))) (search (rules, append_assoc))

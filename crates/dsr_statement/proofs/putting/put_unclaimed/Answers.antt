@@ -1,8 +1,0 @@
-use Rattle.std.proofs.Common.{rules, append_assoc}
-use Rattle.dsr_statement.proofs.Puts.{turn}
-use Rattle.dsr_statement.proofs.putting.put_unclaimed.Goals as goal
-
-pub returns : goal.returns
-returns g c =
-    let both = g.met.S.Sink.both in
-    turn g.S.Sink.took (both _ _ _ _ _ c.put.ensures (both _ _ _ _ _ c.put_key.ensures (c.put_amount.ensures))) (search (rules, append_assoc))
