@@ -15,9 +15,7 @@ has_ended_push [] e = grind arith
 has_ended_push (x ∷ xs) e = grind (arith, has_ended_push xs e)
 
 clean_is_ended : (p : EventPart) → is_clean_end p ≡ true → is_ended p ≡ true
-clean_is_ended (Opened o) h = cc
-clean_is_ended (Block b) h = cc
-clean_is_ended (Ended o) h = refl
+clean_is_ended p h = grind arith
 
 -- if a list has a clean end, its last event is an Ended
 clean_last : (xs : List Placed) → ends_clean xs ≡ true → (i : ℕ) × (e : Placed) × (slice_get xs i ≡ Some e) × (is_ended e.part ≡ true) × (i + 1 ≡ length xs)
@@ -33,14 +31,12 @@ clean_is_whole xs (y ∷ ys) o h =
     let e = o.ended_last l.0 l.1 (slice_get_front xs (y ∷ ys) l.0 l.1 l.2) l.3 in
     absurd (omega (arith, e, l.4, length-append xs (y ∷ ys)))
 
-placed_push : (n : ℕ) (parts : List EventPart) (p : EventPart) → (m : ℕ)
-    × (placed n (parts ++ p ∷ []) ≡ placed n parts ++ (record { place = m; part = p }) ∷ [])
-placed_push n [] p = (n, refl)
-placed_push n (q ∷ parts) p = let r = placed_push (n + 1) parts p in (r.0, ap (λ l. record { place = n; part = q } ∷ l) r.1)
+placed_unclean : (n : ℕ) (parts : List EventPart) (line : ℕ) → ends_clean (placed n (parts ++ Ended (Fault line Memory) ∷ [])) ≡ false
+placed_unclean n [] line = refl
+placed_unclean n (q ∷ []) line = refl
+placed_unclean n (q ∷ r ∷ parts) line = placed_unclean (n + 1) (r ∷ parts) line
 
 -- events that end with Memory have no clean end
 pub memory_is_unclean : (parts : List EventPart) (line : ℕ) (es : List Placed) → es ≡ placed 0 (parts ++ Ended (Fault line Memory) ∷ []) → ends_clean es
     ≡ false
-memory_is_unclean parts line es h =
-    let r = placed_push 0 parts (Ended (Fault line Memory)) in
-    ap ends_clean (h ∙ r.1) ∙ ends_clean_push (placed 0 parts) (record { place = r.0; part = Ended (Fault line Memory) })
+memory_is_unclean parts line es h = ap ends_clean h ∙ placed_unclean 0 parts line

@@ -10,55 +10,32 @@ event n p = record { place = n; part = p }
 
 -- the parts of one event, by what it is
 module _ (n : ℕ) where
-  no_outcome_at : (p : EventPart) (es : List Placed) → has_ended (event n p ∷ es) ≡ false → (has_ended es ≡ false → filter_map outcome_in es ≡ [])
-      → filter_map outcome_in (event n p ∷ es) ≡ []
-  no_outcome_at (part.Opened o) es h ih = ih h
-  no_outcome_at (part.Block b) es h ih = ih h
-  no_outcome_at (part.Ended o) es h ih = cc
-
-  opened_at : (p : EventPart) (es : List Placed) → MayStandAt 0 p → has_ended (event n p ∷ es) ≡ false
-      → IsSome (first (filter_map opening_in (event n p ∷ es)))
-  opened_at (part.Opened o) es f h = refl
-  opened_at (part.Block b) es f h = absurd (f refl)
-  opened_at (part.Ended o) es f h = cc
-
-  blocks_at : (p : EventPart) (es : List Placed) → length (filter_map block_in es) ≤ length es
-      → length (filter_map block_in (event n p ∷ es)) ≤ suc (length es)
-  blocks_at (part.Opened o) es h = omega arith
-  blocks_at (part.Block b) es h = omega arith
-  blocks_at (part.Ended o) es h = omega arith
-
   more_at : (es : List Placed) (p : EventPart) → is_opening p ≡ false → filter_map outcome_in es ≡ [] → file_of (es ++ event n p ∷ [])
       ≡ with_part (file_of es) p
   more_at es (part.Opened o) later none = cc
   more_at es (part.Block b) later none = simp (filter_map-append, append-nil)
   more_at es (part.Ended o) later none = simp (filter_map-append, append-nil) (rw none refl)
 
-  later_at : (k : ℕ) (p : EventPart) → 0 < k → MayStandAt k p → is_opening p ≡ false
-  later_at k (part.Opened o) some f = absurd (omega (arith, f))
-  later_at k (part.Block b) some f = refl
-  later_at k (part.Ended o) some f = refl
-
 -- an event that is no Ended has no outcome
 no_outcome : (es : List Placed) → has_ended es ≡ false → filter_map outcome_in es ≡ []
 no_outcome [] h = refl
-no_outcome (e ∷ es) h = no_outcome_at e.place e.part es h (no_outcome es)
+no_outcome (e ∷ es) h = grind (arith, no_outcome es)
 
 -- the first of an orderly list that has not ended is its opening
 opened_first : (es : List Placed) → IsOrderly es → 0 < length es → has_ended es ≡ false → IsSome (first (filter_map opening_in es))
 opened_first [] o some h = absurd (omega arith)
-opened_first (e ∷ es) o some h = opened_at e.place e.part es (o.parts 0 e refl) h
+opened_first (e ∷ es) o some h = grind (arith, o.parts 0 e refl)
 
 blocks_le : (es : List Placed) → length (filter_map block_in es) ≤ length es
 blocks_le [] = omega arith
-blocks_le (e ∷ es) = blocks_at e.place e.part es (blocks_le es)
+blocks_le (e ∷ es) = grind (arith, blocks_le es)
 
 pub get_end : {A : Type 0} (xs : List A) (x : A) → slice_get (xs ++ x ∷ []) (length xs) ≡ Some x
 get_end xs x = grind (arith, common_steps, gets)
 
 -- the later event is no opening
 pub later_part : (es : List Placed) (e : Placed) → IsOrderly (es ++ e ∷ []) → 0 < length es → is_opening e.part ≡ false
-later_part es e o some = later_at e.place (length es) e.part some (o.parts (length es) e (get_end es e))
+later_part es e o some = grind (arith, o.parts (length es) e (get_end es e))
 
 -- a later event adds its part
 pub file_more : (es : List Placed) (e : Placed) → IsOrderly (es ++ e ∷ []) → 0 < length es → has_ended es ≡ false → file_of (es ++ e ∷ [])

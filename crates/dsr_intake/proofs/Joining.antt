@@ -1,5 +1,5 @@
 -- What holds while the threads are started, and while they are joined.
-use Rattle.dsr_intake.proofs.Common.{◌≡◌, ℕ, false, List, [], ◌∷◌, ◌++◌, map, All, refl, sym, ap, subst, ◌∙◌, append_assoc, append-nil, map-append, All-head, All-tail, All-cons, All-append, All-nil, Placed, IsOrderly, FileText, events_of_text, Told, TapView, Options, ends_clean, IsDrained, IsGiven, GaveEach, file_of}
+use Rattle.dsr_intake.proofs.Common.{◌≡◌, ℕ, false, List, [], ◌∷◌, ◌++◌, map, All, refl, sym, ap, subst, ◌∙◌, append_assoc, append-nil, map-append, All-head, All-tail, All-cons, All-push, Placed, IsOrderly, FileText, events_of_text, Told, TapView, Options, ends_clean, IsDrained, IsGiven, GaveEach, file_of}
 use Rattle.std.proofs.lemmas.Simd.{map-map}
 use Rattle.dsr_file.specs.meaning.Sources.{GaveText}
 use Rattle.dsr_io.specs.meaning.Told.{HoldsGiven}
@@ -7,9 +7,6 @@ use Rattle.dsr_relay.specs.declared.name.Name.{Name}
 use Rattle.dsr_records.specs.meaning.Records.{LayoutTable}
 use Rattle.dsr_intake.specs.meaning.Texts.{HoldEach}
 use Rattle.dsr_intake.proofs.EndLemmas.{clean_is_whole}
-
-All-one : {A : Type 0} (P : A → Type 0) (x : A) → P x → All P (x ∷ [])
-All-one P x h = All-cons P x [] h (All-nil P)
 
 gave_more : {R : Type 0} (told : R → Told) (options : Options) (rs ss : List R) (ts : List FileText) (r s : R) (t : FileText)
     → GaveEach told options rs ss ts → GaveText options.layout options.max_reads (told r) (told s) t
@@ -34,8 +31,8 @@ module _ {R H : Type 0} (told : R → Told) (options : Options) (reader : H → 
       record {
         readers = rw (map-append, append_assoc) (rw same s.readers);
         names = rw map-append (rw map-append (rw (s.names, named) refl));
-        terms_are = All-append (λ x. terms x ≡ options) hs (h ∷ []) s.terms_are (All-one (λ x. terms x ≡ options) h granted);
-        untouched = All-append (λ x. x.taken ≡ []) ts (t ∷ []) s.untouched (All-one (λ x. x.taken ≡ []) t none);
+        terms_are = All-push (λ x. terms x ≡ options) hs h s.terms_are granted;
+        untouched = All-push (λ x. x.taken ≡ []) ts t s.untouched none;
         fresh = All-tail (λ x. (told x).failed ≡ false) r left s.fresh;
       }
 

@@ -15,24 +15,15 @@ module _ (options : Options) (before after : Told) (sent : List Placed) where
   pub given_from_unclean : ends_clean sent ≡ false → IsGiven options before after sent
   given_from_unclean h = record { given = λ clean. cc }
 
-  given_from_read : IsRead options.layout options.max_reads before after sent → IsGiven options before after sent
-  given_from_read h =
-      elim h [
-        | inl whole ↦ record { given = λ clean. whole }
-        | inr cut ↦ given_from_unclean (memory_is_unclean _ _ sent cut.3.events_are)
-      ]
-
-  given_from_refused : (e : Placed) → IsRefused options.layout options.max_reads before after sent e → IsGiven options before after sent
-  given_from_refused e h =
-      let run = known_run options.layout h.0 h.1 (sent ++ e ∷ []) h.3 in
-      record { given = λ clean. let none = clean_is_whole sent (e ∷ []) (run_orderly run.0 run.1 _ run.2) clean in cc }
-
   pub given_from_answer : (answer : Result Outcome ReadFileError)
       → OnOk answer (IsRead options.layout options.max_reads before after sent) → IfErr answer (IsRefusal options.layout options.max_reads before after sent)
       → IsGiven options before after sent
-  given_from_answer (Ok o) read refused = given_from_read read
+  given_from_answer (Ok o) read refused =
+      elim read [ inl whole ↦ record { given = λ clean. whole } | inr cut ↦ given_from_unclean (memory_is_unclean _ _ sent cut.3.events_are) ]
   given_from_answer (Err Memory) read refused = given_from_unclean (ap ends_clean refused.1)
-  given_from_answer (Err (Refused e)) read refused = given_from_refused e refused
+  given_from_answer (Err (Refused e)) read refused =
+      let run = known_run options.layout refused.0 refused.1 (sent ++ e ∷ []) refused.3 in
+      record { given = λ clean. let none = clean_is_whole sent (e ∷ []) (run_orderly run.0 run.1 _ run.2) clean in cc }
 
   -- what a thread gave is the same after it sent the end of a file of which nothing was read
   pub given_at_end : (answer : Result Outcome ReadFileError) (sent_last : List Placed) → IsGiven options before after sent

@@ -32,15 +32,9 @@ pub on_any : {A E P : Type 0} (answer : Result A E) → P → OnOk answer P
 on_any (Ok v) p = p
 on_any (Err e) p = tt
 
-module _ (n : ℕ) where
-  first_at : (p : EventPart) → MayStandAt 0 p → file_of (event n p ∷ []) ≡ first_file p
-  first_at (part.Opened o) h = refl
-  first_at (part.Block b) h = absurd (h refl)
-  first_at (part.Ended o) h = refl
-
 -- the file of a first event
 pub file_first : (e : Placed) → MayStandAt 0 e.part → file_of (e ∷ []) ≡ first_file e.part
-file_first e h = first_at e.place e.part h
+file_first e h = grind (arith, h)
 
 -- a file that is opened and ended at once
 pub opens_ended : (a b c : Books) (k : ℕ) (o : Outcome) → Opens a b k (opened None)
@@ -111,15 +105,9 @@ pub stopped_at : (now : List TapView) (k : ℕ) (t u : TapView) (e : CollectErro
 stopped_at now k t u Memory at s = tt
 stopped_at now k t u (Closed n) at s = (k, u, s.0, get_set_same now k t u at, s.1)
 
-outcome_at : (n : ℕ) (p : EventPart) (es : List Placed) → has_ended (event n p ∷ es) ≡ true
-    → (has_ended es ≡ true → IsSome (first (filter_map outcome_in es))) → IsSome (first (filter_map outcome_in (event n p ∷ es)))
-outcome_at n (part.Opened o) es h ih = ih h
-outcome_at n (part.Block b) es h ih = ih h
-outcome_at n (part.Ended o) es h ih = refl
-
 ended_outcome : (es : List Placed) → has_ended es ≡ true → IsSome (first (filter_map outcome_in es))
 ended_outcome [] h = cc
-ended_outcome (e ∷ es) h = outcome_at e.place e.part es h (ended_outcome es)
+ended_outcome (e ∷ es) h = grind (arith, ended_outcome es)
 
 ended_at : (ts : List TapView) (k : ℕ) → All (λ t. has_ended t.taken ≡ true) ts → k < length ts → ended_in (map (λ t. file_of t.taken) ts) k ≡ true
 ended_at [] k h below = absurd (omega arith)
