@@ -1,5 +1,6 @@
 //! The words and the files of the system, of which std tells nothing. How a file is read in its turn (`source`), what a name is as
-//! a place for an output, and that a new file is removed if it cannot be opened once more (`new`), is decided here; no more.
+//! a place for an output, that a new file is removed if it cannot be opened once more (`new`), and which numbers of open files are
+//! held, is decided here; no more.
 ghost use Rattle.std.specs.Prelude.{None};
 
 mod new;
