@@ -1,5 +1,5 @@
 -- The answer to an error of clap's.
-use Rattle.dsr_command.proofs.Common.{◌≡◌, ◌∙◌, ap, sym, inl, inr, true≢false, Answers, IsFaultOf, is_request}
+use Rattle.dsr_command.proofs.Common.{◌∙◌, ap, sym, inl, inr, true≢false, Answers, IsFaultOf, is_request}
 use Rattle.clap.specs.Kinds.{Kinds, HasKind}
 use Rattle.clap.specs.Values.{kind_of}
 use Rattle.clap.specs.declared.error.Error.{Error}

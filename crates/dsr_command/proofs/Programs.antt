@@ -10,7 +10,6 @@ use Rattle.dsr_command.specs.Outputs.{IsOnlyTold, Outputs, outputs}
 use Rattle.dsr_command.specs.Programs.{HadFiles, HadOutput, HadTexts, IsEnded, WroteInto, WroteOut}
 use Rattle.dsr_command.specs.World.{AreSources, Disk, Ghosts, made}
 use Rattle.dsr_io.specs.declared.source.Failed.{Failed}
-use Rattle.dsr_io.specs.meaning.Told.{Told}
 use Rattle.dsr_io.specs.meaning.Written.{Written}
 
 -- only this was told, and the output is as it was
