@@ -102,9 +102,10 @@ impl Ended {
     }
 
     /// Whether nothing was done but to write a line to standard error, of the program's name, this text and this name.
-    pub fn is_refused(&self, task: &Task, status: u8, text: &str, name: &str) -> bool {
+    pub fn is_refused<'t>(&self, task: &Task, status: u8, text: &'t str, name: &'t str) -> bool {
+        let program: &'t str = task.program;
         self.status == status
-            && is_joined(self.told.bytes(), &[task.program, text, name, "\n"])
+            && is_joined(self.told.bytes(), &[program, text, name, "\n"])
             && self.out.bytes().len() == 0
             && self.is_kept(task)
     }
