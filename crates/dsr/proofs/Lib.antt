@@ -1,5 +1,4 @@
 pub mod Answering
 pub mod Digests
-pub mod Ending
 pub mod Seals
 pub mod Serving

@@ -5,16 +5,14 @@ use Rattle.dsr_command.specs.CommandLine.{IsAskedFor, IsFaultFor}
 use Rattle.dsr_command.specs.declared.command.Asked.{Asked}
 use Rattle.dsr_command.specs.declared.command.CommandFault.{CommandFault}
 use Rattle.dsr_command.specs.declared.identity.FileIdentity.{FileIdentity}
-use Rattle.dsr_command.specs.declared.inputs.OpenError.{OpenError}
 use Rattle.dsr_command.specs.declared.layout_file.LayoutReadError.{LayoutReadError}
-use Rattle.dsr_command.specs.declared.new_file.NewFileError.{NewFileError}
 use Rattle.dsr_command.specs.declared.sealing.Sealing.{Sealing}
 use Rattle.dsr_command.specs.declared.world.WordsFault.{WordsFault}
-use Rattle.dsr_command.specs.Faults.{dsr, fault_line, layout_refused_line, layout_refused_status, status_number, unopened_line, unopened_status, IsTold}
+use Rattle.dsr_command.specs.Faults.{dsr, fault_line, layout_refused_line, layout_refused_status, status_number, IsTold}
 use Rattle.dsr_command.specs.LayoutFile.{AreAsked, IsLayoutRefused, layout_file, sealing_for}
-use Rattle.dsr_command.specs.NewFiles.{IsNotCreated, cannot_replace_line, new_file_line, new_file_status}
-use Rattle.dsr_command.specs.Outputs.{IsOnlyTold, IsTurnedDown, IsWithoutMemory, Outputs, no_words_line, no_words_status}
-use Rattle.dsr_command.specs.World.{AreFresh, Disk, Ghosts, IsApart, IsReplacedIn, LacksWords, failing, files_for, made, removed, texts_for}
+use Rattle.dsr_command.specs.Outputs.{IsOnlyTold, IsTurnedDown, Outputs, no_words_line, no_words_status}
+use Rattle.dsr_command.specs.Programs.{HadFiles}
+use Rattle.dsr_command.specs.World.{Disk, Ghosts, LacksWords, files_for, texts_for}
 use Rattle.dsr_file.specs.meaning.Runs.{FileText}
 use Rattle.dsr_io.specs.meaning.Told.{Told}
 use Rattle.dsr_io.specs.meaning.Written.{Written, IsFlushed, IsCut}
@@ -89,63 +87,21 @@ abbrev pub IsAnswerFor : {R : Type 0} → (R → Told) → Options → Option Se
 IsAnswerFor told options None = IsAnswer told options
 IsAnswerFor told options (Some seal) = IsSealedAnswer told options seal
 
--- standard error has the line of an error, and nothing more if there is none
-abbrev pub IsAnswerTold : Written → Written → Result Status RunError → Type 0
-IsAnswerTold before after (Ok status) = after ≡ before
-IsAnswerTold before after (Err error) = IsTold before after (fault_line error)
-
--- there was a run over these sources, which wrote to standard output
-abbrev pub HadRun : {R : Type 0} → (R → Told) → Options → Option Sealing → List R → Outputs → Outputs → ℕ → Type 0
-HadRun {R} told options seal sources before after status = (answer : Result Status RunError) × (left : List R)
-    × IsAnswerFor told options seal sources left before.out after.out answer × IsAnswerTold before.fault after.fault answer
-    × (status ≡ status_number answer)
-
--- where the new file of a run with this answer is: only after a report it is in the place of the file of this name, and else
--- it is removed; if it cannot be put there, a line says so
-abbrev pub IsEnded : Option (List ℕ) → List ℕ → Disk → Option Disk → Written → Written → ℕ → Result Status RunError → Type 0
-IsEnded contents name disk left before after status (Ok verdict) =
-    (IsReplacedIn contents name (disk.parts - 1) disk left × (after ≡ before) × (status ≡ status_number (Ok verdict)))
-    ⊎ ((left ≡ Some (removed (failing disk))) × IsTold before after (cannot_replace_line dsr name) × (status ≡ 3))
-IsEnded contents name disk left before after status (Err error) =
-    (left ≡ Some (removed disk)) × IsTold before after (fault_line error) × (status ≡ 3)
-
--- there was a run over these sources, which wrote to this new file, and this is where the file is
-abbrev pub HadRunInto : {R N : Type 0} → Ghosts R N → Options → Option Sealing → List R → N → List ℕ → Disk → Option Disk → Written → Written → ℕ
-    → Type 0
-HadRunInto {R} {N} g options seal sources new name disk left before after status =
-    (answer : Result Status RunError) × (rest : List R) × (whole : N)
-    × IsAnswerFor g.told options seal sources rest (g.written new) (g.written whole) answer
-    × IsEnded (g.written whole).contents name disk left before after status answer
+-- standard error has the line of an error, and nothing more if there is none; and this is the exit status
+abbrev pub IsAnswerTold : Result Status RunError → Written → Written → ℕ → Type 0
+IsAnswerTold (Ok verdict) before after status = (after ≡ before) × (status ≡ status_number (Ok verdict))
+IsAnswerTold (Err error) before after status = IsTold before after (fault_line error) × (status ≡ 3)
 
 -- the files that are read: the layout's, if one is named, and those of the report
 abbrev pub files_read : Disk → Asked → List (Option FileIdentity)
 files_read disk asked = layout_file disk asked.layout ∷ files_for disk asked.files
 
--- a run over sources of these bytes wrote to standard output; or, with nothing there, to a new file for the file that is named,
--- which is none of those that are read; or no such file can be had
-abbrev pub HadOutput : {R N : Type 0} → Ghosts R N → Disk → Option Disk → Asked → Options → List (List ℕ) → Outputs → Outputs → ℕ
-    → Option (List ℕ) → Type 0
-HadOutput {R} {N} g disk left asked options texts before after status None =
-    (sources : List R) × AreFresh g.told sources texts × HadRun g.told options (sealing_for disk asked) sources before after status × (left ≡ Some disk)
-HadOutput {R} {N} g disk left asked options texts before after status (Some name) =
-    ((sources : List R) × AreFresh g.told sources texts × IsApart (disk.place name) (files_read disk asked)
-    × (new : N) × ((g.written new).contents ≡ Some [])
-    × HadRunInto g options (sealing_for disk asked) sources new name (made disk) left before.fault after.fault status × (after.out ≡ before.out))
-    ⊎ ((error : NewFileError) × IsNotCreated disk left (files_read disk asked) name error
-    × IsOnlyTold (new_file_line dsr name error) before after × (status ≡ new_file_status error))
-
--- with these options, there was a run over the bytes behind the names; or they cannot be opened: the first one that cannot, or
--- standard input, which is named twice
-abbrev pub HadTexts : {R N : Type 0} → Ghosts R N → Disk → Option Disk → Asked → Options → Outputs → Outputs → ℕ → Result (List (List ℕ)) OpenError → Type 0
-HadTexts g disk left asked options before after status (Ok texts) = HadOutput g disk left asked options texts before after status asked.output
-HadTexts g disk left asked options before after status (Err error) =
-    IsOnlyTold (unopened_line dsr error) before after × (status ≡ unopened_status error) × (left ≡ Some disk)
-
--- the same, unless memory was refused
+-- with these options, there was a run over the bytes behind the names, and its statement went where it is asked for; or they
+-- cannot be opened, or memory was refused
 abbrev pub IsRead : {R N : Type 0} → Ghosts R N → Disk → Option Disk → Asked → Options → Outputs → Outputs → ℕ → Type 0
 IsRead g disk left asked options before after status =
-    HadTexts g disk left asked options before after status (texts_for disk asked.files)
-    ⊎ (IsWithoutMemory dsr before after status × (left ≡ Some disk))
+    HadFiles g dsr (IsAnswerFor g.told options (sealing_for disk asked)) IsAnswerTold disk left (files_read disk asked) asked.output before after status
+    (texts_for disk asked.files)
 
 -- first the layout was had, and then the files were read; or there is no layout, and no file of the report was opened
 abbrev pub IsServedFor : {R N : Type 0} → Ghosts R N → Disk → Option Disk → Asked → Outputs → Outputs → ℕ → Type 0

@@ -1,9 +1,10 @@
 //! A run, and where its statement goes.
 ghost use Rattle.std.specs.Prelude.{◌≡◌, false, List, All, Some};
-ghost use Rattle.dsr_command.specs.Faults.{status_number};
+ghost use Rattle.dsr_command.specs.Faults.{dsr};
 ghost use Rattle.dsr_command.specs.Outputs.{outputs};
-ghost use Rattle.dsr_command.specs.World.{WhereTold, ghosts, stands_for};
-ghost use Rattle.dsr.specs.Serving.{IsAnswer, IsAnswerFor, IsAnswerTold, HadRun, HadRunInto};
+ghost use Rattle.dsr_command.specs.Programs.{WroteInto, WroteOut};
+ghost use Rattle.dsr_command.specs.World.{WhereTold, stands_for};
+ghost use Rattle.dsr.specs.Serving.{IsAnswer, IsAnswerFor, IsAnswerTold};
 
 use crate::sealing::run_sealed;
 use dsr_cells::{NoMemory, Text};
@@ -42,9 +43,9 @@ pub(crate) fn run_printed<
     requires sources { All (λ r. (R.told r).failed ≡ false) reading.inputs.items }
     requires outlet { (O.told out).failed ≡ false }
     requires empty { (O.told out).taken ≡ 0 }
-    ensures { HadRun R.told reading.options.value reading.seal reading.inputs.items
-        (outputs (O.told out) (F.told fault.old)) (outputs (O.told result.0) (F.told fault.new))
-        result.1 }
+    ensures { WroteOut (IsAnswerFor R.told reading.options.value reading.seal) IsAnswerTold
+        reading.inputs.items (outputs (O.told out) (F.told fault.old))
+        (outputs (O.told result.0) (F.told fault.new)) result.1 }
 {
     let (out, answer) = run_inputs(rt, alloc, reading, out);
     let status = status_of(&answer, fault);
@@ -71,7 +72,8 @@ pub(crate) fn run_into<
     requires outlet { (W.New.told new).failed ≡ false }
     requires empty { (W.New.told new).taken ≡ 0 }
     ensures { WhereTold (W.disk world.old) (λ d. stands_for d name.now ≡ Some place.now
-        → HadRunInto (ghosts (W.Reader.told) (W.New.told)) reading.options.value reading.seal
+        → WroteInto W.New.told dsr
+        (IsAnswerFor W.Reader.told reading.options.value reading.seal) IsAnswerTold
         reading.inputs.items new name.now d (W.disk world.new) (F.told fault.old)
         (F.told fault.new) result) }
 {
@@ -84,8 +86,7 @@ pub(crate) fn run_into<
 
 /// The exit status of a run. The line of its error is written to `fault`.
 fn status_of<F: Outlet>(answer: &Result<Status, RunError>, fault: &mut F) -> u8
-    ensures status { result ≡ status_number answer.now }
-    ensures told { IsAnswerTold (F.told fault.old) (F.told fault.new) answer.now }
+    ensures { IsAnswerTold answer.now (F.told fault.old) (F.told fault.new) result }
 {
     if let Err(error) = answer {
         write_fault(error, fault);

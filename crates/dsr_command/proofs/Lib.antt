@@ -1,3 +1,4 @@
+pub mod Answered
 pub mod Apart
 pub mod Common
 pub mod LayoutBytes
@@ -5,4 +6,5 @@ pub mod Links
 pub mod Opening
 pub mod Options
 pub mod Printing
+pub mod Programs
 pub mod Worlds

@@ -19,11 +19,19 @@ one_more (Some t) n (Ok ts) s more texts step is =
     let e : texts ≡ t ∷ ts = cc in
     rw (step ts refl, e) refl
 
-texts_push : (files : List ℕ → Option (List ℕ)) (xs : List (List ℕ)) (n : List ℕ) (texts : List (List ℕ)) (b : List ℕ)
-    → texts_of files xs ≡ Ok texts → files n ≡ Some b → texts_of files (xs ++ n ∷ []) ≡ Ok (texts ++ b ∷ [])
-texts_push files [] n texts b are is = let e : texts ≡ [] = cc in rw (is, e) refl
-texts_push files (x ∷ xs) n texts b are is =
-    one_more (files x) x (texts_of files xs) (texts_of files (xs ++ n ∷ [])) (b ∷ []) texts (λ ts e. texts_push files xs n ts b e is) are
+-- texts behind others
+pub texts_append : (files : List ℕ → Option (List ℕ)) (xs ys : List (List ℕ)) (texts more : List (List ℕ))
+    → texts_of files xs ≡ Ok texts → texts_of files ys ≡ Ok more → texts_of files (xs ++ ys) ≡ Ok (texts ++ more)
+texts_append files [] ys texts more are is = let e : texts ≡ [] = cc in rw (is, e) refl
+texts_append files (x ∷ xs) ys texts more are is =
+    one_more (files x) x (texts_of files xs) (texts_of files (xs ++ ys)) more texts (λ ts e. texts_append files xs ys ts more e is) are
+
+-- one name can be opened, or not
+pub one_text : (files : List ℕ → Option (List ℕ)) (name bytes : List ℕ) → files name ≡ Some bytes → texts_of files (name ∷ []) ≡ Ok (bytes ∷ [])
+one_text files name bytes is = rw is refl
+
+pub one_missing : (files : List ℕ → Option (List ℕ)) (name : List ℕ) → files name ≡ None → texts_of files (name ∷ []) ≡ Err (CannotOpen name)
+one_missing files name is = rw is refl
 
 missing_more : (o : Option (List ℕ)) (n : List ℕ) (m : OpenError) (r s : Result (List (List ℕ)) OpenError) (texts : List (List ℕ))
     → ((ts : List (List ℕ)) → r ≡ Ok ts → s ≡ Err m) → before_texts o n r ≡ Ok texts → before_texts o n s ≡ Err m
@@ -31,11 +39,26 @@ missing_more None n m r s texts step is = cc
 missing_more (Some t) n m (Err e) s texts step is = cc
 missing_more (Some t) n m (Ok ts) s texts step is = rw (step ts refl) refl
 
-texts_missing : (files : List ℕ → Option (List ℕ)) (xs ys : List (List ℕ)) (n : List ℕ) (texts : List (List ℕ))
-    → texts_of files xs ≡ Ok texts → files n ≡ None → texts_of files (xs ++ n ∷ ys) ≡ Err (CannotOpen n)
-texts_missing files [] ys n texts are is = rw is refl
-texts_missing files (x ∷ xs) ys n texts are is =
-    missing_more (files x) x (CannotOpen n) (texts_of files xs) (texts_of files (xs ++ n ∷ ys)) texts (λ ts e. texts_missing files xs ys n ts e is) are
+first_missing : (o : Option (List ℕ)) (n : List ℕ) (m : OpenError) (more : Result (List (List ℕ)) OpenError) → before_texts o n (Ok []) ≡ Err m
+    → before_texts o n more ≡ Err m
+first_missing None n m more e = cc
+first_missing (Some t) n m more e = absurd cc
+
+texts_missing : (files : List ℕ → Option (List ℕ)) (xs ys : List (List ℕ)) (n : List ℕ) (m : OpenError) (texts : List (List ℕ))
+    → texts_of files xs ≡ Ok texts → texts_of files (n ∷ []) ≡ Err m → texts_of files (xs ++ n ∷ ys) ≡ Err m
+texts_missing files [] ys n m texts are is = first_missing (files n) n m (texts_of files ys) is
+texts_missing files (x ∷ xs) ys n m texts are is =
+    missing_more (files x) x m (texts_of files xs) (texts_of files (xs ++ n ∷ ys)) texts (λ ts e. texts_missing files xs ys n m ts e is) are
+
+-- the name at this place cannot be opened
+pub missing_at : (files : List ℕ → Option (List ℕ)) (names : List (List ℕ)) (k : ℕ) (e : List ℕ) (texts : List (List ℕ)) (error : OpenError)
+    → k < length names → texts_of files (take k names) ≡ Ok texts → texts_of files (slice_index_or names k e ∷ []) ≡ Err error
+    → texts_of files names ≡ Err error
+missing_at files names k e texts error lt are is =
+    let n = slice_index_or names k e in
+    let same : take k names ++ n ∷ drop (suc k) names ≡ names =
+    ap (λ ys. take k names ++ ys) (sym (drop-cons names k e lt)) ∙ take-append-drop k names in
+    subst (λ ns. texts_of files ns ≡ Err error) same (texts_missing files (take k names) (drop (suc k) names) n error texts are is)
 
 fresh_push : {R : Type 0} (told : R → Told) (rs : List R) (ts : List (List ℕ)) (r : R) (t : List ℕ)
     → AreFresh told rs ts → IsFresh (told r) t → AreFresh told (rs ++ r ∷ []) (ts ++ t ∷ [])
@@ -56,7 +79,7 @@ sources_more told file disk names k e sources source lt are is =
     record {
       bytes = are.bytes ++ is.0 ∷ [];
       texts_are = subst (λ ns. texts_of disk.files ns ≡ Ok (are.bytes ++ is.0 ∷ [])) (sym same)
-          (texts_push disk.files (take k names) n are.bytes is.0 are.texts_are is.1);
+          (texts_append disk.files (take k names) (n ∷ []) are.bytes (is.0 ∷ []) are.texts_are (one_text disk.files n is.0 is.1));
       fresh = fresh_push told sources are.bytes source is.0 are.fresh is.2.fresh;
       files_are = map-append file sources (source ∷ []) ∙ (ap₂ (λ xs x. xs ++ x ∷ []) are.files_are is.2.file_is
           ∙ (sym (map-append disk.file (take k names) (n ∷ [])) ∙ ap (map disk.file) (sym same)));
@@ -73,11 +96,8 @@ unopened_at told file disk names k e sources fault InputTwice lt are is error = 
 unopened_at told file disk names k e sources fault.Memory (CannotOpen name) lt are is error = absurd (cc error.0)
 unopened_at told file disk names k e sources fault.Missing (CannotOpen name) lt are is error =
     let n = slice_index_or names k e in
-    let same : take k names ++ n ∷ drop (suc k) names ≡ names =
-    ap (λ ys. take k names ++ ys) (sym (drop-cons names k e lt)) ∙ take-append-drop k names in
     subst (λ m. texts_of disk.files names ≡ Err (CannotOpen m)) (sym error.1)
-    (subst (λ ns. texts_of disk.files ns ≡ Err (CannotOpen n)) same
-    (texts_missing disk.files (take k names) (drop (suc k) names) n are.bytes are.texts_are is))
+    (missing_at disk.files names k e are.bytes (CannotOpen n) lt are.texts_are (one_missing disk.files n is))
 
 -- standard input is named twice
 pub texts_twice : (disk : Disk) (names : List (List ℕ)) → nat_lt 1 (count_by is_input names) ≡ true → texts_for disk names ≡ Err InputTwice

@@ -33,9 +33,9 @@ output_rule = letter_rule 111 (codes "output")
 abbrev pub flag_rule : Text → Rule
 flag_rule name = record (new_rule name) { long = Some name; action = Some SetTrue }
 
--- the positional arguments: any number of file names
-abbrev pub names_rule : Rule
-names_rule = record (new_rule (codes "FILE")) {
+-- the positional arguments: any number of names
+abbrev pub names_rule : Text → Rule
+names_rule name = record (new_rule name) {
   action = Some Append;
   range = Some (record { start_inclusive = 0; end_inclusive = usize_max });
 }
@@ -48,7 +48,8 @@ bare_command = on_top (λ s. record s { no_binary_name = true; has_version = tru
 unfoldable pub command_line : App
 command_line = with_rule (with_rule (with_rule (with_rule (with_rule (with_rule (with_rule bare_command
     (number_rule (codes "capacity") 1024)) (number_rule (codes "max-reads") 16777216))
-    (option_rule (codes "layout"))) output_rule) (flag_rule (codes "progress"))) (flag_rule (codes "seal"))) names_rule
+    (option_rule (codes "layout"))) output_rule) (flag_rule (codes "progress"))) (flag_rule (codes "seal")))
+    (names_rule (codes "FILE"))
 
 -- the number is the one given, or the default if none is given
 abbrev pub IsNumberAsked : ℕ → ℕ → Option Text → ℕ → Type 0

@@ -6,3 +6,4 @@ pub mod Faults
 pub mod LayoutFile
 pub mod NewFiles
 pub mod Outputs
+pub mod Programs

@@ -47,27 +47,38 @@ Exit status:
      a bad layout
   3  the run failed; standard error says why";
 
-/// How clap's text on a capacity out of range ends, and the same in words.
-const CAPACITY_RANGE: &str = " is not in 1..=1024
+/// The help of `--output`, `--progress` and `--seal`.
+const OUTPUT: &str = "Writes the statement to FILE, which is replaced once the
+statement is whole, and else stays as it was";
+
+const PROGRESS: &str = "Reports the progress of the reading on standard error, at
+most twice a second";
+
+const SEAL: &str = "Ends the statement with the number and the SHA-256 of the
+bytes of each file, and the number of its lines";
+
+/// The last lines of clap's text on a number out of range.
+const TAIL: &str = "
 
 For more information, try '--help'.
 ";
 
-const CAPACITY_WORDS: &str = " is not in the range 1 to 1024
-
-For more information, try '--help'.
-";
-
-/// The same of a maximum number of reads.
-const READS_RANGE: &str = " is not in 1..=16777216
-
-For more information, try '--help'.
-";
-
-const READS_WORDS: &str = " is not in the range 1 to 16777216
-
-For more information, try '--help'.
-";
+/// How the line before them ends, and the same in words.
+const RANGES: [(&str, &str); 4] = [
+    (" is not in 1..=1024", " is not in the range 1 to 1024"),
+    (
+        " is not in 1..=16777216",
+        " is not in the range 1 to 16777216",
+    ),
+    (
+        "'--capacity <N>': number too large to fit in target type",
+        "'--capacity <N>': the number is not in the range 1 to 1024",
+    ),
+    (
+        "'--max-reads <N>': number too large to fit in target type",
+        "'--max-reads <N>': the number is not in the range 1 to 16777216",
+    ),
+];
 
 /// `--capacity N`.
 fn capacity_option<'a>(alloc: Global) -> Arg<'a>
@@ -118,7 +129,7 @@ examples/layout.tsv is one to copy",
 }
 
 /// `--output FILE`, or `-o FILE`.
-fn output_option<'a>(alloc: Global) -> Arg<'a>
+pub fn output_option<'a>(alloc: Global, help: &'a str) -> Arg<'a>
     ensures rule { rule_of result ≡ output_rule }
     ensures local { result.global ≡ false }
 {
@@ -127,43 +138,23 @@ fn output_option<'a>(alloc: Global) -> Arg<'a>
         .long("output")
         .value_name("FILE")
         .action(ArgAction::Set)
-        .help(
-            "Writes the statement to FILE, which is replaced once the
-statement is whole, and else stays as it was",
-        )
+        .help(help)
 }
 
-/// `--progress`.
-fn progress_option<'a>(alloc: Global) -> Arg<'a>
-    ensures rule { rule_of result ≡ flag_rule (codes "progress") }
+/// An option without a value.
+pub fn flag_option<'a>(alloc: Global, name: &'a str, help: &'a str) -> Arg<'a>
+    ensures rule { rule_of result ≡ flag_rule name.now }
     ensures local { result.global ≡ false }
 {
-    Arg::new(alloc, "progress")
-        .long("progress")
+    Arg::new(alloc, name)
+        .long(name)
         .action(ArgAction::SetTrue)
-        .help(
-            "Reports the progress of the reading on standard error, at
-most twice a second",
-        )
-}
-
-/// `--seal`.
-fn seal_option<'a>(alloc: Global) -> Arg<'a>
-    ensures rule { rule_of result ≡ flag_rule (codes "seal") }
-    ensures local { result.global ≡ false }
-{
-    Arg::new(alloc, "seal")
-        .long("seal")
-        .action(ArgAction::SetTrue)
-        .help(
-            "Ends the statement with the number and the SHA-256 of the
-bytes of each file, and the number of its lines",
-        )
+        .help(help)
 }
 
 /// The names of the files.
 fn names_argument<'a>(alloc: Global) -> Arg<'a>
-    ensures rule { rule_of result ≡ names_rule }
+    ensures rule { rule_of result ≡ names_rule (codes "FILE") }
     ensures local { result.global ≡ false }
 {
     Arg::new(alloc, "FILE")
@@ -198,9 +189,9 @@ fn command<'a>(alloc: Global) -> Result<Command<'a>, AllocError>
         .arg(capacity_option(alloc))?
         .arg(reads_option(alloc))?
         .arg(layout_option(alloc))?
-        .arg(output_option(alloc))?
-        .arg(progress_option(alloc))?
-        .arg(seal_option(alloc))?
+        .arg(output_option(alloc, OUTPUT))?
+        .arg(flag_option(alloc, "progress", PROGRESS))?
+        .arg(flag_option(alloc, "seal", SEAL))?
         .arg(names_argument(alloc))
 }
 
@@ -314,17 +305,18 @@ pub fn read_file_name(
 
 /// Clap's text on an error, with a range of numbers in words.
 fn in_words(alloc: Global, text: &str) -> Result<Text, NoMemory> {
-    let (start, end) = if let Some(start) = text.strip_suffix(CAPACITY_RANGE) {
-        (start, CAPACITY_WORDS)
-    } else if let Some(start) = text.strip_suffix(READS_RANGE) {
-        (start, READS_WORDS)
-    } else {
-        (text, "")
+    let Some(line) = text.strip_suffix(TAIL) else {
+        return Text::copy_of(alloc, text);
     };
-    match format!(in alloc; "{start}{end}") {
-        Ok(string) => Text::of_string(alloc, string),
-        Err(_) => Err(NoMemory),
+    for (end, words) in RANGES {
+        if let Some(start) = line.strip_suffix(end) {
+            let Ok(string) = format!(in alloc; "{}{}{}", start, words, TAIL) else {
+                return Err(NoMemory);
+            };
+            return Text::of_string(alloc, string);
+        }
     }
+    Text::copy_of(alloc, text)
 }
 
 /// Why the command line was refused, or the text that it asks for.

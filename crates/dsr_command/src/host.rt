@@ -1,8 +1,8 @@
 //! The words and the files of the system, of which std tells nothing. How a file is read in its turn (`source`), what a name is as
-//! a place for an output, and that a new file is removed if it cannot be opened once more (`new`), is decided here; no more.
+//! a place for an output, that a new file is removed if it cannot be opened once more (`new`), and which numbers of open files are
+//! held, is decided here; no more.
 ghost use Rattle.std.specs.Prelude.{None};
 
-mod held;
 mod new;
 mod source;
 
@@ -14,11 +14,11 @@ use crate::statement_world::StatementWorld;
 use crate::world::{OpenFault, WordsFault, World};
 use dsr_cells::{NoMemory, Text};
 use dsr_file::Failed;
-use held::Held;
 use new::HostNew;
 use source::HostSource;
-use std::fs::{Files, Metadata};
+use std::fs::{File, Files, Metadata};
 use std::io::{ErrorKind, IsTerminal};
+use std::os::fd::AsRawFd;
 use std::os::unix::fs::MetadataExt;
 use std::random::RandomSource;
 use std::{env, fs};
@@ -27,7 +27,8 @@ use std::{env, fs};
 #[derive(Drop)]
 pub struct Host {
     rt: HostRuntime,
-    _held: Held,
+    /// The root directory, once for each number of standard input, output or error that was closed when the program began.
+    _held: [Option<File>; 3],
 }
 
 /// The leave to open files, and when they are open.
@@ -37,6 +38,16 @@ pub enum HostPermit {
     AtOnce,
     /// An ordinary file from its first read to its end, and anything else from when it is named, since it can be read only once.
     InTurn,
+}
+
+/// The root directory, if the lowest number that is free is that of standard input, output or error: so no file that is opened later
+/// gets it, into which what is printed would be written. A directory can be neither read nor written.
+fn hold(rt: HostRuntime) -> Option<File> {
+    let root = File::open(&rt, "/").ok()?;
+    if root.as_raw_fd() > 2 {
+        return None;
+    }
+    Some(root)
 }
 
 /// Which file has this metadata.
@@ -123,7 +134,7 @@ impl Host {
     pub fn new(rt: HostRuntime) -> Host {
         Host {
             rt,
-            _held: Held::new(rt),
+            _held: [hold(rt), hold(rt), hold(rt)],
         }
     }
 

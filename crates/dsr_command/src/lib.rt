@@ -10,9 +10,9 @@
 //!    and [`print_text`] (`print`) prints a text.
 //! 3. [`read_options`] (`layout_file`): the options of the run, with the layout that its file gives, the leave to open the
 //!    report's files, and, if a seal is asked for, the digest of the layout ([`Sealing`], in `sealing`).
-//! 4. [`open_inputs`] (`inputs`): a source for each file, or standard input, whose name is `-` and which can be read only once. Where progress was asked for [`teller_of`]
-//!    has what tells it, and [`watch`] (`watched`) counts with it what the sources give; [`Progress`] (`progress`) writes the
-//!    counts, and at the end how fast the files were read.
+//! 4. [`open_inputs`] (`inputs`): a source for each file, or standard input, whose name is `-` and which can be read only once.
+//!    Where progress was asked for [`teller_of`] has what tells it, and [`watch`] (`watched`) counts with it what the sources
+//!    give; [`Progress`] (`progress`) writes the counts, and at the end how fast the files were read.
 //! 5. [`create_beside`] (`new_file`): a new file for `--output`, beside the file to which the links of a name lead. [`settle`]
 //!    (`replacement`) puts it in the place of that file after an Ok, and else removes it.
 //! 6. [`write_fault`] and [`exit_status`] (`faults`): the line that says why a run failed, and the exit status.
@@ -59,7 +59,9 @@ mod watched;
 mod world;
 
 pub use answers::{no_words, turn_down};
-pub use arguments::{asked, fault_of_error, is_set, read_file_name, read_names};
+pub use arguments::{
+    asked, fault_of_error, flag_option, is_set, output_option, read_file_name, read_names,
+};
 pub use command::{Asked, CommandFault, Names};
 pub use faults::{DSR, REFUSED, UNFINISHED, exit_status, write_failed, write_fault, write_line};
 pub use file_source::FileSource;

@@ -28,6 +28,15 @@ pub enum Fault {
 }
 
 impl Fault {
+    /// The calls for a new file, before and after it is written.
+    pub const FOR_NEW_FILES: [Fault; 5] = [
+        Fault::Link,
+        Fault::Random,
+        Fault::Create,
+        Fault::Sync,
+        Fault::Rename,
+    ];
+
     /// How many reads of the source of this opening end well.
     pub(crate) fn sound_reads(&self, opening: u64) -> u64 {
         match self {

@@ -5,20 +5,15 @@
 //!    `StatementWorld` of dsr_command.
 //! 2. [`MemorySource`] (`source`) gives the bytes of a file, a few a read. [`MemoryOutlet`] (`outlet`) is a new file, or an
 //!    output: it keeps what it takes. [`Quiet`] (`quiet`) tells no progress.
-//! 3. [`Fault`] (`fault`) is the call that fails.
+//! 3. [`Fault`] (`fault`) is the call that fails. [`Task`] (`task`) is what a program is to do, with the world before its run, and
+//!    [`Ended`] what the run leaves: whether it is what is due where a call fails.
 //!
 //! **Example**, compiled and proved in `crates/dsr/src/in_memory.rt`:
 //!
 //! ```
-//!     let mut world = MemoryWorld::new(alloc, fault);
-//!     for word in words {
-//!         world.add_word(word)?;
-//!     }
-//!     world.set_input(REPORT)?;
-//!     world.add_file("report.tsv", REPORT)?;
-//!     world.add_file("layout.tsv", LAYOUT)?;
-//!     world.add_file("old.tsv", OLD)?;
-//!     Ok(world)
+//!     let out = world.output();
+//!     let mut told = MemoryOutlet::new(alloc, u64::MAX, true);
+//!     let (out, status) = serve(rt, alloc, &mut world, out, &mut told);
 //! ```
 //!
 //! **The promise.** It tells what it has, its words and the bytes behind its names, and each of its calls does what the contracts of
@@ -33,6 +28,7 @@ mod file;
 mod outlet;
 mod quiet;
 mod source;
+mod task;
 mod world;
 
 pub use fault::Fault;
@@ -40,4 +36,5 @@ pub use file::MemoryFile;
 pub use outlet::MemoryOutlet;
 pub use quiet::Quiet;
 pub use source::MemorySource;
+pub use task::{Ended, Task};
 pub use world::{MemoryPermit, MemoryWorld};

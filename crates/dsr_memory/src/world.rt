@@ -15,7 +15,7 @@ use dsr_command::{
     Asked, FileIdentity, FileSource, Link, Names, OpenFault, Place, ReportWorld, StatementWorld,
     WordsFault, World,
 };
-use dsr_io::{Failed, Source};
+use dsr_io::{Failed, Outlet, Source};
 use std::alloc::Global;
 use std::sync::atomic::{AtomicU64, Ordering};
 
@@ -139,6 +139,35 @@ impl MemoryWorld {
         ensures { option_map (λ f. f.now) result ≡ file_of self.now.files.items name.now }
     {
         self.files.iter().find(|file| file.name.as_str() == name)
+    }
+
+    /// Whether these are all files, with these bytes.
+    pub(crate) fn has_only(&self, files: &[(&str, &str)]) -> bool {
+        for (name, bytes) in files {
+            match self.file(name) {
+                Some(file) if file.bytes.as_slice() == bytes.as_bytes() => {}
+                _ => return false,
+            }
+        }
+        self.files.len() == files.len()
+    }
+
+    /// An output on which the writes and flushes fail that do on a new file.
+    pub fn output(&self) -> MemoryOutlet
+        ensures { ⟦<MemoryOutlet as Outlet>⟧.told result
+            ≡ record {
+              contents = Some [];
+              taken = 0;
+              failed = false;
+              flushes = 0;
+              unflushed = false;
+            } }
+    {
+        MemoryOutlet::new(
+            self.alloc,
+            self.fault.sound_writes(),
+            self.fault != Fault::Flush,
+        )
     }
 
     /// A source of these bytes, at the opening of this number.
@@ -272,8 +301,7 @@ impl World for MemoryWorld {
             return Err(Failed);
         }
         self.parts += 1;
-        let flushes = self.fault != Fault::Flush;
-        Ok(MemoryOutlet::new(self.alloc, self.fault.sound_writes(), flushes).named(name))
+        Ok(self.output().named(name))
     }
 
     fn sync(&mut self, new: &mut MemoryOutlet) -> Result<(), Failed> {

@@ -9,6 +9,8 @@ use Rattle.std.proofs.lemmas.List.{get_or_default, get_or-take, length-take, map
 use Rattle.std.proofs.lemmas.List.Quantifiers.{position-Some}
 use Rattle.std.proofs.lemmas.List.Sums.{fails_before_first}
 use Rattle.std.proofs.lemmas.List.Splits.{slice_split_at, slice_split_none}
+use Rattle.dsr_command.proofs.LayoutBytes.{taken_all}
+use Rattle.dsr_command.proofs.Opening.{missing_at, one_missing, one_text, texts_append}
 use Rattle.dsr_command.specs.declared.inputs.OpenError.{OpenError}
 use Rattle.dsr_command.specs.declared.inputs.OpenError.TheVariants.{CannotOpen, InputTwice, Memory}
 use Rattle.dsr_command.specs.declared.world.OpenFault.{OpenFault}
@@ -21,8 +23,8 @@ use Rattle.dsr_totals.specs.declared.lists.InputError.{InputError}
 use Rattle.dsr_totals.specs.declared.lists.InputError.TheVariants.{Open, Read}
 use Rattle.dsr_totals.specs.declared.lists.ListFault.{ListFault}
 use Rattle.dsr_totals.specs.declared.lists.ListFault.TheVariants as faults
-use Rattle.dsr_totals.specs.Lists.{AreListed, AreUnlisted, GaveAll, HasBadName, IsListFault, IsListRead, IsUnreadable, name_end, names_ended, names_in, names_listed, without_empty_last}
-use Rattle.dsr_totals.specs.Steps.{IsCutAt, IsUnread}
+use Rattle.dsr_totals.specs.Lists.{HasBadName, IsUnreadable, name_end, names_ended, names_in, names_listed, without_empty_last}
+use Rattle.dsr_totals.specs.Steps.{AreListed, AreUnlisted, GaveAll, IsCutAt, IsListFault, IsListRead, IsUnread}
 
 -- bytes are cut at their first end
 pub cut_found : (end : ℕ) (bytes : List ℕ) (i : ℕ) → position (λ b. b == end) bytes ≡ Some i → IsCutAt end bytes (take i bytes) (drop (i + 1) bytes)
@@ -130,26 +132,14 @@ cut_shorter end bytes name rest some c = by c.parts
     by (inl same) = omega (arith, ap length same, length-append name (end ∷ rest))
     by (inr (same, none)) = omega (arith, ap length none)
 
--- all bytes that a source had are those that it gave
-all_given : (left : Option (List ℕ)) (bytes given : List ℕ) → Consumes (Some bytes) left given → IsAtEnd left → bytes ≡ given
-all_given None bytes given c whole = absurd c
-all_given (Some rest) bytes given c whole = c ∙ ap (λ l. given ++ l) whole ∙ append-nil given
-
-gave_all : (before after : Told) (bytes given : List ℕ) → before.remaining ≡ Some bytes → GaveAll before after given → bytes ≡ given
-gave_all before after bytes given are gave =
-    all_given after.remaining bytes given (subst (λ o. Consumes o after.remaining given) are gave.consumed) gave.whole
-
-one_text : (files : List ℕ → Option (List ℕ)) (list bytes : List ℕ) → files list ≡ Some bytes → texts_of files (list ∷ []) ≡ Ok (bytes ∷ [])
-one_text files list bytes is = rw is refl
-
 -- a list that was opened and read
 pub one_listed : {R : Type 0} (told : R → Told) (file : R → Option FileIdentity) (d : Disk) (list : List ℕ) (source : R) (after : Told)
     (old new : List (List ℕ)) → Opens told file d list (Ok source) → IsListRead (told source) after old new → AreListed d (list ∷ []) old new
 one_listed told file d list source after old new (bytes, there, is) (given, gave, pushed) =
-    let same = gave_all (told source) after bytes given is.fresh.remaining gave in (
+    let same = taken_all (told source).remaining after.remaining bytes given is.fresh.remaining gave.consumed gave.whole in (
       bytes ∷ [],
       one_text d.files list bytes there,
-      pushed ∙ ap (λ b. old ++ names_in b) (sym same) ∙ ap (λ l. old ++ l) (sym (append-nil (names_in bytes))),
+      pushed ∙ ap (λ b. old ++ names_in b) same ∙ ap (λ l. old ++ l) (sym (append-nil (names_in bytes))),
     )
 
 -- a list that was opened and cannot be read
@@ -166,47 +156,17 @@ one_unread {R} told file d list source after faults.Read (Read name) (bytes, the
     by : ((told after).failed ≡ true) ⊎ ((given : List ℕ) × GaveAll (told source) (told after) given × HasBadName given)
         → ((reader : R) × ((told reader).failed ≡ true)) ⊎ HasBadName bytes
     by (inl failure) = inl (after, failure)
-    by (inr (given, gave, bad)) = inr (subst HasBadName (sym (gave_all (told source) (told after) bytes given is.fresh.remaining gave)) bad)
+    by (inr (given, gave, bad)) =
+        inr (subst HasBadName (taken_all (told source).remaining (told after).remaining bytes given is.fresh.remaining gave.consumed gave.whole) bad)
 
 -- a list that is not opened
 pub one_unopened : {R : Type 0} (told : R → Told) (file : R → Option FileIdentity) (d : Disk) (list : List ℕ) (fault : OpenFault) (error : OpenError)
     → Opens told file d list (Err fault) → IsRefusalOf list fault error → AreUnlisted told d (list ∷ []) (Open error)
 one_unopened told file d list opening.Missing (CannotOpen name) missing error =
-    subst (λ n. texts_of d.files (list ∷ []) ≡ Err (CannotOpen n)) (sym error.1) (rw missing refl)
+    subst (λ n. texts_of d.files (list ∷ []) ≡ Err (CannotOpen n)) (sym error.1) (one_missing d.files list missing)
 one_unopened told file d list opening.Memory (CannotOpen name) missing error = absurd (cc error.0)
 one_unopened told file d list fault InputTwice missing error = absurd error
 one_unopened told file d list fault Memory missing error = tt
-
-both : (o : Option (List ℕ)) (n : List ℕ) (r s : Result (List (List ℕ)) OpenError) (more texts : List (List ℕ))
-    → ((ts : List (List ℕ)) → r ≡ Ok ts → s ≡ Ok (ts ++ more)) → before_texts o n r ≡ Ok texts → before_texts o n s ≡ Ok (texts ++ more)
-both None n r s more texts step is = cc
-both (Some t) n (Err e) s more texts step is = cc
-both (Some t) n (Ok ts) s more texts step is =
-    let e : texts ≡ t ∷ ts = cc in
-    rw (step ts refl, e) refl
-
-texts_append : (files : List ℕ → Option (List ℕ)) (xs ys : List (List ℕ)) (texts more : List (List ℕ))
-    → texts_of files xs ≡ Ok texts → texts_of files ys ≡ Ok more → texts_of files (xs ++ ys) ≡ Ok (texts ++ more)
-texts_append files [] ys texts more are is = let e : texts ≡ [] = cc in rw (is, e) refl
-texts_append files (x ∷ xs) ys texts more are is =
-    both (files x) x (texts_of files xs) (texts_of files (xs ++ ys)) more texts (λ ts e. texts_append files xs ys ts more e is) are
-
-missing_more : (o : Option (List ℕ)) (n : List ℕ) (m : OpenError) (r s : Result (List (List ℕ)) OpenError) (texts : List (List ℕ))
-    → ((ts : List (List ℕ)) → r ≡ Ok ts → s ≡ Err m) → before_texts o n r ≡ Ok texts → before_texts o n s ≡ Err m
-missing_more None n m r s texts step is = cc
-missing_more (Some t) n m (Err e) s texts step is = cc
-missing_more (Some t) n m (Ok ts) s texts step is = rw (step ts refl) refl
-
-first_missing : (o : Option (List ℕ)) (n : List ℕ) (m : OpenError) (more : Result (List (List ℕ)) OpenError) → before_texts o n (Ok []) ≡ Err m
-    → before_texts o n more ≡ Err m
-first_missing None n m more e = cc
-first_missing (Some t) n m more e = absurd cc
-
-texts_missing : (files : List ℕ → Option (List ℕ)) (xs ys : List (List ℕ)) (n : List ℕ) (m : OpenError) (texts : List (List ℕ))
-    → texts_of files xs ≡ Ok texts → texts_of files (n ∷ []) ≡ Err m → texts_of files (xs ++ n ∷ ys) ≡ Err m
-texts_missing files [] ys n m texts are is = first_missing (files n) n m (texts_of files ys) is
-texts_missing files (x ∷ xs) ys n m texts are is =
-    missing_more (files x) x m (texts_of files xs) (texts_of files (xs ++ n ∷ ys)) texts (λ ts e. texts_missing files xs ys n m ts e is) are
 
 -- no list was read yet
 pub none_listed : (d : Disk) (old : List (List ℕ)) → AreListed d [] old old
@@ -229,19 +189,11 @@ pub files_more : {X : Type 0} (file : List ℕ → X) (lists : List (List ℕ)) 
 files_more file lists k e files x lt are is =
     (λ i. are i ++ is i ∷ []) ∙ sym (map-append file (take k lists) (slice_index_or lists k e ∷ [])) ∙ ap (map file) (sym (take_more lists k e lt))
 
--- a list is not opened
-unlisted_for : (d : Disk) (lists : List (List ℕ)) (k : ℕ) (e : List ℕ) (texts : List (List ℕ)) (error : OpenError) → k < length lists
-    → texts_of d.files (take k lists) ≡ Ok texts → texts_of d.files (slice_index_or lists k e ∷ []) ≡ Err error → texts_of d.files lists ≡ Err error
-unlisted_for d lists k e texts error lt are h =
-    let n = slice_index_or lists k e in
-    let same : take k lists ++ n ∷ drop (suc k) lists ≡ lists = ap (λ ys. take k lists ++ ys) (sym (drop-cons lists k e lt)) ∙ take-append-drop k lists in
-    subst (λ ns. texts_of d.files ns ≡ Err error) same (texts_missing d.files (take k lists) (drop (suc k) lists) n error texts are h)
-
 -- a list is not read
 pub unlisted_at : {R : Type 0} (told : R → Told) (d : Disk) (lists : List (List ℕ)) (k : ℕ) (e : List ℕ) (old now : List (List ℕ)) (error : InputError)
     → k < length lists → AreListed d (take k lists) old now → AreUnlisted told d (slice_index_or lists k e ∷ []) error → AreUnlisted told d lists error
 unlisted_at told d lists k e old now (Open Memory) lt are h = tt
-unlisted_at told d lists k e old now (Open (CannotOpen name)) lt (texts, are, was) h = unlisted_for d lists k e texts (CannotOpen name) lt are h
-unlisted_at told d lists k e old now (Open InputTwice) lt (texts, are, was) h = unlisted_for d lists k e texts InputTwice lt are h
+unlisted_at told d lists k e old now (Open (CannotOpen name)) lt (texts, are, was) h = missing_at d.files lists k e texts (CannotOpen name) lt are h
+unlisted_at told d lists k e old now (Open InputTwice) lt (texts, are, was) h = missing_at d.files lists k e texts InputTwice lt are h
 unlisted_at told d lists k e old now (Read name) lt are ((zero, low, is), unreadable) = ((k, lt, get_or_default lists k name e lt ∙ is), unreadable)
 unlisted_at told d lists k e old now (Read name) lt are ((suc j, low, is), unreadable) = absurd (omega arith)

@@ -15,9 +15,8 @@ use Rattle.dsr_totals.specs.declared.command.Asked.{Asked}
 use Rattle.dsr_totals.specs.declared.lists.InputError.{InputError}
 use Rattle.dsr_totals.specs.declared.lists.InputError.TheVariants.{Open, Read}
 use Rattle.dsr_totals.specs.declared.opening.Opened.{Opened}
-use Rattle.dsr_totals.specs.Lists.{AreListed, AreUnlisted}
 use Rattle.dsr_totals.specs.Serving.{behind_given, both_texts, files_asked, lists_asked, texts_asked, with_listed}
-use Rattle.dsr_totals.specs.Steps.{AreOpened, AreUnopened, IsPaidRefusal}
+use Rattle.dsr_totals.specs.Steps.{AreListed, AreOpened, AreUnlisted, AreUnopened, IsPaidRefusal}
 
 fresh_both : {R : Type 0} (told : R → Told) (rs : List R) (ts : List (List ℕ)) (qs : List R) (us : List (List ℕ))
     → AreFresh told rs ts → AreFresh told qs us → AreFresh told (rs ++ qs) (ts ++ us)

@@ -1,12 +1,11 @@
 -- What a command line asks for. How its words are parsed by a command's rules is clap's definition.
-use Rattle.std.specs.Prelude.{◌≡◌, ◌⊎◌, Bool, true, false, not, List, [], Some, codes, unwrap_or}
+use Rattle.std.specs.Prelude.{◌≡◌, ◌⊎◌, ◌++◌, ◌∷◌, Bool, true, false, not, List, [], Some, codes, unwrap_or}
 use Rattle.std.specs.List.{list_any, take_while}
 use Rattle.std.specs.Str.{bytes_eq}
-use Rattle.clap.specs.Lexer.{usize_max}
 use Rattle.clap.specs.Words.{App, Row, Rule, Text, all_of, fault_of, first_of, matches_of, new_app, new_rule, one_of, with_rule}
 use Rattle.clap.specs.Simple.{on_top}
 use Rattle.clap.specs.declared.builder.action.ArgAction.TheVariants.{Append}
-use Rattle.dsr_command.specs.CommandLine.{IsFaultOf, IsFlagAsked, flag_rule, output_rule}
+use Rattle.dsr_command.specs.CommandLine.{IsFaultOf, IsFlagAsked, flag_rule, names_rule, output_rule}
 use Rattle.dsr_command.specs.declared.command.CommandFault.{CommandFault}
 use Rattle.dsr_command.specs.declared.command.CommandFault.TheVariants.{Help, Refused, Memory}
 use Rattle.dsr_totals.specs.declared.command.Asked.{Asked}
@@ -14,13 +13,6 @@ use Rattle.dsr_totals.specs.declared.command.Asked.{Asked}
 -- an option with one value, which may be given any number of times
 abbrev pub list_rule : Text → Rule
 list_rule name = record (new_rule name) { long = Some name; action = Some Append; value_names = 1 }
-
--- the positional arguments: any number of names of statements
-abbrev pub names_rule : Rule
-names_rule = record (new_rule (codes "STATEMENT")) {
-  action = Some Append;
-  range = Some (record { start_inclusive = 0; end_inclusive = usize_max });
-}
 
 -- the program's command before its arguments; the program's name is not among the words that it parses
 unfoldable pub bare_command : App
@@ -30,7 +22,8 @@ bare_command = on_top (λ s. record s { no_binary_name = true; has_version = tru
 unfoldable pub command_line : App
 command_line = with_rule (with_rule (with_rule (with_rule (with_rule (with_rule (with_rule bare_command
     (list_rule (codes "paid"))) (list_rule (codes "paid-from"))) (flag_rule (codes "with-remarks")))
-    (flag_rule (codes "unsealed"))) (flag_rule (codes "same-message"))) output_rule) names_rule
+    (flag_rule (codes "unsealed"))) (flag_rule (codes "same-message"))) output_rule)
+    (names_rule (codes "STATEMENT"))
 
 -- what the parsed rows of a command line ask for
 pub record IsAskedBy (rows : List Row) (asked : Asked) : Type 0 where
@@ -51,10 +44,15 @@ abbrev pub IsAskedFor : List Text → Asked → Type 0
 IsAskedFor words asked =
     (lacks_equals words ≡ false) × (fault_of command_line words ≡ []) × IsAskedBy (matches_of command_line words) asked
 
--- the answer to `--paid` without its equals sign: it is refused
+-- what is said of `--paid` without its equals sign
+abbrev pub no_equals : Text
+no_equals = codes "error: equal sign is needed when assigning values to '--paid=<STATEMENT>'" ++ (10 ∷ 10 ∷ (codes "Usage: dsr_totals [OPTIONS] [STATEMENT]..."
+    ++ (10 ∷ 10 ∷ (codes "For more information, try '--help'." ++ 10 ∷ []))))
+
+-- the answer to it: it is refused
 abbrev pub IsUnequal : CommandFault → Type 0
 IsUnequal (Help text) = ⊥
-IsUnequal (Refused text) = Unit {0}
+IsUnequal (Refused text) = text ≡ no_equals
 IsUnequal Memory = Unit {0}
 
 -- these words ask for no totals, and this is the answer to them

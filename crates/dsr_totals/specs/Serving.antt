@@ -1,24 +1,21 @@
 -- What the program does: what it writes to standard output and standard error or to a file, and its exit status, by its words
 -- and the bytes behind names.
-use Rattle.std.specs.Prelude.{◌≡◌, ◌⊎◌, ◌-◌, ◌++◌, ℕ, List, [], map, Option, None, Some, Result, Ok, Err}
+use Rattle.std.specs.Prelude.{◌≡◌, ◌⊎◌, ◌++◌, ℕ, List, map, Option, Some, Result, Ok, Err}
 use Rattle.std.specs.List.{Contains}
 use Rattle.dsr_command.specs.declared.command.CommandFault.{CommandFault}
 use Rattle.dsr_command.specs.declared.identity.FileIdentity.{FileIdentity}
 use Rattle.dsr_command.specs.declared.inputs.OpenError.{OpenError}
-use Rattle.dsr_command.specs.declared.new_file.NewFileError.{NewFileError}
 use Rattle.dsr_command.specs.declared.world.WordsFault.{WordsFault}
-use Rattle.dsr_command.specs.Faults.{cannot_read_line, unopened_line, unopened_status, IsTold}
-use Rattle.dsr_command.specs.NewFiles.{IsNotCreated, cannot_replace_line, new_file_line, new_file_status}
+use Rattle.dsr_command.specs.Faults.{cannot_read_line, unopened_line, unopened_status}
 use Rattle.dsr_command.specs.Outputs.{IsOnlyTold, IsTurnedDown, IsWithoutMemory, Outputs, no_words_line, no_words_status}
-use Rattle.dsr_command.specs.World.{AreFresh, Disk, Ghosts, IsApart, IsReplacedIn, LacksWords, failing, files_for, made, names_read, removed, texts_for, texts_of, unless_twice, with_input}
+use Rattle.dsr_command.specs.Programs.{HadFiles}
+use Rattle.dsr_command.specs.World.{Disk, Ghosts, LacksWords, files_for, names_read, texts_for, texts_of, unless_twice, with_input}
 use Rattle.dsr_io.specs.meaning.Told.{Told}
-use Rattle.dsr_io.specs.meaning.Written.{Written}
 use Rattle.dsr_totals.specs.CommandLine.{IsAskedFor, IsFaultFor}
 use Rattle.dsr_totals.specs.declared.command.Asked.{Asked}
-use Rattle.dsr_totals.specs.declared.totaling.WriteError.{WriteError}
 use Rattle.dsr_totals.specs.Lists.{IsUnreadable, names_listed}
 use Rattle.dsr_totals.specs.Refusals.{dsr_totals}
-use Rattle.dsr_totals.specs.Totaling.{IsAnswerTold, WroteTotals, status_after}
+use Rattle.dsr_totals.specs.Totaling.{IsAnswerTold, WroteTotals}
 
 -- what is asked for once lists of these bytes were read: the names in them stand behind those of the paid statements
 abbrev pub with_listed : Asked → List (List ℕ) → Asked
@@ -52,52 +49,11 @@ files_asked disk asked = files_for disk asked.given ++ map (with_input disk).fil
 abbrev pub files_read : Disk → Asked → List (Option FileIdentity)
 files_read disk asked = map disk.file asked.lists ++ files_asked disk asked
 
--- the totals of these sources were written to standard output, or not, and the exit status and standard error say so
-abbrev pub HadTotals : {R : Type 0} → (R → Told) → Asked → List R → Outputs → Outputs → ℕ → Type 0
-HadTotals {R} told asked sources before after status = (answer : Result (Unit {0}) WriteError) × (left : List R)
-    × WroteTotals told asked sources left before.out after.out answer × IsAnswerTold asked before.fault after.fault answer
-    × (status ≡ status_after answer)
-
--- where the new file is: only if the totals were written to it is it in the place of the file of this name, and else it is
--- removed; if it cannot be put there, a line says so
-abbrev pub IsEnded : Asked → Option (List ℕ) → List ℕ → Disk → Option Disk → Written → Written → ℕ → Result (Unit {0}) WriteError → Type 0
-IsEnded asked contents name disk left before after status (Ok done) =
-    (IsReplacedIn contents name (disk.parts - 1) disk left × (after ≡ before) × (status ≡ 0))
-    ⊎ ((left ≡ Some (removed (failing disk))) × IsTold before after (cannot_replace_line dsr_totals name) × (status ≡ 3))
-IsEnded asked contents name disk left before after status (Err error) =
-    (left ≡ Some (removed disk)) × IsAnswerTold asked before after (Err error) × (status ≡ status_after (Err error))
-
--- the totals of these sources were written to this new file, or not, and this is where the file is
-abbrev pub HadTotalsInto : {R N : Type 0} → Ghosts R N → Asked → List R → N → List ℕ → Disk → Option Disk → Written → Written → ℕ → Type 0
-HadTotalsInto {R} {N} g asked sources new name disk left before after status =
-    (answer : Result (Unit {0}) WriteError) × (rest : List R) × (whole : N)
-    × WroteTotals g.told asked sources rest (g.written new) (g.written whole) answer
-    × IsEnded asked (g.written whole).contents name disk left before after status answer
-
--- the totals of sources of these bytes went to standard output; or, with nothing there, to a new file for the file that is
--- named, which is none of those that are read; or no such file can be had
-abbrev pub HadOutput : {R N : Type 0} → Ghosts R N → Disk → Option Disk → Asked → List (List ℕ) → Outputs → Outputs → ℕ → Option (List ℕ) → Type 0
-HadOutput {R} {N} g disk left asked texts before after status None =
-    (sources : List R) × AreFresh g.told sources texts × HadTotals g.told asked sources before after status × (left ≡ Some disk)
-HadOutput {R} {N} g disk left asked texts before after status (Some name) =
-    ((sources : List R) × AreFresh g.told sources texts × IsApart (disk.place name) (files_read disk asked)
-    × (new : N) × ((g.written new).contents ≡ Some [])
-    × HadTotalsInto g asked sources new name (made disk) left before.fault after.fault status × (after.out ≡ before.out))
-    ⊎ ((error : NewFileError) × IsNotCreated disk left (files_read disk asked) name error
-    × IsOnlyTold (new_file_line dsr_totals name error) before after × (status ≡ new_file_status error))
-
--- the statements of these bytes were added up; or they cannot be opened: the first one that cannot, or standard input, which is
--- named twice
-abbrev pub HadTexts : {R N : Type 0} → Ghosts R N → Disk → Option Disk → Asked → Outputs → Outputs → ℕ → Result (List (List ℕ)) OpenError → Type 0
-HadTexts g disk left asked before after status (Ok texts) = HadOutput g disk left asked texts before after status asked.output
-HadTexts g disk left asked before after status (Err error) =
-    IsOnlyTold (unopened_line dsr_totals error) before after × (status ≡ unopened_status error) × (left ≡ Some disk)
-
--- the same, unless memory was refused
+-- the statements were added up, and their totals went where they are asked for; or they cannot be opened, or memory was refused
 abbrev pub HadStatements : {R N : Type 0} → Ghosts R N → Disk → Option Disk → Asked → Outputs → Outputs → ℕ → Type 0
 HadStatements g disk left asked before after status =
-    HadTexts g disk left asked before after status (texts_asked disk asked)
-    ⊎ (IsWithoutMemory dsr_totals before after status × (left ≡ Some disk))
+    HadFiles g dsr_totals (WroteTotals g.told asked) (IsAnswerTold asked) disk left (files_read disk asked) asked.output before after status
+    (texts_asked disk asked)
 
 -- the same with the names in lists of these bytes; or a given statement or a list cannot be opened, the first one
 abbrev pub HadLists : {R N : Type 0} → Ghosts R N → Disk → Option Disk → Asked → Outputs → Outputs → ℕ → Result (List (List ℕ)) OpenError → Type 0

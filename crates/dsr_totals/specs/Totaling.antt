@@ -56,21 +56,17 @@ WroteTotals told asked sources left before after (Err (Write n)) =
     (text : List ℕ) × HasTotals told (given_count asked.given) asked.rules sources left text
     × (n ≤ length text) × IsCut (take n text) before after
 
--- the exit status: 0 only if the totals were written
+-- the exit status where they were not written
 abbrev pub error_status : WriteError → ℕ
 error_status (NoTotals error) = no_totals_status error
 error_status (Write n) = 3
-
-abbrev pub status_after : Result (Unit {0}) WriteError → ℕ
-status_after (Ok done) = 0
-status_after (Err error) = error_status error
 
 -- the line on standard error
 abbrev pub error_line : Asked → WriteError → List ℕ
 error_line asked (NoTotals error) = no_totals_line (refused_name asked error) (refused_other asked error) error
 error_line asked (Write n) = failed_line dsr_totals n
 
--- standard error has the line of an error, and nothing more if there is none
-abbrev pub IsAnswerTold : Asked → Written → Written → Result (Unit {0}) WriteError → Type 0
-IsAnswerTold asked before after (Ok done) = after ≡ before
-IsAnswerTold asked before after (Err error) = IsTold before after (error_line asked error)
+-- standard error has the line of an error, and nothing more if there is none; and this is the exit status
+abbrev pub IsAnswerTold : Asked → Result (Unit {0}) WriteError → Written → Written → ℕ → Type 0
+IsAnswerTold asked (Ok done) before after status = (after ≡ before) × (status ≡ 0)
+IsAnswerTold asked (Err error) before after status = IsTold before after (error_line asked error) × (status ≡ error_status error)

@@ -4,14 +4,16 @@ ghost use Rattle.std.specs.Str.{bytes_eq};
 ghost use Rattle.std.specs.String.{string_bytes};
 ghost use Rattle.clap.specs.Values.{kind_of};
 ghost use Rattle.clap.specs.Words.{app_of, found_of, rows_of, rule_of};
-ghost use Rattle.dsr_command.specs.CommandLine.{Answers, flag_rule, output_rule};
-ghost use Rattle.dsr_totals.specs.CommandLine.{IsAskedBy, IsAskedFor, IsFaultFor, IsUnequal, bare_command, command_line, lacks_equals, list_rule, names_rule};
+ghost use Rattle.dsr_command.specs.CommandLine.{Answers, names_rule};
+ghost use Rattle.dsr_totals.specs.CommandLine.{IsAskedBy, IsAskedFor, IsFaultFor, IsUnequal, bare_command, command_line, lacks_equals, list_rule};
 
 use crate::command::Asked;
 use clap::error::ErrorKind;
 use clap::{Arg, ArgAction, ArgMatches, Command, Error};
 use dsr_cells::{NoMemory, Text};
-use dsr_command::{CommandFault, fault_of_error, is_set, read_file_name, read_names};
+use dsr_command::{
+    CommandFault, fault_of_error, flag_option, is_set, output_option, read_file_name, read_names,
+};
 use dsr_sums::Rules;
 use std::alloc::{AllocError, Global};
 
@@ -39,6 +41,18 @@ Exit status:
      cannot be read, or an output that cannot be created
   3  memory was refused, a write failed, or a total is out of range; standard
      error says which";
+
+/// The help of `--with-remarks`, `--unsealed`, `--same-message` and `--output`.
+const WITH_REMARKS: &str = "Takes statements that have remarks, too";
+
+const UNSEALED: &str = "Takes statements without a seal, too, though nothing
+shows whether they are whole";
+
+const SAME_MESSAGE: &str = "Takes given statements of one MessageId with another
+number of files or another period, too";
+
+const OUTPUT: &str = "Writes the totals to FILE, which is replaced only once
+they are whole";
 
 /// What is said of `--paid` without its equals sign, as clap says it.
 const NO_EQUALS: &str = "error: equal sign is needed when assigning values to '--paid=<STATEMENT>'
@@ -78,64 +92,9 @@ line, or each ended by a zero byte",
         )
 }
 
-/// `--with-remarks`.
-fn remarks_option<'a>(alloc: Global) -> Arg<'a>
-    ensures rule { rule_of result ≡ flag_rule (codes "with-remarks") }
-    ensures local { result.global ≡ false }
-{
-    Arg::new(alloc, "with-remarks")
-        .long("with-remarks")
-        .action(ArgAction::SetTrue)
-        .help("Takes statements that have remarks, too")
-}
-
-/// `--unsealed`.
-fn unsealed_option<'a>(alloc: Global) -> Arg<'a>
-    ensures rule { rule_of result ≡ flag_rule (codes "unsealed") }
-    ensures local { result.global ≡ false }
-{
-    Arg::new(alloc, "unsealed")
-        .long("unsealed")
-        .action(ArgAction::SetTrue)
-        .help(
-            "Takes statements without a seal, too, though nothing
-shows whether they are whole",
-        )
-}
-
-/// `--same-message`.
-fn message_option<'a>(alloc: Global) -> Arg<'a>
-    ensures rule { rule_of result ≡ flag_rule (codes "same-message") }
-    ensures local { result.global ≡ false }
-{
-    Arg::new(alloc, "same-message")
-        .long("same-message")
-        .action(ArgAction::SetTrue)
-        .help(
-            "Takes given statements of one MessageId with another
-number of files or another period, too",
-        )
-}
-
-/// `--output FILE`, or `-o FILE`.
-fn output_option<'a>(alloc: Global) -> Arg<'a>
-    ensures rule { rule_of result ≡ output_rule }
-    ensures local { result.global ≡ false }
-{
-    Arg::new(alloc, "output")
-        .short('o')
-        .long("output")
-        .value_name("FILE")
-        .action(ArgAction::Set)
-        .help(
-            "Writes the totals to FILE, which is replaced only once
-they are whole",
-        )
-}
-
 /// The names of the statements.
 fn names_argument<'a>(alloc: Global) -> Arg<'a>
-    ensures rule { rule_of result ≡ names_rule }
+    ensures rule { rule_of result ≡ names_rule (codes "STATEMENT") }
     ensures local { result.global ≡ false }
 {
     Arg::new(alloc, "STATEMENT")
@@ -170,10 +129,10 @@ fn command_with<'a>(alloc: Global, paid: Arg<'a>) -> Result<Command<'a>, AllocEr
     bare(alloc)
         .arg(paid)?
         .arg(list_option(alloc))?
-        .arg(remarks_option(alloc))?
-        .arg(unsealed_option(alloc))?
-        .arg(message_option(alloc))?
-        .arg(output_option(alloc))?
+        .arg(flag_option(alloc, "with-remarks", WITH_REMARKS))?
+        .arg(flag_option(alloc, "unsealed", UNSEALED))?
+        .arg(flag_option(alloc, "same-message", SAME_MESSAGE))?
+        .arg(output_option(alloc, OUTPUT))?
         .arg(names_argument(alloc))
 }
 

@@ -1,4 +1,4 @@
-//! The lines for totals that cannot be had.
+//! The lines for totals that are not written, and for statements and lists that are not read.
 ghost use Rattle.std.specs.Prelude.{◌≡◌};
 ghost use Rattle.dsr_command.specs.Faults.{IsTold, IsWritten};
 ghost use Rattle.dsr_totals.specs.Refusals.{fault_text, no_totals_line, no_totals_status, of_other, refusal_line, unread_line, unread_status};

@@ -2,8 +2,8 @@
 ghost use Rattle.std.specs.Prelude.{◌≡◌, ◌==◌, ◌<◌, ◌++◌, ◌∷◌, [], length, map, IfOk, IfSome, MatchResult, IsUtf8};
 ghost use Rattle.std.specs.List.{position};
 ghost use Rattle.dsr_command.specs.World.{WhereTold};
-ghost use Rattle.dsr_totals.specs.Lists.{AreListed, AreUnlisted, GaveAll, HasBadName, IsListFault, IsListRead, name_end, names_in};
-ghost use Rattle.dsr_totals.specs.Steps.{IsCutAt, IsUnread};
+ghost use Rattle.dsr_totals.specs.Lists.{HasBadName, name_end, names_in};
+ghost use Rattle.dsr_totals.specs.Steps.{AreListed, AreUnlisted, GaveAll, IsCutAt, IsListFault, IsListRead, IsUnread};
 
 use dsr_cells::Text;
 use dsr_command::{FileIdentity, FileSource, Names, OpenError, StatementWorld, unopened};

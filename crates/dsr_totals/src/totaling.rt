@@ -2,9 +2,10 @@
 ghost use Rattle.std.specs.Prelude.{◌≡◌, false, List, All, Some};
 ghost use Rattle.dsr_command.specs.Faults.{IsTold};
 ghost use Rattle.dsr_command.specs.Outputs.{outputs};
-ghost use Rattle.dsr_command.specs.World.{WhereTold, ghosts, stands_for};
-ghost use Rattle.dsr_totals.specs.Serving.{HadTotals, HadTotalsInto};
-ghost use Rattle.dsr_totals.specs.Totaling.{IsAnswerTold, WroteTotals, error_line, error_status, given_count, name_at, name_in, other_name, refused_name, refused_other, status_after};
+ghost use Rattle.dsr_command.specs.Programs.{WroteInto, WroteOut};
+ghost use Rattle.dsr_command.specs.World.{WhereTold, stands_for};
+ghost use Rattle.dsr_totals.specs.Refusals.{dsr_totals};
+ghost use Rattle.dsr_totals.specs.Totaling.{IsAnswerTold, WroteTotals, error_line, error_status, given_count, name_at, name_in, other_name, refused_name, refused_other};
 
 use crate::command::Asked;
 use crate::faults::{DSR_TOTALS, no_totals};
@@ -149,8 +150,7 @@ fn tell<F: Outlet>(error: WriteError, asked: &Asked, fault: &mut F) -> u8
 
 /// The exit status. The line of an error is written to `fault`.
 fn status_of<F: Outlet>(answer: &Result<(), WriteError>, asked: &Asked, fault: &mut F) -> u8
-    ensures status { result ≡ status_after answer.now }
-    ensures told { IsAnswerTold asked.now (F.told fault.old) (F.told fault.new) answer.now }
+    ensures { IsAnswerTold asked.now answer.now (F.told fault.old) (F.told fault.new) result }
 {
     match answer {
         Ok(()) => 0,
@@ -168,8 +168,9 @@ pub(crate) fn print_totals<R: Source + Drop, H: RandomSource, O: Outlet, F: Outl
     fault: &mut F,
 ) -> u8
     requires sources { All (λ r. (R.told r).failed ≡ false) inputs.items }
-    ensures { HadTotals R.told asked.now inputs.items (outputs (O.told out.old) (F.told fault.old))
-        (outputs (O.told out.new) (F.told fault.new)) result }
+    ensures { WroteOut (WroteTotals R.told asked.now) (IsAnswerTold asked.now) inputs.items
+        (outputs (O.told out.old) (F.told fault.old)) (outputs (O.told out.new) (F.told fault.new))
+        result }
 {
     status_of(&write_totals(rt, alloc, asked, inputs, out), asked, fault)
 }
@@ -189,7 +190,8 @@ pub(crate) fn replace_by_totals<H: RandomSource, W: StatementWorld, F: Outlet>(
 ) -> u8
     requires sources { All (λ r. (W.Reader.told r).failed ≡ false) inputs.items }
     ensures { WhereTold (W.disk world.old) (λ d. stands_for d name.now ≡ Some place.now
-        → HadTotalsInto (ghosts (W.Reader.told) (W.New.told)) asked.now inputs.items new name.now
+        → WroteInto W.New.told dsr_totals
+        (WroteTotals W.Reader.told asked.now) (IsAnswerTold asked.now) inputs.items new name.now
         d (W.disk world.new) (F.told fault.old) (F.told fault.new) result) }
 {
     let mut new = new;

@@ -1,6 +1,5 @@
 //! Files of the system that are read, and standard input.
 ghost use Rattle.std.specs.Prelude.{◌≡◌, false, IfOk};
-ghost use Rattle.std.specs.Io.{ReadsAtMost};
 
 use super::{HostPermit, identity_of};
 use crate::file_source::FileSource;
@@ -12,19 +11,11 @@ use std::fs::{File, Files};
 use std::io::{ErrorKind, Read, StdinLock};
 use std::{fs, io};
 
-/// An ordinary file that is not open.
-#[derive(Drop)]
-struct Waiting {
-    rt: HostRuntime,
-    name: String,
-    identity: FileIdentity,
-}
-
 /// What is read.
 #[derive(Drop)]
 enum HostReader {
-    /// A file that is opened by its first read.
-    Waiting(Waiting),
+    /// An ordinary file, which is opened by its first read if this name is still that of the same file.
+    Waiting(HostRuntime, String, FileIdentity),
     /// An open file.
     Open(File),
     /// A file that was closed, at its end or since a read failed. Nothing follows.
@@ -33,44 +24,30 @@ enum HostReader {
     Standard(Box<StdinLock<'static>>),
 }
 
-impl Waiting {
-    /// Opens the file, if its name is still that of the same file.
-    fn open(&self) -> io::Result<File> {
-        let file = fs::open(&self.rt, self.name.as_str())?;
-        if identity_of(&file.metadata()?) == self.identity {
-            Ok(file)
-        } else {
-            Err(io::Error::from(ErrorKind::NotFound))
-        }
-    }
-}
-
-impl HostReader {
-    /// Reads an open file, and closes it at its end or if the read fails.
-    fn read_open(&mut self, piece: &mut [u8]) -> io::Result<usize>
-        ensures { ReadsAtMost result piece.new }
-    {
-        let HostReader::Open(file) = self else {
-            return Ok(0);
-        };
-        let answer = file.read(piece);
-        if !matches!(answer, Ok(1..)) {
-            *self = HostReader::Closed;
-        }
-        answer
+/// Opens the file of this name, if it is this one.
+fn open_again(rt: HostRuntime, name: &str, identity: FileIdentity) -> io::Result<File> {
+    let file = fs::open(&rt, name)?;
+    if identity_of(&file.metadata()?) == identity {
+        Ok(file)
+    } else {
+        Err(io::Error::from(ErrorKind::NotFound))
     }
 }
 
 impl Read for HostReader {
     fn read(&mut self, piece: &mut [u8]) -> io::Result<usize> {
-        match self {
-            HostReader::Waiting(waiting) => {
-                *self = HostReader::Open(waiting.open()?);
-                self.read_open(piece)
-            }
-            HostReader::Open(_) | HostReader::Closed => self.read_open(piece),
-            HostReader::Standard(input) => input.read(piece),
+        if let HostReader::Waiting(rt, name, identity) = self {
+            *self = HostReader::Open(open_again(*rt, name.as_str(), *identity)?);
         }
+        let answer = match self {
+            HostReader::Open(file) => file.read(piece),
+            HostReader::Standard(input) => return input.read(piece),
+            _ => return Ok(0),
+        };
+        if !matches!(answer, Ok(1..)) {
+            *self = HostReader::Closed;
+        }
+        answer
     }
 }
 
@@ -107,7 +84,7 @@ impl HostSource {
         let reader = match (permit, size, identity) {
             (HostPermit::InTurn, Some(_), Some(identity)) => {
                 let name = String::from_str(rt.alloc(), name).map_err(|_| OpenFault::Memory)?;
-                HostReader::Waiting(Waiting { rt, name, identity })
+                HostReader::Waiting(rt, name, identity)
             }
             _ => HostReader::Open(file),
         };

@@ -1,6 +1,6 @@
 use Rattle.std.proofs.Common.{inl, inr}
 use Rattle.dsr_command.proofs.Worlds.{at_disk, where_told}
-use Rattle.dsr.proofs.Serving.{only_told}
+use Rattle.dsr_command.proofs.Programs.{only_told}
 use Rattle.dsr.proofs.program.read_and_print.Goals as goal
 
 pub returns-in-Ok : goal.returns-in-Ok

@@ -10,7 +10,7 @@ returns c =
     c.reads_option.ensures.rule in
     let three = c.in_ok-arg-3.ensures.shape c.layout_option.ensures.local ∙ ap₂ with_rule two c.layout_option.ensures.rule in
     let four = c.in_ok-arg-4.ensures.shape c.output_option.ensures.local ∙ ap₂ with_rule three c.output_option.ensures.rule in
-    let five = c.in_ok-arg-5.ensures.shape c.progress_option.ensures.local ∙ ap₂ with_rule four c.progress_option.ensures.rule in
-    let six = c.in_ok-arg-6.ensures.shape c.seal_option.ensures.local ∙ ap₂ with_rule five c.seal_option.ensures.rule in
+    let five = c.in_ok-arg-5.ensures.shape c.flag_option.ensures.local ∙ ap₂ with_rule four c.flag_option.ensures.rule in
+    let six = c.in_ok-arg-6.ensures.shape c.flag_option-2.ensures.local ∙ ap₂ with_rule five c.flag_option-2.ensures.rule in
     IfOk-weaker c.arg-7.result _ _ (λ command h. h.shape c.names_argument.ensures.local ∙ ap₂ with_rule six c.names_argument.ensures.rule)
     c.arg-7.ensures

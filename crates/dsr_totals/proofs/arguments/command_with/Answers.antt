@@ -9,9 +9,9 @@ unfolding command_line
 returns c = λ paid.
     let one = c.in_ok-arg.ensures.shape c.requires ∙ ap₂ with_rule c.bare.ensures paid in
     let two = c.in_ok-arg-2.ensures.shape c.list_option.ensures.local ∙ ap₂ with_rule one c.list_option.ensures.rule in
-    let three = c.in_ok-arg-3.ensures.shape c.remarks_option.ensures.local ∙ ap₂ with_rule two c.remarks_option.ensures.rule in
-    let four = c.in_ok-arg-4.ensures.shape c.unsealed_option.ensures.local ∙ ap₂ with_rule three c.unsealed_option.ensures.rule in
-    let five = c.in_ok-arg-5.ensures.shape c.message_option.ensures.local ∙ ap₂ with_rule four c.message_option.ensures.rule in
+    let three = c.in_ok-arg-3.ensures.shape c.flag_option.ensures.local ∙ ap₂ with_rule two c.flag_option.ensures.rule in
+    let four = c.in_ok-arg-4.ensures.shape c.flag_option-2.ensures.local ∙ ap₂ with_rule three c.flag_option-2.ensures.rule in
+    let five = c.in_ok-arg-5.ensures.shape c.flag_option-3.ensures.local ∙ ap₂ with_rule four c.flag_option-3.ensures.rule in
     let six = c.in_ok-arg-6.ensures.shape c.output_option.ensures.local ∙ ap₂ with_rule five c.output_option.ensures.rule in
     IfOk-weaker c.arg-7.result _ _ (λ command h. h.shape c.names_argument.ensures.local ∙ ap₂ with_rule six c.names_argument.ensures.rule)
     c.arg-7.ensures

@@ -1,6 +1,6 @@
 use Rattle.std.proofs.Common.{◌≡◌, ◌∙◌, ◌<◌, ◌≤◌, [], ◌∷◌, ◌++◌, ap, subst, length, slice_index_or, take, take_all, rules}
 use Rattle.dsr_command.proofs.Worlds.{at_disk, where_told}
-use Rattle.dsr_totals.specs.Lists.{AreListed, AreUnlisted}
+use Rattle.dsr_totals.specs.Steps.{AreListed, AreUnlisted}
 use Rattle.dsr_totals.proofs.Listing.{files_more, listed_more, unlisted_at}
 use Rattle.dsr_totals.proofs.lists.read_lists.Goals as goal
 

@@ -1,6 +1,6 @@
 use Rattle.std.proofs.Common.{◌≡◌, map, take}
 use Rattle.dsr_command.specs.World.{WhereTold}
-use Rattle.dsr_totals.specs.Lists.{AreListed}
+use Rattle.dsr_totals.specs.Steps.{AreListed}
 use Rattle.dsr_totals.proofs.lists.read_lists.Given as goal
 
 abbrev pub invariant-loop-list : goal.invariant-loop-list
