@@ -1,5 +1,5 @@
 -- From what a counting outlet took to what the outlet inside took, by way of `Counted::new` and `Counted::into_outlet`.
-use Rattle.std.proofs.Common.{◌≡◌, ℕ, List, ◌∙◌}
+use Rattle.std.proofs.Common.{ℕ, List, ◌∙◌}
 use Rattle.std.proofs.KnownBytes.{Appends-kept}
 use Rattle.dsr_io.specs.meaning.Written.{Written, IsFlushed, IsCut}
 use Rattle.dsr_io.specs.layer.Written.{IsTaken}

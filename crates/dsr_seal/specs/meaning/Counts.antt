@@ -1,5 +1,5 @@
 -- The number of lines that an outlet took.
-use Rattle.std.specs.Prelude.{ℕ, ◌-◌, ◌==◌, List}
+use Rattle.std.specs.Prelude.{ℕ, ◌==◌, List}
 use Rattle.std.specs.List.{count_by}
 
 -- how many line feeds there are

@@ -1,5 +1,5 @@
 -- The place of a refusal.
-use Rattle.std.specs.Prelude.{ℕ, []}
+use Rattle.std.specs.Prelude.{ℕ}
 use Rattle.dsr_statement.specs.declared.fault.StatementFault.{StatementFault}
 use Rattle.dsr_statement.specs.meaning.Readings.{Refusal}
 

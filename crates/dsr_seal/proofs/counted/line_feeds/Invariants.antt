@@ -1,4 +1,4 @@
-use Rattle.std.proofs.Common.{◌≡◌, ◌≤◌, take}
+use Rattle.std.proofs.Common.{◌≡◌, take}
 use Rattle.dsr_seal.specs.meaning.Counts.{line_feeds}
 use Rattle.dsr_seal.proofs.counted.line_feeds.Given as goal
 

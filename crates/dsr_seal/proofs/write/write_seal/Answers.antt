@@ -1,4 +1,4 @@
-use Rattle.std.proofs.Common.{rules, ◌≡◌, ◌<◌, ◌≤◌, ◌^◌, ◌++◌, [], ap, length, subst, take}
+use Rattle.std.proofs.Common.{rules, ◌<◌, ◌≤◌, ◌^◌, ◌++◌, [], ap, length, subst, take}
 use Rattle.std.specs.Option.{option_map}
 use Rattle.dsr_statement.specs.meaning.Seals.{origin_lines}
 use Rattle.dsr_statement.specs.meaning.Statement.{text_of}
