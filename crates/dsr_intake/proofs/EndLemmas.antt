@@ -1,8 +1,8 @@
 -- How lists of events end.
-use Rattle.dsr_intake.proofs.Common.{◌≡◌, ℕ, suc, ◌+◌, Bool, true, false, ◌||◌, List, [], ◌∷◌, ◌++◌, length, Some, slice_get, refl, ap, ◌∙◌, arith, length-append, EventPart, Placed, is_ended, has_ended, IsOrderly, slice_get_front, is_clean_end, ends_clean}
+use Rattle.dsr_intake.proofs.Common.{◌≡◌, ℕ, suc, ◌+◌, true, false, ◌||◌, List, [], ◌∷◌, ◌++◌, length, Some, slice_get, refl, ap, ◌∙◌, arith, length-append, EventPart, Placed, is_ended, has_ended, IsOrderly, slice_get_front, is_clean_end, ends_clean}
 use Rattle.dsr_events.specs.declared.fault.FileFault.TheVariants.{Memory}
 use Rattle.dsr_events.specs.declared.fault.Outcome.TheVariants.{Fault}
-use Rattle.dsr_events.specs.declared.event.EventPart.TheVariants.{Opened, Block, Ended}
+use Rattle.dsr_events.specs.declared.event.EventPart.TheVariants.{Ended}
 use Rattle.dsr_file.specs.meaning.Texts.{placed}
 
 pub ends_clean_push : (xs : List Placed) (e : Placed) → ends_clean (xs ++ e ∷ []) ≡ is_clean_end e.part

@@ -1,5 +1,5 @@
 -- The file of a list of events, event by event.
-use Rattle.dsr_intake.proofs.Common.{◌≡◌, ℕ, zero, suc, ◌+◌, ◌<◌, ◌≤◌, ◌^◌, ◌||◌, true, false, List, [], ◌∷◌, ◌++◌, length, take, drop, get_or, Some, IsSome, refl, sym, ap, subst, ◌∙◌, arith, add-one, append_assoc, length-append, set, slice_get, filter_map, append-nil, set-set, set-get_or, take-append-drop, get_or_from_slice_get, filter_map-append, EventPart, Placed, is_ended, has_ended, MayStandAt, IsOrderly, orderly_front, Books, File, Stands, ends_clean, is_clean_end, opening_in, block_in, outcome_in, first, file_of, with_part, is_opening, IsGoing, Knows, Changes, IsFollowed, TakesAll, common_steps, gets, slice_get_within}
+use Rattle.dsr_intake.proofs.Common.{◌≡◌, ℕ, suc, ◌+◌, ◌<◌, ◌≤◌, ◌^◌, ◌||◌, true, false, List, [], ◌∷◌, ◌++◌, length, take, drop, get_or, Some, IsSome, refl, sym, ap, subst, ◌∙◌, arith, add-one, append_assoc, length-append, set, slice_get, filter_map, append-nil, set-set, set-get_or, take-append-drop, get_or_from_slice_get, filter_map-append, EventPart, Placed, is_ended, has_ended, IsOrderly, orderly_front, Books, File, Stands, ends_clean, is_clean_end, opening_in, block_in, outcome_in, first, file_of, with_part, is_opening, IsGoing, Knows, Changes, IsFollowed, TakesAll, common_steps, gets, slice_get_within}
 use Rattle.std.proofs.Math.Seq.{take-suc}
 use Rattle.dsr_events.specs.declared.event.EventPart.TheVariants as part
 use Rattle.dsr_relay.proofs.Taking.{going_on}

@@ -1,5 +1,5 @@
 -- What holds while the threads are started, and while they are joined.
-use Rattle.dsr_intake.proofs.Common.{◌≡◌, ℕ, false, List, [], ◌∷◌, ◌++◌, map, All, refl, sym, ap, subst, ◌∙◌, append_assoc, append-nil, map-append, All-head, All-tail, All-cons, All-push, Placed, IsOrderly, FileText, events_of_text, Told, TapView, Options, ends_clean, IsDrained, IsGiven, GaveEach, file_of}
+use Rattle.dsr_intake.proofs.Common.{◌≡◌, ℕ, false, List, [], ◌∷◌, ◌++◌, map, All, refl, sym, ap, subst, ◌∙◌, append_assoc, append-nil, map-append, All-head, All-tail, All-push, Placed, IsOrderly, FileText, events_of_text, Told, TapView, Options, ends_clean, IsDrained, IsGiven, GaveEach, file_of}
 use Rattle.std.proofs.lemmas.Simd.{map-map}
 use Rattle.dsr_file.specs.meaning.Sources.{GaveText}
 use Rattle.dsr_io.specs.meaning.Told.{HoldsGiven}

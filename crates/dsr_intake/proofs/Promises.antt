@@ -2,7 +2,7 @@
 use Rattle.dsr_intake.proofs.Common.{arith, ◌≡◌, ◌∙◌, Bool, true, false, sym, has_ended, List, [], ◌∷◌, ◌++◌, inl, inr, ap, refl, Result, Ok, Err, IfErr, IfOk, OnOk, Outcome, Placed, Told, run_orderly, Options, ends_clean, IsGiven}
 use Rattle.dsr_file.specs.declared.reading.ReadFileError.{ReadFileError}
 use Rattle.dsr_file.specs.declared.reading.ReadFileError.TheVariants.{Memory, Refused}
-use Rattle.dsr_file.specs.layer.Sources.{IsRead, IsRefused, IsRefusal}
+use Rattle.dsr_file.specs.layer.Sources.{IsRead, IsRefusal}
 use Rattle.dsr_file.proofs.FeedLemmas.{known_run}
 use Rattle.dsr_file.specs.layer.Runs.{EndsWith}
 use Rattle.dsr_events.specs.layer.Names.{is_memory}

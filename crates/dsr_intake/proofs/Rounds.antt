@@ -1,12 +1,10 @@
 -- What holds while the files are opened, and in a round.
-use Rattle.dsr_intake.proofs.Common.{◌≡◌, ℕ, zero, suc, ◌+◌, ◌<◌, ◌≤◌, Bool, true, false, ◌||◌, List, [], ◌∷◌, ◌++◌, map, take, set, length, get_or, All, Some, None, Result, Ok, Err, refl, sym, ap, subst, ◌∙◌, arith, length-take, add-one, ◌⊎◌, inl, inr, IsSome, is_some, slice_get, filter_map, OnOk, All-tail, map-append, length-map, map-set, slice_get-map, slice_get-get_or, get_or_from_slice_get, slice_get_within, slice_get_read, EventPart, Outcome, Placed, MayStandAt, has_ended, TapView, Books, File, opened, add_block, end_with, with_block, with_outcome, Stands, files_count, opened_count, CanBook, CanEnd, AllEnded, file_of, first, outcome_in, IsTapped, IsStoppedAt, IsFileAt, Changes, Opens, first_file, IsGoing, Knows, IsNext, HasMore, taken_count, common_steps, gets, take_all}
+use Rattle.dsr_intake.proofs.Common.{◌≡◌, ℕ, zero, suc, ◌+◌, ◌<◌, ◌≤◌, Bool, true, false, ◌||◌, List, [], ◌∷◌, ◌++◌, map, take, set, length, get_or, All, Some, None, Result, Ok, Err, refl, sym, ap, subst, ◌∙◌, arith, length-take, add-one, inl, inr, IsSome, is_some, slice_get, filter_map, OnOk, All-tail, map-append, length-map, map-set, slice_get-map, slice_get-get_or, get_or_from_slice_get, slice_get_within, slice_get_read, EventPart, Outcome, Placed, MayStandAt, has_ended, TapView, Books, File, opened, end_with, with_outcome, Stands, files_count, opened_count, CanBook, CanEnd, AllEnded, file_of, first, outcome_in, IsTapped, IsStoppedAt, IsFileAt, Changes, Opens, first_file, IsGoing, Knows, IsNext, HasMore, taken_count, common_steps, gets, take_all}
 use Rattle.std.proofs.lemmas.Bool.{cases_eq}
 use Rattle.std.proofs.lemmas.List.Sums.{sum_by-set}
 use Rattle.dsr_ledger.specs.layer.Files.{with_file}
 use Rattle.std.specs.Option.{option_map}
 use Rattle.std.proofs.Math.Seq.{take-suc-set, map-set_same, set-append_seam}
-use Rattle.dsr_events.specs.meaning.Blocks.{BlockParts}
-use Rattle.dsr_events.specs.declared.event.EventPart.TheVariants as part
 use Rattle.dsr_ledger.specs.inner.Books.{ended_in}
 use Rattle.dsr_ledger.proofs.CallerLemmas.{opened_is, can_book, can_end, all_ended}
 use Rattle.dsr_intake.specs.inner.Collecting.{IsStopped}

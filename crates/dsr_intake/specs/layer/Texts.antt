@@ -1,5 +1,4 @@
 -- The standard options of an intake.
-use Rattle.std.specs.Prelude.{[]}
 use Rattle.dsr_records.specs.meaning.Layouts.{standard_layout}
 use Rattle.dsr_intake.specs.declared.options.Options.{Options}
 
