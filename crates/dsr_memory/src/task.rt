@@ -10,6 +10,7 @@ use std::alloc::Global;
 pub struct Task {
     /// Its name, with which each of its lines on standard error begins.
     pub program: &'static str,
+    /// The words of its command line, without its name.
     pub words: &'static [&'static str],
     /// What is on standard input.
     pub input: &'static str,
@@ -22,6 +23,7 @@ pub struct Task {
 /// What a run of the program leaves.
 #[derive(Drop)]
 pub struct Ended {
+    /// The files and their bytes.
     pub world: MemoryWorld,
     /// What is on standard output.
     pub out: MemoryOutlet,
