@@ -98,12 +98,12 @@ pub use Rattle.dsr_records.specs.meaning.Layouts.{is_left_out}
 pub use Rattle.dsr_records.specs.meaning.Records.{LayoutTable, RoleLine, cell_in, cells_at, column_fault, first_fault, is_skipped, or_else, role_of, type_of}
 pub use Rattle.dsr_records.specs.meaning.Tables.{cell_of, columns_of, if_file_number, is_not_before, is_spelled, may_be_empty, text_of}
 pub use Rattle.dsr_records.specs.meaning.Values.{day_or_first, number_or_zero, record_by_kind, record_by_role, record_of, unless_fault, whole_or_zero}
-pub use Rattle.dsr_statement.proofs.Plain.{all_weaker, cell_fits, fits, lacks, most_of, shown}
+pub use Rattle.dsr_statement.proofs.Plain.{IsPrinted, all_weaker, cell_fits, fits, lacks, most_of, shown}
 pub use Rattle.dsr_statement.proofs.ReportAgain.{report_again, without_report}
 pub use Rattle.dsr_statement.specs.declared.line.Line.{Line}
 pub use Rattle.dsr_statement.specs.layer.Readings.{IsReading}
 pub use Rattle.dsr_statement.specs.layer.Statements.{IsReadable, all_adjacent, are_parties_in_order, is_before, is_text}
-pub use Rattle.dsr_statement.specs.meaning.Cells.{Amount, Cell, FileNumber, PartyName, Usages, are_days, are_usages, cell_text, is_amount, is_cell, is_printed_fault}
+pub use Rattle.dsr_statement.specs.meaning.Cells.{are_days, are_usages, cell_text, is_amount, is_cell, is_printed_fault}
 pub use Rattle.dsr_statement.specs.meaning.Lines.{column_cells, is_line, key_cells, line_cells, line_text, outcome_cells}
 pub use Rattle.dsr_statement.specs.meaning.Order.{is_key_below, is_text_below}
 pub use Rattle.dsr_statement.specs.meaning.Statement.{files_from, head_of, lines_of_ledger, statement_lines, statement_of}

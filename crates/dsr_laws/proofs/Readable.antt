@@ -1,5 +1,6 @@
 -- The report of files that texts have is readable.
-use Rattle.dsr_laws.proofs.Common.{AllByRecursion, Amount, AreFew, BlockParts, Booked, Booking, Bool, Cell, CivilDay, Column, Difference, Equal-is, File, FileNumber, Filed, Head, IsInRange, IsReadable, IsSmall, Key, Line, List, None, OpeningParts, Option, Outcome, Part, PartyName, Reason, Rejected, ReportKey, Some, Standing, Summary, Usage, Usages, Verdict, WorkParts, [], abs-int_sum_by, abs-sum, all_parts, all_weaker, amount_sum, and_from, and_parts, ap, are_days, are_usages, arith, at_key, block_bookings, booked_under, booked_whole, bookings, bytes_eq, cases_Bool, civil_from, column_cells, column_named, cond_both, day_count_bounds, day_number, days_from_civil-day_count, days_in_month, difference, differences, differences_in, each_append, each_filter, each_flat, each_line, each_map, each_party, each_weaker, eq_by_cmp, eqb, false, few_flat, fewer, file_line, filed, filed_after, filed_bookings, files_from, filter, find, first_head, first_reason, flat_map, head_of, in_range, inl, inr, int_le, int_sum_by, ints, is_amount, is_at_key, is_cell, is_civil_day, is_for, is_in_range, is_isrc_text, is_line, is_text, is_there, judged, judged_in, key_cells, key_cmp, key_exact, key_of, ledger, length, line_of, lines_of_ledger, list_all, list_any, lt-ltb, map, missing, missing_for, naming, nat_tests, negsuc, not, not-false, outcome_cells, outcome_of, part_of, parts_and_rest, parts_of, party_amount, party_lines, pos, range_with_len, reasons, refl, rejects, rejects_from, rejects_in, report_head, report_of, rounded, same_text, signed_arith, size_of, small_parts, statement_lines, subst, suc, summaries_of, summary_key_named, summary_key_of, sym, true, unclaimed, unsigned_abs, usages_in, usages_sum, verdict_bookings, verdict_by, work_parts, zip, ℕ, ℤ, ◌&&◌, ◌*◌, ◌++◌, ◌+ℤ◌, ◌+◌, ◌-ℤ◌, ◌<ℤ◌, ◌<◌, ◌^◌, ◌∷◌, ◌≡◌, ◌≤ℤ◌, ◌≤◌}
+use Rattle.std.specs.Prelude.{nat_lt}
+use Rattle.dsr_laws.proofs.Common.{AllByRecursion, AreFew, BlockParts, Booked, Booking, Bool, CivilDay, Column, Difference, Equal-is, File, Filed, Head, IsInRange, IsReadable, IsSmall, Key, Line, List, None, OpeningParts, Option, Outcome, Part, PartyLine, Reason, Rejected, ReportKey, Some, Standing, Summary, Usage, Verdict, WorkParts, [], abs-int_sum_by, abs-sum, all_parts, all_weaker, amount_sum, and_from, and_parts, ap, are_days, are_usages, arith, at_key, block_bookings, booked_under, booked_whole, bookings, bytes_eq, cases_Bool, civil_from, column_cells, column_named, cond_both, day_count_bounds, day_number, days_from_civil-day_count, days_in_month, difference, differences, differences_in, each_append, each_filter, each_flat, each_line, each_map, each_party, each_weaker, eq_by_cmp, eqb, false, few_flat, fewer, file_line, filed, filed_after, filed_bookings, files_from, filter, find, first_head, first_reason, flat_map, head_of, in_range, inl, inr, int_le, int_sum_by, ints, is_amount, is_at_key, is_cell, is_civil_day, is_for, is_in_range, is_isrc_text, is_line, is_text, is_there, judged, judged_in, key_cells, key_cmp, key_exact, key_of, ledger, length, line_of, lines_of_ledger, list_all, list_any, lt-ltb, map, missing, missing_for, naming, nat_tests, negsuc, not, not-false, outcome_cells, outcome_of, part_of, parts_and_rest, parts_of, party_amount, party_lines, pos, range_with_len, reasons, refl, rejects, rejects_from, rejects_in, report_head, report_of, rounded, same_text, signed_arith, size_of, small_parts, statement_lines, subst, suc, summaries_of, summary_key_named, summary_key_of, sym, true, unclaimed, unsigned_abs, usages_in, usages_sum, verdict_bookings, verdict_by, work_parts, zip, ℕ, ℤ, ◌&&◌, ◌*◌, ◌++◌, ◌+ℤ◌, ◌+◌, ◌-ℤ◌, ◌<ℤ◌, ◌<◌, ◌^◌, ◌∷◌, ◌≡◌, ◌≤ℤ◌, ◌≤◌}
 use Rattle.std.specs.Prelude.{option_map}
 use Rattle.dsr_events.specs.declared.fault.Outcome.TheVariants as outcomes
 use Rattle.dsr_statement.specs.declared.line.Line.TheVariants as lines
@@ -140,14 +141,20 @@ name_among (q ∷ ps) h n some = elim (cases_Bool (bytes_eq q.party n)) [
 ]
 
 -- the lines of a ledger line
-key_cells_good : (k : Key) (cells : List Cell) → IsKey k → list_all is_cell cells ≡ true → list_all is_cell (key_cells k cells) ≡ true
-key_cells_good k cells h rest = grind arith
+sums_good : (k : Key) (u a : ℤ) → IsKey k → are_usages u ≡ true → is_amount a ≡ true → is_line (lines.Ledger k u a) ≡ true
+sums_good k u a h usages_ amount_ = grind arith
+
+part_good : (k : Key) (p : PartyLine) → IsKey k → list_all (λ b. not (eqb b 9)) p.party ≡ true → is_amount p.amount ≡ true → is_line (lines.Party k p) ≡ true
+part_good k p h tabless owed = grind arith
+
+rest_good : (k : Key) (a : ℤ) → IsKey k → is_amount a ≡ true → is_line (lines.Unclaimed k a) ≡ true
+rest_good k a h amount_ = grind arith
 
 ledger_line_good : (bs : List Booking) → AreFew IsBooking most_bookings bs → (key : Key) → list_any (eq_by_cmp key_cmp key) (map (λ b. b.key) bs) ≡ true
     → AllByRecursion IsGood (lines_of_ledger (line_of key (at_key key bs)))
 unfolding line_of
 ledger_line_good bs h key among =
-    let own = at_key key bs in let good = λ (cells : List Cell). key_cells_good key cells (key_among bs h.1 key among) in
+    let own = at_key key bs in let good = key_among bs h.1 key among in
     let all = each_filter IsBooking (is_at_key key) bs h.1 in let few = fewer (is_at_key key) bs in
     let small = each_weaker IsBooking IsSmall (λ b s. s.small) own all in
     let us = abs-int_sum_by (λ (b : Booking). b.usage.usages) (2 ^ 63) own (each_weaker IsSmall _ (λ b s. s.0.usages) own small) in
@@ -160,11 +167,11 @@ ledger_line_good bs h key among =
     let name = name_among (all_parts own) names n some in
     let tabless = all_weaker plain (λ b. not (eqb b 9)) (λ b k. grind (arith, nat_tests)) n name.all in
     let owed = amount_in_range (party_amount own n) (omega (arith, size_of n (all_parts own), size, few, h.0)) in
-    (good (PartyName n ∷ Amount (party_amount own n) ∷ []) (and_from _ _ tabless (and_from _ _ owed refl)), name) in (
-      (good (Usages (usages_sum own) ∷ Amount (amount_sum own) ∷ []) (and_from _ _ usages_ (and_from _ _ amount_ refl)), tt),
+    (part_good key (record { party = n; amount = party_amount own n }) good tabless owed, name) in (
+      (sums_good key (usages_sum own) (amount_sum own) good usages_ amount_, tt),
       each_append IsGood (map (λ p. lines.Party key p) (party_lines own)) (lines.Unclaimed key (unclaimed own) ∷ [])
           (each_map IsGood (λ p. lines.Party key p) (party_lines own) (each_party (λ p. IsGood (lines.Party key p)) own party))
-          ((good (Amount (unclaimed own) ∷ []) (and_from _ _ rest_ refl), tt), tt),
+          ((rest_good key (unclaimed own) good rest_, tt), tt),
     )
 
 ledger_good : (files : List File) → length files ≤ 64 → AllByRecursion IsFile files → AllByRecursion IsGood (flat_map lines_of_ledger (ledger (bookings files)))
@@ -182,15 +189,17 @@ outcome_good None h = refl
 outcome_good (Some outcomes.Whole) h = refl
 outcome_good (Some (outcomes.Fault line f)) h = and_from _ _ (lt-ltb line (2 ^ 64) h.0) (and_from _ _ h.1 (column_good (column_named f)))
 
-number_good : (o : Option OpeningParts) → IfSome IsOpening o → is_cell (FileNumber (option_map (λ x. x.head.file_number) o)) ≡ true
-number_good None h = refl
-number_good (Some o) h = lt-ltb o.head.file_number (2 ^ 32) (omega (arith, h.head.number))
+file_good : (place : ℕ) (o : Option OpeningParts) (s : Standing) (count : ℕ) (e : Outcome) → nat_lt place (2 ^ 64) ≡ true → IfSome IsOpening o
+    → (nat_lt count (2 ^ 64) && list_all is_cell (outcome_cells e)) ≡ true
+    → is_line (lines.File place (record { number = option_map (λ x. x.head.file_number) o; standing = s; blocks = count; outcome = e })) ≡ true
+file_good place None s count e low h rest = and_from _ _ low rest
+file_good place (Some o) s count e low h rest = and_from _ _ low (and_from _ _ (lt-ltb o.head.file_number (2 ^ 32) (omega (arith, h.head.number))) rest)
 
 files_good : (place : ℕ) (ds : List Filed) → AllByRecursion IsFiled ds → place + length ds ≤ 2 ^ 32 → AllByRecursion IsGood (files_from place (map file_line ds))
 files_good place [] h low = tt
 files_good place (d ∷ ds) h low =
     let rest = and_from _ _ (lt-ltb (length d.file.blocks) (2 ^ 64) (omega (arith, h.0.file.few))) (outcome_good d.file.outcome h.0.file.outcome) in
-    ((and_from _ _ (lt-ltb place (2 ^ 64) (omega arith)) (and_from _ _ (number_good d.file.opening h.0.file.opening) rest), tt), files_good (suc place) ds h.1 (omega arith))
+    ((file_good place d.file.opening d.standing (length d.file.blocks) (outcome_of d.file.outcome) (lt-ltb place (2 ^ 64) (omega arith)) h.0.file.opening rest, tt), files_good (suc place) ds h.1 (omega arith))
 
 -- the missing files
 missing_good : (o : Option Head) → IfSome IsHead o → (ds : List Filed) → AllByRecursion IsGood (map (λ n. lines.Missing n) (missing_for o ds))
