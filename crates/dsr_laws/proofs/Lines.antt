@@ -91,6 +91,6 @@ pub line_is_text : (l : Line) → is_line l ≡ true → IsNamedLine l → is_te
 line_is_text l h n =
     let short = line_short l n in
     let all = joined most_of cell_text (line_cells l) (each_fine is_cell (λ c. IsGiven (IsPrinted c) (most_of c) (cell_text c))
-        (λ c. IsFine (most_of c) (cell_text c)) cell_fine (line_cells l) h short.0) in
+    (λ c. IsFine (most_of c) (cell_text c)) cell_fine (line_cells l) h short.0) in
     and_from _ _ (is_utf8-from_IsUtf8 (line_text l) all.utf8)
     (and_from _ _ (le-leb (length (line_text l)) 16384 (omega (arith, all.short, short.1))) all.feedless)
