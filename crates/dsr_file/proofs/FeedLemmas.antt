@@ -60,6 +60,10 @@ fed_more layout r b piece es fs m n place at o h is put s =
     subst (λ x. Stands layout r (b ++ take (m + n) piece) x) (sym (put ∙ ap (λ p. es ++ option_to_list (event_at p o)) is))
     (stands_more layout r b piece es m n _ _ h refl s)
 
+-- the list only grows by what was put
+pub prefix_part : (xs ys zs : List Placed) (at : ℕ) (o : Option EventPart) → IsPrefix xs ys → zs ≡ ys ++ option_to_list (event_at at o) → IsPrefix xs zs
+prefix_part xs ys zs at o p is = prefix_more xs ys zs p (option_to_list (event_at at o), sym is)
+
 -- a call of `take_part` that closed nothing, after other calls
 pub fed_all : (layout : LayoutTable) (r : FileReader) (b piece : List ℕ) (es : List Placed) (m n place : ℕ) (o : Option EventPart) → m ≤ length piece
     → n ≤ length (rest_of piece m) → is_some o ≡ false

@@ -169,7 +169,7 @@ impl Closed {
     /// Puts a closed block into a sink, as the event with this place, by an exchange with a stale block of the sink.
     /// Returns whether it did; otherwise nothing changes.
     #[inline(always)]
-    fn exchange_into<S: Sink>(&mut self, place: u64, sink: &mut S) -> bool
+    pub(crate) fn exchange_into<S: Sink>(&mut self, place: u64, sink: &mut S) -> bool
         requires small { place < 2 ^ 37 }
         requires run { IfSome (event_at place self.old)
             (λ e. IsSomeRun (S.list sink.old ++ e ∷ [])) }
@@ -190,30 +190,11 @@ impl Closed {
         true
     }
 
-    /// Puts what was closed into a sink, as the event with this place. Returns an event that the sink refuses.
-    #[inline(always)]
-    pub(crate) fn give_to<S: Sink>(&mut self, place: u64, sink: &mut S) -> Result<(), Event>
-        requires small { place < 2 ^ 37 }
-        requires run { IfSome (event_at place self.old)
-            (λ e. IsSomeRun (S.list sink.old ++ e ∷ [])) }
-        ensures added { OnOk result
-            (S.list sink.new ≡ S.list sink.old ++ option_to_list (event_at place self.old)) }
-        ensures refused { IfErr result (λ back.
-            (event_at place self.old ≡ Some back) × (S.list sink.new ≡ S.list sink.old)) }
-        ensures none { self.new ≡ None }
-        ensures name { S.name sink.new ≡ S.name sink.old }
-    {
-        if self.exchange_into(place, sink) {
-            return Ok(());
-        }
-        self.put_into(place, sink)
-    }
-
     /// Puts what was closed into a sink, as the event with this place, by moving it. Returns an event that the sink refuses.
     /// Not inlined, since most blocks are exchanged.
     #[cold]
     #[inline(never)]
-    fn put_into<S: Sink>(&mut self, place: u64, sink: &mut S) -> Result<(), Event>
+    pub(crate) fn put_into<S: Sink>(&mut self, place: u64, sink: &mut S) -> Result<(), Event>
         requires small { place < 2 ^ 37 }
         requires run { IfSome (event_at place self.old)
             (λ e. IsSomeRun (S.list sink.old ++ e ∷ [])) }

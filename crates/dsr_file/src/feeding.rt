@@ -38,7 +38,10 @@ pub(crate) fn feed<S: Sink>(
             sink.note_bytes(piece.len());
             return Ok(());
         }
-        part.give_to(place, sink)?;
+        if part.exchange_into(place, sink) {
+            continue;
+        }
+        part.put_into(place, sink)?;
     }
 }
 
